@@ -1,0 +1,16 @@
+-- How questions are put (paper 01, "Questions in order").
+use Prim.Native.Nat.{ℕ}
+use mathlib.Core.Path.{_≡_}
+use mathlib.Core.List.{List, [], _∷_}
+use mathlib.Core.Logic.{_⊎_}
+use Rattle.constraint.specs.declared.Answer.{Answer}
+use Rattle.constraint.specs.declared.Answer.the-variants.{Taken, Refused}
+
+-- a question: the number that a "no" gives, and what it asks
+abbrev pub Question : Type 1
+Question = ℕ × Type 0
+
+-- "The first 'no' gives the number.": the answer to a call is `Refused` with that number, and `Taken` where every question is answered "yes"
+unfoldable pub Judged : List Question → Answer → Type 0
+Judged [] a = a ≡ Taken
+Judged (q ∷ later) a = (q .1 × Judged later a) ⊎ (¬ q .1 × (a ≡ Refused (q .0)))

@@ -1,0 +1,88 @@
+-- The report's bytes (paper 01, "The report call takes").
+use Prim.Native.Nat.{ℕ, zero, suc, _+_, _/_, _%_, _≤_, _<_}
+use mathlib.Core.Path.{_≡_}
+use mathlib.Core.Bool.{cond}
+use mathlib.Core.List.{List, [], _∷_, _++_}
+use lib.ListN.{length, drop}
+use lib.Dec.{ltb}
+use Rattle.constraint.specs.Limits.{tableSizeLimit, recordingSizeLimit}
+use Rattle.constraint.specs.Steps.{Step, close}
+use Rattle.constraint.specs.Continuation.{Reads}
+use Rattle.constraint.specs.Table.{ReadsTable, table-of, table-refused}
+use Rattle.constraint.specs.Recording.{ReadsRecording, recording-of, recording-refused}
+use Rattle.constraint.specs.declared.Constraint.{Constraint}
+use Rattle.constraint.specs.declared.Verdict.{Verdict}
+use Rattle.constraint.specs.declared.Verdict.the-variants.{Open, Kept, Broken}
+
+-- the decimal digits of a number below 10 ^ n
+unfoldable pub digits : ℕ → ℕ → List ℕ
+digits zero x = []
+digits (suc n) x = cond (ltb x 10) [] (digits n (x / 10)) ++ ((48 + x % 10) ∷ [])
+
+-- "numbers are decimal without leading zeros": in ASCII. Every number of a report is below 10 ^ 20
+abbrev pub decimal : ℕ → List ℕ
+decimal x = digits 20 x
+
+-- "One blank stands between the parts of a line." "Lines end in byte 10"
+abbrev pub blank : ℕ
+blank = 32
+
+abbrev pub lineEnd : ℕ
+lineEnd = 10
+
+-- the words closed, kept, broken, refused (and open, which no report has)
+abbrev pub closedWord : List ℕ
+closedWord = 99 ∷ 108 ∷ 111 ∷ 115 ∷ 101 ∷ 100 ∷ []
+
+abbrev pub keptWord : List ℕ
+keptWord = 107 ∷ 101 ∷ 112 ∷ 116 ∷ []
+
+abbrev pub brokenWord : List ℕ
+brokenWord = 98 ∷ 114 ∷ 111 ∷ 107 ∷ 101 ∷ 110 ∷ []
+
+abbrev pub refusedWord : List ℕ
+refusedWord = 114 ∷ 101 ∷ 102 ∷ 117 ∷ 115 ∷ 101 ∷ 100 ∷ []
+
+-- "kept", or "broken" and the step; at the close no row is open
+abbrev pub verdictText : Verdict → List ℕ
+verdictText Open = []
+verdictText Kept = keptWord
+verdictText (Broken n) = brokenWord ++ blank ∷ decimal n
+
+-- "one line per row: row number, 'kept', or 'broken' and the step"
+unfoldable pub rowLines : ℕ → List Verdict → List ℕ
+rowLines i [] = []
+rowLines i (v ∷ verdicts) = decimal i ++ blank ∷ verdictText v ++ lineEnd ∷ rowLines (i + 1) verdicts
+
+-- "'closed N' (N steps), then one line per row"
+abbrev pub closedText : ℕ → List Verdict → List ℕ
+closedText count verdicts = closedWord ++ blank ∷ decimal count ++ lineEnd ∷ rowLines 0 verdicts
+
+-- "On a refusal it writes only 'refused N P': the number, and the place P"
+abbrev pub refusedText : ℕ → ℕ → List ℕ
+refusedText n place = refusedWord ++ blank ∷ decimal n ++ blank ∷ decimal place ++ lineEnd ∷ []
+
+-- what each row reads
+pub data EachReads (after : List Step) : List Constraint → List Verdict → Type 0 where
+  no-row : EachReads after [] []
+  row-reads : {c : Constraint} {rows : List Constraint} {v : Verdict} {verdicts : List Verdict} → Reads c after v → EachReads after rows verdicts
+      → EachReads after (c ∷ rows) (v ∷ verdicts)
+
+-- "It reads the table, takes all records, closes, and writes": the report's text
+pub data ReportOf (table recording : List ℕ) : List ℕ → Type 0 where
+  no-table : (n place : ℕ) → ReadsTable table (table-refused n place) → ReportOf table recording (refusedText n place)
+  no-recording : (rows : List Constraint) (n place : ℕ) → ReadsTable table (table-of rows)
+      → ReadsRecording rows recording (recording-refused n place) → ReportOf table recording (refusedText n place)
+  all-taken : (rows : List Constraint) (accepted : List Step) (verdicts : List Verdict) → ReadsTable table (table-of rows)
+      → ReadsRecording rows recording (recording-of accepted) → EachReads (accepted ++ (close ∷ [])) rows verdicts
+      → ReportOf table recording (closedText (length (accepted ++ (close ∷ []))) verdicts)
+
+-- "answers the number of bytes written, or 0, with nothing written, if the buffer is too short"; "Bytes after those written stay"
+pub data Reports (table recording before : List ℕ) : ℕ → List ℕ → Type 0 where
+  written : (text : List ℕ) → ReportOf table recording text → length text ≤ length before → Reports table recording before (length text) (text ++ drop (length text) before)
+  too-short : (text : List ℕ) → ReportOf table recording text → length before < length text → Reports table recording before 0 before
+
+-- what the program prints; 17, place 0: "does the table file have at most 2,048 bytes and the recording at most 61,440?"
+pub data Prints (table recording : List ℕ) : List ℕ → Type 0 where
+  too-large : ¬ ((length table ≤ tableSizeLimit) × (length recording ≤ recordingSizeLimit)) → Prints table recording (refusedText 17 0)
+  fits : {text : List ℕ} → length table ≤ tableSizeLimit → length recording ≤ recordingSizeLimit → ReportOf table recording text → Prints table recording text

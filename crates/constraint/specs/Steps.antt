@@ -1,0 +1,45 @@
+-- Steps, and what a list of accepted steps has recorded (paper 01, "Time, events, steps").
+use Prim.Native.Nat.{ℕ}
+use mathlib.Core.Bool.{Bool, true, false}
+use mathlib.Core.List.{List, [], _∷_}
+use lib.ListN.{getD}
+use lib.Dec.{eqb}
+
+-- "An event step carries a kind and a time", "A tick step carries a time", "The close ends the recording." "0@10" is `event 0 10`; step, tick and close are paper 01's terms
+pub data Step : Type 0 where
+  event : ℕ → ℕ → Step
+  tick : ℕ → Step
+  close : Step
+
+-- the i-th of a list of numbers, counted from 0
+abbrev pub at : List ℕ → ℕ → ℕ
+at list i = getD list i 0
+
+abbrev pub timeIf : Bool → ℕ → List ℕ → List ℕ
+timeIf true t ts = t ∷ ts
+timeIf false t ts = ts
+
+-- the times of the events of one kind, in the order recorded
+unfoldable pub times : ℕ → List Step → List ℕ
+times k [] = []
+times k (event j t ∷ steps) = timeIf (eqb j k) t (times k steps)
+times k (tick t ∷ steps) = times k steps
+times k (close ∷ steps) = times k steps
+
+-- the clock after the steps, from the clock before them: an event "moves the clock to its time", a tick "moves the clock there"
+unfoldable pub clockFrom : ℕ → List Step → ℕ
+clockFrom now [] = now
+clockFrom now (event k t ∷ steps) = clockFrom t steps
+clockFrom now (tick t ∷ steps) = clockFrom t steps
+clockFrom now (close ∷ steps) = clockFrom now steps
+
+-- "A fresh monitor has clock 0."
+abbrev pub clock : List Step → ℕ
+clock steps = clockFrom 0 steps
+
+-- "a close ends the recording"
+unfoldable pub closed : List Step → Bool
+closed [] = false
+closed (event k t ∷ steps) = closed steps
+closed (tick t ∷ steps) = closed steps
+closed (close ∷ steps) = true

@@ -1,0 +1,50 @@
+-- How many wait in a row (paper 01, "What waits in an open row"; waiting is the paper's term).
+use Prim.Native.Nat.{ℕ, _+_, _-_, max, min}
+use mathlib.Core.Bool.{Bool, true, false, not, _&&_, _||_}
+use mathlib.Core.List.{List, [], _∷_, map}
+use lib.ListN.{length}
+use lib.Dec.{leb}
+use Rattle.constraint.specs.Steps.{Step, times}
+use Rattle.constraint.specs.declared.Constraint.{Constraint}
+use Rattle.constraint.specs.declared.Constraint.the-variants.{Delay, StrongDelay, Repeat, Sporadic, Burst, Order, StrongSynchronization2, StrongSynchronization3, StrongSynchronization4}
+
+-- some target lies in the interval of the source at s
+unfoldable pub answered : ℕ → ℕ → ℕ → List ℕ → Bool
+answered lower upper s [] = false
+answered lower upper s (t ∷ ts) = (leb (s + lower) t && leb t (s + upper)) || answered lower upper s ts
+
+abbrev pub oneIf : Bool → ℕ
+oneIf true = 1
+oneIf false = 0
+
+-- "in type 1 the sources with no target yet in their interval"
+unfoldable pub unanswered : ℕ → ℕ → List ℕ → List ℕ → ℕ
+unanswered lower upper [] targets = 0
+unanswered lower upper (s ∷ ss) targets = oneIf (not (answered lower upper s targets)) + unanswered lower upper ss targets
+
+unfoldable pub largest : List ℕ → ℕ
+largest [] = 0
+largest (x ∷ xs) = max x (largest xs)
+
+unfoldable pub least : List ℕ → ℕ
+least [] = 0
+least (x ∷ []) = x
+least (x ∷ (y ∷ ys)) = min x (least (y ∷ ys))
+
+-- "in type 7 the groups begun and not complete": as many are begun as the kind with the most events has, and complete as the kind with the fewest has
+unfoldable pub begunIncomplete : List ℕ → List Step → ℕ
+begunIncomplete kinds steps =
+    let counts : List ℕ = map (λ k. length (times k steps)) kinds in
+    largest counts - least counts
+
+-- "in type 2 the sources beyond the number of targets"; "In other types nothing waits."
+unfoldable pub waiting : Constraint → List Step → ℕ
+waiting (Delay source target lower upper) steps = unanswered lower upper (times source steps) (times target steps)
+waiting (StrongDelay source target lower upper) steps = length (times source steps) - length (times target steps)
+waiting (Repeat event span lower upper) steps = 0
+waiting (Sporadic event lower upper jitter minimum) steps = 0
+waiting (Burst event maximum len minimum) steps = 0
+waiting (Order source target) steps = 0
+waiting (StrongSynchronization2 a b tolerance) steps = begunIncomplete (a ∷ b ∷ []) steps
+waiting (StrongSynchronization3 a b c tolerance) steps = begunIncomplete (a ∷ b ∷ c ∷ []) steps
+waiting (StrongSynchronization4 a b c d tolerance) steps = begunIncomplete (a ∷ b ∷ c ∷ d ∷ []) steps

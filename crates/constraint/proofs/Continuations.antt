@@ -1,0 +1,151 @@
+-- What is true of continuations for every row type: a row's definition looks only at the times of its own kinds, and what may still follow after a step might have followed before it, so a row that is open after a step was open before it.
+use Prim.Native.Nat.{ℕ, zero, suc, _+_, _≤_, _<_}
+use native.Mathlib.Omega.{arith}
+use mathlib.Core.Path.{_≡_, refl, sym, ap, _∙_, subst, subst₂}
+use mathlib.Core.Bool.{Bool, true, false}
+use mathlib.Core.List.{List, [], _∷_, _++_, map, append-nil, append-assoc}
+use lib.ListN.{length}
+use lib.Dec.{eqb}
+use borrow.Author.Tests.{eq-eqb, ne-eqb}
+use Rattle.constraint.specs.Limits.{lastKind, lastTime}
+use Rattle.constraint.specs.Steps.{Step, event, tick, close, at, timeIf, times, clockFrom, clock, closed}
+use Rattle.constraint.specs.Meets.{Meets, MeetsDelay, MeetsStrongDelay, MeetsRepeat, MeetsSporadic, MeetsBurst, MeetsOrder, MeetsStrongSynchronization}
+use Rattle.constraint.specs.Continuation.{EventInOrder, Continues, stop, more, Open}
+use Rattle.constraint.specs.Accepted.{kinds}
+use Rattle.constraint.specs.declared.Constraint.{Constraint}
+use Rattle.constraint.specs.declared.Constraint.the-variants.{Delay, StrongDelay, Repeat, Sporadic, Burst, Order, StrongSynchronization2, StrongSynchronization3, StrongSynchronization4}
+use Rattle.constraint.proofs.Lists.{split, Each, each-none, each-cons, each-append, Rising, rising-left, rising-right, rising-across, rising-snoc}
+use Rattle.constraint.proofs.History.{times-append, times-own, times-other, times-tick, times-close, clock-event, clock-tick, closed-event, closed-tick, closed-close, Accepts, with-time}
+
+-- ---- a row looks only at the times of its own kinds
+
+-- two lists of steps have the same times of each of these kinds
+abbrev pub SameTimes : List ℕ → List Step → List Step → Type 0
+SameTimes ks a b = Each (λ k. times k a ≡ times k b) ks
+
+synchronized-same : (ks : List ℕ) (tolerance : ℕ) (a b : List Step) → SameTimes ks a b → MeetsStrongSynchronization ks tolerance a → MeetsStrongSynchronization ks tolerance b
+unfolding MeetsStrongSynchronization
+synchronized-same ks tolerance a b same m j k h g = rw (← same j h, ← same k g) (m j k h g)
+
+pub meets-same : (c : Constraint) (a b : List Step) → SameTimes (kinds c) a b → Meets c a → Meets c b
+unfolding Meets
+meets-same (Delay source target lower upper) a b same m = subst₂ (MeetsDelay lower upper) (same 0 (omega arith)) (same 1 (omega arith)) m
+meets-same (StrongDelay source target lower upper) a b same m = subst₂ (MeetsStrongDelay lower upper) (same 0 (omega arith)) (same 1 (omega arith)) m
+meets-same (Repeat kind span lower upper) a b same m = subst (MeetsRepeat span lower upper) (same 0 (omega arith)) m
+meets-same (Sporadic kind lower upper jitter minimum) a b same m = subst (MeetsSporadic lower upper jitter minimum) (same 0 (omega arith)) m
+meets-same (Burst kind maximum len minimum) a b same m = subst (MeetsBurst maximum len minimum) (same 0 (omega arith)) m
+meets-same (Order source target) a b same m = subst₂ MeetsOrder (same 0 (omega arith)) (same 1 (omega arith)) m
+meets-same (StrongSynchronization2 x y tolerance) a b same m = synchronized-same (x ∷ y ∷ []) tolerance a b same m
+meets-same (StrongSynchronization3 x y z tolerance) a b same m = synchronized-same (x ∷ y ∷ z ∷ []) tolerance a b same m
+meets-same (StrongSynchronization4 x y z w tolerance) a b same m = synchronized-same (x ∷ y ∷ z ∷ w ∷ []) tolerance a b same m
+
+-- ---- what a continuation is made of
+
+-- its times are not before the clock
+pub continues-late : {steps further : List Step} → Continues steps further → (k : ℕ) → Each (λ t. clock steps ≤ t) (times k further)
+unfolding times
+continues-late (stop {steps = steps}) k = each-none (λ t. clock steps ≤ t)
+continues-late (more {steps = steps} {further = further} j t o kind order rest) k =
+    let later : Each (λ s. clock steps ≤ s) (times k further) = λ i h. omega (arith, clock-event j t steps, continues-late rest k i h, order .0) in
+    split (eqb j k) (λ x. Each (λ s. clock steps ≤ s) (timeIf x t (times k further)))
+    (λ e. each-cons (λ s. clock steps ≤ s) t (times k further) (order .0) later)
+    (λ e. later)
+
+-- with those recorded, its times of a kind rise strictly
+pub continues-rising : {steps further : List Step} → Continues steps further → (k : ℕ) → Rising (times k steps) → Rising (times k steps ++ times k further)
+unfolding times
+continues-rising (stop {steps = steps}) k r = rw (append-nil (times k steps)) r
+continues-rising (more {steps = steps} {further = further} j t o kind order rest) k r =
+    subst Rising (sym (times-append k (steps ++ (event j t ∷ [])) further) ∙ ap (times k) (append-assoc steps (event j t ∷ []) further) ∙ times-append k steps (event j t ∷ further))
+    (continues-rising rest k (with-time k j t steps Rising
+    (λ e. rising-snoc (times k steps) t r (subst (λ (i : ℕ). Each (λ s. s < t) (times i steps)) e (order .1))) r))
+
+-- "After the close only the empty one is left."
+pub continues-closed : {steps further : List Step} → closed steps ≡ true → Continues steps further → further ≡ []
+continues-closed c stop = refl
+continues-closed c (more j t o kind order rest) = absurd (let z : _≡_ {A = ℕ} 0 1 = cc in omega arith)
+
+-- it also follows on steps with the same times and no later clock
+pub continues-earlier : {a further : List Step} → Continues a further → (b : List Step) → closed b ≡ closed a → ((k : ℕ) → times k a ≡ times k b) → clock b ≤ clock a → Continues b further
+continues-earlier stop b o same earlier = stop
+continues-earlier (more {steps = a} {further = further} j t open-a kind order rest) b o same earlier =
+    more j t (o ∙ open-a) kind (omega (arith, order .0), rw (← same j) (order .1))
+    (continues-earlier rest (b ++ (event j t ∷ [])) (closed-event j t b ∙ o ∙ sym (closed-event j t a)) same-after (rw (clock-event j t b, clock-event j t a) (omega arith)))
+  where
+    same-after : (k : ℕ) → times k (a ++ (event j t ∷ [])) ≡ times k (b ++ (event j t ∷ []))
+    same-after k = times-append k a (event j t ∷ []) ∙ rw (same k) (sym (times-append k b (event j t ∷ [])))
+
+-- ---- a continuation of events of one kind
+
+abbrev pub events : ℕ → List ℕ → List Step
+events k ts = map (event k) ts
+
+pub continues-events : (k : ℕ) → k ≤ lastKind → (ts : List ℕ) (steps : List Step) → closed steps ≡ false → Rising (times k steps ++ ts) → Each (λ t. clock steps ≤ t) ts
+    → Continues steps (events k ts)
+continues-events k kind [] steps o r late = stop
+continues-events k kind (t ∷ ts) steps o r late =
+    more k t o kind (late 0 (omega arith), λ i h. rising-across (times k steps) (t ∷ ts) r i h 0 (omega arith))
+    (continues-events k kind ts (steps ++ (event k t ∷ [])) (closed-event k t steps ∙ o)
+    (rw (times-own k t steps, append-assoc (times k steps) (t ∷ []) ts) r)
+    (rw (clock-event k t steps) (λ i h. omega (arith, rising-right (times k steps) (t ∷ ts) r .0 i h))))
+
+pub times-events : (k : ℕ) (ts : List ℕ) → times k (events k ts) ≡ ts
+unfolding times
+times-events k [] = refl
+times-events k (t ∷ ts) = rw (eq-eqb k k refl, times-events k ts)
+
+pub times-no-events : (j k : ℕ) → ¬ (k ≡ j) → (ts : List ℕ) → times j (events k ts) ≡ []
+unfolding times
+times-no-events j k h [] = refl
+times-no-events j k h (t ∷ ts) = rw (ne-eqb k j h) (times-no-events j k h ts)
+
+-- ---- broken is for ever
+
+module _ (c : Constraint) (steps : List Step) where
+  -- an event that came might have been the first of a continuation
+  open-before-event : (k t : ℕ) → closed steps ≡ false → k ≤ lastKind → EventInOrder steps k t → Open c (steps ++ (event k t ∷ [])) → Open c steps
+  open-before-event k t o kind order (further, follows, meets) =
+      (event k t ∷ further, more k t o kind order follows, subst (Meets c) (append-assoc steps (event k t ∷ []) further) meets)
+
+  -- nothing is recorded by a tick or a close
+  open-before-other : (s : Step) → ((k : ℕ) → times k (steps ++ (s ∷ [])) ≡ times k steps) → (further : List Step) → Meets c (steps ++ (s ∷ []) ++ further) → Meets c (steps ++ further)
+  open-before-other s same further m =
+      meets-same c (steps ++ (s ∷ []) ++ further) (steps ++ further)
+      (λ i h. times-append (at (kinds c) i) (steps ++ (s ∷ [])) further ∙ rw (same (at (kinds c) i)) (sym (times-append (at (kinds c) i) steps further))) m
+
+  open-before-tick : (t : ℕ) → clock steps ≤ t → Open c (steps ++ (tick t ∷ [])) → Open c steps
+  open-before-tick t later (further, follows, meets) = (
+    further,
+    continues-earlier follows steps (sym (closed-tick t steps)) (λ k. times-tick k t steps) (rw (clock-tick t steps) later),
+    open-before-other (tick t) (λ k. times-tick k t steps) further meets,
+  )
+
+  open-before-close : Open c (steps ++ (close ∷ [])) → Open c steps
+  open-before-close (further, follows, meets) =
+      ([], stop, open-before-other close (λ k. times-close k steps) [] (subst (λ (f : List Step). Meets c (steps ++ (close ∷ []) ++ f)) (continues-closed (closed-close steps) follows) meets))
+
+  -- a row that is open after a step was open before it
+  pub open-before : (s : Step) → Accepts steps s → Open c (steps ++ (s ∷ [])) → Open c steps
+  open-before (event k t) a o = open-before-event k t (a .0) (a .1) (a .3) o
+  open-before (tick t) a o = open-before-tick t (omega (arith, a .2)) o
+  open-before close a o = open-before-close o
+
+  -- a row that is open after an event would be open after a tick to its time
+  pub open-at-tick : (k t : ℕ) → closed steps ≡ false → k ≤ lastKind → EventInOrder steps k t → Open c (steps ++ (event k t ∷ [])) → Open c (steps ++ (tick t ∷ []))
+  open-at-tick k t o kind order (further, follows, meets) = (
+    event k t ∷ further,
+    more k t (closed-tick t steps ∙ o) kind (rw (clock-tick t steps) (omega arith), rw (times-tick k t steps) (order .1))
+        (continues-earlier follows (steps ++ (tick t ∷ []) ++ (event k t ∷ [])) closed-same same (rw (clock-event k t steps, clock-event k t (steps ++ (tick t ∷ []))) (omega arith))),
+    meets-same c (steps ++ (event k t ∷ []) ++ further) (steps ++ (tick t ∷ []) ++ (event k t ∷ further)) (λ i h. same-after (at (kinds c) i)) meets,
+  )
+    where
+      same : (j : ℕ) → times j (steps ++ (event k t ∷ [])) ≡ times j (steps ++ (tick t ∷ []) ++ (event k t ∷ []))
+      same j = times-append j steps (event k t ∷ []) ∙ rw (← times-tick j t steps) (sym (times-append j (steps ++ (tick t ∷ [])) (event k t ∷ [])))
+
+      closed-same : closed (steps ++ (tick t ∷ []) ++ (event k t ∷ [])) ≡ closed (steps ++ (event k t ∷ []))
+      closed-same = closed-event k t (steps ++ (tick t ∷ [])) ∙ closed-tick t steps ∙ sym (closed-event k t steps)
+
+      same-after : (j : ℕ) → times j (steps ++ (event k t ∷ []) ++ further) ≡ times j (steps ++ (tick t ∷ []) ++ (event k t ∷ further))
+      same-after j =
+          times-append j (steps ++ (event k t ∷ [])) further ∙ rw (same j) (sym (times-append j (steps ++ (tick t ∷ []) ++ (event k t ∷ [])) further))
+          ∙ ap (times j) (append-assoc (steps ++ (tick t ∷ [])) (event k t ∷ []) further)

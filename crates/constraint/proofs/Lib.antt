@@ -1,0 +1,4 @@
+-- Laws of the definitions that every crate above cites.
+pub mod Lists
+pub mod History
+pub mod Continuations

@@ -1,0 +1,2 @@
+-- What a queue holds.
+pub mod Ring

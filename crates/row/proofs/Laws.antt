@@ -1,0 +1,1 @@
+-- The laws of each row type.

@@ -1,0 +1,3 @@
+-- Why each row type's machine is exact.
+pub mod Exact
+pub mod Laws

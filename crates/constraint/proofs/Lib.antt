@@ -2,3 +2,5 @@
 pub mod Lists
 pub mod History
 pub mod Continuations
+pub mod Verdicts
+pub mod Waitings

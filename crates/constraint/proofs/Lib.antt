@@ -1,0 +1,5 @@
+-- What is true of the definitions.
+pub mod Judged
+pub mod FittingKinds
+pub mod Rows
+pub mod Accepted

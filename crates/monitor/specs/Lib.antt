@@ -1,0 +1,2 @@
+-- The machine of the monitor: what the code computes, as functions on its records.
+pub mod Machine

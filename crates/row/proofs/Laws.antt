@@ -1,1 +1,6 @@
 -- The laws of each row type.
+pub mod Tests
+pub mod Recorded
+pub mod Spans
+pub mod Repeat
+pub mod Burst

@@ -4,3 +4,5 @@ pub mod Recorded
 pub mod Spans
 pub mod Repeat
 pub mod Burst
+pub mod Points
+pub mod Sporadic

@@ -110,7 +110,8 @@ module _ (c : Constraint) (r : Recorded c) where
         Live = Live;
         start = start;
         goes-on = λ steps marks kept k t p live of-kind a soon change e f.
-            (goes-on steps marks kept k t of-kind change (subst (Turned steps kept t) e (turns steps marks kept k t of-kind p live a)) f, omega (arith, a .2, r .due-never (change .marks) (changed (change .dropped) (change .pushed) t kept)));
+            let turned : Turned steps kept t change = subst (Turned steps kept t) e (turns steps marks kept k t of-kind p live a) in
+            (goes-on steps marks kept k t of-kind change turned f, omega (arith, a .2, r .due-never (change .marks) (changed (change .dropped) (change .pushed) t kept)));
         breaks = λ steps marks kept k t p live of-kind a soon e.
             breaks steps marks kept k t of-kind (decide (ruleOf c) marks kept k t) (turns steps marks kept k t of-kind p live a) e;
         same = same;

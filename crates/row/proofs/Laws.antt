@@ -1,1 +1,8 @@
 -- The laws of each row type.
+pub mod Tests
+pub mod Recorded
+pub mod Spans
+pub mod Repeat
+pub mod Burst
+pub mod Points
+pub mod Sporadic

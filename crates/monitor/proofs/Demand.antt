@@ -30,15 +30,11 @@ use Rattle.constraint.proofs.Verdicts.{broken-later, broken-shut, broken-once}
 use Rattle.row.specs.Machine.{rowVerdict}
 use Rattle.row.proofs.Exact.{Sound, Exact}
 use Rattle.monitor.specs.Machine.{noRow, monitorOf, refuses, takes, crowds, takenEvent, takenTick, takenClose, stepOf, eventOf, tickOf, closeOf, verdictOf}
+use Rattle.monitor.specs.Contract.{step, after, Recorded, Steps, Reading}
 use Rattle.monitor.specs.declared.Monitor.{Monitor}
 use Rattle.monitor.specs.declared.Stepped.{Stepped}
 use Rattle.monitor.proofs.FittingRows.{SoundRows, FitRows, fit-start, fit-reads}
 use Rattle.monitor.proofs.Following.{Follows, step-answered}
-
--- ---- the machine's functions as the promise takes them
-
-abbrev pub step : Monitor → Step → Rattle.constraint.specs.Promise.Stepped Monitor
-step m s = record { answer = stepOf m s .answer; monitor = stepOf m s .monitor }
 
 -- ---- a refusal leaves the monitor as it was
 
@@ -211,3 +207,34 @@ module _ (engine : (c : Constraint) → Sound c → Exact c) where
     where
       made : (rows : List Constraint) → Judged (rowsQuestions 0 rows []) (answerOf (freshOf rows))
       made rows = unfold freshOf in rw (fresh-answer rows (rows-judged 0 rows .0)) (rows-judged 0 rows .1)
+
+  -- ---- the contracts
+
+  -- the monitor after a list of calls follows the steps that they have recorded
+  after-follows : (rows : List Constraint) (calls : List Step) → Accepted rows → (steps : List Step) × Recorded rows calls steps × Follows engine rows steps (after rows calls)
+  unfolding after
+  after-follows rows calls accepted =
+      let a = play-follows rows [] (monitorOf rows) (start-follows rows accepted) calls in
+      (a .0, (play step (monitorOf rows) calls .answers, a .1), a .2)
+
+  after-more : (rows : List Constraint) (calls : List Step) (s : Step) → stepOf (after rows calls) s .monitor ≡ after rows (calls ++ (s ∷ []))
+  unfolding after play
+  after-more rows calls s = sym (play-append (monitorOf rows) calls (s ∷ []))
+
+  pub steps-keep : (m : Monitor) (s : Step) → Steps m s (stepOf m s)
+  steps-keep m s =
+      record {
+        equals = refl;
+        means = λ rows calls accepted e.
+            let a = after-follows rows calls accepted in
+            ((a .0, a .1, step-answered engine rows (a .0) m (subst (Follows engine rows (a .0)) (sym e) (a .2)) s .0), ap (λ (x : Monitor). stepOf x s .monitor) e ∙ after-more rows calls s);
+      }
+
+  pub reading-keeps : (m : Monitor) (i : ℕ) → Reading m i (verdictOf m i)
+  reading-keeps m i =
+      record {
+        equals = refl;
+        means = λ rows calls accepted e.
+            let a = after-follows rows calls accepted in
+            (a .0, a .1, subst (λ (x : Monitor). ReadsRow rows (a .0) i (verdictOf x i)) (sym e) (verdict-reads rows (a .0) (after rows calls) (a .2) i));
+      }

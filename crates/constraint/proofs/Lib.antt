@@ -10,3 +10,4 @@ pub mod FittingKinds
 pub mod Rows
 pub mod Accepted
 pub mod Decided
+pub mod Sanity

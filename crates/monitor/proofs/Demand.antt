@@ -26,7 +26,7 @@ use Rattle.constraint.proofs.History.{Valid, valid-none}
 use Rattle.constraint.proofs.Counting.{nextFree}
 use Rattle.constraint.proofs.Judged.{never}
 use Rattle.constraint.proofs.Decided.{rows-judged}
-use Rattle.constraint.proofs.Verdicts.{broken-later, broken-shut, broken-once}
+use Rattle.constraint.proofs.Runs.{run-broken, reads-once}
 use Rattle.row.specs.Machine.{rowVerdict}
 use Rattle.row.proofs.Exact.{Sound, Exact}
 use Rattle.monitor.specs.Machine.{noRow, monitorOf, refuses, takes, crowds, takenEvent, takenTick, takenClose, stepOf, eventOf, tickOf, closeOf, verdictOf}
@@ -66,24 +66,6 @@ play-append : (m : Monitor) (a b : List Step) → play step m (a ++ b) .monitor 
 unfolding play
 play-append m [] b = refl
 play-append m (s ∷ a) b = play-append (step m s .monitor) a b
-
--- what a list of calls leaves broken stays broken, at the same step
-run-broken : (c : Constraint) (n : ℕ) {rows : List Constraint} {steps calls end : List Step} {answers : List Answer} → Run rows steps calls answers end → BrokenAt c steps n → BrokenAt c end n
-run-broken c n done b = b
-run-broken c n (call {steps = steps} s Taken judged rest) b = run-broken c n rest (broken-later c steps s n b)
-run-broken c n (call {steps = steps} s (Refused k) judged rest) b = run-broken c n rest b
-
--- a row reads one verdict
-pub reads-once : (c : Constraint) (steps : List Step) (v w : Verdict) → Valid steps → Reads c steps v → Reads c steps w → v ≡ w
-reads-once c steps v w valid (reads-open e o) (reads-open f p) = refl
-reads-once c steps v w valid (reads-open e o) (reads-kept f p) = both (sym f ∙ e)
-reads-once c steps v w valid (reads-open e o) (reads-broken n b) = absurd (broken-shut c n valid b o)
-reads-once c steps v w valid (reads-kept e o) (reads-open f p) = both (sym e ∙ f)
-reads-once c steps v w valid (reads-kept e o) (reads-kept f p) = refl
-reads-once c steps v w valid (reads-kept e o) (reads-broken n b) = absurd (broken-shut c n valid b o)
-reads-once c steps v w valid (reads-broken n b) (reads-open f p) = absurd (broken-shut c n valid b p)
-reads-once c steps v w valid (reads-broken n b) (reads-kept f p) = absurd (broken-shut c n valid b p)
-reads-once c steps v w valid (reads-broken n b) (reads-broken k d) = ap Verdict.Broken (broken-once c steps n k b d)
 
 -- ---- fresh
 
@@ -139,7 +121,7 @@ reads-still : (rows : List Constraint) (steps : List Step) (i n : ℕ) (c : Cons
     → (o : Option Verdict) → ReadsRow rows steps i o → o ≡ some (Verdict.Broken n)
 reads-still rows steps i n c valid e b o (row d v f r) =
     let same : d ≡ c = cc in
-    ap some (reads-once c steps v (Verdict.Broken n) valid (subst (λ x. Reads x steps v) same r) (reads-broken n b))
+    ap some (reads-once c steps valid v (Verdict.Broken n) (subst (λ x. Reads x steps v) same r) (reads-broken n b))
 reads-still rows steps i n c valid e b o (no-row f) = never (cc)
 
 module _ (engine : (c : Constraint) → Sound c → Exact c) where

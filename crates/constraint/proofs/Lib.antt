@@ -4,7 +4,10 @@ pub mod History
 pub mod Continuations
 pub mod Verdicts
 pub mod Waitings
+pub mod Counting
 pub mod Judged
 pub mod FittingKinds
 pub mod Rows
 pub mod Accepted
+pub mod Decided
+pub mod Sanity

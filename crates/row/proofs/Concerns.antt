@@ -1,19 +1,19 @@
 -- The row's test of an event's kind is right: its four numbers are the constraint's kinds and, for those that it lacks, 64, which is no kind.
-use Prim.Native.Nat.{ℕ, zero, suc, _+_, _-_, _≤_, _<_}
+use Prim.Native.Nat.{ℕ, zero, suc, _-_, _≤_, _<_}
 use native.Mathlib.Omega.{arith}
-use mathlib.Core.Path.{_≡_, refl, sym, subst}
+use mathlib.Core.Path.{_≡_, refl, sym}
 use mathlib.Core.Bool.{Bool, true, false, _||_}
 use mathlib.Core.List.{List, [], _∷_, _++_}
 use mathlib.Core.Logic.{_⊎_, inl, inr, ⊎-elim}
 use lib.ListN.{length, replicate}
 use lib.Dec.{eqb}
-use borrow.Author.Tests.{eqb-true, eqb-false, eq-eqb}
+use borrow.Author.Tests.{eqb-true, eqb-false}
 use Rattle.constraint.specs.Limits.{lastKind}
 use Rattle.constraint.specs.Steps.{at}
 use Rattle.constraint.specs.Accepted.{kinds}
 use Rattle.constraint.specs.declared.Constraint.{Constraint}
 use Rattle.constraint.specs.declared.Constraint.the-variants.{Delay, StrongDelay, Repeat, Sporadic, Burst, Order, StrongSynchronization2, StrongSynchronization3, StrongSynchronization4}
-use Rattle.constraint.proofs.Lists.{split, Each, each-none, each-cons}
+use Rattle.constraint.proofs.Lists.{or-true, or-false, both, Each, each-none, each-cons}
 use Rattle.row.specs.Row.{noKind, ruleOf}
 use Rattle.row.specs.Machine.{concerns}
 use Rattle.row.proofs.Exact.{OfKind}
@@ -23,14 +23,6 @@ abbrev among : ℕ → List ℕ → Bool
 among k [] = false
 among k (x ∷ []) = eqb k x
 among k (x ∷ (y ∷ ys)) = eqb k x || among k (y ∷ ys)
-
-or-true : (a b : Bool) → (a || b) ≡ true → (a ≡ true) ⊎ (b ≡ true)
-or-true true b e = inl refl
-or-true false b e = inr e
-
-or-false : (a b : Bool) → (a || b) ≡ false → (a ≡ false) × (b ≡ false)
-or-false true b e = absurd (let z : _≡_ {A = ℕ} 0 1 = cc in omega arith)
-or-false false b e = (refl, e)
 
 among-head : (k x : ℕ) (xs : List ℕ) → among k (x ∷ xs) ≡ true → (k ≡ x) ⊎ (among k xs ≡ true)
 among-head k x [] e = inl (eqb-true k x e)
@@ -50,7 +42,7 @@ among-none k [] ys e = each-none (λ x. ¬ (k ≡ x))
 among-none k (x ∷ xs) ys e = let p = among-neither k x (xs ++ ys) e in each-cons (λ x. ¬ (k ≡ x)) x xs (p .0) (among-none k xs ys (p .1))
 
 among-absent : (k n : ℕ) → k ≤ lastKind → among k (replicate n noKind) ≡ true → ⊥
-among-absent k zero small e = let z : _≡_ {A = ℕ} 0 1 = cc in omega arith
+among-absent k zero small e = both (sym e)
 among-absent k (suc n) small e = ⊎-elim (λ p. omega arith) (among-absent k n small) (among-head k noKind (replicate n noKind) e)
 
 -- the kinds that a row lacks

@@ -17,7 +17,7 @@ use Rattle.constraint.specs.Accepted.{kinds}
 use Rattle.constraint.specs.declared.Constraint.{Constraint}
 use Rattle.constraint.specs.declared.Constraint.the-variants.{Delay, StrongDelay, Repeat, Sporadic, Burst, Order, StrongSynchronization2, StrongSynchronization3, StrongSynchronization4}
 use Rattle.constraint.specs.declared.Verdict.{Verdict}
-use Rattle.constraint.proofs.Lists.{split, Each}
+use Rattle.constraint.proofs.Lists.{split, both, Each}
 use Rattle.constraint.proofs.History.{times-other, times-tick, times-close, clock-event, clock-tick, clock-close, closed-event, closed-tick, closed-close, Accepts, Valid, valid-more, Past, past-of}
 use Rattle.constraint.proofs.Continuations.{SameTimes, meets-same, continues-closed, open-at-tick}
 use Rattle.constraint.proofs.Verdicts.{broken-now, broken-later, broken-shut, open-of-meets}
@@ -75,9 +75,6 @@ with-rule : (c : Constraint) (P : Row → Type 0) (r : Row) → r .rule ≡ rule
 with-rule c P r e p =
     subst (λ rule. P (record { rule = rule; queue = r .queue; marks = r .marks; due = r .due; broken = r .broken })) (sym e) p
 
-false-true : {A : Type 0} → true ≡ false → A
-false-true e = absurd (let z : _≡_ {A = ℕ} 0 1 = cc in omega arith)
-
 -- ---- Start
 
 due-start : (c : Constraint) → noLimit ≡ due (ruleOf c) noMarks []
@@ -98,7 +95,7 @@ fits-start c exact =
     record {
       rule-is = refl;
       whole = refl;
-      state = inl (record { unbroken = refl; live = exact .start; due-is = due-start c; in-time = omega arith; room = omega arith; met = λ e. false-true (sym e) });
+      state = inl (record { unbroken = refl; live = exact .start; due-is = due-start c; in-time = omega arith; room = omega arith; met = λ e. both (sym e) });
     }
 
 module _ (c : Constraint) (exact : Exact c) (steps : List Step) (valid : Valid steps) where
@@ -175,7 +172,7 @@ module _ (c : Constraint) (exact : Exact c) (steps : List Step) (valid : Valid s
         (λ e. broken-fits (tick t) queue marks until 0 whole (going-open queue marks until 0 (accepts .0) g)
         (exact .late steps marks (items queue) t past (g .live) (rw (← g .due-is) (ltb-true until t e)) (accepts .1)))
         (λ e. going-on (tick t) queue marks until whole g (λ i h. sym (times-tick (at (kinds c) i) t steps)) (rw (clock-tick t steps) (ltb-false until t e))
-        (λ shut. false-true (sym shut ∙ closed-tick t steps ∙ accepts .0)))
+        (λ shut. both (sym shut ∙ closed-tick t steps ∙ accepts .0)))
 
     pub fits-tick : (r : Row) → Fits c exact steps r → Fits c exact (steps ++ (tick t ∷ [])) (rowTick r t (length steps + 1))
     unfolding rowTick
@@ -200,7 +197,7 @@ module _ (c : Constraint) (exact : Exact c) (steps : List Step) (valid : Valid s
       event-other : Each (λ j. ¬ (k ≡ j)) (kinds c) → Fits c exact (steps ++ (event k t ∷ [])) (rowWith c queue marks until 0)
       event-other other =
           going-on (event k t) queue marks until whole g (λ i h. sym (times-other (at (kinds c) i) k t steps (other i h))) (rw (clock-event k t steps) in-time)
-          (λ shut. false-true (sym shut ∙ closed-event k t steps ∙ accepts .0))
+          (λ shut. both (sym shut ∙ closed-event k t steps ∙ accepts .0))
 
       module _ (own : OfKind c k) (change : Change) (decided : decide (ruleOf c) marks (items queue) k t ≡ change) where
         abbrev kept-times : List ℕ
@@ -232,7 +229,7 @@ module _ (c : Constraint) (exact : Exact c) (steps : List Step) (valid : Valid s
                 due-is = refl;
                 in-time = rw (clock-event k t steps, now-holds) (live-after goes .1);
                 room = rw now-holds few;
-                met = λ shut. false-true (sym shut ∙ closed-event k t steps ∙ accepts .0);
+                met = λ shut. both (sym shut ∙ closed-event k t steps ∙ accepts .0);
               });
             }
 

@@ -6,3 +6,8 @@ pub mod Repeat
 pub mod Burst
 pub mod Points
 pub mod Sporadic
+pub mod Groups
+pub mod Columns
+pub mod Counts
+pub mod LiveGroups
+pub mod StrongSynchronization

@@ -2,8 +2,8 @@
 use Prim.Native.Nat.{ℕ}
 use mathlib.Core.Path.{_≡_, refl, sym, ap, _∙_, subst}
 use mathlib.Core.Bool.{true}
-use mathlib.Core.List.{List, [], _∷_, _++_, append-nil}
-use mathlib.Core.Logic.{_⊎_, inl, inr, _↔_}
+use mathlib.Core.List.{List, _++_, append-nil}
+use mathlib.Core.Logic.{inl, inr, _↔_}
 use Rattle.constraint.specs.Steps.{Step, event, tick, close, closed}
 use Rattle.constraint.specs.Meets.{Meets}
 use Rattle.constraint.specs.Continuation.{Open, BrokenAt, Reads, reads-open, reads-kept, reads-broken}
@@ -14,7 +14,7 @@ use Rattle.constraint.specs.declared.Answer.the-variants.{Taken, Refused
 use Rattle.constraint.specs.declared.Constraint.{Constraint}
 use Rattle.constraint.specs.declared.Verdict.{Verdict}
 use Rattle.constraint.proofs.Lists.{both}
-use Rattle.constraint.proofs.History.{Accepts, Valid, valid-none, valid-more}
+use Rattle.constraint.proofs.History.{Accepts, Valid, valid-more}
 use Rattle.constraint.proofs.Continuations.{continues-closed}
 use Rattle.constraint.proofs.Verdicts.{broken-later, broken-shut, broken-once, open-of-meets}
 use Rattle.constraint.proofs.Judged.{never}

@@ -1,14 +1,14 @@
 -- What a reader would check first: a list of calls has one list of answers and one record, a row is open before any step, and each definition can be met and can be missed.
 use Prim.Native.Nat.{ℕ, zero, suc, _+_, _≤_, _<_}
 use native.Mathlib.Omega.{arith}
-use mathlib.Core.Path.{_≡_, refl, sym, ap, ap₂, _∙_, subst}
-use mathlib.Core.List.{List, [], _∷_, _++_}
+use mathlib.Core.Path.{_≡_, refl, sym, ap₂, subst}
+use mathlib.Core.List.{List, [], _∷_}
 use mathlib.Core.Logic.{_⊎_, inl, inr}
-use lib.ListN.{length, take}
+use lib.ListN.{length}
 use Rattle.constraint.specs.Limits.{noLimit}
 use Rattle.constraint.specs.Steps.{Step, event, at, times}
-use Rattle.constraint.specs.Meets.{HiddenPoints, Meets, MeetsDelay, MeetsStrongDelay, MeetsRepeat, MeetsSporadic, MeetsBurst, MeetsOrder, MeetsStrongSynchronization}
-use Rattle.constraint.specs.Continuation.{Open, BrokenAt}
+use Rattle.constraint.specs.Meets.{Meets, MeetsDelay, MeetsStrongDelay, MeetsRepeat, MeetsSporadic, MeetsBurst, MeetsOrder, MeetsStrongSynchronization}
+use Rattle.constraint.specs.Continuation.{BrokenAt}
 use Rattle.constraint.specs.Questions.{Question, Judged}
 use Rattle.constraint.specs.Run.{questions, recorded, Run, done, call}
 use Rattle.constraint.specs.declared.Answer.{Answer}

@@ -3,25 +3,24 @@ use Prim.Native.Nat.{ℕ, zero, suc, _+_, _-_, _≤_, _<_}
 use native.Mathlib.Decide.{decLt}
 use native.Mathlib.Omega.{arith}
 use mathlib.Core.Path.{_≡_, refl, sym, ap, _∙_, subst}
-use mathlib.Core.Bool.{Bool, true, false, cond, _&&_, _||_}
-use mathlib.Core.List.{List, [], _∷_, _++_, map}
+use mathlib.Core.Bool.{Bool, true, false, cond, _||_}
+use mathlib.Core.List.{List, [], _∷_, _++_}
 use mathlib.Core.Logic.{_⊎_, inl, inr, ⊎-elim, by-cases}
 use mathlib.Core.Option.{Option, none, some}
 use lib.ListN.{length, getD, replicate, getElem?, getD-replicate, length-replicate}
 use lib.Dec.{leb, ltb}
-use borrow.Author.Tests.{ltb-true, ltb-false, lt-ltb, le-ltb}
+use borrow.Author.Tests.{lt-ltb, le-ltb}
 use Rattle.constraint.specs.Limits.{lastKind, lastTime, rowLimit}
-use Rattle.constraint.specs.Steps.{Step, event, tick, close, at, times, clockFrom, clock, closed}
-use Rattle.constraint.specs.Continuation.{BrokenAt, Reads, reads-open, reads-kept, reads-broken}
+use Rattle.constraint.specs.Steps.{Step, event, tick, close, times, clockFrom, clock, closed}
+use Rattle.constraint.specs.Continuation.{BrokenAt, Reads, reads-broken}
 use Rattle.constraint.specs.Questions.{Judged}
-use Rattle.constraint.specs.Accepted.{rowQuestions, rowsQuestions, Accepted}
+use Rattle.constraint.specs.Accepted.{rowsQuestions, Accepted}
 use Rattle.constraint.specs.Run.{Run, done, call, recorded}
 use Rattle.constraint.specs.Promise.{Fresh, fresh, not-fresh, answerOf, ReadsRow, row, no-row, play, Promise}
 use Rattle.constraint.specs.declared.Answer.{Answer}
 use Rattle.constraint.specs.declared.Answer.the-variants.{Taken, Refused}
 use Rattle.constraint.specs.declared.Constraint.{Constraint}
 use Rattle.constraint.specs.declared.Verdict.{Verdict}
-use Rattle.constraint.proofs.Lists.{split, both}
 use Rattle.constraint.proofs.History.{Valid, valid-none}
 use Rattle.constraint.proofs.Counting.{nextFree}
 use Rattle.constraint.proofs.Judged.{never}
@@ -33,7 +32,7 @@ use Rattle.monitor.specs.Machine.{noRow, monitorOf, refuses, takes, crow
 use Rattle.monitor.specs.Contract.{step, after, Recorded, Steps, Reading}
 use Rattle.monitor.specs.declared.Monitor.{Monitor}
 use Rattle.monitor.specs.declared.Stepped.{Stepped}
-use Rattle.monitor.proofs.FittingRows.{SoundRows, FitRows, fit-start, fit-reads}
+use Rattle.monitor.proofs.FittingRows.{SoundRows, fit-start, fit-reads}
 use Rattle.monitor.proofs.Following.{Follows, step-answered}
 
 -- ---- a refusal leaves the monitor as it was

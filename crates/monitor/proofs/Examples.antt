@@ -1,18 +1,16 @@
 -- Examples 1 to 12 of paper 01 read as the paper says: the machine computes each verdict, with every step taken, and demand 3 says that this is the definition's.
-use Prim.Native.Nat.{ℕ, zero, suc, _≤_, _<_}
 use native.Mathlib.Omega.{arith}
-use mathlib.Core.Path.{_≡_, refl, sym, ap, _∙_, subst}
-use mathlib.Core.Bool.{Bool, true, false, _&&_}
+use mathlib.Core.Path.{_≡_, refl, sym, _∙_, subst}
+use mathlib.Core.Bool.{Bool, true, false}
 use mathlib.Core.List.{List, [], _∷_, _++_, append-nil, append-assoc}
-use mathlib.Core.Logic.{_⊎_, inl, inr}
-use mathlib.Core.Option.{Option, none, some}
-use lib.ListN.{getElem?}
+use mathlib.Core.Logic.{inl}
+use mathlib.Core.Option.{some}
 use Rattle.constraint.specs.Steps.{Step}
 use Rattle.constraint.specs.Continuation.{Reads}
 use Rattle.constraint.specs.Questions.{Judged}
 use Rattle.constraint.specs.Accepted.{kinds, KindsFit, InRange, LowerFirst, rowsQuestions, Accepted}
 use Rattle.constraint.specs.Run.{Run, done, call}
-use Rattle.constraint.specs.Promise.{ReadsRow, row, no-row, play}
+use Rattle.constraint.specs.Promise.{ReadsRow, row, play}
 use Rattle.constraint.specs.declared.Answer.{Answer}
 use Rattle.constraint.specs.declared.Answer.the-variants.{Taken, Refused}
 use Rattle.constraint.specs.declared.Constraint.{Constraint}
@@ -29,11 +27,9 @@ use Rattle.row.specs.StrongSynchronization.{decideStrongSynchronization, dueStr
 use Rattle.row.specs.Machine.{rowOf, brokenRow, applied, changedRow, rowEvent, rowTick, rowClose, rowVerdict}
 use Rattle.row.proofs.Exact.{Sound, Exact}
 use Rattle.queue.specs.Ring.{ring, shifted}
-use Rattle.monitor.specs.Machine.{monitorOf, mapFirst, anyFirst, takenEvent, takenTick, takenClose, eventOf, tickOf, closeOf, stepOf, verdictOf}
+use Rattle.monitor.specs.Machine.{monitorOf, mapFirst, anyFirst, takenEvent, takenTick, takenClose, eventOf, tickOf, closeOf, verdictOf}
 use Rattle.monitor.specs.Contract.{step}
 use Rattle.monitor.specs.Examples.{Example, examples, AllRead}
-use Rattle.monitor.specs.declared.Monitor.{Monitor}
-use Rattle.monitor.proofs.Following.{Follows}
 use Rattle.monitor.proofs.Demand.{start-follows, play-follows, verdict-reads}
 
 -- ---- what the machine computes

@@ -1,5 +1,4 @@
 -- Examples 1 to 12 of paper 01: a row, steps, and what the row reads after them.
-use Prim.Native.Nat.{ℕ}
 use mathlib.Core.List.{List, [], _∷_}
 use Rattle.constraint.specs.Steps.{Step, event, tick, close}
 use Rattle.constraint.specs.Continuation.{Reads}

@@ -32,10 +32,8 @@ pub fn earliest_continuation(constraint: &Constraint, recorded: &History) -> Vec
     match constraint {
         Constraint::Repeat { .. } | Constraint::Sporadic { .. } | Constraint::Burst { .. } => Vec::new(),
         Constraint::Delay { source, target, lower, upper } => targets(recorded, *source, *target, *lower, *upper),
-        Constraint::StrongDelay { source, target, lower, upper } => {
-            partners(recorded, *source, *target, |time| time + lower, |time| time.saturating_sub(*upper))
-        }
-        Constraint::Order { source, target } => partners(recorded, *source, *target, |time| time, |_| 0),
+        Constraint::StrongDelay { source, target, lower, .. } => partners(recorded, *source, *target, *lower),
+        Constraint::Order { source, target } => partners(recorded, *source, *target, 0),
         Constraint::StrongSynchronization { kinds, .. } => members(recorded, kinds),
     }
 }
@@ -61,23 +59,17 @@ fn targets(recorded: &History, source: u8, target: u8, lower: u64, upper: u64) -
     earliest(recorded, target, waiting.map(|time| time + lower))
 }
 
-/// The missing partners of recorded events in pairs by index: targets not before `first_target` of their source, or
-/// sources not before `first_source` of their target.
+/// The missing partners of recorded events in pairs by index: targets at least lower after their source, or sources.
 ///
-/// The members that stand are recorded, so each missing one has a first and a last place, whatever the others are.
-/// The earliest list that keeps the first places keeps the last ones if any list does.
-fn partners(
-    recorded: &History,
-    source: u8,
-    target: u8,
-    first_target: impl Fn(u64) -> u64,
-    first_source: impl Fn(u64) -> u64,
-) -> Vec<Event> {
+/// The other members are recorded, so a missing target has a first and a last place, whatever else comes; the earliest
+/// list that keeps the first places keeps the last ones if any list does. A missing source is not before the clock and
+/// so not before its target: it can only be too late.
+fn partners(recorded: &History, source: u8, target: u8, lower: u64) -> Vec<Event> {
     let (sources, targets) = (recorded.times(source), recorded.times(target));
     let source_surplus = sources.iter().skip(targets.len());
     let target_surplus = targets.iter().skip(sources.len());
-    let mut further = earliest(recorded, target, source_surplus.map(|&time| first_target(time)));
-    further.extend(earliest(recorded, source, target_surplus.map(|&time| first_source(time))));
+    let mut further = earliest(recorded, target, source_surplus.map(|time| time + lower));
+    further.extend(earliest(recorded, source, target_surplus.map(|_| 0)));
     further
 }
 

@@ -107,7 +107,7 @@ fn read_row(bytes: &[u8], before: usize) -> Result<(Constraint, usize), u8> {
     Ok((row, 2 + body.len()))
 }
 
-/// The bytes behind the length field at the start, as many as it says, if "both length bytes" and all of them are there.
+/// The bytes behind the length field at the start, as many as it says, if "both length bytes" and all these are there.
 pub(crate) fn body_at_start(bytes: &[u8]) -> Option<&[u8]> {
     let (length, rest) = bytes.split_first_chunk::<2>()?;
     rest.get(..usize::from(u16::from_be_bytes(*length)))

@@ -22,6 +22,7 @@ pub mod meets;
 pub mod monitor;
 pub mod open;
 pub mod questions;
+pub mod random;
 pub mod recording;
 pub mod report;
 pub mod search;

@@ -38,15 +38,6 @@ impl Seen {
         self.refusals[usize::from(number)]
     }
 
-    /// Adds what another has seen.
-    pub fn add(&mut self, other: &Seen) {
-        let counts =
-            |seen: &Seen| -> Vec<u64> { seen.refusals.iter().chain(seen.verdicts.iter().flatten()).copied().collect() };
-        let more = counts(other);
-        let mine = self.refusals.iter_mut().chain(self.verdicts.iter_mut().flatten());
-        mine.zip(more).for_each(|(count, more)| *count += more);
-    }
-
     /// Fails the test if one of these refusal numbers was not seen.
     ///
     /// # Panics

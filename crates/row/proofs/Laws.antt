@@ -1,1 +1,2 @@
 -- The laws of each row type.
+pub mod Sums

@@ -1,2 +1,3 @@
 -- The laws of each row type.
 pub mod Sums
+pub mod Answers

@@ -1,3 +1,6 @@
 -- The laws of each row type.
 pub mod Sums
 pub mod Answers
+pub mod Pairs
+pub mod Unmet
+pub mod Delay

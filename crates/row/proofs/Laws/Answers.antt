@@ -6,7 +6,7 @@ use mathlib.Core.List.{List, [], _∷_}
 use lib.ListN.{length}
 use Rattle.constraint.specs.Meets.{Between}
 use Rattle.constraint.specs.Steps.{at}
-use Rattle.constraint.proofs.Lists.{Each, each-none, each-cons, each-tail, Rising}
+use Rattle.constraint.proofs.Lists.{Each, each-none, each-cons, Rising}
 
 -- a target for each source, none before `start`
 abbrev pub answers : ℕ → ℕ → List ℕ → List ℕ

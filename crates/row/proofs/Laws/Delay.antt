@@ -1,0 +1,223 @@
+-- Delay is exact: the times that it keeps are just the sources with no target in their interval; a target answers the oldest of them, and the oldest is the first that can no longer be answered.
+use Prim.Native.Nat.{ℕ, suc, _+_, _≤_, _<_, max}
+use native.Mathlib.Omega.{arith}
+use mathlib.Core.Path.{_≡_, refl, sym, ap, _∙_, subst}
+use mathlib.Core.Bool.{Bool, true, false, cond, not, _&&_, _||_, true≢false, false≢true}
+use mathlib.Core.List.{List, [], _∷_, _++_, append-nil}
+use mathlib.Core.Logic.{_⊎_, inl, inr}
+use lib.ListN.{length, drop, length-append}
+use lib.Dec.{leb, eqb}
+use borrow.Author.Tests.{leb-true, leb-false, le-leb, lt-leb, eqb-true, eq-eqb, ne-eqb}
+use Rattle.constraint.specs.Limits.{lastTime}
+use Rattle.constraint.specs.Steps.{at}
+use Rattle.constraint.specs.Meets.{Meets, MeetsDelay}
+use Rattle.constraint.specs.Waiting.{answered, unanswered, waiting}
+use Rattle.constraint.specs.Accepted.{KindsFit, InRange, LowerFirst}
+use Rattle.constraint.specs.declared.Constraint.the-variants.{Delay}
+use Rattle.constraint.proofs.Lists.{split, at-next, Each, each-none, each-cons, each-tail, each-append, each-left, Rising, rising-append}
+use Rattle.queue.specs.Ring.{changed}
+use Rattle.row.specs.Row.{ruleOf, noMarks, plus, withLast, goesOn, dueOldest, none-left}
+use Rattle.row.specs.Delay.{answeredBy, answeredAtOnce, decideDelay, dueDelay, keptDelay}
+use Rattle.row.specs.Machine.{decide}
+use Rattle.row.specs.declared.Marks.{Marks}
+use Rattle.row.proofs.Exact.{Sound, Exact}
+use Rattle.row.proofs.Laws.Sums.{due-each, due-pushed, due-dropped}
+use Rattle.row.proofs.Laws.Answers.{answers, answers-count, answers-late, answers-rising, answers-between}
+use Rattle.row.proofs.Laws.Unmet.{Answered, unmet, both-true, answered-true, answered-by, unmet-sources, unmet-targets, unmet-each, unmet-rising, unmet-unanswered, unmet-count, meets-unmet, unmet-meets}
+use Rattle.row.proofs.Laws.Pairs.{Recorded, Further, PairLaws, pair-exact}
+
+-- `last` is one more than the last target's time, 0 where there is none
+abbrev LastOf : List ℕ → ℕ → Type 0
+LastOf targets last = Each (λ t. t < last) targets × ((last ≡ 0) ⊎ ((j : ℕ) × (j < length targets) × (last ≡ at targets j + 1)))
+
+-- the times are the sources with no target in their interval
+abbrev LiveDelay : ℕ → ℕ → List ℕ → List ℕ → Marks → List ℕ → Type 0
+LiveDelay lower upper sources targets marks times = (times ≡ unmet lower upper sources targets) × LastOf targets (marks .last)
+
+same-truth : (a b : Bool) → (a ≡ true → b ≡ true) → (b ≡ true → a ≡ true) → a ≡ b
+same-truth true b f g = sym (f refl)
+same-truth false true f g = g refl
+same-truth false false f g = refl
+
+module _ (source target lower upper : ℕ) (sound : Sound (Delay source target lower upper)) where
+  -- ---- Start
+
+  delay-start : LiveDelay lower upper [] [] noMarks []
+  delay-start = (refl, (each-none (λ t. t < 0), inl refl))
+
+  -- ---- Events
+
+  -- of targets that are not after the source only the last can answer it, and only at its time
+  at-once-answered : (targets : List ℕ) (last t : ℕ) → t ≤ lastTime → LastOf targets last → answeredAtOnce lower last t ≡ true → answered lower upper t targets ≡ true
+  at-once-answered targets last t small (before, inl none) e = absurd (omega (arith, eqb-true last (plus t 1) (both-true (eqb lower 0) (eqb last (plus t 1)) e .1)))
+  at-once-answered targets last t small (before, inr (j, h, is)) e =
+      let f = both-true (eqb lower 0) (eqb last (plus t 1)) e in
+      answered-by lower upper t targets j h (omega (arith, eqb-true lower 0 (f .0), eqb-true last (plus t 1) (f .1)))
+
+  answered-at-once : (targets : List ℕ) (last t : ℕ) → t ≤ lastTime → Each (λ y. y ≤ t) targets → LastOf targets last → answered lower upper t targets ≡ true
+      → answeredAtOnce lower last t ≡ true
+  answered-at-once targets last t small past (before, inl none) e =
+      let a = answered-true lower upper t targets e in absurd (omega (arith, before (a .0) (a .1)))
+  answered-at-once targets last t small past (before, inr (j, h, is)) e =
+      let a = answered-true lower upper t targets e in
+      rw (eq-eqb lower 0 (omega (arith, a .2, past (a .0) (a .1))), eq-eqb last (plus t 1) (omega (arith, a .2, past j h, before (a .0) (a .1))))
+
+  -- a target answers the oldest of the waiting, as many as are at least lower before it
+  unmet-none : (times : List ℕ) (t : ℕ) → Each (λ s. t < s + lower) times → unmet lower upper times (t ∷ []) ≡ times
+  unfolding answered
+  unmet-none [] t early = refl
+  unmet-none (s ∷ times) t early = rw (lt-leb (s + lower) t (early 0 (omega arith)), unmet-none times t (each-tail (λ s. t < s + lower) s times early))
+
+  answered-oldest : (times : List ℕ) (t : ℕ) → Rising times → Each (λ s. t ≤ s + upper) times → drop (answeredBy lower t times) times ≡ unmet lower upper times (t ∷ [])
+  unfolding answered answeredBy
+  answered-oldest [] t rise in-time = refl
+  answered-oldest (s ∷ times) t rise in-time =
+      rw (le-leb t (s + upper) (in-time 0 (omega arith)))
+      (split (leb (s + lower) t)
+      (λ x. drop (cond x (suc (answeredBy lower t times)) 0) (s ∷ times) ≡ cond ((x && true) || false) (unmet lower upper times (t ∷ [])) (s ∷ unmet lower upper times (t ∷ [])))
+      (λ e. answered-oldest times t (rise .1) (each-tail (λ s. t ≤ s + upper) s times in-time))
+      (λ e. ap (λ (l : List ℕ). s ∷ l) (sym (unmet-none times t (λ i h. omega (arith, leb-false, rise .0 i h))))))
+
+  module _ (now : ℕ) (sources targets : List ℕ) (marks : Marks) (times : List ℕ) (r : Recorded now sources targets) (live : LiveDelay lower upper sources targets marks times) where
+    times-small : Each (λ s. s ≤ lastTime) times
+    times-small = rw (live .0) (unmet-each lower upper (λ s. s ≤ lastTime) sources targets (λ i h. omega (arith, r .sources-past i h, r .small)))
+
+    times-rise : Rising times
+    times-rise = rw (live .0) (unmet-rising lower upper sources targets (r .sources-rise))
+
+    in-time-each : now ≤ dueOldest upper times → Each (λ s. now ≤ s + upper) times
+    unfolding InRange
+    in-time-each h = due-each upper now times (sound .in-range .1) times-small times-rise h
+
+    source-unmet : (b : Bool) → answered lower upper now targets ≡ b → changed 0 (not b) now times ≡ unmet lower upper (sources ++ now ∷ []) targets
+    source-unmet true e = live .0 ∙ sym (append-nil (unmet lower upper sources targets)) ∙ rw (unmet-sources lower upper sources (now ∷ []) targets, e)
+    source-unmet false e = rw (live .0, unmet-sources lower upper sources (now ∷ []) targets, e)
+
+    source-live : LiveDelay lower upper (sources ++ now ∷ []) targets marks (changed 0 (not (answeredAtOnce lower (marks .last) now)) now times)
+    source-live = (
+      source-unmet (answeredAtOnce lower (marks .last) now)
+          (same-truth (answered lower upper now targets) (answeredAtOnce lower (marks .last) now) (answered-at-once targets (marks .last) now (r .small) (r .targets-past) (live .1))
+          (at-once-answered targets (marks .last) now (r .small) (live .1))),
+      live .1,
+    )
+
+    source-due : (b : Bool) → now ≤ dueOldest upper times → now ≤ dueOldest upper (changed 0 b now times)
+    source-due true h = due-pushed upper now times (r .small) h
+    source-due false h = h
+
+    target-live : now ≤ dueOldest upper times → LiveDelay lower upper sources (targets ++ now ∷ []) (withLast marks (plus now 1)) (drop (answeredBy lower now times) times)
+    target-live in-time = (
+      answered-oldest times now times-rise (in-time-each in-time) ∙ rw (live .0) (sym (unmet-targets lower upper sources targets (now ∷ []))),
+      (
+        each-append (λ t. t < plus now 1) targets (now ∷ []) (λ i h. omega (arith, r .targets-past i h, r .small))
+            (each-cons (λ t. t < plus now 1) now [] (omega (arith, r .small)) (each-none (λ t. t < plus now 1))),
+        inr (length targets, rw (length-append targets (now ∷ [])) (omega arith), rw (at-next targets now [] (length targets) refl) (omega (arith, r .small))),
+      ),
+    )
+
+  -- ---- Ticks
+
+  -- no target from t on answers the oldest
+  late-oldest : (times : List ℕ) (t : ℕ) (further : List ℕ) → Each (λ s. s ≤ lastTime) times → t ≤ lastTime → dueOldest upper times < t → Each (λ y. t ≤ y) further
+      → ¬ MeetsDelay lower upper times further
+  unfolding MeetsDelay InRange
+  late-oldest [] t further small time passed late m = omega arith
+  late-oldest (s ∷ times) t further small time passed late m =
+      let a = m 0 (omega arith) in omega (arith, a .2, late (a .0) (a .1), small 0 (omega arith), sound .in-range .1)
+
+  module _ (now : ℕ) (sources targets : List ℕ) (marks : Marks) (times : List ℕ) (r : Recorded now sources targets) (live : LiveDelay lower upper sources targets marks times) where
+    delay-late : (t : ℕ) → t ≤ lastTime → dueOldest upper times < t → (fs gs : List ℕ) → Each (λ y. t ≤ y) gs → ¬ MeetsDelay lower upper (sources ++ fs) (targets ++ gs)
+    unfolding MeetsDelay
+    delay-late t small passed fs gs late m =
+        late-oldest times t gs (times-small now sources targets marks times r live) small passed late
+        (unmet-meets lower upper times gs
+        (rw (live .0, ← unmet-targets lower upper sources targets gs) (meets-unmet lower upper sources (targets ++ gs) (each-left (Answered lower upper (targets ++ gs)) sources fs m))))
+
+    -- ---- Open
+
+    -- the first place for a further target is in time for each source that waits
+    free-in-time : LastOf targets (marks .last) → (s : ℕ) → ¬ Answered lower upper targets s → now ≤ s + upper → max now (marks .last) ≤ s + upper
+    unfolding LowerFirst
+    free-in-time (before, inl none) s waits in-time = omega arith
+    free-in-time (before, inr (j, h, is)) s waits in-time =
+        split (leb (s + lower) (at targets j)) (λ x. max now (marks .last) ≤ s + upper)
+        (λ e. absurd (waits (j, h, (leb-true (s + lower) (at targets j) e, omega (arith, r .targets-past j h)))))
+        (λ e. omega (arith, leb-false, sound .lower-first))
+
+    delay-open : now ≤ dueOldest upper times → Further now targets (λ all. MeetsDelay lower upper sources all)
+    unfolding MeetsDelay LowerFirst
+    delay-open in-time = (
+      further,
+      rising-append targets further (r .targets-rise) (answers-rising lower start times) (λ i h j k. omega (arith, live .1 .0 i h, answers-late lower start times j k)),
+      λ i h. omega (arith, answers-late lower start times i h),
+      unmet-meets lower upper sources (targets ++ further)
+          (rw (unmet-targets lower upper sources targets further, ← live .0)
+          (meets-unmet lower upper times further
+          (λ i h. (i, rw (answers-count lower start times) h, answers-between lower upper start times (sound .lower-first) (times-rise now sources targets marks times r live) start-each i h)))),
+    )
+      where
+        start : ℕ
+        start = max now (marks .last)
+
+        further : List ℕ
+        further = answers lower start times
+
+        start-each : Each (λ s. start ≤ s + upper) times
+        start-each i h =
+            free-in-time (live .1) (at times i) (subst (Each (λ s. ¬ Answered lower upper targets s)) (sym (live .0)) (unmet-unanswered lower upper sources targets) i h)
+            (in-time-each now sources targets marks times r live in-time i h)
+
+  -- ---- Waiting
+
+  delay-waits : (sources targets : List ℕ) (marks : Marks) (times : List ℕ) → LiveDelay lower upper sources targets marks times → unanswered lower upper sources targets ≡ length times
+  delay-waits sources targets marks times live = unmet-count lower upper sources targets ∙ ap length (sym (live .0))
+
+  -- ---- Close
+
+  delay-kept : (sources targets : List ℕ) (marks : Marks) (times : List ℕ) → LiveDelay lower upper sources targets marks times → none-left times ≡ true
+      → MeetsDelay lower upper sources targets
+  delay-kept sources targets marks [] live e = unmet-meets lower upper sources targets (sym (live .0))
+  delay-kept sources targets marks (s ∷ times) live e = absurd (false≢true e)
+
+  delay-not-kept : (sources targets : List ℕ) (marks : Marks) (times : List ℕ) → LiveDelay lower upper sources targets marks times → none-left times ≡ false
+      → ¬ MeetsDelay lower upper sources targets
+  delay-not-kept sources targets marks times live e m = true≢false (rw (live .0, meets-unmet lower upper sources targets m) at e)
+
+  -- ---- Exact
+
+  source-change : (marks : Marks) (times : List ℕ) (t : ℕ)
+      → decide (ruleOf (Delay source target lower upper)) marks times source t ≡ goesOn 0 (not (answeredAtOnce lower (marks .last) t)) marks
+  unfolding decideDelay
+  source-change marks times t = rw (eq-eqb source source refl)
+
+  target-change : (marks : Marks) (times : List ℕ) (t : ℕ)
+      → decide (ruleOf (Delay source target lower upper)) marks times target t ≡ goesOn (answeredBy lower t times) false (withLast marks (plus t 1))
+  unfolding decideDelay KindsFit
+  target-change marks times t = rw (ne-eqb target source (λ e. sound .kinds-fit .1 0 1 (omega arith) (omega arith) (sym e)))
+
+  delay-laws : PairLaws (ruleOf (Delay source target lower upper)) source target (MeetsDelay lower upper) (unanswered lower upper)
+  unfolding dueDelay keptDelay
+  delay-laws =
+      record {
+        Live = LiveDelay lower upper;
+        start = delay-start;
+        source-goes-on = λ sources targets marks times t r live in-time.
+            rw (source-change marks times t) (source-live t sources targets marks times r live, source-due t sources targets marks times r live (not (answeredAtOnce lower (marks .last) t)) in-time);
+        target-goes-on = λ sources targets marks times t r before live in-time goes.
+            rw (target-change marks times t) (
+              target-live t sources targets marks times r live in-time,
+              due-dropped upper t (answeredBy lower t times) times (r .small) (times-rise t sources targets marks times r live) in-time,
+            );
+        source-breaks = λ marks times t breaks. false≢true (rw (source-change marks times t) at breaks);
+        target-breaks = λ sources targets marks times t r before live in-time breaks fs gs late-fs late-gs m. false≢true (rw (target-change marks times t) at breaks);
+        late = λ now sources targets marks times t r live small passed fs gs late-fs late-gs. delay-late now sources targets marks times r live t small passed fs gs late-gs;
+        is-open = λ now sources targets marks times r live in-time. inr (delay-open now sources targets marks times r live in-time);
+        waits = λ sources targets marks times live. inl (delay-waits sources targets marks times live);
+        is-kept = delay-kept;
+        not-kept = delay-not-kept;
+      }
+
+  pub exactDelay : Exact (Delay source target lower upper)
+  unfolding Meets waiting
+  exactDelay =
+      pair-exact (Delay source target lower upper) source target (MeetsDelay lower upper) (unanswered lower upper) refl (sound .kinds-fit) (λ steps. refl) (λ steps. refl) delay-laws

@@ -4,3 +4,4 @@ pub mod Answers
 pub mod Pairs
 pub mod Unmet
 pub mod Delay
+pub mod Paired

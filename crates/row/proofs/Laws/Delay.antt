@@ -1,5 +1,5 @@
 -- Delay is exact: the times that it keeps are just the sources with no target in their interval; a target answers the oldest of them, and the oldest is the first that can no longer be answered.
-use Prim.Native.Nat.{ℕ, suc, _+_, _≤_, _<_, max}
+use Prim.Native.Nat.{ℕ, suc, _+_, _≤_, _<_}
 use native.Mathlib.Omega.{arith}
 use mathlib.Core.Path.{_≡_, refl, sym, ap, _∙_, subst}
 use mathlib.Core.Bool.{Bool, true, false, cond, not, _&&_, _||_, true≢false, false≢true}
@@ -12,9 +12,9 @@ use Rattle.constraint.specs.Limits.{lastTime}
 use Rattle.constraint.specs.Steps.{at}
 use Rattle.constraint.specs.Meets.{Meets, MeetsDelay}
 use Rattle.constraint.specs.Waiting.{answered, unanswered, waiting}
-use Rattle.constraint.specs.Accepted.{KindsFit, InRange, LowerFirst}
+use Rattle.constraint.specs.Accepted.{KindsFit, LowerFirst}
 use Rattle.constraint.specs.declared.Constraint.the-variants.{Delay}
-use Rattle.constraint.proofs.Lists.{split, at-next, Each, each-none, each-cons, each-tail, each-append, each-left, Rising, rising-append}
+use Rattle.constraint.proofs.Lists.{split, at-next, Each, each-none, each-cons, each-tail, each-append, each-left, Rising}
 use Rattle.queue.specs.Ring.{changed}
 use Rattle.row.specs.Row.{ruleOf, noMarks, plus, withLast, goesOn, dueOldest, none-left}
 use Rattle.row.specs.Delay.{answeredBy, answeredAtOnce, decideDelay, dueDelay, keptDelay}
@@ -22,8 +22,8 @@ use Rattle.row.specs.Machine.{decide}
 use Rattle.row.specs.declared.Marks.{Marks}
 use Rattle.row.proofs.Exact.{Sound, Exact}
 use Rattle.row.proofs.Laws.Sums.{due-each, due-pushed, due-dropped}
-use Rattle.row.proofs.Laws.Answers.{answers, answers-count, answers-late, answers-rising, answers-between}
-use Rattle.row.proofs.Laws.Unmet.{Answered, unmet, both-true, answered-true, answered-by, unmet-sources, unmet-targets, unmet-each, unmet-rising, unmet-unanswered, unmet-count, meets-unmet, unmet-meets}
+use Rattle.row.proofs.Laws.Answers.{answers, answers-count, answers-between, free, free-within, answers-follow, answers-from-now}
+use Rattle.row.proofs.Laws.Unmet.{Answered, unmet, both-true, answered-true, answered-by, unmet-sources, unmet-targets, unmet-rising, unmet-unanswered, unmet-count, meets-unmet, unmet-meets}
 use Rattle.row.proofs.Laws.Pairs.{Recorded, Further, PairLaws, pair-exact}
 
 -- `last` is one more than the last target's time, 0 where there is none
@@ -79,15 +79,8 @@ module _ (source target lower upper : ℕ) (sound : Sound (Delay source target l
       (λ e. ap (λ (l : List ℕ). s ∷ l) (sym (unmet-none times t (λ i h. omega (arith, leb-false, rise .0 i h))))))
 
   module _ (now : ℕ) (sources targets : List ℕ) (marks : Marks) (times : List ℕ) (r : Recorded now sources targets) (live : LiveDelay lower upper sources targets marks times) where
-    times-small : Each (λ s. s ≤ lastTime) times
-    times-small = rw (live .0) (unmet-each lower upper (λ s. s ≤ lastTime) sources targets (λ i h. omega (arith, r .sources-past i h, r .small)))
-
     times-rise : Rising times
     times-rise = rw (live .0) (unmet-rising lower upper sources targets (r .sources-rise))
-
-    in-time-each : now ≤ dueOldest upper times → Each (λ s. now ≤ s + upper) times
-    unfolding InRange
-    in-time-each h = due-each upper now times (sound .in-range .1) times-small times-rise h
 
     source-unmet : (b : Bool) → answered lower upper now targets ≡ b → changed 0 (not b) now times ≡ unmet lower upper (sources ++ now ∷ []) targets
     source-unmet true e = live .0 ∙ sym (append-nil (unmet lower upper sources targets)) ∙ rw (unmet-sources lower upper sources (now ∷ []) targets, e)
@@ -107,7 +100,7 @@ module _ (source target lower upper : ℕ) (sound : Sound (Delay source target l
 
     target-live : now ≤ dueOldest upper times → LiveDelay lower upper sources (targets ++ now ∷ []) (withLast marks (plus now 1)) (drop (answeredBy lower now times) times)
     target-live in-time = (
-      answered-oldest times now times-rise (in-time-each in-time) ∙ rw (live .0) (sym (unmet-targets lower upper sources targets (now ∷ []))),
+      answered-oldest times now times-rise (due-each upper now times times-rise in-time) ∙ rw (live .0) (sym (unmet-targets lower upper sources targets (now ∷ []))),
       (
         each-append (λ t. t < plus now 1) targets (now ∷ []) (λ i h. omega (arith, r .targets-past i h, r .small))
             (each-cons (λ t. t < plus now 1) now [] (omega (arith, r .small)) (each-none (λ t. t < plus now 1))),
@@ -118,54 +111,49 @@ module _ (source target lower upper : ℕ) (sound : Sound (Delay source target l
   -- ---- Ticks
 
   -- no target from t on answers the oldest
-  late-oldest : (times : List ℕ) (t : ℕ) (further : List ℕ) → Each (λ s. s ≤ lastTime) times → t ≤ lastTime → dueOldest upper times < t → Each (λ y. t ≤ y) further
-      → ¬ MeetsDelay lower upper times further
-  unfolding MeetsDelay InRange
-  late-oldest [] t further small time passed late m = omega arith
-  late-oldest (s ∷ times) t further small time passed late m =
-      let a = m 0 (omega arith) in omega (arith, a .2, late (a .0) (a .1), small 0 (omega arith), sound .in-range .1)
+  late-oldest : (times : List ℕ) (t : ℕ) (further : List ℕ) → t ≤ lastTime → dueOldest upper times < t → Each (λ y. t ≤ y) further → ¬ MeetsDelay lower upper times further
+  unfolding MeetsDelay
+  late-oldest [] t further small passed late m = omega arith
+  late-oldest (s ∷ times) t further small passed late m = let a = m 0 (omega arith) in omega (arith, a .2, late (a .0) (a .1))
 
-  module _ (now : ℕ) (sources targets : List ℕ) (marks : Marks) (times : List ℕ) (r : Recorded now sources targets) (live : LiveDelay lower upper sources targets marks times) where
-    delay-late : (t : ℕ) → t ≤ lastTime → dueOldest upper times < t → (fs gs : List ℕ) → Each (λ y. t ≤ y) gs → ¬ MeetsDelay lower upper (sources ++ fs) (targets ++ gs)
-    unfolding MeetsDelay
-    delay-late t small passed fs gs late m =
-        late-oldest times t gs (times-small now sources targets marks times r live) small passed late
-        (unmet-meets lower upper times gs
-        (rw (live .0, ← unmet-targets lower upper sources targets gs) (meets-unmet lower upper sources (targets ++ gs) (each-left (Answered lower upper (targets ++ gs)) sources fs m))))
+  delay-late : (sources targets : List ℕ) (marks : Marks) (times : List ℕ) (t : ℕ) → LiveDelay lower upper sources targets marks times → t ≤ lastTime → dueOldest upper times < t
+      → (fs gs : List ℕ) → Each (λ y. t ≤ y) gs → ¬ MeetsDelay lower upper (sources ++ fs) (targets ++ gs)
+  unfolding MeetsDelay
+  delay-late sources targets marks times t live small passed fs gs late m =
+      late-oldest times t gs small passed late
+      (unmet-meets lower upper times gs
+      (rw (live .0, ← unmet-targets lower upper sources targets gs) (meets-unmet lower upper sources (targets ++ gs) (each-left (Answered lower upper (targets ++ gs)) sources fs m))))
 
-    -- ---- Open
+  -- ---- Open
 
-    -- the first place for a further target is in time for each source that waits
-    free-in-time : LastOf targets (marks .last) → (s : ℕ) → ¬ Answered lower upper targets s → now ≤ s + upper → max now (marks .last) ≤ s + upper
+  module _ (now : ℕ) (sources targets : List ℕ) (marks : Marks) (times : List ℕ) (r : Recorded now sources targets) (live : LiveDelay lower upper sources targets marks times)
+      (in-time : now ≤ dueOldest upper times) where
+    -- every target is earlier than the end of each waiting source's interval
+    targets-early : (s : ℕ) → ¬ Answered lower upper targets s → now ≤ s + upper → Each (λ t. t < s + upper) targets
     unfolding LowerFirst
-    free-in-time (before, inl none) s waits in-time = omega arith
-    free-in-time (before, inr (j, h, is)) s waits in-time =
-        split (leb (s + lower) (at targets j)) (λ x. max now (marks .last) ≤ s + upper)
+    targets-early s waits late j h =
+        split (leb (s + lower) (at targets j)) (λ x. at targets j < s + upper)
         (λ e. absurd (waits (j, h, (leb-true (s + lower) (at targets j) e, omega (arith, r .targets-past j h)))))
         (λ e. omega (arith, leb-false, sound .lower-first))
 
-    delay-open : now ≤ dueOldest upper times → Further now targets (λ all. MeetsDelay lower upper sources all)
+    free-in-time : Each (λ s. free now targets ≤ s + upper) times
+    free-in-time i h =
+        let waits = subst (Each (λ s. ¬ Answered lower upper targets s)) (sym (live .0)) (unmet-unanswered lower upper sources targets) i h in
+        let late = due-each upper now times (times-rise now sources targets marks times r live) in-time i h in
+        free-within now (at times i + upper) targets late (targets-early (at times i) waits late)
+
+    delay-open : Further now targets (λ all. MeetsDelay lower upper sources all)
     unfolding MeetsDelay LowerFirst
-    delay-open in-time = (
-      further,
-      rising-append targets further (r .targets-rise) (answers-rising lower start times) (λ i h j k. omega (arith, live .1 .0 i h, answers-late lower start times j k)),
-      λ i h. omega (arith, answers-late lower start times i h),
-      unmet-meets lower upper sources (targets ++ further)
-          (rw (unmet-targets lower upper sources targets further, ← live .0)
-          (meets-unmet lower upper times further
-          (λ i h. (i, rw (answers-count lower start times) h, answers-between lower upper start times (sound .lower-first) (times-rise now sources targets marks times r live) start-each i h)))),
-    )
-      where
-        start : ℕ
-        start = max now (marks .last)
-
-        further : List ℕ
-        further = answers lower start times
-
-        start-each : Each (λ s. start ≤ s + upper) times
-        start-each i h =
-            free-in-time (live .1) (at times i) (subst (Each (λ s. ¬ Answered lower upper targets s)) (sym (live .0)) (unmet-unanswered lower upper sources targets) i h)
-            (in-time-each now sources targets marks times r live in-time i h)
+    delay-open =
+        let further : List ℕ = answers lower (free now targets) times in
+        let between = answers-between lower upper (free now targets) times (sound .lower-first) (times-rise now sources targets marks times r live) free-in-time in (
+          further,
+          answers-follow lower now targets times (r .targets-rise),
+          answers-from-now lower now targets times,
+          unmet-meets lower upper sources (targets ++ further)
+              (rw (unmet-targets lower upper sources targets further, ← live .0)
+              (meets-unmet lower upper times further (λ i h. (i, rw (answers-count lower (free now targets) times) h, between i h)))),
+        )
 
   -- ---- Waiting
 
@@ -210,7 +198,7 @@ module _ (source target lower upper : ℕ) (sound : Sound (Delay source target l
             );
         source-breaks = λ marks times t breaks. false≢true (rw (source-change marks times t) at breaks);
         target-breaks = λ sources targets marks times t r before live in-time breaks fs gs late-fs late-gs m. false≢true (rw (target-change marks times t) at breaks);
-        late = λ now sources targets marks times t r live small passed fs gs late-fs late-gs. delay-late now sources targets marks times r live t small passed fs gs late-gs;
+        late = λ now sources targets marks times t r live small passed fs gs late-fs late-gs. delay-late sources targets marks times t live small passed fs gs late-gs;
         is-open = λ now sources targets marks times r live in-time. inr (delay-open now sources targets marks times r live in-time);
         waits = λ sources targets marks times live. inl (delay-waits sources targets marks times live);
         is-kept = delay-kept;

@@ -20,9 +20,9 @@ pub time-within : (t : ℕ) → t ≤ lastTime → t ≤ noLimit
 time-within t small = omega arith
 
 -- not past the due time of the oldest is not past that of any
-pub due-each : (upper t : ℕ) (times : List ℕ) → upper ≤ lastTime → Each (λ s. s ≤ lastTime) times → Rising times → t ≤ dueOldest upper times → Each (λ s. t ≤ s + upper) times
-due-each upper t [] field small rise h = each-none (λ s. t ≤ s + upper)
-due-each upper t (s ∷ times) field small rise h = each-cons (λ s. t ≤ s + upper) s times (omega arith) (λ i k. omega (arith, rise .0 i k))
+pub due-each : (upper t : ℕ) (times : List ℕ) → Rising times → t ≤ dueOldest upper times → Each (λ s. t ≤ s + upper) times
+due-each upper t [] rise h = each-none (λ s. t ≤ s + upper)
+due-each upper t (s ∷ times) rise h = each-cons (λ s. t ≤ s + upper) s times (omega arith) (λ i k. omega (arith, rise .0 i k))
 
 -- nor that of the oldest once t is pushed, or some are dropped
 pub due-pushed : (upper t : ℕ) (times : List ℕ) → t ≤ lastTime → t ≤ dueOldest upper times → t ≤ dueOldest upper (times ++ t ∷ [])

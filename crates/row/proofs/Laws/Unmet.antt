@@ -66,7 +66,7 @@ module _ (lower upper : ℕ) where
       ≡ unmet lower upper (cond x (unmet lower upper sources targets) (s ∷ unmet lower upper sources targets)) more)
       (λ e. refl) (λ e. refl))
 
-  pub unmet-each : (P : ℕ → Type 0) (sources targets : List ℕ) → Each P sources → Each P (unmet lower upper sources targets)
+  unmet-each : (P : ℕ → Type 0) (sources targets : List ℕ) → Each P sources → Each P (unmet lower upper sources targets)
   unmet-each P [] targets e = e
   unmet-each P (s ∷ sources) targets e =
       split (answered lower upper s targets) (λ x. Each P (cond x (unmet lower upper sources targets) (s ∷ unmet lower upper sources targets)))

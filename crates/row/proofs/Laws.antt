@@ -5,3 +5,4 @@ pub mod Pairs
 pub mod Unmet
 pub mod Delay
 pub mod Paired
+pub mod StrongDelay

@@ -196,7 +196,7 @@ module _ (source target lower upper : ℕ) (sound : Sound (Delay source target l
               target-live t sources targets marks times r live in-time,
               due-dropped upper t (answeredBy lower t times) times (r .small) (times-rise t sources targets marks times r live) in-time,
             );
-        source-breaks = λ marks times t breaks. false≢true (rw (source-change marks times t) at breaks);
+        source-goes = λ marks times t. rw (source-change marks times t);
         target-breaks = λ sources targets marks times t r before live in-time breaks fs gs late-fs late-gs m. false≢true (rw (target-change marks times t) at breaks);
         late = λ now sources targets marks times t r live small passed fs gs late-fs late-gs. delay-late sources targets marks times t live small passed fs gs late-gs;
         is-open = λ now sources targets marks times r live in-time. inr (delay-open now sources targets marks times r live in-time);

@@ -6,7 +6,9 @@ use mathlib.Core.List.{List, [], _∷_, _++_, append-nil, append-assoc}
 use mathlib.Core.Logic.{_⊎_, inl, inr}
 use lib.ListN.{length, length-append}
 use Rattle.constraint.specs.Steps.{at}
-use Rattle.constraint.proofs.Lists.{at-next, Each, each-none, each-cons, rising-across, rising-snoc}
+use Rattle.constraint.specs.Meets.{Between}
+use Rattle.constraint.proofs.Lists.{at-next, Each, each-none, each-cons, each-right, rising-right, rising-across, rising-snoc}
+use Rattle.row.proofs.Laws.Answers.{answers, answers-count, answers-between, free, answers-follow, answers-from-now}
 use Rattle.row.proofs.Laws.Pairs.{Recorded, Further}
 
 -- as many targets as sources, and the source and the target of each place fit
@@ -63,6 +65,10 @@ module _ (Fits : ℕ → ℕ → Type 0) where
   pairing-start = inl (refl, record { paired = []; pairs = paired-none; rest = refl })
 
   -- ---- Events
+
+  -- what holds of each target holds of the one beyond
+  pub beyond-each : (P : ℕ → Type 0) (sources targets : List ℕ) (t : ℕ) → Beyond Fits sources targets t → Each P targets → P t
+  beyond-each P sources targets t b each = each-right P (b .paired) (t ∷ []) (subst (Each P) (b .rest) each) 0 (omega arith)
 
   pub source-waits : (sources targets waiting : List ℕ) (t : ℕ) → Ahead Fits sources targets waiting → Ahead Fits (sources ++ t ∷ []) targets (waiting ++ t ∷ [])
   source-waits sources targets waiting t a = record { paired = a .paired; pairs = a .pairs; rest = rw (a .rest) (append-assoc (a .paired) waiting (t ∷ [])) }
@@ -140,8 +146,17 @@ module _ (Fits : ℕ → ℕ → Type 0) where
               rising-across (b .paired) (t ∷ []) (rw (b .rest) at (r .targets-rise)) i (omega (arith, b .pairs .0)) 0 (omega arith),
             )
 
-  pub ahead-open : (sources targets waiting further : List ℕ) → Ahead Fits sources targets waiting → Paired Fits waiting further → Paired Fits sources (targets ++ further)
-  ahead-open sources targets waiting further a p = rw (a .rest) (paired-append (a .paired) targets waiting further (a .pairs) p)
+  pub ahead-open : (now lower upper : ℕ) (sources targets waiting : List ℕ) → lower ≤ upper → ((x y : ℕ) → Between lower upper x y → Fits x y) → Recorded now sources targets
+      → Ahead Fits sources targets waiting → Each (λ s. free now targets ≤ s + upper) waiting → Further now targets (λ all. Paired Fits sources all)
+  ahead-open now lower upper sources targets waiting sound fits r a in-time =
+      let between = answers-between lower upper (free now targets) waiting sound (rising-right (a .paired) waiting (rw (a .rest) at (r .sources-rise))) in-time in
+      let further : List ℕ = answers lower (free now targets) waiting in (
+        further,
+        answers-follow lower now targets waiting (r .targets-rise),
+        answers-from-now lower now targets waiting,
+        rw (a .rest) (paired-append (a .paired) targets waiting further (a .pairs)
+            (answers-count lower (free now targets) waiting, λ i h. fits (at waiting i) (at further i) (between i h))),
+      )
 
   -- ---- Waiting
 
@@ -154,3 +169,13 @@ module _ (Fits : ℕ → ℕ → Type 0) where
   pub pairing-waits : (sources targets : List ℕ) (last : ℕ) (waiting : List ℕ) → Pairing Fits sources targets last waiting → length sources - length targets ≡ length waiting
   pairing-waits sources targets last waiting (inl (none, a)) = omega (arith, ahead-count sources targets waiting a)
   pairing-waits sources targets last waiting (inr (t, is, none, b)) = rw none (omega (arith, beyond-count sources targets t b))
+
+  -- ---- Close
+
+  pub pairing-kept : (sources targets : List ℕ) (last : ℕ) (waiting : List ℕ) → Pairing Fits sources targets last waiting → waiting ≡ [] → last ≡ 0 → Paired Fits sources targets
+  pairing-kept sources targets last waiting (inl (none, a)) empty zero-last = ahead-paired sources targets (subst (Ahead Fits sources targets) empty a)
+  pairing-kept sources targets last waiting (inr (t, is, none, b)) empty zero-last = absurd (omega arith)
+
+  pub pairing-not-kept : (sources targets : List ℕ) (last : ℕ) (waiting : List ℕ) → Pairing Fits sources targets last waiting → Paired Fits sources targets → (length waiting ≡ 0) × (last ≡ 0)
+  pairing-not-kept sources targets last waiting (inl (none, a)) p = (omega (arith, p .0, ahead-count sources targets waiting a), none)
+  pairing-not-kept sources targets last waiting (inr (t, is, none, b)) p = absurd (omega (arith, p .0, beyond-count sources targets t b))

@@ -2,7 +2,7 @@
 use Prim.Native.Nat.{ℕ, zero, suc, _≤_, _<_}
 use native.Mathlib.Omega.{arith}
 use mathlib.Core.Path.{_≡_, sym, ap, _∙_, subst, subst₂, transport}
-use mathlib.Core.Bool.{true, false}
+use mathlib.Core.Bool.{true, false, false≢true}
 use mathlib.Core.List.{List, [], _∷_, _++_, append-nil}
 use mathlib.Core.Logic.{_⊎_, inl, inr}
 use lib.ListN.{length}
@@ -49,7 +49,7 @@ pub record PairLaws (rule : Rule) (source target : ℕ) (Meet : List ℕ → Lis
       → t ≤ due rule marks times → GoesOn rule (Live (sources ++ t ∷ []) targets) times t (decide rule marks times source t)
   pub target-goes-on : (sources targets : List ℕ) (marks : Marks) (times : List ℕ) (t : ℕ) → Recorded t sources targets → Each (λ y. y < t) targets → Live sources targets marks times
       → t ≤ due rule marks times → decide rule marks times target t .breaks ≡ false → GoesOn rule (Live sources (targets ++ t ∷ [])) times t (decide rule marks times target t)
-  pub source-breaks : (marks : Marks) (times : List ℕ) (t : ℕ) → ¬ (decide rule marks times source t .breaks ≡ true)
+  pub source-goes : (marks : Marks) (times : List ℕ) (t : ℕ) → decide rule marks times source t .breaks ≡ false
   pub target-breaks : (sources targets : List ℕ) (marks : Marks) (times : List ℕ) (t : ℕ) → Recorded t sources targets → Each (λ y. y < t) targets → Live sources targets marks times
       → t ≤ due rule marks times → decide rule marks times target t .breaks ≡ true
       → (fs gs : List ℕ) → Each (λ s. t ≤ s) fs → Each (λ y. t ≤ y) gs → ¬ Meet (sources ++ fs) (targets ++ (t ∷ []) ++ gs)
@@ -116,7 +116,7 @@ module _ (c : Constraint) (source target : ℕ) (Meet : List ℕ → List ℕ �
 
   pair-breaks : (steps : List Step) (marks : Marks) (held : List ℕ) (k t : ℕ) → Past steps → laws .Live (times source steps) (times target steps) marks held
       → (k ≡ source) ⊎ (k ≡ target) → Accepts steps (event k t) → t ≤ due (ruleOf c) marks held → decide (ruleOf c) marks held k t .breaks ≡ true → ¬ Open c (steps ++ (event k t ∷ []))
-  pair-breaks steps marks held k t p live (inl e) a in-time breaks (further, follows, meets) = laws .source-breaks marks held t (rw e at breaks)
+  pair-breaks steps marks held k t p live (inl e) a in-time breaks (further, follows, meets) = false≢true (sym (laws .source-goes marks held t) ∙ rw e at breaks)
   pair-breaks steps marks held k t p live (inr e) a in-time breaks (further, follows, meets) =
       laws .target-breaks (times source steps) (times target steps) marks held t (recorded t steps p (a .3 .0) (a .2)) (rw e at (a .3 .1)) live in-time (rw e at breaks)
       (times source further) (times target further) (late source) (late target)

@@ -23,7 +23,8 @@ use Rattle.row.specs.declared.Marks.{Marks}
 use Rattle.row.proofs.Exact.{Sound, Exact}
 use Rattle.row.proofs.Laws.Sums.{due-each, due-pushed, due-dropped}
 use Rattle.row.proofs.Laws.Answers.{answers, answers-count, answers-between, free, free-within, answers-follow, answers-from-now}
-use Rattle.row.proofs.Laws.Unmet.{Answered, unmet, both-true, answered-true, answered-by, unmet-sources, unmet-targets, unmet-rising, unmet-unanswered, unmet-count, meets-unmet, unmet-meets}
+use Rattle.row.proofs.Laws.Tests.{both-true, same-truth}
+use Rattle.row.proofs.Laws.Unmet.{Answered, unmet, answered-true, answered-by, unmet-sources, unmet-targets, unmet-rising, unmet-unanswered, unmet-count, meets-unmet, unmet-meets}
 use Rattle.row.proofs.Laws.Pairs.{Recorded, Further, PairLaws, pair-exact}
 
 -- `last` is one more than the last target's time, 0 where there is none
@@ -33,11 +34,6 @@ LastOf targets last = Each (λ t. t < last) targets × ((last ≡ 0) ⊎ ((j : �
 -- the times are the sources with no target in their interval
 abbrev LiveDelay : ℕ → ℕ → List ℕ → List ℕ → Marks → List ℕ → Type 0
 LiveDelay lower upper sources targets marks times = (times ≡ unmet lower upper sources targets) × LastOf targets (marks .last)
-
-same-truth : (a b : Bool) → (a ≡ true → b ≡ true) → (b ≡ true → a ≡ true) → a ≡ b
-same-truth true b f g = sym (f refl)
-same-truth false true f g = g refl
-same-truth false false f g = refl
 
 module _ (source target lower upper : ℕ) (sound : Sound (Delay source target lower upper)) where
   -- ---- Start

@@ -163,7 +163,7 @@ module _ (Fits : ℕ → ℕ → Type 0) where
   pub ahead-count : (sources targets waiting : List ℕ) → Ahead Fits sources targets waiting → length sources ≡ length targets + length waiting
   ahead-count sources targets waiting a = ap length (a .rest) ∙ length-append (a .paired) waiting ∙ omega (arith, a .pairs .0)
 
-  pub beyond-count : (sources targets : List ℕ) (t : ℕ) → Beyond Fits sources targets t → length targets ≡ length sources + 1
+  beyond-count : (sources targets : List ℕ) (t : ℕ) → Beyond Fits sources targets t → length targets ≡ length sources + 1
   beyond-count sources targets t b = ap length (b .rest) ∙ length-append (b .paired) (t ∷ []) ∙ omega (arith, b .pairs .0)
 
   pub pairing-waits : (sources targets : List ℕ) (last : ℕ) (waiting : List ℕ) → Pairing Fits sources targets last waiting → length sources - length targets ≡ length waiting
@@ -172,10 +172,12 @@ module _ (Fits : ℕ → ℕ → Type 0) where
 
   -- ---- Close
 
-  pub pairing-kept : (sources targets : List ℕ) (last : ℕ) (waiting : List ℕ) → Pairing Fits sources targets last waiting → waiting ≡ [] → last ≡ 0 → Paired Fits sources targets
-  pairing-kept sources targets last waiting (inl (none, a)) empty zero-last = ahead-paired sources targets (subst (Ahead Fits sources targets) empty a)
-  pairing-kept sources targets last waiting (inr (t, is, none, b)) empty zero-last = absurd (omega arith)
+  -- the pairs are all there is just where nothing is beyond
+  pub pairing-paired : (sources targets : List ℕ) (last : ℕ) (waiting : List ℕ) → Pairing Fits sources targets last waiting → length waiting ≡ 0 → last ≡ 0 → Paired Fits sources targets
+  pairing-paired sources targets last [] (inl (none, a)) no-source no-target = ahead-paired sources targets a
+  pairing-paired sources targets last (s ∷ waiting) (inl (none, a)) no-source no-target = absurd (omega arith)
+  pairing-paired sources targets last waiting (inr (t, is, none, b)) no-source no-target = absurd (omega arith)
 
-  pub pairing-not-kept : (sources targets : List ℕ) (last : ℕ) (waiting : List ℕ) → Pairing Fits sources targets last waiting → Paired Fits sources targets → (length waiting ≡ 0) × (last ≡ 0)
-  pairing-not-kept sources targets last waiting (inl (none, a)) p = (omega (arith, p .0, ahead-count sources targets waiting a), none)
-  pairing-not-kept sources targets last waiting (inr (t, is, none, b)) p = absurd (omega (arith, p .0, beyond-count sources targets t b))
+  pub paired-none-beyond : (sources targets : List ℕ) (last : ℕ) (waiting : List ℕ) → Pairing Fits sources targets last waiting → Paired Fits sources targets → (length waiting ≡ 0) × (last ≡ 0)
+  paired-none-beyond sources targets last waiting (inl (none, a)) p = (omega (arith, p .0, ahead-count sources targets waiting a), none)
+  paired-none-beyond sources targets last waiting (inr (t, is, none, b)) p = absurd (omega (arith, p .0, beyond-count sources targets t b))

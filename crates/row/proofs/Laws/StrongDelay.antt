@@ -1,8 +1,8 @@
 -- StrongDelay is exact: the times that it keeps are just the sources beyond the number of targets, each pair is tested when its second event comes, and the oldest source that waits is the first that can no longer get its target.
 use Prim.Native.Nat.{ℕ, _+_, _-_, _≤_, _<_}
 use native.Mathlib.Omega.{arith}
-use mathlib.Core.Path.{_≡_, refl, sym, ap, _∙_, subst}
-use mathlib.Core.Bool.{Bool, true, false, cond, not, _&&_, true≢false, false≢true}
+use mathlib.Core.Path.{_≡_, refl, sym, _∙_, subst}
+use mathlib.Core.Bool.{Bool, true, false, cond, not, false≢true}
 use mathlib.Core.List.{List, [], _∷_, _++_}
 use mathlib.Core.Logic.{_⊎_, inl, inr}
 use lib.ListN.{length}
@@ -15,16 +15,16 @@ use Rattle.constraint.specs.Waiting.{waiting}
 use Rattle.constraint.specs.Accepted.{KindsFit, LowerFirst}
 use Rattle.constraint.specs.declared.Constraint.the-variants.{StrongDelay}
 use Rattle.constraint.proofs.Lists.{split, Each, Rising, rising-right, rising-across}
-use Rattle.row.specs.Row.{ruleOf, noMarks, plus, withLast, goesOn, breaking, dueOldest, none-left}
+use Rattle.row.specs.Row.{ruleOf, noMarks, plus, withLast, goesOn, breaking, dueOldest}
 use Rattle.row.specs.StrongDelay.{sourceStrongDelay, targetStrongDelay, decideStrongDelay, dueStrongDelay, keptStrongDelay}
 use Rattle.row.specs.Machine.{decide, due, kept}
 use Rattle.row.specs.declared.Rule.{Rule}
 use Rattle.row.specs.declared.Marks.{Marks}
 use Rattle.row.proofs.Exact.{Sound, Exact}
 use Rattle.row.proofs.Laws.Sums.{due-each, due-pushed, due-dropped}
-use Rattle.row.proofs.Laws.Answers.{answers, answers-count, answers-between, free, free-within, answers-follow, answers-from-now}
+use Rattle.row.proofs.Laws.Answers.{free-within}
 use Rattle.row.proofs.Laws.Pairs.{Recorded, Further, GoesOn, PairLaws, pair-exact}
-use Rattle.row.proofs.Laws.Paired.{Paired, Ahead, Beyond, Pairing, pairing-start, beyond-each, source-waits, source-partners, target-partners, target-beyond, target-misfits, waiting-late, beyond-late, beyond-misfits, beyond-open, ahead-open, pairing-waits, pairing-kept, pairing-not-kept}
+use Rattle.row.proofs.Laws.Paired.{Paired, Ahead, Beyond, Pairing, pairing-start, beyond-each, source-waits, source-partners, target-partners, target-beyond, target-misfits, waiting-late, beyond-late, beyond-misfits, beyond-open, ahead-open, pairing-waits, pairing-paired, paired-none-beyond}
 
 -- the times are the sources beyond the number of targets
 abbrev LiveStrongDelay : ℕ → ℕ → List ℕ → List ℕ → Marks → List ℕ → Type 0
@@ -168,14 +168,14 @@ module _ (source target lower upper : ℕ) (sound : Sound (StrongDelay source ta
   strong-delay-kept : (sources targets : List ℕ) (marks : Marks) (times : List ℕ) → LiveStrongDelay lower upper sources targets marks times → kept rule marks times ≡ true
       → Paired (Between lower upper) sources targets
   unfolding keptStrongDelay
-  strong-delay-kept sources targets marks [] live e = pairing-kept (Between lower upper) sources targets (marks .last) [] live refl (eqb-true (marks .last) 0 e)
+  strong-delay-kept sources targets marks [] live e = pairing-paired (Between lower upper) sources targets (marks .last) [] live refl (eqb-true (marks .last) 0 e)
   strong-delay-kept sources targets marks (s ∷ times) live e = absurd (false≢true e)
 
   strong-delay-not-kept : (sources targets : List ℕ) (marks : Marks) (times : List ℕ) → LiveStrongDelay lower upper sources targets marks times → kept rule marks times ≡ false
       → ¬ Paired (Between lower upper) sources targets
   unfolding keptStrongDelay
-  strong-delay-not-kept sources targets marks [] live e p = eqb-false (marks .last) 0 e (pairing-not-kept (Between lower upper) sources targets (marks .last) [] live p .1)
-  strong-delay-not-kept sources targets marks (s ∷ times) live e p = omega (arith, pairing-not-kept (Between lower upper) sources targets (marks .last) (s ∷ times) live p .0)
+  strong-delay-not-kept sources targets marks [] live e p = eqb-false (marks .last) 0 e (paired-none-beyond (Between lower upper) sources targets (marks .last) [] live p .1)
+  strong-delay-not-kept sources targets marks (s ∷ times) live e p = omega (arith, paired-none-beyond (Between lower upper) sources targets (marks .last) (s ∷ times) live p .0)
 
   -- ---- Exact
 

@@ -2,7 +2,7 @@
 use Prim.Native.Nat.{ℕ, zero, suc, _+_, _<_}
 use native.Mathlib.Omega.{arith}
 use mathlib.Core.Path.{_≡_, refl, ap}
-use mathlib.Core.Bool.{Bool, true, false, cond, not, _&&_, _||_, or-true}
+use mathlib.Core.Bool.{true, cond, not, _&&_, _||_, or-true}
 use mathlib.Core.List.{List, [], _∷_, _++_}
 use lib.ListN.{length}
 use lib.Dec.{leb}
@@ -11,6 +11,7 @@ use Rattle.constraint.specs.Steps.{at}
 use Rattle.constraint.specs.Meets.{Between, MeetsDelay}
 use Rattle.constraint.specs.Waiting.{answered, oneIf, unanswered}
 use Rattle.constraint.proofs.Lists.{split, Each, each-none, each-cons, each-tail, Rising}
+use Rattle.row.proofs.Laws.Tests.{both-true}
 
 -- a target in the interval of the source at s
 abbrev pub Answered : ℕ → ℕ → List ℕ → ℕ → Type 0
@@ -20,10 +21,6 @@ Answered lower upper targets s = (j : ℕ) × (j < length targets) × Between lo
 abbrev pub unmet : ℕ → ℕ → List ℕ → List ℕ → List ℕ
 unmet lower upper [] targets = []
 unmet lower upper (s ∷ sources) targets = cond (answered lower upper s targets) (unmet lower upper sources targets) (s ∷ unmet lower upper sources targets)
-
-pub both-true : (a b : Bool) → (a && b) ≡ true → (a ≡ true) × (b ≡ true)
-both-true true b e = (refl, e)
-both-true false b e = absurd (let z : _≡_ {A = ℕ} 0 1 = cc in omega arith)
 
 module _ (lower upper : ℕ) where
   pub answered-true : (s : ℕ) (targets : List ℕ) → answered lower upper s targets ≡ true → Answered lower upper targets s

@@ -11,6 +11,10 @@ unfoldable pub ring : List ℕ → ℕ → ℕ → List ℕ
 ring times head zero = []
 ring times head (suc n) = getD times (head % 64) 0 ∷ ring times (suc head) n
 
+-- the time that is i places behind a place, round at the end
+abbrev pub timeAt : List ℕ → ℕ → ℕ → ℕ
+timeAt times head i = getD times ((head % 64 + i % 64) % 64) 0
+
 -- what a queue holds, the oldest first
 abbrev pub items : Queue → List ℕ
 items q = ring (q .times) (q .head) (q .len)

@@ -45,8 +45,8 @@ pub record Exact (c : Constraint) : Type 1 where
       → ¬ Open c (steps ++ (event k t ∷ []))
   -- Ticks: steps that record nothing of the row's kinds leave it as it is, until its due time has passed
   pub same : (a b : List Step) (marks : Marks) (times : List ℕ) → SameTimes (kinds c) a b → Live a marks times → Live b marks times
-  pub late : (steps : List Step) (marks : Marks) (times : List ℕ) (t : ℕ) → Past steps → Live steps marks times → t ≤ lastTime → due (ruleOf c) marks times < t
-      → ¬ Open c (steps ++ (tick t ∷ []))
+  pub late : (steps : List Step) (marks : Marks) (times : List ℕ) (t : ℕ) → Past steps → Live steps marks times → due (ruleOf c) marks times < t
+      → t ≤ lastTime → ¬ Open c (steps ++ (tick t ∷ []))
   -- Open
   pub is-open : (steps : List Step) (marks : Marks) (times : List ℕ) → Past steps → closed steps ≡ false → Live steps marks times
       → clock steps ≤ due (ruleOf c) marks times → Open c steps

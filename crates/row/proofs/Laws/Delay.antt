@@ -4,8 +4,8 @@ use native.Mathlib.Omega.{arith}
 use mathlib.Core.Path.{_≡_, refl, sym, ap, _∙_, subst}
 use mathlib.Core.Bool.{Bool, true, false, cond, not, _&&_, _||_, true≢false, false≢true}
 use mathlib.Core.List.{List, [], _∷_, _++_, append-nil}
-use mathlib.Core.Logic.{_⊎_, inl, inr}
-use lib.ListN.{length, drop, length-append}
+use mathlib.Core.Logic.{inl, inr}
+use lib.ListN.{length, drop}
 use lib.Dec.{leb, eqb}
 use borrow.Author.Tests.{leb-true, leb-false, le-leb, lt-leb, eqb-true, eq-eqb, ne-eqb}
 use Rattle.constraint.specs.Limits.{lastTime}
@@ -14,49 +14,50 @@ use Rattle.constraint.specs.Meets.{Meets, MeetsDelay}
 use Rattle.constraint.specs.Waiting.{answered, unanswered, waiting}
 use Rattle.constraint.specs.Accepted.{KindsFit, LowerFirst}
 use Rattle.constraint.specs.declared.Constraint.the-variants.{Delay}
-use Rattle.constraint.proofs.Lists.{split, at-next, Each, each-none, each-cons, each-tail, each-append, each-left, Rising}
+use Rattle.constraint.proofs.Lists.{split, Each, each-tail, each-left, Rising}
+use Rattle.constraint.proofs.Counting.{nextFree, next-above, next-least, next-snoc}
 use Rattle.queue.specs.Ring.{changed}
 use Rattle.row.specs.Row.{ruleOf, noMarks, plus, withLast, goesOn, dueOldest, none-left}
 use Rattle.row.specs.Delay.{answeredBy, answeredAtOnce, decideDelay, dueDelay, keptDelay}
 use Rattle.row.specs.Machine.{decide}
 use Rattle.row.specs.declared.Marks.{Marks}
 use Rattle.row.proofs.Exact.{Sound, Exact}
-use Rattle.row.proofs.Laws.Sums.{due-each, due-pushed, due-dropped}
-use Rattle.row.proofs.Laws.Answers.{answers, answers-count, answers-between, free, free-within, answers-follow, answers-from-now}
-use Rattle.row.proofs.Laws.Tests.{both-true, same-truth}
+use Rattle.row.proofs.Laws.Due.{due-each, due-pushed, due-dropped}
+use Rattle.row.proofs.Laws.Answers.{answers, answers-count, answers-between, firstFree, answers-follow, answers-from-now}
 use Rattle.row.proofs.Laws.Unmet.{Answered, unmet, answered-true, answered-by, unmet-sources, unmet-targets, unmet-rising, unmet-unanswered, unmet-count, meets-unmet, unmet-meets}
-use Rattle.row.proofs.Laws.Pairs.{Recorded, Further, PairLaws, pair-exact}
+use Rattle.row.proofs.Laws.Pairs.{UpTo, Further, PairLaws, pair-exact}
 
--- `last` is one more than the last target's time, 0 where there is none
-abbrev LastOf : List ℕ → ℕ → Type 0
-LastOf targets last = Each (λ t. t < last) targets × ((last ≡ 0) ⊎ ((j : ℕ) × (j < length targets) × (last ≡ at targets j + 1)))
-
--- the times are the sources with no target in their interval
+-- the times are the sources with no target in their interval, and `last` is one more than the last target's time
 abbrev LiveDelay : ℕ → ℕ → List ℕ → List ℕ → Marks → List ℕ → Type 0
-LiveDelay lower upper sources targets marks times = (times ≡ unmet lower upper sources targets) × LastOf targets (marks .last)
+LiveDelay lower upper sources targets marks times = (times ≡ unmet lower upper sources targets) × (marks .last ≡ nextFree targets)
 
 module _ (source target lower upper : ℕ) (sound : Sound (Delay source target lower upper)) where
   -- ---- Start
 
   delay-start : LiveDelay lower upper [] [] noMarks []
-  delay-start = (refl, (each-none (λ t. t < 0), inl refl))
+  unfolding nextFree
+  delay-start = (refl, refl)
 
   -- ---- Events
 
   -- of targets that are not after the source only the last can answer it, and only at its time
-  at-once-answered : (targets : List ℕ) (last t : ℕ) → t ≤ lastTime → LastOf targets last → answeredAtOnce lower last t ≡ true → answered lower upper t targets ≡ true
-  at-once-answered targets last t small (before, inl none) e = absurd (omega (arith, eqb-true last (plus t 1) (both-true (eqb lower 0) (eqb last (plus t 1)) e .1)))
-  at-once-answered targets last t small (before, inr (j, h, is)) e =
-      let f = both-true (eqb lower 0) (eqb last (plus t 1)) e in
-      answered-by lower upper t targets j h (omega (arith, eqb-true lower 0 (f .0), eqb-true last (plus t 1) (f .1)))
+  earlier-unanswered : (targets : List ℕ) (t : ℕ) → lower ≡ 0 → Each (λ y. y ≤ t) targets → answered lower upper t targets ≡ false → Each (λ y. y < t) targets
+  earlier-unanswered targets t none past e j h =
+      split (leb t (at targets j)) (λ x. at targets j < t)
+      (λ f. absurd (true≢false (sym (answered-by lower upper t targets j h (omega (arith, leb-true, past j h))) ∙ e)))
+      (λ f. omega (arith, leb-false))
 
-  answered-at-once : (targets : List ℕ) (last t : ℕ) → t ≤ lastTime → Each (λ y. y ≤ t) targets → LastOf targets last → answered lower upper t targets ≡ true
-      → answeredAtOnce lower last t ≡ true
-  answered-at-once targets last t small past (before, inl none) e =
-      let a = answered-true lower upper t targets e in absurd (omega (arith, before (a .0) (a .1)))
-  answered-at-once targets last t small past (before, inr (j, h, is)) e =
-      let a = answered-true lower upper t targets e in
-      rw (eq-eqb lower 0 (omega (arith, a .2, past (a .0) (a .1))), eq-eqb last (plus t 1) (omega (arith, a .2, past j h, before (a .0) (a .1))))
+  answered-at-once : (targets : List ℕ) (t : ℕ) → t ≤ lastTime → Each (λ y. y ≤ t) targets → answered lower upper t targets ≡ answeredAtOnce lower (nextFree targets) t
+  answered-at-once targets t small past =
+      split (answered lower upper t targets) (λ x. x ≡ answeredAtOnce lower (nextFree targets) t)
+      (λ e. let a = answered-true lower upper t targets e in
+      rw (
+        eq-eqb lower 0 (omega (arith, a .2, past (a .0) (a .1))),
+        eq-eqb (nextFree targets) (plus t 1) (omega (arith, a .2, next-above targets (a .0) (a .1), next-least targets (suc t) (λ j h. omega (arith, past j h)))),
+      ))
+      (λ e. split (eqb lower 0) (λ x. false ≡ (x && eqb (nextFree targets) (plus t 1)))
+      (λ f. sym (ne-eqb (nextFree targets) (plus t 1) (λ is. omega (arith, next-least targets t (earlier-unanswered targets t (eqb-true lower 0 f) past e)))))
+      (λ f. refl))
 
   -- a target answers the oldest of the waiting, as many as are at least lower before it
   unmet-none : (times : List ℕ) (t : ℕ) → Each (λ s. t < s + lower) times → unmet lower upper times (t ∷ []) ≡ times
@@ -74,7 +75,7 @@ module _ (source target lower upper : ℕ) (sound : Sound (Delay source target l
       (λ e. answered-oldest times t (rise .1) (each-tail (λ s. t ≤ s + upper) s times in-time))
       (λ e. ap (λ (l : List ℕ). s ∷ l) (sym (unmet-none times t (λ i h. omega (arith, leb-false, rise .0 i h))))))
 
-  module _ (now : ℕ) (sources targets : List ℕ) (marks : Marks) (times : List ℕ) (r : Recorded now sources targets) (live : LiveDelay lower upper sources targets marks times) where
+  module _ (now : ℕ) (sources targets : List ℕ) (marks : Marks) (times : List ℕ) (r : UpTo now sources targets) (live : LiveDelay lower upper sources targets marks times) where
     times-rise : Rising times
     times-rise = rw (live .0) (unmet-rising lower upper sources targets (r .sources-rise))
 
@@ -83,25 +84,17 @@ module _ (source target lower upper : ℕ) (sound : Sound (Delay source target l
     source-unmet false e = rw (live .0, unmet-sources lower upper sources (now ∷ []) targets, e)
 
     source-live : LiveDelay lower upper (sources ++ now ∷ []) targets marks (changed 0 (not (answeredAtOnce lower (marks .last) now)) now times)
-    source-live = (
-      source-unmet (answeredAtOnce lower (marks .last) now)
-          (same-truth (answered lower upper now targets) (answeredAtOnce lower (marks .last) now) (answered-at-once targets (marks .last) now (r .small) (r .targets-past) (live .1))
-          (at-once-answered targets (marks .last) now (r .small) (live .1))),
-      live .1,
-    )
+    source-live = (source-unmet (answeredAtOnce lower (marks .last) now) (rw (live .1) (answered-at-once targets now (r .small) (r .targets-past))), live .1)
 
     source-due : (b : Bool) → now ≤ dueOldest upper times → now ≤ dueOldest upper (changed 0 b now times)
     source-due true h = due-pushed upper now times (r .small) h
     source-due false h = h
 
-    target-live : now ≤ dueOldest upper times → LiveDelay lower upper sources (targets ++ now ∷ []) (withLast marks (plus now 1)) (drop (answeredBy lower now times) times)
-    target-live in-time = (
+    target-live : now ≤ dueOldest upper times → Each (λ y. y < now) targets
+        → LiveDelay lower upper sources (targets ++ now ∷ []) (withLast marks (plus now 1)) (drop (answeredBy lower now times) times)
+    target-live in-time before = (
       answered-oldest times now times-rise (due-each upper now times times-rise in-time) ∙ rw (live .0) (sym (unmet-targets lower upper sources targets (now ∷ []))),
-      (
-        each-append (λ t. t < plus now 1) targets (now ∷ []) (λ i h. omega (arith, r .targets-past i h, r .small))
-            (each-cons (λ t. t < plus now 1) now [] (omega (arith, r .small)) (each-none (λ t. t < plus now 1))),
-        inr (length targets, rw (length-append targets (now ∷ [])) (omega arith), rw (at-next targets now [] (length targets) refl) (omega (arith, r .small))),
-      ),
+      omega (arith, next-snoc targets now before, r .small),
     )
 
   -- ---- Ticks
@@ -112,17 +105,17 @@ module _ (source target lower upper : ℕ) (sound : Sound (Delay source target l
   late-oldest [] t further small passed late m = omega arith
   late-oldest (s ∷ times) t further small passed late m = let a = m 0 (omega arith) in omega (arith, a .2, late (a .0) (a .1))
 
-  delay-late : (sources targets : List ℕ) (marks : Marks) (times : List ℕ) (t : ℕ) → LiveDelay lower upper sources targets marks times → t ≤ lastTime → dueOldest upper times < t
+  delay-late : (sources targets : List ℕ) (marks : Marks) (times : List ℕ) (t : ℕ) → LiveDelay lower upper sources targets marks times → dueOldest upper times < t → t ≤ lastTime
       → (fs gs : List ℕ) → Each (λ y. t ≤ y) gs → ¬ MeetsDelay lower upper (sources ++ fs) (targets ++ gs)
   unfolding MeetsDelay
-  delay-late sources targets marks times t live small passed fs gs late m =
+  delay-late sources targets marks times t live passed small fs gs late m =
       late-oldest times t gs small passed late
       (unmet-meets lower upper times gs
       (rw (live .0, ← unmet-targets lower upper sources targets gs) (meets-unmet lower upper sources (targets ++ gs) (each-left (Answered lower upper (targets ++ gs)) sources fs m))))
 
   -- ---- Open
 
-  module _ (now : ℕ) (sources targets : List ℕ) (marks : Marks) (times : List ℕ) (r : Recorded now sources targets) (live : LiveDelay lower upper sources targets marks times)
+  module _ (now : ℕ) (sources targets : List ℕ) (marks : Marks) (times : List ℕ) (r : UpTo now sources targets) (live : LiveDelay lower upper sources targets marks times)
       (in-time : now ≤ dueOldest upper times) where
     -- every target is earlier than the end of each waiting source's interval
     targets-early : (s : ℕ) → ¬ Answered lower upper targets s → now ≤ s + upper → Each (λ t. t < s + upper) targets
@@ -132,23 +125,23 @@ module _ (source target lower upper : ℕ) (sound : Sound (Delay source target l
         (λ e. absurd (waits (j, h, (leb-true (s + lower) (at targets j) e, omega (arith, r .targets-past j h)))))
         (λ e. omega (arith, leb-false, sound .lower-first))
 
-    free-in-time : Each (λ s. free now targets ≤ s + upper) times
+    free-in-time : Each (λ s. firstFree now targets ≤ s + upper) times
     free-in-time i h =
         let waits = subst (Each (λ s. ¬ Answered lower upper targets s)) (sym (live .0)) (unmet-unanswered lower upper sources targets) i h in
         let late = due-each upper now times (times-rise now sources targets marks times r live) in-time i h in
-        free-within now (at times i + upper) targets late (targets-early (at times i) waits late)
+        omega (arith, next-least targets (at times i + upper) (targets-early (at times i) waits late))
 
     delay-open : Further now targets (λ all. MeetsDelay lower upper sources all)
     unfolding MeetsDelay LowerFirst
     delay-open =
-        let further : List ℕ = answers lower (free now targets) times in
-        let between = answers-between lower upper (free now targets) times (sound .lower-first) (times-rise now sources targets marks times r live) free-in-time in (
+        let further : List ℕ = answers lower (firstFree now targets) times in
+        let between = answers-between lower upper (firstFree now targets) times (sound .lower-first) (times-rise now sources targets marks times r live) free-in-time in (
           further,
           answers-follow lower now targets times (r .targets-rise),
           answers-from-now lower now targets times,
           unmet-meets lower upper sources (targets ++ further)
               (rw (unmet-targets lower upper sources targets further, ← live .0)
-              (meets-unmet lower upper times further (λ i h. (i, rw (answers-count lower (free now targets) times) h, between i h)))),
+              (meets-unmet lower upper times further (λ i h. (i, rw (answers-count lower (firstFree now targets) times) h, between i h)))),
         )
 
   -- ---- Waiting
@@ -189,12 +182,12 @@ module _ (source target lower upper : ℕ) (sound : Sound (Delay source target l
             rw (source-change marks times t) (source-live t sources targets marks times r live, source-due t sources targets marks times r live (not (answeredAtOnce lower (marks .last) t)) in-time);
         target-goes-on = λ sources targets marks times t r before live in-time goes.
             rw (target-change marks times t) (
-              target-live t sources targets marks times r live in-time,
+              target-live t sources targets marks times r live in-time before,
               due-dropped upper t (answeredBy lower t times) times (r .small) (times-rise t sources targets marks times r live) in-time,
             );
         source-goes = λ marks times t. rw (source-change marks times t);
-        target-breaks = λ sources targets marks times t r before live in-time breaks fs gs late-fs late-gs m. false≢true (rw (target-change marks times t) at breaks);
-        late = λ now sources targets marks times t r live small passed fs gs late-fs late-gs. delay-late sources targets marks times t live small passed fs gs late-gs;
+        target-breaks = λ sources targets marks times t before live in-time breaks fs gs late m. false≢true (rw (target-change marks times t) at breaks);
+        late = λ sources targets marks times t live passed small fs gs late-fs late-gs. delay-late sources targets marks times t live passed small fs gs late-gs;
         is-open = λ now sources targets marks times r live in-time. inr (delay-open now sources targets marks times r live in-time);
         waits = λ sources targets marks times live. inl (delay-waits sources targets marks times live);
         is-kept = delay-kept;

@@ -25,7 +25,7 @@ use Rattle.row.specs.declared.Change.{Change}
 use Rattle.row.proofs.Exact.{OfKind, Exact}
 
 -- what is known of the times recorded up to a clock
-pub record Recorded (now : ℕ) (sources targets : List ℕ) : Type 0 where
+pub record UpTo (now : ℕ) (sources targets : List ℕ) : Type 0 where
   pub sources-rise : Rising sources
   pub targets-rise : Rising targets
   pub sources-past : Each (λ s. s ≤ now) sources
@@ -45,18 +45,16 @@ GoesOn rule Live times t change =
 pub record PairLaws (rule : Rule) (source target : ℕ) (Meet : List ℕ → List ℕ → Type 0) (wait : List ℕ → List ℕ → ℕ) : Type 1 where
   pub Live : List ℕ → List ℕ → Marks → List ℕ → Type 0
   pub start : Live [] [] noMarks []
-  pub source-goes-on : (sources targets : List ℕ) (marks : Marks) (times : List ℕ) (t : ℕ) → Recorded t sources targets → Live sources targets marks times
+  pub source-goes-on : (sources targets : List ℕ) (marks : Marks) (times : List ℕ) (t : ℕ) → UpTo t sources targets → Live sources targets marks times
       → t ≤ due rule marks times → GoesOn rule (Live (sources ++ t ∷ []) targets) times t (decide rule marks times source t)
-  pub target-goes-on : (sources targets : List ℕ) (marks : Marks) (times : List ℕ) (t : ℕ) → Recorded t sources targets → Each (λ y. y < t) targets → Live sources targets marks times
+  pub target-goes-on : (sources targets : List ℕ) (marks : Marks) (times : List ℕ) (t : ℕ) → UpTo t sources targets → Each (λ y. y < t) targets → Live sources targets marks times
       → t ≤ due rule marks times → decide rule marks times target t .breaks ≡ false → GoesOn rule (Live sources (targets ++ t ∷ [])) times t (decide rule marks times target t)
   pub source-goes : (marks : Marks) (times : List ℕ) (t : ℕ) → decide rule marks times source t .breaks ≡ false
-  pub target-breaks : (sources targets : List ℕ) (marks : Marks) (times : List ℕ) (t : ℕ) → Recorded t sources targets → Each (λ y. y < t) targets → Live sources targets marks times
-      → t ≤ due rule marks times → decide rule marks times target t .breaks ≡ true
-      → (fs gs : List ℕ) → Each (λ s. t ≤ s) fs → Each (λ y. t ≤ y) gs → ¬ Meet (sources ++ fs) (targets ++ (t ∷ []) ++ gs)
-  pub late : (now : ℕ) (sources targets : List ℕ) (marks : Marks) (times : List ℕ) (t : ℕ) → Recorded now sources targets → Live sources targets marks times
-      → t ≤ lastTime → due rule marks times < t
+  pub target-breaks : (sources targets : List ℕ) (marks : Marks) (times : List ℕ) (t : ℕ) → Each (λ y. y < t) targets → Live sources targets marks times → t ≤ due rule marks times
+      → decide rule marks times target t .breaks ≡ true → (fs gs : List ℕ) → Each (λ s. t ≤ s) fs → ¬ Meet (sources ++ fs) (targets ++ (t ∷ []) ++ gs)
+  pub late : (sources targets : List ℕ) (marks : Marks) (times : List ℕ) (t : ℕ) → Live sources targets marks times → due rule marks times < t → t ≤ lastTime
       → (fs gs : List ℕ) → Each (λ s. t ≤ s) fs → Each (λ y. t ≤ y) gs → ¬ Meet (sources ++ fs) (targets ++ gs)
-  pub is-open : (now : ℕ) (sources targets : List ℕ) (marks : Marks) (times : List ℕ) → Recorded now sources targets → Live sources targets marks times
+  pub is-open : (now : ℕ) (sources targets : List ℕ) (marks : Marks) (times : List ℕ) → UpTo now sources targets → Live sources targets marks times
       → now ≤ due rule marks times
       → Further now sources (λ all. Meet all targets) ⊎ Further now targets (λ all. Meet sources all)
   pub waits : (sources targets : List ℕ) (marks : Marks) (times : List ℕ) → Live sources targets marks times
@@ -64,8 +62,10 @@ pub record PairLaws (rule : Rule) (source target : ℕ) (Meet : List ℕ → Lis
   pub is-kept : (sources targets : List ℕ) (marks : Marks) (times : List ℕ) → Live sources targets marks times → kept rule marks times ≡ true → Meet sources targets
   pub not-kept : (sources targets : List ℕ) (marks : Marks) (times : List ℕ) → Live sources targets marks times → kept rule marks times ≡ false → ¬ Meet sources targets
 
-module _ (c : Constraint) (source target : ℕ) (Meet : List ℕ → List ℕ → Type 0) (wait : List ℕ → List ℕ → ℕ) (kinds-are : kinds c ≡ source ∷ target ∷ []) (fit : KindsFit (kinds c))
-    (meets-are : (steps : List Step) → Meets c steps ≡ Meet (times source steps) (times target steps)) (waiting-is : (steps : List Step) → waiting c steps ≡ wait (times source steps) (times target steps))
+module _ (c : Constraint) (source target : ℕ) (Meet : List ℕ → List ℕ → Type 0) (wait : List ℕ → List ℕ → ℕ)
+    (kinds-are : kinds c ≡ source ∷ target ∷ []) (fit : KindsFit (kinds c))
+    (meets-are : (steps : List Step) → Meets c steps ≡ Meet (times source steps) (times target steps))
+    (waiting-is : (steps : List Step) → waiting c steps ≡ wait (times source steps) (times target steps))
     (laws : PairLaws (ruleOf c) source target Meet wait) where
   -- ---- the two kinds
 
@@ -86,8 +86,8 @@ module _ (c : Constraint) (source target : ℕ) (Meet : List ℕ → List ℕ �
 
   -- ---- the lists of times
 
-  recorded : (now : ℕ) (steps : List Step) → Past steps → clock steps ≤ now → now ≤ lastTime → Recorded now (times source steps) (times target steps)
-  recorded now steps p later small =
+  up-to : (now : ℕ) (steps : List Step) → Past steps → clock steps ≤ now → now ≤ lastTime → UpTo now (times source steps) (times target steps)
+  up-to now steps p later small =
       record {
         sources-rise = p .rising source;
         targets-rise = p .rising target;
@@ -109,28 +109,26 @@ module _ (c : Constraint) (source target : ℕ) (Meet : List ℕ → List ℕ �
       → GoesOn (ruleOf c) (laws .Live (times source (steps ++ (event k t ∷ []))) (times target (steps ++ (event k t ∷ [])))) held t (decide (ruleOf c) marks held k t)
   pair-goes-on steps marks held k t p live (inl e) a in-time goes =
       rw (e, times-own source t steps, times-other target source t steps apart)
-      (laws .source-goes-on (times source steps) (times target steps) marks held t (recorded t steps p (a .3 .0) (a .2)) live in-time)
+      (laws .source-goes-on (times source steps) (times target steps) marks held t (up-to t steps p (a .3 .0) (a .2)) live in-time)
   pair-goes-on steps marks held k t p live (inr e) a in-time goes =
       rw (e, times-own target t steps, times-other source target t steps (λ f. apart (sym f)))
-      (laws .target-goes-on (times source steps) (times target steps) marks held t (recorded t steps p (a .3 .0) (a .2)) (rw e at (a .3 .1)) live in-time (rw e at goes))
+      (laws .target-goes-on (times source steps) (times target steps) marks held t (up-to t steps p (a .3 .0) (a .2)) (rw e at (a .3 .1)) live in-time (rw e at goes))
 
-  pair-breaks : (steps : List Step) (marks : Marks) (held : List ℕ) (k t : ℕ) → Past steps → laws .Live (times source steps) (times target steps) marks held
-      → (k ≡ source) ⊎ (k ≡ target) → Accepts steps (event k t) → t ≤ due (ruleOf c) marks held → decide (ruleOf c) marks held k t .breaks ≡ true → ¬ Open c (steps ++ (event k t ∷ []))
-  pair-breaks steps marks held k t p live (inl e) a in-time breaks (further, follows, meets) = false≢true (sym (laws .source-goes marks held t) ∙ rw e at breaks)
-  pair-breaks steps marks held k t p live (inr e) a in-time breaks (further, follows, meets) =
-      laws .target-breaks (times source steps) (times target steps) marks held t (recorded t steps p (a .3 .0) (a .2)) (rw e at (a .3 .1)) live in-time (rw e at breaks)
-      (times source further) (times target further) (late source) (late target)
+  pair-breaks : (steps : List Step) (marks : Marks) (held : List ℕ) (k t : ℕ) → laws .Live (times source steps) (times target steps) marks held
+      → (k ≡ source) ⊎ (k ≡ target) → Accepts steps (event k t) → t ≤ due (ruleOf c) marks held → decide (ruleOf c) marks held k t .breaks ≡ true
+      → ¬ Open c (steps ++ (event k t ∷ []))
+  pair-breaks steps marks held k t live (inl e) a in-time breaks (further, follows, meets) = false≢true (sym (laws .source-goes marks held t) ∙ rw e at breaks)
+  pair-breaks steps marks held k t live (inr e) a in-time breaks (further, follows, meets) =
+      laws .target-breaks (times source steps) (times target steps) marks held t (rw e at (a .3 .1)) live in-time (rw e at breaks)
+      (times source further) (times target further) (rw (clock-event k t steps) at (continues-late follows source))
       (rw (e, times-own target t steps, times-other source target t steps (λ f. apart (sym f))) at (meets-joined (steps ++ (event k t ∷ [])) further meets))
-    where
-      late : (j : ℕ) → Each (λ s. t ≤ s) (times j further)
-      late j = rw (clock-event k t steps) at (continues-late follows j)
 
   -- ---- Ticks
 
-  pair-late : (steps : List Step) (marks : Marks) (held : List ℕ) (t : ℕ) → Past steps → laws .Live (times source steps) (times target steps) marks held → t ≤ lastTime
-      → due (ruleOf c) marks held < t → ¬ Open c (steps ++ (tick t ∷ []))
-  pair-late steps marks held t p live small passed (further, follows, meets) =
-      laws .late (clock steps) (times source steps) (times target steps) marks held t (recorded (clock steps) steps p (omega arith) (p .small)) live small passed
+  pair-late : (steps : List Step) (marks : Marks) (held : List ℕ) (t : ℕ) → laws .Live (times source steps) (times target steps) marks held → due (ruleOf c) marks held < t
+      → t ≤ lastTime → ¬ Open c (steps ++ (tick t ∷ []))
+  pair-late steps marks held t live passed small (further, follows, meets) =
+      laws .late (times source steps) (times target steps) marks held t live passed small
       (times source further) (times target further) (late source) (late target)
       (rw (times-tick source t steps, times-tick target t steps) at (meets-joined (steps ++ (tick t ∷ [])) further meets))
     where
@@ -139,7 +137,8 @@ module _ (c : Constraint) (source target : ℕ) (Meet : List ℕ → List ℕ �
 
   -- ---- Open
 
-  pair-open : (steps : List Step) → closed steps ≡ false → Further (clock steps) (times source steps) (λ all. Meet all (times target steps)) ⊎ Further (clock steps) (times target steps) (λ all. Meet (times source steps) all)
+  pair-open : (steps : List Step) → closed steps ≡ false
+      → Further (clock steps) (times source steps) (λ all. Meet all (times target steps)) ⊎ Further (clock steps) (times target steps) (λ all. Meet (times source steps) all)
       → Open c steps
   unfolding KindsFit
   pair-open steps o (inl (further, rising, late, meets)) = (
@@ -164,11 +163,13 @@ module _ (c : Constraint) (source target : ℕ) (Meet : List ℕ → List ℕ �
         goes-on = λ steps marks held k t p live kind a in-time change is goes.
             subst (GoesOn (ruleOf c) (laws .Live (times source (steps ++ (event k t ∷ []))) (times target (steps ++ (event k t ∷ [])))) held t) is
             (pair-goes-on steps marks held k t p live (of-kind k kind) a in-time (ap (λ (x : Change). x .breaks) is ∙ goes));
-        breaks = λ steps marks held k t p live kind. pair-breaks steps marks held k t p live (of-kind k kind);
-        same = λ a b marks held same live. let both : SameTimes (source ∷ target ∷ []) a b = rw kinds-are at same in subst₂ (λ (x y : List ℕ). laws .Live x y marks held) (both 0 (omega arith)) (both 1 (omega arith)) live;
-        late = pair-late;
+        breaks = λ steps marks held k t p live kind. pair-breaks steps marks held k t live (of-kind k kind);
+        same = λ a b marks held same live.
+            let same-pair : SameTimes (source ∷ target ∷ []) a b = rw kinds-are at same in
+            subst₂ (λ (x y : List ℕ). laws .Live x y marks held) (same-pair 0 (omega arith)) (same-pair 1 (omega arith)) live;
+        late = λ steps marks held t p. pair-late steps marks held t;
         is-open = λ steps marks held p o live in-time.
-            pair-open steps o (laws .is-open (clock steps) (times source steps) (times target steps) marks held (recorded (clock steps) steps p (omega arith) (p .small)) live in-time);
+            pair-open steps o (laws .is-open (clock steps) (times source steps) (times target steps) marks held (up-to (clock steps) steps p (omega arith) (p .small)) live in-time);
         waits = λ steps marks held p live. rw (waiting-is steps) (laws .waits (times source steps) (times target steps) marks held live);
         is-kept = λ steps marks held p live k. transport (sym (meets-are steps)) (laws .is-kept (times source steps) (times target steps) marks held live k);
         not-kept = λ steps marks held p live k m. laws .not-kept (times source steps) (times target steps) marks held live k (transport (meets-are steps) m);

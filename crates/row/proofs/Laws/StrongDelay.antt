@@ -14,17 +14,17 @@ use Rattle.constraint.specs.Meets.{Between, Meets, MeetsStrongDelay}
 use Rattle.constraint.specs.Waiting.{waiting}
 use Rattle.constraint.specs.Accepted.{KindsFit, LowerFirst}
 use Rattle.constraint.specs.declared.Constraint.the-variants.{StrongDelay}
-use Rattle.constraint.proofs.Lists.{split, Each, Rising, rising-right, rising-across}
+use Rattle.constraint.proofs.Lists.{split, Each, Rising, rising-across}
+use Rattle.constraint.proofs.Counting.{next-least}
 use Rattle.row.specs.Row.{ruleOf, noMarks, plus, withLast, goesOn, breaking, dueOldest}
 use Rattle.row.specs.StrongDelay.{sourceStrongDelay, targetStrongDelay, decideStrongDelay, dueStrongDelay, keptStrongDelay}
 use Rattle.row.specs.Machine.{decide, due, kept}
 use Rattle.row.specs.declared.Rule.{Rule}
 use Rattle.row.specs.declared.Marks.{Marks}
 use Rattle.row.proofs.Exact.{Sound, Exact}
-use Rattle.row.proofs.Laws.Sums.{due-each, due-pushed, due-dropped}
-use Rattle.row.proofs.Laws.Answers.{free-within}
-use Rattle.row.proofs.Laws.Pairs.{Recorded, Further, GoesOn, PairLaws, pair-exact}
-use Rattle.row.proofs.Laws.Paired.{Paired, Ahead, Beyond, Pairing, pairing-start, beyond-each, source-waits, source-partners, target-partners, target-beyond, target-misfits, waiting-late, beyond-late, beyond-misfits, beyond-open, ahead-open, pairing-waits, pairing-paired, paired-none-beyond}
+use Rattle.row.proofs.Laws.Due.{due-each, due-pushed, due-dropped}
+use Rattle.row.proofs.Laws.Pairs.{UpTo, Further, GoesOn, PairLaws, pair-exact}
+use Rattle.row.proofs.Laws.Paired.{Paired, Ahead, Beyond, Pairing, pairing-start, beyond-each, source-waits, source-partners, target-partners, target-beyond, target-misfits, ahead-rising, waiting-late, beyond-late, beyond-misfits, beyond-open, ahead-open, pairing-waits, pairing-paired, paired-none-beyond}
 
 -- the times are the sources beyond the number of targets
 abbrev LiveStrongDelay : ℕ → ℕ → List ℕ → List ℕ → Marks → List ℕ → Type 0
@@ -34,6 +34,9 @@ LiveStrongDelay lower upper sources targets marks times = Pairing (Between lower
 breaks-not : (b : Bool) (dropped : ℕ) (pushed : Bool) (after marks : Marks) → cond b (goesOn dropped pushed after) (breaking marks) .breaks ≡ not b
 breaks-not true dropped pushed after marks = refl
 breaks-not false dropped pushed after marks = refl
+
+between-not-later : (lower upper x y : ℕ) → Between lower upper x y → x ≤ y
+between-not-later lower upper x y f = omega (arith, f .0)
 
 module _ (source target lower upper : ℕ) (sound : Sound (StrongDelay source target lower upper)) where
   abbrev rule : Rule
@@ -46,6 +49,7 @@ module _ (source target lower upper : ℕ) (sound : Sound (StrongDelay source ta
 
   -- ---- Events
 
+  -- what the machine does in each state
   due-ahead : (marks : Marks) (times : List ℕ) → marks .last ≡ 0 → due rule marks times ≡ dueOldest upper times
   unfolding dueStrongDelay
   due-ahead marks times e = rw e
@@ -58,45 +62,49 @@ module _ (source target lower upper : ℕ) (sound : Sound (StrongDelay source ta
   unfolding decideStrongDelay sourceStrongDelay
   source-change-ahead marks times t e = rw (eq-eqb source source refl, e)
 
-  source-change-beyond : (marks : Marks) (times : List ℕ) (t x : ℕ) → marks .last ≡ x + 1 → decide rule marks times source t ≡ goesOn 0 false (withLast marks 0)
+  source-change-beyond : (marks : Marks) (times : List ℕ) (t b : ℕ) → marks .last ≡ b + 1 → decide rule marks times source t ≡ goesOn 0 false (withLast marks 0)
   unfolding decideStrongDelay sourceStrongDelay
-  source-change-beyond marks times t x e = rw (eq-eqb source source refl, e, ne-eqb (x + 1) 0 (omega arith))
+  source-change-beyond marks times t b e = rw (eq-eqb source source refl, e, ne-eqb (b + 1) 0 (omega arith))
 
+  target-change : (marks : Marks) (times : List ℕ) (t : ℕ) → decide rule marks times target t ≡ targetStrongDelay rule marks times t
+  unfolding decideStrongDelay KindsFit
+  target-change marks times t = rw (ne-eqb target source (λ e. sound .kinds-fit .1 0 1 (omega arith) (omega arith) (sym e)))
+
+  target-change-none : (marks : Marks) (t : ℕ) → decide rule marks [] target t ≡ cond (eqb lower 0) (goesOn 0 false (withLast marks (plus t 1))) (breaking marks)
+  unfolding targetStrongDelay
+  target-change-none marks t = target-change marks [] t
+
+  target-change-some : (marks : Marks) (s : ℕ) (times : List ℕ) (t : ℕ) → decide rule marks (s ∷ times) target t ≡ cond (leb (s + lower) t) (goesOn 1 false marks) (breaking marks)
+  unfolding targetStrongDelay
+  target-change-some marks s times t = target-change marks (s ∷ times) t
+
+  -- a source never breaks it
   source-goes : (marks : Marks) (times : List ℕ) (t : ℕ) → decide rule marks times source t .breaks ≡ false
   unfolding decideStrongDelay sourceStrongDelay
   source-goes marks times t =
       rw (eq-eqb source source refl)
       (split (eqb (marks .last) 0) (λ x. cond x (goesOn 0 true marks) (goesOn 0 false (withLast marks 0)) .breaks ≡ false) (λ e. refl) (λ e. refl))
 
-  target-change-none : (marks : Marks) (t : ℕ) → decide rule marks [] target t ≡ cond (eqb lower 0) (goesOn 0 false (withLast marks (plus t 1))) (breaking marks)
-  unfolding decideStrongDelay targetStrongDelay KindsFit
-  target-change-none marks t = rw (ne-eqb target source (λ e. sound .kinds-fit .1 0 1 (omega arith) (omega arith) (sym e)))
-
-  target-change-some : (marks : Marks) (s : ℕ) (times : List ℕ) (t : ℕ) → decide rule marks (s ∷ times) target t ≡ cond (leb (s + lower) t) (goesOn 1 false marks) (breaking marks)
-  unfolding decideStrongDelay targetStrongDelay KindsFit
-  target-change-some marks s times t = rw (ne-eqb target source (λ e. sound .kinds-fit .1 0 1 (omega arith) (omega arith) (sym e)))
-
-  source-goes-on : (sources targets : List ℕ) (marks : Marks) (times : List ℕ) (t : ℕ) → Recorded t sources targets → LiveStrongDelay lower upper sources targets marks times
+  source-goes-on : (sources targets : List ℕ) (marks : Marks) (times : List ℕ) (t : ℕ) → UpTo t sources targets → LiveStrongDelay lower upper sources targets marks times
       → t ≤ due rule marks times → GoesOn rule (LiveStrongDelay lower upper (sources ++ t ∷ []) targets) times t (decide rule marks times source t)
   source-goes-on sources targets marks times t r (inl (none, a)) in-time =
       rw (source-change-ahead marks times t none) (
-        inl (none, source-waits (Between lower upper) sources targets times t a),
+        inl (none, source-waits t a),
         rw (due-ahead marks (times ++ t ∷ []) none) (due-pushed upper t times (r .small) (rw (due-ahead marks times none) at in-time)),
       )
-  source-goes-on sources targets marks times t r (inr (x, is, none, b)) in-time =
-      rw (source-change-beyond marks times t x is, none) (
-        inl (refl, subst (λ (y : ℕ). Ahead (Between lower upper) (sources ++ y ∷ []) targets []) now (source-partners (Between lower upper) sources targets x b)),
+  source-goes-on sources targets marks times t r (inr (b, is, none, beyond)) in-time =
+      rw (source-change-beyond marks times t b is, none) (
+        inl (refl, subst (λ (x : ℕ). Ahead (Between lower upper) (sources ++ x ∷ []) targets []) now (source-partners beyond)),
         rw (due-ahead (withLast marks 0) [] refl) (omega (arith, r .small)),
       )
     where
-      now : x ≡ t
-      now = omega (arith, beyond-each (Between lower upper) (λ y. y ≤ t) sources targets x b (r .targets-past), due-beyond marks times x is)
+      now : b ≡ t
+      now = omega (arith, beyond-each (λ y. y ≤ t) beyond (r .targets-past), due-beyond marks times b is)
 
   -- a second target beyond would be later than the due time
-  beyond-twice : (sources targets : List ℕ) (marks : Marks) (times : List ℕ) (t x : ℕ) → Each (λ y. y < t) targets → marks .last ≡ x + 1 → Beyond (Between lower upper) sources targets x
+  beyond-once : (sources targets : List ℕ) (marks : Marks) (times : List ℕ) (t b : ℕ) → Each (λ y. y < t) targets → marks .last ≡ b + 1 → Beyond (Between lower upper) sources targets b
       → ¬ (t ≤ due rule marks times)
-  beyond-twice sources targets marks times t x before is b in-time =
-      omega (arith, beyond-each (Between lower upper) (λ y. y < t) sources targets x b before, due-beyond marks times x is)
+  beyond-once sources targets marks times t b before is beyond in-time = omega (arith, beyond-each (λ y. y < t) beyond before, due-beyond marks times b is)
 
   test-none : (marks : Marks) (t : ℕ) → decide rule marks [] target t .breaks ≡ not (eqb lower 0)
   test-none marks t = rw (target-change-none marks t) (breaks-not (eqb lower 0) 0 false (withLast marks (plus t 1)) marks)
@@ -104,78 +112,81 @@ module _ (source target lower upper : ℕ) (sound : Sound (StrongDelay source ta
   test-some : (marks : Marks) (s : ℕ) (times : List ℕ) (t : ℕ) → decide rule marks (s ∷ times) target t .breaks ≡ not (leb (s + lower) t)
   test-some marks s times t = rw (target-change-some marks s times t) (breaks-not (leb (s + lower) t) 1 false marks marks)
 
-  target-goes-on : (sources targets : List ℕ) (marks : Marks) (times : List ℕ) (t : ℕ) → Recorded t sources targets → Each (λ y. y < t) targets
+  target-goes-on : (sources targets : List ℕ) (marks : Marks) (times : List ℕ) (t : ℕ) → UpTo t sources targets → Each (λ y. y < t) targets
       → LiveStrongDelay lower upper sources targets marks times → t ≤ due rule marks times → decide rule marks times target t .breaks ≡ false
       → GoesOn rule (LiveStrongDelay lower upper sources (targets ++ t ∷ [])) times t (decide rule marks times target t)
   target-goes-on sources targets marks [] t r before (inl (none, a)) in-time goes =
       let e = not-false (eqb lower 0) (sym (test-none marks t) ∙ goes) in
       rw (target-change-none marks t, e) (
-        inr (t, omega (arith, r .small), refl, target-beyond (Between lower upper) sources targets t a (omega (arith, eqb-true lower 0 e), omega arith)),
+        inr (t, omega (arith, r .small), refl, target-beyond t a (omega (arith, eqb-true lower 0 e), omega arith)),
         rw (due-beyond (withLast marks (plus t 1)) [] t (omega (arith, r .small))) (omega arith),
       )
   target-goes-on sources targets marks (s ∷ times) t r before (inl (none, a)) in-time goes =
       let e = not-false (leb (s + lower) t) (sym (test-some marks s times t) ∙ goes) in
       let oldest : t ≤ plus s upper = rw (due-ahead marks (s ∷ times) none) at in-time in
       rw (target-change-some marks s times t, e) (
-        inl (none, target-partners (Between lower upper) sources targets s times t a (leb-true (s + lower) t e, omega arith)),
-        rw (due-ahead marks times none) (due-dropped upper t 1 (s ∷ times) (r .small) (rising-right (a .paired) (s ∷ times) (rw (a .rest) at (r .sources-rise))) oldest),
+        inl (none, target-partners t a (leb-true (s + lower) t e, omega arith)),
+        rw (due-ahead marks times none) (due-dropped upper t 1 (s ∷ times) (r .small) (ahead-rising a (r .sources-rise)) oldest),
       )
-  target-goes-on sources targets marks times t r before (inr (x, is, none, b)) in-time goes = absurd (beyond-twice sources targets marks times t x before is b in-time)
+  target-goes-on sources targets marks times t r before (inr (b, is, none, beyond)) in-time goes = absurd (beyond-once sources targets marks times t b before is beyond in-time)
 
   target-breaks : (sources targets : List ℕ) (marks : Marks) (times : List ℕ) (t : ℕ) → Each (λ y. y < t) targets → LiveStrongDelay lower upper sources targets marks times
       → t ≤ due rule marks times → decide rule marks times target t .breaks ≡ true → (fs gs : List ℕ) → Each (λ s. t ≤ s) fs
       → ¬ Paired (Between lower upper) (sources ++ fs) (targets ++ (t ∷ []) ++ gs)
   target-breaks sources targets marks [] t before (inl (none, a)) in-time breaks fs gs late =
       let e = not-true (eqb lower 0) (sym (test-none marks t) ∙ breaks) in
-      beyond-misfits (Between lower upper) (λ x y f. omega (arith, f .0)) sources targets t a (λ f. eqb-false lower 0 e (omega (arith, f .0))) fs gs late
+      beyond-misfits (between-not-later lower upper) t a (λ f. eqb-false lower 0 e (omega (arith, f .0))) fs gs late
   target-breaks sources targets marks (s ∷ times) t before (inl (none, a)) in-time breaks fs gs late =
       let e = not-true (leb (s + lower) t) (sym (test-some marks s times t) ∙ breaks) in
-      target-misfits (Between lower upper) sources targets s times t a (λ f. omega (arith, f .0, leb-false (s + lower) t e)) fs gs
-  target-breaks sources targets marks times t before (inr (x, is, none, b)) in-time breaks fs gs late = absurd (beyond-twice sources targets marks times t x before is b in-time)
+      target-misfits t a (λ f. omega (arith, f .0, leb-false (s + lower) t e)) fs gs
+  target-breaks sources targets marks times t before (inr (b, is, none, beyond)) in-time breaks fs gs late = absurd (beyond-once sources targets marks times t b before is beyond in-time)
 
   -- ---- Ticks
 
-  strong-delay-late : (sources targets : List ℕ) (marks : Marks) (times : List ℕ) (t : ℕ) → LiveStrongDelay lower upper sources targets marks times → t ≤ lastTime
-      → due rule marks times < t → (fs gs : List ℕ) → Each (λ s. t ≤ s) fs → Each (λ y. t ≤ y) gs → ¬ Paired (Between lower upper) (sources ++ fs) (targets ++ gs)
-  strong-delay-late sources targets marks [] t (inl (none, a)) small passed fs gs late-fs late-gs m = omega (arith, due-ahead marks [] none)
-  strong-delay-late sources targets marks (s ∷ times) t (inl (none, a)) small passed fs gs late-fs late-gs m =
-      waiting-late (Between lower upper) sources targets s times t a (λ g h f. omega (arith, f .1, due-ahead marks (s ∷ times) none)) fs gs late-gs m
-  strong-delay-late sources targets marks times t (inr (x, is, none, b)) small passed fs gs late-fs late-gs m =
-      beyond-late (Between lower upper) (λ x y f. omega (arith, f .0)) sources targets x t b (omega (arith, due-beyond marks times x is)) fs gs late-fs m
+  strong-delay-late : (sources targets : List ℕ) (marks : Marks) (times : List ℕ) (t : ℕ) → LiveStrongDelay lower upper sources targets marks times
+      → due rule marks times < t → t ≤ lastTime → (fs gs : List ℕ) → Each (λ s. t ≤ s) fs → Each (λ y. t ≤ y) gs → ¬ Paired (Between lower upper) (sources ++ fs) (targets ++ gs)
+  strong-delay-late sources targets marks [] t (inl (none, a)) passed small fs gs late-fs late-gs m = omega (arith, due-ahead marks [] none)
+  strong-delay-late sources targets marks (s ∷ times) t (inl (none, a)) passed small fs gs late-fs late-gs m =
+      waiting-late t a (λ g h f. omega (arith, f .1, due-ahead marks (s ∷ times) none)) fs gs late-gs m
+  strong-delay-late sources targets marks times t (inr (b, is, none, beyond)) passed small fs gs late-fs late-gs m =
+      beyond-late (between-not-later lower upper) t beyond (omega (arith, due-beyond marks times b is)) fs gs late-fs m
 
   -- ---- Open
 
   -- every target is earlier than the end of each waiting source's interval
   targets-early : (sources targets waiting : List ℕ) → Rising sources → Ahead (Between lower upper) sources targets waiting → Each (λ s. Each (λ t. t < s + upper) targets) waiting
   targets-early sources targets waiting rise a i h j k =
-      omega (arith, rising-across (a .paired) waiting (rw (a .rest) at rise) j (omega (arith, a .pairs .0)) i h, a .pairs .1 j (omega (arith, a .pairs .0)))
+      omega (arith, rising-across (a .paired) waiting (subst Rising (a .rest) rise) j (omega (arith, a .pairs .0)) i h, a .pairs .1 j (omega (arith, a .pairs .0)))
 
-  strong-delay-open : (now : ℕ) (sources targets : List ℕ) (marks : Marks) (times : List ℕ) → Recorded now sources targets → LiveStrongDelay lower upper sources targets marks times
+  strong-delay-open : (now : ℕ) (sources targets : List ℕ) (marks : Marks) (times : List ℕ) → UpTo now sources targets → LiveStrongDelay lower upper sources targets marks times
       → now ≤ due rule marks times
       → Further now sources (λ all. Paired (Between lower upper) all targets) ⊎ Further now targets (λ all. Paired (Between lower upper) sources all)
   unfolding LowerFirst
   strong-delay-open now sources targets marks times r (inl (none, a)) in-time =
-      inr (ahead-open (Between lower upper) now lower upper sources targets times (sound .lower-first) (λ x y f. f) r a
-      (λ i h. free-within now (at times i + upper) targets (due-each upper now times rise (rw (due-ahead marks times none) at in-time) i h) (targets-early sources targets times (r .sources-rise) a i h)))
-    where
-      rise : Rising times
-      rise = rising-right (a .paired) times (rw (a .rest) at (r .sources-rise))
-  strong-delay-open now sources targets marks times r (inr (x, is, none, b)) in-time =
-      inl (beyond-open (Between lower upper) (λ x y f. omega (arith, f .0)) now sources targets x r b (omega (arith, due-beyond marks times x is)))
+      let each-in-time = due-each upper now times (ahead-rising a (r .sources-rise)) (rw (due-ahead marks times none) at in-time) in
+      inr (ahead-open lower upper (sound .lower-first) (λ x y f. f) r a
+      (λ i h. omega (arith, each-in-time i h, next-least targets (at times i + upper) (targets-early sources targets times (r .sources-rise) a i h))))
+  strong-delay-open now sources targets marks times r (inr (b, is, none, beyond)) in-time =
+      inl (beyond-open (between-not-later lower upper) r beyond (omega (arith, due-beyond marks times b is)))
+
+  -- ---- Waiting
+
+  strong-delay-waits : (sources targets : List ℕ) (marks : Marks) (times : List ℕ) → LiveStrongDelay lower upper sources targets marks times → length sources - length targets ≡ length times
+  strong-delay-waits sources targets marks times live = pairing-waits live
 
   -- ---- Close
 
   strong-delay-kept : (sources targets : List ℕ) (marks : Marks) (times : List ℕ) → LiveStrongDelay lower upper sources targets marks times → kept rule marks times ≡ true
       → Paired (Between lower upper) sources targets
   unfolding keptStrongDelay
-  strong-delay-kept sources targets marks [] live e = pairing-paired (Between lower upper) sources targets (marks .last) [] live refl (eqb-true (marks .last) 0 e)
+  strong-delay-kept sources targets marks [] live e = pairing-paired [] live refl (eqb-true (marks .last) 0 e)
   strong-delay-kept sources targets marks (s ∷ times) live e = absurd (false≢true e)
 
   strong-delay-not-kept : (sources targets : List ℕ) (marks : Marks) (times : List ℕ) → LiveStrongDelay lower upper sources targets marks times → kept rule marks times ≡ false
       → ¬ Paired (Between lower upper) sources targets
   unfolding keptStrongDelay
-  strong-delay-not-kept sources targets marks [] live e p = eqb-false (marks .last) 0 e (paired-none-beyond (Between lower upper) sources targets (marks .last) [] live p .1)
-  strong-delay-not-kept sources targets marks (s ∷ times) live e p = omega (arith, paired-none-beyond (Between lower upper) sources targets (marks .last) (s ∷ times) live p .0)
+  strong-delay-not-kept sources targets marks [] live e p = eqb-false (marks .last) 0 e (paired-none-beyond live p .1)
+  strong-delay-not-kept sources targets marks (s ∷ times) live e p = omega (arith, paired-none-beyond live p .0)
 
   -- ---- Exact
 
@@ -183,14 +194,14 @@ module _ (source target lower upper : ℕ) (sound : Sound (StrongDelay source ta
   strong-delay-laws =
       record {
         Live = LiveStrongDelay lower upper;
-        start = pairing-start (Between lower upper);
+        start = strong-delay-start;
         source-goes-on = source-goes-on;
         target-goes-on = target-goes-on;
         source-goes = source-goes;
-        target-breaks = λ sources targets marks times t r before live in-time breaks fs gs late-fs late-gs. target-breaks sources targets marks times t before live in-time breaks fs gs late-fs;
-        late = λ now sources targets marks times t r live. strong-delay-late sources targets marks times t live;
+        target-breaks = target-breaks;
+        late = strong-delay-late;
         is-open = strong-delay-open;
-        waits = λ sources targets marks times live. inl (pairing-waits (Between lower upper) sources targets (marks .last) times live);
+        waits = λ sources targets marks times live. inl (strong-delay-waits sources targets marks times live);
         is-kept = strong-delay-kept;
         not-kept = strong-delay-not-kept;
       }

@@ -1,8 +1,8 @@
 -- The sources with no target in their interval, as a list: it is filtered source by source and target by target, and Delay is met just where it is empty.
 use Prim.Native.Nat.{ℕ, zero, suc, _+_, _<_}
 use native.Mathlib.Omega.{arith}
-use mathlib.Core.Path.{_≡_, refl, ap}
-use mathlib.Core.Bool.{true, cond, not, _&&_, _||_, or-true}
+use mathlib.Core.Path.{_≡_, refl, sym, ap, _∙_}
+use mathlib.Core.Bool.{Bool, true, false, cond, not, _&&_, _||_, or-true, true≢false, false≢true}
 use mathlib.Core.List.{List, [], _∷_, _++_}
 use lib.ListN.{length}
 use lib.Dec.{leb}
@@ -11,7 +11,6 @@ use Rattle.constraint.specs.Steps.{at}
 use Rattle.constraint.specs.Meets.{Between, MeetsDelay}
 use Rattle.constraint.specs.Waiting.{answered, oneIf, unanswered}
 use Rattle.constraint.proofs.Lists.{split, Each, each-none, each-cons, each-tail, Rising}
-use Rattle.row.proofs.Laws.Tests.{both-true}
 
 -- a target in the interval of the source at s
 abbrev pub Answered : ℕ → ℕ → List ℕ → ℕ → Type 0
@@ -22,10 +21,14 @@ abbrev pub unmet : ℕ → ℕ → List ℕ → List ℕ → List ℕ
 unmet lower upper [] targets = []
 unmet lower upper (s ∷ sources) targets = cond (answered lower upper s targets) (unmet lower upper sources targets) (s ∷ unmet lower upper sources targets)
 
+both-true : (a b : Bool) → (a && b) ≡ true → (a ≡ true) × (b ≡ true)
+both-true true b e = (refl, e)
+both-true false b e = absurd (false≢true e)
+
 module _ (lower upper : ℕ) where
   pub answered-true : (s : ℕ) (targets : List ℕ) → answered lower upper s targets ≡ true → Answered lower upper targets s
   unfolding answered
-  answered-true s [] e = absurd (let z : _≡_ {A = ℕ} 0 1 = cc in omega arith)
+  answered-true s [] e = absurd (false≢true e)
   answered-true s (t ∷ targets) e =
       split (leb (s + lower) t && leb t (s + upper)) (λ x. (x || answered lower upper s targets) ≡ true → Answered lower upper (t ∷ targets) s)
       (λ f g. let h = both-true (leb (s + lower) t) (leb t (s + upper)) f in (0, omega arith, (leb-true (s + lower) t (h .0), leb-true t (s + upper) (h .1))))
@@ -83,7 +86,7 @@ module _ (lower upper : ℕ) where
       split (answered lower upper s targets) (λ x. Each (λ s. ¬ Answered lower upper targets s) (cond x (unmet lower upper sources targets) (s ∷ unmet lower upper sources targets)))
       (λ e. unmet-unanswered sources targets)
       (λ e. each-cons (λ s. ¬ Answered lower upper targets s) s (unmet lower upper sources targets)
-      (λ a. let f = answered-by s targets (a .0) (a .1) (a .2) in let z : _≡_ {A = ℕ} 0 1 = cc in omega arith) (unmet-unanswered sources targets))
+      (λ a. true≢false (sym (answered-by s targets (a .0) (a .1) (a .2)) ∙ e)) (unmet-unanswered sources targets))
 
   pub unmet-count : (sources targets : List ℕ) → unanswered lower upper sources targets ≡ length (unmet lower upper sources targets)
   unfolding unanswered

@@ -1,0 +1,4 @@
+-- Why the monitor's machine keeps the promise.
+pub mod FittingRows
+pub mod Following
+pub mod Demand

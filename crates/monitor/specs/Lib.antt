@@ -1,0 +1,3 @@
+-- The machine of the monitor: what the code computes, as functions on its records.
+pub mod Machine
+pub mod Contract

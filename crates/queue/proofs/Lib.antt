@@ -1,0 +1,2 @@
+-- What is true of a queue.
+pub mod Laws

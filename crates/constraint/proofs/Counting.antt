@@ -1,14 +1,14 @@
 -- The count of steps fits its number: with `nextFree` of a kind one more than its last time, each event raises the sum of all 64 by one at least, each tick raises the clock, and the close comes once; so the times' range bounds the count.
 use Prim.Native.Nat.{ℕ, zero, suc, _+_, _*_, _^_, _≤_, _<_, max}
-use native.Mathlib.Decide.{decLt, ℕ-discrete}
+use native.Mathlib.Decide.{ℕ-discrete}
 use native.Mathlib.Omega.{arith}
-use mathlib.Core.Path.{_≡_, refl, sym, ap, ap₂, _∙_, subst}
+use mathlib.Core.Path.{_≡_, refl, ap, ap₂, _∙_, subst}
 use mathlib.Core.Bool.{Bool, true, false, cond}
 use mathlib.Core.List.{List, [], _∷_, _++_}
 use mathlib.Core.Logic.{by-cases}
 use lib.ListN.{length, length-append}
-use Rattle.constraint.specs.Limits.{noLimit, lastKind, lastTime}
-use Rattle.constraint.specs.Steps.{Step, event, tick, close, at, times, clockFrom, clock, closed}
+use Rattle.constraint.specs.Limits.{noLimit}
+use Rattle.constraint.specs.Steps.{Step, event, tick, close, at, times, clock, closed}
 use Rattle.constraint.specs.Continuation.{EventInOrder}
 use Rattle.constraint.proofs.Lists.{Each, each-none, each-cons, each-tail}
 use Rattle.constraint.proofs.History.{times-own, times-other, times-tick, times-close, clock-event, clock-tick, clock-close, closed-event, closed-tick, closed-close, Accepts, Valid, valid-none, valid-more, Past, past-of}

@@ -1,12 +1,12 @@
 -- The rows' questions can be decided, so every table has an answer: each is made of orders and equations of numbers.
-use Prim.Native.Nat.{ℕ, _+_, _≤_, _<_}
+use Prim.Native.Nat.{ℕ, _+_, _<_}
 use native.Mathlib.Decide.{ℕ-discrete, decLe, decLt}
-use mathlib.Core.Path.{_≡_, refl}
+use mathlib.Core.Path.{refl}
 use mathlib.Core.List.{List, [], _∷_, _++_}
-use mathlib.Core.Logic.{_⊎_, inl, inr, ⊎-elim, _≢_}
+use mathlib.Core.Logic.{_⊎_, inl, inr, ⊎-elim}
 use Rattle.constraint.specs.Limits.{lastKind, lastTime, noLimit, rowLimit, spanLimit}
 use Rattle.constraint.specs.Questions.{Question, Judged}
-use Rattle.constraint.specs.Accepted.{kinds, KindsFit, UpperInRange, InRange, LowerFirst, rowQuestions, rowsQuestions, Accepted}
+use Rattle.constraint.specs.Accepted.{kinds, KindsFit, UpperInRange, InRange, LowerFirst, rowQuestions, rowsQuestions}
 use Rattle.constraint.specs.declared.Answer.{Answer}
 use Rattle.constraint.specs.declared.Answer.the-variants.{Taken, Refused}
 use Rattle.constraint.specs.declared.Constraint.{Constraint}

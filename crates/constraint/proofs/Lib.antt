@@ -10,3 +10,5 @@ pub mod FittingKinds
 pub mod Rows
 pub mod Accepted
 pub mod Decided
+pub mod Runs
+pub mod Sanity

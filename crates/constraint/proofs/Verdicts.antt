@@ -2,16 +2,16 @@
 use Prim.Native.Nat.{ℕ, zero, suc, _+_, _≤_, _<_}
 use native.Mathlib.Decide.{decLt}
 use native.Mathlib.Omega.{arith}
-use mathlib.Core.Path.{_≡_, refl, sym, ap, _∙_, subst}
+use mathlib.Core.Path.{_≡_, sym, subst}
 use mathlib.Core.List.{List, [], _∷_, _++_, append-nil}
 use mathlib.Core.Logic.{by-cases}
 use lib.ListN.{length, take, length-append}
 use lib.Seq.{take-all, take-append-le}
-use Rattle.constraint.specs.Steps.{Step, close, times, closed}
+use Rattle.constraint.specs.Steps.{Step}
 use Rattle.constraint.specs.Meets.{Meets}
 use Rattle.constraint.specs.Continuation.{stop, Open, BrokenAt}
 use Rattle.constraint.specs.declared.Constraint.{Constraint}
-use Rattle.constraint.proofs.History.{Accepts, Valid, valid-none, valid-more}
+use Rattle.constraint.proofs.History.{Valid, valid-none, valid-more}
 use Rattle.constraint.proofs.Continuations.{open-before}
 
 length-snoc : (steps : List Step) (s : Step) → length (steps ++ (s ∷ [])) ≡ length steps + 1

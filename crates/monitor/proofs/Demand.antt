@@ -3,37 +3,36 @@ use Prim.Native.Nat.{ℕ, zero, suc, _+_, _-_, _≤_, _<_}
 use native.Mathlib.Decide.{decLt}
 use native.Mathlib.Omega.{arith}
 use mathlib.Core.Path.{_≡_, refl, sym, ap, _∙_, subst}
-use mathlib.Core.Bool.{Bool, true, false, cond, _&&_, _||_}
-use mathlib.Core.List.{List, [], _∷_, _++_, map}
+use mathlib.Core.Bool.{Bool, true, false, cond, _||_}
+use mathlib.Core.List.{List, [], _∷_, _++_}
 use mathlib.Core.Logic.{_⊎_, inl, inr, ⊎-elim, by-cases}
 use mathlib.Core.Option.{Option, none, some}
 use lib.ListN.{length, getD, replicate, getElem?, getD-replicate, length-replicate}
 use lib.Dec.{leb, ltb}
-use borrow.Author.Tests.{ltb-true, ltb-false, lt-ltb, le-ltb}
+use borrow.Author.Tests.{lt-ltb, le-ltb}
 use Rattle.constraint.specs.Limits.{lastKind, lastTime, rowLimit}
-use Rattle.constraint.specs.Steps.{Step, event, tick, close, at, times, clockFrom, clock, closed}
-use Rattle.constraint.specs.Continuation.{BrokenAt, Reads, reads-open, reads-kept, reads-broken}
+use Rattle.constraint.specs.Steps.{Step, event, tick, close, times, clockFrom, clock, closed}
+use Rattle.constraint.specs.Continuation.{BrokenAt, Reads, reads-broken}
 use Rattle.constraint.specs.Questions.{Judged}
-use Rattle.constraint.specs.Accepted.{rowQuestions, rowsQuestions, Accepted}
+use Rattle.constraint.specs.Accepted.{rowsQuestions, Accepted}
 use Rattle.constraint.specs.Run.{Run, done, call, recorded}
 use Rattle.constraint.specs.Promise.{Fresh, fresh, not-fresh, answerOf, ReadsRow, row, no-row, play, Promise}
 use Rattle.constraint.specs.declared.Answer.{Answer}
 use Rattle.constraint.specs.declared.Answer.the-variants.{Taken, Refused}
 use Rattle.constraint.specs.declared.Constraint.{Constraint}
 use Rattle.constraint.specs.declared.Verdict.{Verdict}
-use Rattle.constraint.proofs.Lists.{split, both}
 use Rattle.constraint.proofs.History.{Valid, valid-none}
 use Rattle.constraint.proofs.Counting.{nextFree}
 use Rattle.constraint.proofs.Judged.{never}
 use Rattle.constraint.proofs.Decided.{rows-judged}
-use Rattle.constraint.proofs.Verdicts.{broken-later, broken-shut, broken-once}
+use Rattle.constraint.proofs.Runs.{run-broken, reads-once}
 use Rattle.row.specs.Machine.{rowVerdict}
 use Rattle.row.proofs.Exact.{Sound, Exact}
 use Rattle.monitor.specs.Machine.{noRow, monitorOf, refuses, takes, crowds, takenEvent, takenTick, takenClose, stepOf, eventOf, tickOf, closeOf, verdictOf}
 use Rattle.monitor.specs.Contract.{step, after, Recorded, Steps, Reading}
 use Rattle.monitor.specs.declared.Monitor.{Monitor}
 use Rattle.monitor.specs.declared.Stepped.{Stepped}
-use Rattle.monitor.proofs.FittingRows.{SoundRows, FitRows, fit-start, fit-reads}
+use Rattle.monitor.proofs.FittingRows.{SoundRows, fit-start, fit-reads}
 use Rattle.monitor.proofs.Following.{Follows, step-answered}
 
 -- ---- a refusal leaves the monitor as it was
@@ -66,24 +65,6 @@ play-append : (m : Monitor) (a b : List Step) → play step m (a ++ b) .monitor 
 unfolding play
 play-append m [] b = refl
 play-append m (s ∷ a) b = play-append (step m s .monitor) a b
-
--- what a list of calls leaves broken stays broken, at the same step
-run-broken : (c : Constraint) (n : ℕ) {rows : List Constraint} {steps calls end : List Step} {answers : List Answer} → Run rows steps calls answers end → BrokenAt c steps n → BrokenAt c end n
-run-broken c n done b = b
-run-broken c n (call {steps = steps} s Taken judged rest) b = run-broken c n rest (broken-later c steps s n b)
-run-broken c n (call {steps = steps} s (Refused k) judged rest) b = run-broken c n rest b
-
--- a row reads one verdict
-pub reads-once : (c : Constraint) (steps : List Step) (v w : Verdict) → Valid steps → Reads c steps v → Reads c steps w → v ≡ w
-reads-once c steps v w valid (reads-open e o) (reads-open f p) = refl
-reads-once c steps v w valid (reads-open e o) (reads-kept f p) = both (sym f ∙ e)
-reads-once c steps v w valid (reads-open e o) (reads-broken n b) = absurd (broken-shut c n valid b o)
-reads-once c steps v w valid (reads-kept e o) (reads-open f p) = both (sym e ∙ f)
-reads-once c steps v w valid (reads-kept e o) (reads-kept f p) = refl
-reads-once c steps v w valid (reads-kept e o) (reads-broken n b) = absurd (broken-shut c n valid b o)
-reads-once c steps v w valid (reads-broken n b) (reads-open f p) = absurd (broken-shut c n valid b p)
-reads-once c steps v w valid (reads-broken n b) (reads-kept f p) = absurd (broken-shut c n valid b p)
-reads-once c steps v w valid (reads-broken n b) (reads-broken k d) = ap Verdict.Broken (broken-once c steps n k b d)
 
 -- ---- fresh
 
@@ -139,7 +120,7 @@ reads-still : (rows : List Constraint) (steps : List Step) (i n : ℕ) (c : Cons
     → (o : Option Verdict) → ReadsRow rows steps i o → o ≡ some (Verdict.Broken n)
 reads-still rows steps i n c valid e b o (row d v f r) =
     let same : d ≡ c = cc in
-    ap some (reads-once c steps v (Verdict.Broken n) valid (subst (λ x. Reads x steps v) same r) (reads-broken n b))
+    ap some (reads-once c steps valid v (Verdict.Broken n) (subst (λ x. Reads x steps v) same r) (reads-broken n b))
 reads-still rows steps i n c valid e b o (no-row f) = never (cc)
 
 module _ (engine : (c : Constraint) → Sound c → Exact c) where

@@ -1,27 +1,26 @@
 -- The monitor follows the accepted steps: its clock, count, free times and rows are read off them after every call, and each call is answered as its questions say. By cases on the machine's tests, each of which is one question's.
-use Prim.Native.Nat.{ℕ, zero, suc, _+_, _≤_, _<_}
+use Prim.Native.Nat.{ℕ, _+_, _≤_}
 use native.Mathlib.Decide.{ℕ-discrete}
 use native.Mathlib.Numerals.{add-one}
 use native.Mathlib.Omega.{arith}
 use mathlib.Core.Path.{_≡_, refl, sym, ap, _∙_, subst}
-use mathlib.Core.Bool.{Bool, true, false, cond, _||_}
+use mathlib.Core.Bool.{true, false, cond, _||_}
 use mathlib.Core.List.{List, [], _∷_, _++_}
-use mathlib.Core.Logic.{_⊎_, inl, inr, ⊎-elim, by-cases}
+use mathlib.Core.Logic.{inl, inr, ⊎-elim, by-cases}
 use lib.ListN.{length, getD, set, length-append, length-set}
 use lib.Seq.{getD-set-same, getD-set-other}
 use lib.Dec.{leb, ltb}
 use borrow.Author.Tests.{ltb-true, ltb-false, leb-true, leb-false}
-use Rattle.constraint.specs.Limits.{lastKind, lastTime, noLimit, rowLimit}
+use Rattle.constraint.specs.Limits.{lastKind, lastTime, rowLimit}
 use Rattle.constraint.specs.Steps.{Step, event, tick, close, times, clock, closed}
 use Rattle.constraint.specs.Continuation.{EventInOrder}
 use Rattle.constraint.specs.Questions.{Judged}
 use Rattle.constraint.specs.Run.{Room, questions, recorded}
 use Rattle.constraint.specs.declared.Constraint.{Constraint}
-use Rattle.constraint.proofs.Lists.{split, both, or-true, or-false, Each}
+use Rattle.constraint.proofs.Lists.{split, both, or-true, or-false}
 use Rattle.constraint.proofs.History.{times-own, times-other, times-tick, times-close, clock-event, clock-tick, clock-close, closed-event, closed-tick, closed-close, Accepts, Valid, valid-more}
 use Rattle.constraint.proofs.Counting.{nextFree, next-above, next-least, next-snoc, count-fits}
-use Rattle.row.specs.Row.{plus}
-use Rattle.row.specs.Machine.{rowEvent, rowTick, rowClose}
+use Rattle.row.specs.Machine.{rowTick, rowClose}
 use Rattle.row.proofs.Exact.{Sound, Exact}
 use Rattle.row.proofs.Steps.{fits-tick, fits-close}
 use Rattle.monitor.specs.Machine.{refuses, takes, nextStep, takenEvent, takenTick, takenClose, crowds, eventOf, tickOf, closeOf, stepOf}

@@ -2,3 +2,4 @@
 pub mod FittingRows
 pub mod Following
 pub mod Demand
+pub mod Examples

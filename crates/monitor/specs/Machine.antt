@@ -1,6 +1,6 @@
 -- The monitor's machine: total functions on the records, which the contracts equal.
 use Prim.Native.Nat.{ℕ, zero, suc, _+_, _-_}
-use mathlib.Core.Bool.{Bool, true, false, cond, _&&_, _||_}
+use mathlib.Core.Bool.{Bool, false, cond, _&&_, _||_}
 use mathlib.Core.List.{List, [], _∷_, _++_, map}
 use mathlib.Core.Option.{Option, none, some}
 use lib.ListN.{length, getD, set, replicate}
@@ -8,7 +8,6 @@ use lib.Dec.{leb, ltb}
 use Rattle.constraint.specs.Limits.{lastKind, lastTime, rowLimit}
 use Rattle.constraint.specs.Steps.{Step, event, tick, close}
 use Rattle.constraint.specs.Rows.{filler}
-use Rattle.constraint.specs.declared.Answer.{Answer}
 use Rattle.constraint.specs.declared.Answer.the-variants.{Taken, Refused}
 use Rattle.constraint.specs.declared.Constraint.{Constraint}
 use Rattle.constraint.specs.declared.Verdict.{Verdict}

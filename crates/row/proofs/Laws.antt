@@ -14,3 +14,8 @@ pub mod Delay
 pub mod Paired
 pub mod StrongDelay
 pub mod Order
+pub mod Groups
+pub mod Columns
+pub mod Counts
+pub mod LiveGroups
+pub mod StrongSynchronization

@@ -1,14 +1,14 @@
 -- A row of any type keeps what it has to: going on, it is open and holds what waits; broken, it has the first step after which no continuation was left. By cases on what the machine does at a step, from what each type proves.
-use Prim.Native.Nat.{ℕ, zero, suc, _+_, _≤_, _<_}
+use Prim.Native.Nat.{ℕ, _+_, _≤_, _<_}
 use native.Mathlib.Omega.{arith}
 use mathlib.Core.Path.{_≡_, refl, sym, ap, _∙_, subst}
 use mathlib.Core.Bool.{Bool, true, false, cond}
 use mathlib.Core.List.{List, [], _∷_, _++_, append-nil}
 use mathlib.Core.Logic.{_⊎_, inl, inr, ⊎-elim}
-use lib.ListN.{length, length-append}
+use lib.ListN.{length}
 use lib.Dec.{ltb}
 use borrow.Author.Tests.{ltb-true, ltb-false, lt-ltb}
-use Rattle.constraint.specs.Limits.{noLimit, lastKind, lastTime, waitingLimit}
+use Rattle.constraint.specs.Limits.{noLimit, waitingLimit}
 use Rattle.constraint.specs.Steps.{Step, event, tick, close, at, times, clockFrom, clock, closed}
 use Rattle.constraint.specs.Meets.{Meets}
 use Rattle.constraint.specs.Continuation.{Open, BrokenAt, Reads, reads-open, reads-kept, reads-broken}
@@ -21,7 +21,7 @@ use Rattle.constraint.proofs.Lists.{split, both, Each}
 use Rattle.constraint.proofs.History.{times-other, times-tick, times-close, clock-event, clock-tick, clock-close, closed-event, closed-tick, closed-close, Accepts, Valid, valid-more, Past, past-of}
 use Rattle.constraint.proofs.Continuations.{SameTimes, meets-same, continues-closed, open-at-tick}
 use Rattle.constraint.proofs.Verdicts.{broken-now, broken-later, broken-shut, open-of-meets}
-use Rattle.queue.specs.Ring.{items, changed, shifted, emptyQueue, emptied}
+use Rattle.queue.specs.Ring.{items, changed, shifted}
 use Rattle.queue.specs.declared.Queue.{Queue}
 use Rattle.queue.proofs.Laws.{items-shifted, times-shifted}
 use Rattle.row.specs.Row.{ruleOf, noMarks}

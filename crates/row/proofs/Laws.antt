@@ -6,6 +6,14 @@ pub mod Repeat
 pub mod Burst
 pub mod Points
 pub mod Sporadic
+pub mod Due
+pub mod Answers
+pub mod Pairs
+pub mod Unmet
+pub mod Delay
+pub mod Paired
+pub mod StrongDelay
+pub mod Order
 pub mod Groups
 pub mod Columns
 pub mod Counts

@@ -3,3 +3,4 @@ pub mod FittingRows
 pub mod Following
 pub mod Demand
 pub mod Examples
+pub mod Theorem

@@ -3,3 +3,4 @@ pub mod Exact
 pub mod Concerns
 pub mod Steps
 pub mod Laws
+pub mod Engine

@@ -1,6 +1,9 @@
 // One row of the monitor: its constraint as numbers, what it keeps of the events so far, and its step.
 use queue::Queue;
 
+pub mod delay;
+pub mod parts;
+
 // The constraint's fields as numbers. A field that a type does not have is 0; a kind that it does not have is 64.
 pub struct Rule {
     // the type, 1 to 7

@@ -8,8 +8,12 @@ use lib.Dec.{leb, eqb}
 use lib.ListN.{length}
 use Rattle.constraint.proofs.Lists.{split}
 use Rattle.queue.specs.Ring.{ring, timeAt}
-use Rattle.queue.proofs.Laws.{ring-cons}
+use Rattle.queue.proofs.Laws.{ring-length, ring-cons}
 use Rattle.row.specs.Row.{plus, front, none-left, dueOldest}
+
+-- what a callee asks that requires nothing
+pub free : {A K : Type 0} → A → K → Unit {0}
+free c κs = tt
 
 pub leb-same : (a b c d : ℕ) → (a ≤ b → c ≤ d) → (b < a → d < c) → leb a b ≡ leb c d
 leb-same a b c d f g =
@@ -24,5 +28,8 @@ pub none-left-length : (l : List ℕ) (n : ℕ) → length l ≡ n → eqb n 0 �
 none-left-length [] n e = eq-eqb n 0 (sym e)
 none-left-length (x ∷ l) n e = ne-eqb n 0 (λ z. omega arith)
 
-pub due-ring : (l : List ℕ) (upper f n : ℕ) → 0 < n → dueOldest upper (ring l f n) ≡ plus (timeAt l f 0) upper
-due-ring l upper f n h = rw (ring-cons l f n h)
+pub none-left-ring : (l : List ℕ) (f n : ℕ) → none-left (ring l f n) ≡ eqb n 0
+none-left-ring l f n = sym (none-left-length (ring l f n) n (ring-length l f n))
+
+pub due-front : (l : List ℕ) (upper f n : ℕ) → 0 < n → dueOldest upper (ring l f n) ≡ plus (front (ring l f n)) upper
+due-front l upper f n h = rw (ring-cons l f n h)

@@ -7,7 +7,7 @@ ghost use mathlib.Core.Path.{_≡_};
 ghost use Prim.Native.Nat.{_+_, _-_, min, max};
 ghost use lib.Dec.{leb};
 ghost use Rattle.queue.specs.Ring.{ring};
-ghost use Rattle.row.specs.Row.{plus, withLast, withFirst, goesOn, breaking, dueOldest};
+ghost use Rattle.row.specs.Row.{plus, withLast, withFirst, goesOn, breaking, front, dueOldest};
 
 // a + b, or the largest number where that is more.
 pub fn plus(a: u64, b: u64) -> u64
@@ -30,6 +30,13 @@ pub fn reaches(from: u64, by: u64, t: u64) -> bool
     by <= t && from <= t - by
 }
 
+// Whether t is at most by after from.
+pub fn within(from: u64, by: u64, t: u64) -> bool
+    ensures { λ r. ⌜ r ≡ leb t (from + by) ⌝ }
+{
+    minus(t, from) <= by
+}
+
 // The smaller of two numbers.
 pub fn smaller(a: u64, b: u64) -> u64
     ensures { λ r. ⌜ r ≡ min a b ⌝ }
@@ -44,6 +51,16 @@ pub fn larger(a: u64, b: u64) -> u64
     if a < b { b } else { a }
 }
 
+// The oldest time, or 0 where there is none.
+pub fn front(times: &[u64; 64], head: usize, len: usize) -> u64
+    ensures { λ r. ⌜ r ≡ front (ring (now (times .entry)) head len) ⌝ }
+{
+    if len == 0 {
+        return 0;
+    }
+    time_at(times, head, 0)
+}
+
 // The due time that the oldest time gives: no limit where there is none.
 pub fn due_oldest(upper: u64, times: &[u64; 64], head: usize, len: usize) -> u64
     ensures { λ r. ⌜ r ≡ dueOldest upper (ring (now (times .entry)) head len) ⌝ }
@@ -51,7 +68,7 @@ pub fn due_oldest(upper: u64, times: &[u64; 64], head: usize, len: usize) -> u64
     if len == 0 {
         return NO_LIMIT;
     }
-    plus(time_at(times, head, 0), upper)
+    plus(front(times, head, len), upper)
 }
 
 // The marks with another last.

@@ -5,7 +5,6 @@ use mathlib.Core.Bool.{true, false}
 use mathlib.Core.List.{List, _∷_}
 use native.Mathlib.Numerals.{add-one}
 use native.Mathlib.Omega.{arith}
-use borrow.Author.Needs.{needs}
 use borrow.Author.Tests.{not-true, not-false}
 use lib.Dec.{leb}
 use lib.ListN.{length, drop, drop-of-length-le}
@@ -13,6 +12,7 @@ use lib.Seq.{drop-cons}
 use Rattle.queue.specs.Ring.{ring, timeAt}
 use Rattle.queue.proofs.Laws.{ring-length, ring-read}
 use Rattle.row.specs.Delay.{answeredBy}
+use Rattle.row.proofs.Tests.{free}
 use Rattle.row.proofs.delay.answered.Statement.{statement}
 use Rattle.row.proofs.delay.answered.Tie as tie
 
@@ -45,12 +45,6 @@ ended lower t times head len n h =
 loop-holds : tie.Need-loop-holds Inv-loop μ-loop
 loop-holds c = omega arith
 
-time-at-requires : tie.Need-time-at-requires Inv-loop μ-loop
-time-at-requires c κs = search needs
-
-reaches-requires : tie.Need-reaches-requires Inv-loop μ-loop
-reaches-requires c κs = search needs
-
 returns : tie.Need-returns Inv-loop μ-loop
 returns c =
     let a = c .before .before .before .before .before .args in
@@ -77,4 +71,4 @@ returns-2 c =
     omega (arith, ended (a .lower) (a .t) (a .times .now) (a .head) (a .len) (c .before .loop .n) (c .loop-test .left))
 
 pub answered-spec : {M : Type 1} → statement M
-answered-spec = tie.close (tie.spec Inv-loop μ-loop loop-holds time-at-requires reaches-requires returns add-n loop-less loop-again returns-2)
+answered-spec = tie.close (tie.spec Inv-loop μ-loop loop-holds free free returns add-n loop-less loop-again returns-2)

@@ -1,9 +1,9 @@
--- The oldest of the times, where there is one, is the one at the head.
+-- The oldest of the times, where there is one, is the front.
 use mathlib.Core.Path.{sym}
 use native.Mathlib.Omega.{arith}
 use borrow.Author.Needs.{needs}
 use Rattle.queue.specs.Ring.{ring}
-use Rattle.row.proofs.Tests.{due-ring}
+use Rattle.row.proofs.Tests.{free, due-front}
 use Rattle.row.proofs.parts.due_oldest.Statement.{statement}
 use Rattle.row.proofs.parts.due_oldest.Tie as tie
 
@@ -11,16 +11,10 @@ returns : tie.Need-returns
 unfolding ring
 returns c = search needs
 
-time-at-requires : tie.Need-time-at-requires
-time-at-requires c κs = search needs
-
-plus-requires : tie.Need-plus-requires
-plus-requires c κs = search needs
-
 returns-2 : tie.Need-returns-2
 returns-2 c =
     let a = c .before .before .before .args in
-    rw (c .plus .ensures, c .before .time-at .ensures) (sym (due-ring (a .times .now) (a .upper) (a .head) (a .len) (omega arith)))
+    rw (c .plus .ensures, c .before .front .ensures) (sym (due-front (a .times .now) (a .upper) (a .head) (a .len) (omega arith)))
 
 pub due-oldest-spec : {M : Type 1} → statement M
-due-oldest-spec = tie.close (tie.spec returns time-at-requires plus-requires returns-2)
+due-oldest-spec = tie.close (tie.spec returns free free returns-2)

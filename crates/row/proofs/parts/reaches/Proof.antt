@@ -7,7 +7,9 @@ use Rattle.row.proofs.parts.reaches.Statement.{statement}
 use Rattle.row.proofs.parts.reaches.Tie as tie
 
 returns : tie.Need-returns
-returns c = let a = c .before .args in leb-same (a .from) (a .t - a .by) (a .from + a .by) (a .t) (omega arith) (omega arith)
+returns c =
+    let a = c .before .args in
+    leb-same (a .from) (a .t - a .by) (a .from + a .by) (a .t) (omega arith) (omega arith)
 
 returns-2 : tie.Need-returns-2
 returns-2 c = let a = c .before .args in rw (lt-leb _ _ (c .if1 .left), lt-leb (a .from + a .by) (a .t) (omega arith))

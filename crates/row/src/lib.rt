@@ -4,6 +4,7 @@ use queue::Queue;
 pub mod delay;
 pub mod parts;
 pub mod repeat;
+pub mod sporadic;
 pub mod strong_delay;
 
 // The constraint's fields as numbers. A field that a type does not have is 0; a kind that it does not have is 64.

@@ -7,6 +7,7 @@ pub mod parts;
 pub mod repeat;
 pub mod sporadic;
 pub mod strong_delay;
+pub mod strong_synchronization;
 
 // The constraint's fields as numbers. A field that a type does not have is 0; a kind that it does not have is 64.
 pub struct Rule {

@@ -2,6 +2,7 @@
 use queue::Queue;
 
 pub mod delay;
+pub mod numbers;
 pub mod order;
 pub mod parts;
 pub mod repeat;

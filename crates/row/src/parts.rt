@@ -9,6 +9,9 @@ ghost use lib.Dec.{leb};
 ghost use Rattle.queue.specs.Ring.{ring};
 ghost use Rattle.row.specs.Row.{plus, withLast, withFirst, goesOn, breaking, front, dueOldest};
 
+// A kind that no event has.
+pub const NO_KIND: u8 = 64;
+
 // a + b, or the largest number where that is more.
 pub fn plus(a: u64, b: u64) -> u64
     ensures { λ r. ⌜ r ≡ plus a b ⌝ }

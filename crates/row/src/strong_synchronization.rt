@@ -81,7 +81,7 @@ fn counted(rule: Rule, marks: Marks, kind: u64) -> Marks
 fn has(kind: u64, count: u64) -> bool
     ensures { λ r. ⌜ r ≡ has kind count ⌝ }
 {
-    kind == 64 || 0 < count
+    kind == parts::NO_KIND as u64 || 0 < count
 }
 
 // Whether the oldest group has an event of each kind.

@@ -19,7 +19,7 @@ pub fn time_at(times: &[u64; 64], head: usize, i: usize) -> u64
 }
 
 // a - b, or 0 where b is more.
-fn minus(a: usize, b: usize) -> usize
+pub fn minus(a: usize, b: usize) -> usize
     ensures { λ r. ⌜ r ≡ a - b ⌝ }
 {
     if a < b { 0 } else { a - b }

@@ -1,6 +1,7 @@
--- Why each row type's machine is exact.
+-- Why each row type's machine is exact, and tests that the code's proofs share.
 pub mod Exact
-pub mod Concerns
+pub mod OwnKinds
 pub mod Steps
 pub mod Laws
 pub mod Engine
+pub mod Tests

@@ -37,7 +37,7 @@ use Rattle.row.specs.declared.Change.{Change}
 use Rattle.row.specs.declared.Row.{Row}
 use Rattle.row.specs.declared.RowStep.{RowStep}
 use Rattle.row.proofs.Exact.{Exact, OfKind}
-use Rattle.row.proofs.Concerns.{concerns-own, concerns-other}
+use Rattle.row.proofs.OwnKinds.{concerns-own, concerns-other}
 
 -- ---- what holds between the steps and a row
 

@@ -1,0 +1,50 @@
+-- The length is the number of open groups, and the tests are those of the machine.
+use mathlib.Core.Path.{sym, _∙_}
+use borrow.Author.Tests.{lt-ltb, le-ltb}
+use Rattle.row.specs.StrongSynchronization.{decideStrongSynchronization}
+use Rattle.row.proofs.Tests.{free}
+use Rattle.row.proofs.strong_synchronization.decide.Statement.{statement}
+use Rattle.row.proofs.strong_synchronization.decide.Tie as tie
+
+returns : tie.Need-returns
+unfolding decideStrongSynchronization
+returns c times t e =
+    let b = c .before .before .before in
+    let now = b .before .before .before .counted .ensures in
+    rw (
+      e,
+      ← b .before .before .count-of .ensures,
+      lt-ltb _ _ (b .before .if1 .taken),
+      rw now at (sym (b .complete .ensures) ∙ c .before .before .if2 .taken),
+      c .goes-on .ensures,
+      c .before .without-oldest .ensures,
+      now,
+    )
+
+returns-2 : tie.Need-returns-2
+unfolding decideStrongSynchronization
+returns-2 c times t e =
+    let b = c .before .before in
+    let now = b .before .before .before .counted .ensures in
+    rw (
+      e,
+      ← b .before .before .count-of .ensures,
+      lt-ltb _ _ (b .before .if1 .taken),
+      rw now at (sym (b .complete .ensures) ∙ c .before .if2 .left),
+      c .goes-on2 .ensures,
+      now,
+    )
+
+returns-3 : tie.Need-returns-3
+unfolding decideStrongSynchronization
+returns-3 c times t e =
+    rw (
+      c .goes-on3 .ensures,
+      e,
+      ← c .before .before .count-of .ensures,
+      le-ltb _ _ (c .before .if1 .left),
+      c .before .before .before .counted .ensures,
+    )
+
+pub decide-spec : {M : Type 1} → statement M
+decide-spec = tie.close (tie.spec free free free free free returns free returns-2 free returns-3)

@@ -1,4 +1,4 @@
 -- Why each row type's machine is exact, and what the code's proofs share.
 pub mod Exact
 pub mod Laws
-pub mod Shared
+mod Shared

@@ -13,14 +13,14 @@ ghost use Rattle.queue.specs.Ring.{ring, changed};
 ghost use Rattle.row.specs.Row.{noMarks};
 ghost use Rattle.row.specs.Machine.{decide, due, kept, concerns, rowOf, brokenRow, applied, stays, changedRow, rowEvent, rowTick, rowClose};
 
-pub mod delay;
-pub mod numbers;
-pub mod order;
-pub mod parts;
-pub mod repeat;
-pub mod sporadic;
-pub mod strong_delay;
-pub mod strong_synchronization;
+mod delay;
+mod numbers;
+mod order;
+mod parts;
+mod repeat;
+mod sporadic;
+mod strong_delay;
+mod strong_synchronization;
 
 // The constraint's fields as numbers. A field that a type does not have is 0; a kind that it does not have is 64.
 pub struct Rule {

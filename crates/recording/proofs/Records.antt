@@ -1,11 +1,11 @@
 -- A record's step, read from its own stretch, is the step of the record in the whole recording; and what that says of its questions.
-use Prim.Native.Nat.{ℕ, _+_, _≤_}
+use Prim.Native.Nat.{ℕ, _+_, _-_, _≤_}
 use mathlib.Core.Path.{_≡_, refl}
 use mathlib.Core.List.{List, [], _∷_}
 use mathlib.Core.Logic.{inl, inr}
 use native.Mathlib.Omega.{arith}
 use lib.ListN.{length, take, drop, length-drop}
-use lib.Seq.{length-take-le, take-take, drop-drop, getD-take, getD-drop}
+use lib.Seq.{length-take-le, take-all, take-take, drop-drop, getD-take, getD-drop}
 use Rattle.constraint.specs.Steps.{Step, event, tick, at}
 use Rattle.constraint.specs.Questions.{Judged}
 use Rattle.constraint.specs.Run.{questions}
@@ -58,11 +58,15 @@ step-of-stretch : (bytes : List ℕ) (place : ℕ) (step : Step) (size : ℕ) �
 step-of-stretch bytes place step size read =
     record { there = record-of-stretch bytes place (read .there); step-read = rw (← drop-drop 2 place bytes) (read .step-read); size-read = read .size-read }
 
--- what is read from the part that starts at the record's length field is read from the whole at that place
-pub read-of-stretch : (bytes : List ℕ) (place : ℕ) (r : Record) → ReadsRecord (drop place bytes) 0 r → ReadsRecord bytes place r
-read-of-stretch bytes place (Event kind time size) read = step-of-stretch bytes place (event kind time) size read
-read-of-stretch bytes place (Tick time size) read = step-of-stretch bytes place (tick time) size read
-read-of-stretch bytes place (RecordRefused n) read = (λ there. read .0 (stretch-of-record bytes place there), read .1)
+read-of-drop : (bytes : List ℕ) (place : ℕ) (r : Record) → ReadsRecord (drop place bytes) 0 r → ReadsRecord bytes place r
+read-of-drop bytes place (Event kind time size) read = step-of-stretch bytes place (event kind time) size read
+read-of-drop bytes place (Tick time size) read = step-of-stretch bytes place (tick time) size read
+read-of-drop bytes place (RecordRefused n) read = (λ there. read .0 (stretch-of-record bytes place there), read .1)
+
+-- what is read from the part that starts at the record's length field, `&bytes[place..]`, is read from the whole at that place
+pub read-of-stretch : (bytes : List ℕ) (place : ℕ) (r : Record) → ReadsRecord (take (length bytes - place) (drop place bytes)) 0 r → ReadsRecord bytes place r
+read-of-stretch bytes place r read =
+    read-of-drop bytes place r (rw (take-all (length bytes - place) (drop place bytes) (omega (arith, length-drop place bytes))) at read)
 
 -- From a record to the answer to its questions
 

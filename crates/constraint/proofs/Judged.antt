@@ -62,12 +62,25 @@ pub judged-no : (n : ℕ) (asked : Type 0) (later : List Question) → ¬ asked 
 unfolding Judged
 judged-no n asked later h = inr (h, refl)
 
+-- where all are answered "yes", the first is, and the later ones are
+pub judged-all : (n : ℕ) (asked : Type 0) (later : List Question) → Judged ((n, asked) ∷ later) Taken → asked × Judged later Taken
+unfolding Judged
+judged-all n asked later (inl h) = h
+judged-all n asked later (inr h) = never (cc)
+
 -- the answer to questions that are all answered "yes", and to later ones, is that to the later ones
 pub judged-later : (first later : List Question) (a : Answer) → Judged first Taken → Judged later a → Judged (first ++ later) a
 unfolding Judged
 judged-later [] later a h j = j
 judged-later (q ∷ first) later a (inl h) j = inl (h .0, judged-later first later a (h .1) j)
 judged-later (q ∷ first) later a (inr h) j = never (cc)
+
+-- where all are answered "yes", those of each part are
+pub judged-parts : (first later : List Question) → Judged (first ++ later) Taken → Judged first Taken × Judged later Taken
+unfolding Judged
+judged-parts [] later h = (refl, h)
+judged-parts (q ∷ first) later (inl h) = let parts = judged-parts first later (h .1) in (inl (h .0, parts .0), parts .1)
+judged-parts (q ∷ first) later (inr h) = never (cc)
 
 -- a refusal stands whatever is asked later
 pub judged-first : (first later : List Question) (n : ℕ) → Judged first (Refused n) → Judged (first ++ later) (Refused n)

@@ -1,0 +1,5 @@
+-- The laws of the table's bytes.
+pub mod Same
+pub mod Once
+pub mod Bodies
+pub mod RoundTrip

@@ -5,8 +5,8 @@ use mathlib.Core.Bool.{Bool, true, false, not}
 use mathlib.Core.List.{List, [], _∷_, _++_}
 use mathlib.Core.Logic.{inl, inr}
 use native.Mathlib.Omega.{arith}
-use borrow.Author.Tests.{leb-true, leb-false, not-false}
-use lib.Dec.{leb}
+use borrow.Author.Tests.{leb-true, leb-false, eqb-true, eqb-false, not-false}
+use lib.Dec.{leb, eqb}
 use Rattle.constraint.specs.Questions.{Question, Judged, Decides}
 use Rattle.constraint.specs.declared.Answer.{Answer}
 use Rattle.constraint.specs.declared.Answer.the-variants.{Taken, Refused}
@@ -47,6 +47,13 @@ test-le m n = go (leb m n) refl
     go : (b : Bool) → leb m n ≡ b → Decides (m ≤ n) b
     go true e = leb-true m n e
     go false e = λ h. omega (arith, leb-false m n e)
+
+pub test-equal : (m n : ℕ) → Decides (m ≡ n) (eqb m n)
+test-equal m n = go (eqb m n) refl
+  where
+    go : (b : Bool) → eqb m n ≡ b → Decides (m ≡ n) b
+    go true e = eqb-true m n e
+    go false e = eqb-false m n e
 
 -- Lists of questions
 

@@ -2,4 +2,5 @@
 pub mod Same
 pub mod Once
 pub mod Bodies
+pub mod Shapes
 pub mod RoundTrip

@@ -77,16 +77,23 @@ module _ (before : List ℕ) (c : Constraint) (after : List ℕ) where
   length-there : lengthAt (before ++ (rowBytes c ++ after)) (length before) ≡ length (rowBody c)
   unfolding rowBytes
   length-there =
-      rw (drop-append-seam before (rowBytes c ++ after), append-assoc (bytesOf 2 (length (rowBody c))) (rowBody c) after,
-      take-at (bytesOf 2 (length (rowBody c))) (rowBody c ++ after) 2 (bytes-length 2 (length (rowBody c))))
+      rw (
+        drop-append-seam before (rowBytes c ++ after),
+        append-assoc (bytesOf 2 (length (rowBody c))) (rowBody c) after,
+        take-at (bytesOf 2 (length (rowBody c))) (rowBody c ++ after) 2 (bytes-length 2 (length (rowBody c))),
+      )
       (number-of-bytes 2 (length (rowBody c)) (omega (arith, body-short c)))
 
   body-there : bodyAt (before ++ (rowBytes c ++ after)) (length before) ≡ rowBody c
   unfolding rowBytes
   body-there =
-      rw (length-there, ← drop-drop 2 (length before) (before ++ (rowBytes c ++ after)), drop-append-seam before (rowBytes c ++ after),
-      append-assoc (bytesOf 2 (length (rowBody c))) (rowBody c) after,
-      drop-at (bytesOf 2 (length (rowBody c))) (rowBody c ++ after) 2 (bytes-length 2 (length (rowBody c))))
+      rw (
+        length-there,
+        ← drop-drop 2 (length before) (before ++ (rowBytes c ++ after)),
+        drop-append-seam before (rowBytes c ++ after),
+        append-assoc (bytesOf 2 (length (rowBody c))) (rowBody c) after,
+        drop-at (bytesOf 2 (length (rowBody c))) (rowBody c ++ after) 2 (bytes-length 2 (length (rowBody c))),
+      )
       (take-append-seam (rowBody c) after)
 
   row-long : length (rowBytes c) ≡ 2 + length (rowBody c)
@@ -111,10 +118,10 @@ rows-read before i (c ∷ rows) judged =
     let room = judged-all 3 (i < rowLimit) _ judged in
     let parts = judged-parts (rowQuestions c) (rowsQuestions (i + 1) rows []) (room .1) in
     let next : length (before ++ rowBytes c) ≡ length before + 2 + lengthAt bytes (length before) =
-        omega (arith, length-append before (rowBytes c), row-long before c after, length-there before c after) in
+    omega (arith, length-append before (rowBytes c), row-long before c after, length-there before c after) in
     let later : ReadsRows bytes (i + 1) (length before + 2 + lengthAt bytes (length before)) (table-of rows) =
-        subst₂ (λ (l : List ℕ) (place : ℕ). ReadsRows l (i + 1) place (table-of rows)) (append-assoc before (rowBytes c) after) next
-        (rows-read (before ++ rowBytes c) (i + 1) rows (parts .1)) in
+    subst₂ (λ (l : List ℕ) (place : ℕ). ReadsRows l (i + 1) place (table-of rows)) (append-assoc before (rowBytes c) after) next
+    (rows-read (before ++ rowBytes c) (i + 1) rows (parts .1)) in
     subst (λ (row : Constraint). ReadsRows bytes i (length before) (table-of (row ∷ rows)))
     (ap constraintOf (body-there before c after) ∙ body-row c (row-ranges c (parts .0)))
     (row-taken (omega (arith, length-append before (rowBytes c ++ after), length-append (rowBytes c) after, row-long before c after))

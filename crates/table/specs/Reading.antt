@@ -1,7 +1,7 @@
 -- What the reader's answer says, and its promise.
 use Prim.Native.Nat.{ℕ, _+_, _-_}
 use mathlib.Core.Path.{_≡_}
-use mathlib.Core.List.{List, [], _∷_, _++_, map}
+use mathlib.Core.List.{List, [], _++_, map}
 use lib.ListN.{length, replicate}
 use Rattle.constraint.specs.Limits.{rowLimit}
 use Rattle.constraint.specs.Questions.{Judged}
@@ -13,7 +13,7 @@ use Rattle.constraint.specs.declared.Entry.{Entry}
 use Rattle.constraint.specs.declared.Table.{Table}
 use Rattle.table.specs.declared.ReadAnswer.{ReadAnswer}
 use Rattle.table.specs.declared.Reading.{Reading}
-use Rattle.table.specs.declared.RowRead.{RowRead}
+use Rattle.table.specs.declared.reader.RowRead.{RowRead}
 
 abbrev pub entryOf : Constraint → Entry
 entryOf c = record { constraint = c }

@@ -2,7 +2,7 @@
 use Prim.Native.Nat.{ℕ, _+_, _-_}
 use mathlib.Core.Path.{_≡_}
 use mathlib.Core.List.{List, [], _++_, map}
-use lib.ListN.{length, replicate}
+use lib.ListN.{length, set, replicate}
 use Rattle.constraint.specs.Limits.{rowLimit}
 use Rattle.constraint.specs.Questions.{Judged}
 use Rattle.constraint.specs.Rows.{filler, rowsOf}
@@ -21,6 +21,10 @@ entryOf c = record { constraint = c }
 -- the table record of some rows: they stand in the first entries, and the filler in the others
 unfoldable pub tableOf : List Constraint → Table
 tableOf rows = record { rows = map entryOf rows ++ replicate (rowLimit - length rows) (entryOf filler); count = length rows }
+
+-- a table record with a row put in the entry that its count says
+abbrev pub withRow : Table → Constraint → Table
+withRow table c = record { rows = set (table .rows) (table .count) (entryOf c); count = table .count + 1 }
 
 -- what the reader's answer and the table beside it say
 abbrev pub readAs : ReadAnswer → Table → TableRead

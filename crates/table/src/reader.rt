@@ -8,13 +8,12 @@ use constraint::Constraint;
 use constraint::Entry;
 use constraint::Table;
 ghost use mathlib.Core.Path.{_≡_};
-ghost use mathlib.Core.List.{List, [], _∷_, _++_};
+ghost use mathlib.Core.List.{[]};
 ghost use Prim.Native.Nat.{_≤_, _<_};
 ghost use lib.ListN.{length};
 ghost use Rattle.constraint.specs.Limits.{rowLimit};
 ghost use Rattle.constraint.specs.Table.{ReadsRows, table-refused};
-ghost use Rattle.constraint.specs.declared.Constraint.{Constraint};
-ghost use Rattle.table.specs.Reading.{tableOf, readOf, rowsRead, ReadsRow};
+ghost use Rattle.table.specs.Reading.{tableOf, withRow, readOf, rowsRead, ReadsRow};
 
 // What reading one row gives: the row and the place of the next, or the number of the refusal.
 enum RowRead {
@@ -37,15 +36,14 @@ fn no_rows() -> Table
 }
 
 // The table with one row more.
-fn with_row(mut table: Table, constraint: Constraint) -> Table
-    ensures { λ r. ⌜ ((rows : List Constraint) → length rows < rowLimit → table ≡ tableOf rows → r ≡ tableOf (rows ++ (constraint ∷ []))) ⌝ }
+fn with_row(mut table: Table, row: Constraint) -> Table
+    requires { ⌜ table .count < rowLimit ⌝ }
+    ensures { λ r. ⌜ r ≡ withRow table row ⌝ }
 {
     let i = table.count;
-    if i < constraint::ROW_LIMIT {
-        let entry = Entry { constraint };
-        table.rows[i] = entry;
-        table.count = i + 1;
-    }
+    let entry = Entry { constraint: row };
+    table.rows[i] = entry;
+    table.count = i + 1;
     table
 }
 

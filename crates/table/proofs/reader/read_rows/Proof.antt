@@ -1,61 +1,78 @@
+-- The loop reads row after row: the record holds the rows read so far, and what is read from the place on, behind them, is the whole.
+use native.Mathlib.Omega.{arith}
+use borrow.Author.Needs.{needs}
+use Prim.Native.Nat.{_-_}
+use mathlib.Core.Path.{_≡_, sym}
+use lib.ListN.{length}
+use denote.Ref.{now}
+use Rattle.constraint.specs.Table.{ReadsRows}
+use Rattle.table.specs.Reading.{ReadsRow}
+use Rattle.table.specs.declared.reader.RowRead.{RowRead}
+use Rattle.table.proofs.Places.{place-taken}
+use Rattle.table.proofs.Progress.{ReadUpTo, up-to-start, up-to-more, up-to-refused, up-to-end}
 use Rattle.table.proofs.reader.read_rows.Statement.{statement}
 use Rattle.table.proofs.reader.read_rows.Tie as tie
-use Rattle.table.proofs.reader.read_rows.Reads as reads
-use Rattle.table.proofs.reader.read_rows.Lts as lts
-use Rattle.table.proofs.reader.no_rows.Reads as no-rows-reads
-use Rattle.table.proofs.reader.read_row.Reads as read-row-reads
-use Rattle.table.proofs.reader.refused.Reads as refused-reads
-use Rattle.table.proofs.reader.with_row.Reads as with-row-reads
 
 abbrev Inv-loop : tie.InvT-loop
-Inv-loop bytes table₀ place₀ table place = ?
+Inv-loop bytes table₀ place₀ table place = ReadUpTo bytes table place
 
 abbrev μ-loop : tie.MeasureT-loop
-μ-loop bytes table₀ place₀ table place = ?
+μ-loop bytes table₀ place₀ table place = length bytes - place
 
--- src/reader.rt:95:9
+-- what was read of the row that is put in the record
+row : (c : tie.After-row Inv-loop μ-loop)
+    → ReadsRow (now (c .before .before .before .before .before .before .before .args .bytes)) (c .before .before .before .before .loop .table .count)
+    (c .before .before .before .before .loop .place) (RowRead.Row (c .row .given .0 .0) (c .row .given .0 .1 .0))
+row c = rw (c .row .given .1) at (c .before .before .read-row .ensures)
+
 no-rows-requires : tie.Need-no-rows-requires Inv-loop μ-loop
-no-rows-requires c κs = ?
+no-rows-requires c κs = tt
 
--- src/reader.rt:97:5
 loop-holds : tie.Need-loop-holds Inv-loop μ-loop
-loop-holds c = ?
+loop-holds c = up-to-start (now (c .before .before .args .bytes)) (c .no-rows .result) (omega arith) (c .no-rows .ensures)
 
--- src/reader.rt:98:15
 read-row-requires : tie.Need-read-row-requires Inv-loop μ-loop
-read-row-requires c κs = ?
+read-row-requires c κs = omega arith
 
--- src/reader.rt:99:26
 enum-known-row : tie.Need-enum-known-row Inv-loop μ-loop
-enum-known-row c = ?
+enum-known-row c = search needs
 
--- src/reader.rt:100:17
 with-row-requires : tie.Need-with-row-requires Inv-loop μ-loop
-with-row-requires c κs = ?
+with-row-requires c κs =
+    let at-loop = c .before .before .before .before .before in
+    place-taken (now (at-loop .before .before .before .args .bytes)) (at-loop .loop .table .count) (at-loop .loop .place) (row (c .before) .0) .1
 
--- src/reader.rt:97:5
 loop-less : tie.Need-loop-less Inv-loop μ-loop
-loop-less c = ?
+loop-less c =
+    let at-loop = c .before .before .before .before .before .before in
+    let read = row (c .before .before) in
+    omega (arith, read .2)
 
--- src/reader.rt:97:5
 loop-again : tie.Need-loop-again Inv-loop μ-loop
-loop-again c = ?
+loop-again c =
+    let at-loop = c .before .before .before .before .before .before in
+    rw (c .with-row .ensures)
+    (up-to-more (now (at-loop .before .before .before .args .bytes)) (at-loop .loop .table) (at-loop .loop .place) _ _ (at-loop .loop .inv) (omega arith) (row (c .before .before)))
 
--- src/reader.rt:103:30
 enum-known-number : tie.Need-enum-known-number Inv-loop μ-loop
-enum-known-number c = ?
+enum-known-number c = search needs
 
--- src/reader.rt:104:17
 refused-requires : tie.Need-refused-requires Inv-loop μ-loop
-refused-requires c κs = ?
+refused-requires c κs = tt
 
--- src/reader.rt:104:17
 returns : tie.Need-returns Inv-loop μ-loop
-returns c = ?
+returns c =
+    let at-number = c .before .before in
+    let at-loop = at-number .before .before .before .before in
+    let bytes = now (at-loop .before .before .before .args .bytes) in
+    let judged = rw (at-number .number .given .1) at (at-number .before .before .read-row .ensures) in
+    ( rw (c .refused .ensures .0) (up-to-refused bytes (at-loop .loop .table) (at-loop .loop .place) _ (at-loop .loop .inv) (omega arith) judged)
+    , rw (c .refused .ensures .0) (c .refused .ensures .1) )
 
--- src/reader.rt:91:1
 returns-2 : tie.Need-returns-2 Inv-loop μ-loop
-returns-2 c = ?
+returns-2 c =
+    let at-loop = c .before in
+    up-to-end (now (at-loop .before .before .before .args .bytes)) (at-loop .loop .table) (at-loop .loop .place) (at-loop .loop .inv) (c .loop-test .left)
 
 pub read-rows-spec : {M : Type 1} → statement M
 read-rows-spec =

@@ -1,14 +1,15 @@
 -- The questions of the row at a place are put in their order, so each "no" needs the earlier ones answered "yes".
 use Prim.Native.Nat.{ℕ, _+_, _-_, _≤_, _<_}
 use mathlib.Core.Path.{_≡_}
-use mathlib.Core.List.{List}
+use mathlib.Core.List.{List, [], _∷_}
 use native.Mathlib.Nat.{add-sub-cancel-left}
 use native.Mathlib.Omega.{arith}
 use lib.ListN.{take, drop}
 use Rattle.constraint.specs.Limits.{rowLimit}
+use Rattle.constraint.specs.Steps.{at}
 use Rattle.constraint.specs.Questions.{Judged}
 use Rattle.constraint.specs.Accepted.{rowQuestions}
-use Rattle.constraint.specs.Table.{ShapeFits, constraintOf, lengthAt, bodyAt, WholeAt, placeQuestions}
+use Rattle.constraint.specs.Table.{ShapeFits, constraintOf, lengthAt, bodyAt, WholeAt, placeQuestions, VersionOne}
 use Rattle.constraint.specs.declared.Answer.{Answer}
 use Rattle.constraint.specs.declared.Answer.the-variants.{Taken, Refused}
 use Rattle.constraint.proofs.Judged.{judged-yes, judged-no, judged-all}
@@ -42,3 +43,8 @@ module _ (bytes : List ℕ) (i place : ℕ) where
 pub part-body : (bytes : List ℕ) (place size : ℕ) → size ≡ lengthAt bytes place
     → take (place + 2 + size - (place + 2)) (drop (place + 2) bytes) ≡ bodyAt bytes place
 part-body bytes place size e = rw (add-sub-cancel-left (place + 2) size, e)
+
+-- a first byte that is 1 is there
+pub version-one : (bytes : List ℕ) → at bytes 0 ≡ 1 → VersionOne bytes
+version-one [] e = absurd (omega arith)
+version-one (byte ∷ bytes) e = (omega arith, e)

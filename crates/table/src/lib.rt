@@ -31,10 +31,7 @@ pub enum WriteAnswer {
 pub fn read(bytes: &[u8]) -> Reading
     ensures { λ r. ⌜ ReadsInto (now (bytes .entry)) r ⌝ }
 {
-    if bytes.len() == 0 {
-        return reader::refused(1, 0);
-    }
-    if bytes[0] != 1 {
+    if number::byte_at(bytes, 0) != 1 {
         return reader::refused(1, 0);
     }
     reader::read_rows(bytes)

@@ -1,47 +1,35 @@
+-- The version byte is asked for first, and then the rows.
 use borrow.Author.Needs.{needs}
+use mathlib.Core.Path.{sym, _∙_}
+use denote.Ref.{now}
+use Rattle.constraint.specs.Table.{VersionOne, version-refused, version-taken}
+use Rattle.table.proofs.Places.{version-one}
 use Rattle.table.proofs.read.Statement.{statement}
 use Rattle.table.proofs.read.Tie as tie
-use Rattle.table.proofs.read.Reads as reads
-use Rattle.table.proofs.read.Lts as lts
-use Rattle.table.proofs.reader.read_rows.Reads as read-rows-reads
-use Rattle.table.proofs.reader.refused.Reads as refused-reads
 
--- src/lib.rt:35:9
+version : (c : tie.Else1) → VersionOne (now (c .before .before .before .args .bytes))
+version c = version-one (now (c .before .before .before .args .bytes)) (sym (c .before .byte-at .ensures) ∙ c .if1 .left)
+
+byte-at-requires : tie.Need-byte-at-requires
+byte-at-requires c κs = search needs
+
 refused-requires : tie.Need-refused-requires
 refused-requires c κs = search needs
 
--- src/lib.rt:35:9
 returns : tie.Need-returns
-returns c = ?
+returns c =
+    let refused = c .refused .ensures in
+    record {
+      reads = rw (refused .0) (version-refused (λ one. c .before .if1 .taken (c .before .before .byte-at .ensures ∙ one .1)));
+      holds = rw (refused .0) (refused .1);
+    }
 
--- src/lib.rt:37:8
-shared-slice-read-if2 : tie.Need-shared-slice-read-if2
-shared-slice-read-if2 c = search needs
-
--- src/lib.rt:38:9
-refused-requires-2 : tie.Need-refused-requires-2
-refused-requires-2 c κs = search needs
-
--- src/lib.rt:38:9
-returns-2 : tie.Need-returns-2
-returns-2 c = ?
-
--- src/lib.rt:40:5
 read-rows-requires : tie.Need-read-rows-requires
-read-rows-requires c κs = search needs
+read-rows-requires c κs = version c .0
 
--- src/lib.rt:31:1
-returns-3 : tie.Need-returns-3
-returns-3 c = ?
+returns-2 : tie.Need-returns-2
+returns-2 c = record { reads = version-taken (version (c .before)) (c .read-rows .ensures .0); holds = c .read-rows .ensures .1 }
 
 pub read-spec : {M : Type 1} → statement M
 read-spec =
-    tie.close
-    (tie.spec
-    refused-requires
-    returns
-    shared-slice-read-if2
-    refused-requires-2
-    returns-2
-    read-rows-requires
-    returns-3)
+    tie.close (tie.spec byte-at-requires refused-requires returns read-rows-requires returns-2)

@@ -6,16 +6,16 @@ use mathlib.Core.Logic.{⊎-elim}
 use native.Mathlib.Nat.{add-assoc}
 use native.Mathlib.Numerals.{add-one, one-add}
 use native.Mathlib.Omega.{arith}
-use lib.ListN.{length, take, drop, length-drop}
+use lib.ListN.{length, take, drop, length-append, length-drop}
 use lib.Seq.{take-all, take-add, drop-drop, drop-cons, length-take-le, getD-take, getD-drop}
 use Rattle.constraint.specs.Limits.{lastTime, noLimit}
 use Rattle.constraint.specs.Steps.{at}
 use Rattle.constraint.specs.Bytes.{Bytes, number, bytesOf, bytesAt}
 use Rattle.constraint.specs.Accepted.{InRange, UpperInRange}
-use Rattle.constraint.specs.Table.{Field, byte, time, fieldsBytes, rowBody, lengthOf, ShapeFits, timeAt, synchronizationOf, constraintOf}
+use Rattle.constraint.specs.Table.{Field, byte, time, fieldsBytes, rowBody, rowBytes, lengthOf, ShapeFits, timeAt, synchronizationOf, constraintOf}
 use Rattle.constraint.specs.declared.Constraint.{Constraint}
 use Rattle.constraint.specs.declared.Constraint.the-variants.{Delay, StrongDelay, Repeat, Sporadic, Burst, Order, StrongSynchronization2, StrongSynchronization3, StrongSynchronization4}
-use Rattle.number.proofs.Numbers.{bytes-of-number, number-of-bytes}
+use Rattle.number.proofs.Numbers.{bytes-length, bytes-of-number, number-of-bytes}
 
 -- From a body to a row and back
 
@@ -149,6 +149,11 @@ body-short (Order source target) = omega arith
 body-short (StrongSynchronization2 a b tolerance) = omega arith
 body-short (StrongSynchronization3 a b c tolerance) = omega arith
 body-short (StrongSynchronization4 a b c d tolerance) = omega arith
+
+-- a row is its length field and its body
+pub row-length : (c : Constraint) → length (rowBytes c) ≡ 2 + length (rowBody c)
+unfolding rowBytes
+row-length c = length-append (bytesOf 2 (length (rowBody c))) (rowBody c) ∙ rw (bytes-length 2 (length (rowBody c)))
 
 -- a row's body has the shape that its type asks for
 pub body-fits : (c : Constraint) → ShapeFits (rowBody c)

@@ -7,3 +7,4 @@ pub mod RoundTrip
 pub mod Records
 pub mod Places
 pub mod Progress
+pub mod Stores

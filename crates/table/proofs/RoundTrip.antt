@@ -17,7 +17,7 @@ use Rattle.constraint.specs.declared.Answer.the-variants.{Taken}
 use Rattle.constraint.specs.declared.Constraint.{Constraint}
 use Rattle.constraint.proofs.Judged.{judged-none, judged-yes, judged-all, judged-parts}
 use Rattle.number.proofs.Numbers.{bytes-length, number-of-bytes}
-use Rattle.table.proofs.Bodies.{number-back, bytes-part, row-back, body-row, body-short, body-fits}
+use Rattle.table.proofs.Bodies.{number-back, bytes-part, row-back, body-row, body-short, body-fits, row-length}
 
 -- From bytes to rows and back
 
@@ -96,15 +96,11 @@ module _ (before : List ℕ) (c : Constraint) (after : List ℕ) where
       )
       (take-append-seam (rowBody c) after)
 
-  row-long : length (rowBytes c) ≡ 2 + length (rowBody c)
-  unfolding rowBytes
-  row-long = length-append (bytesOf 2 (length (rowBody c))) (rowBody c) ∙ rw (bytes-length 2 (length (rowBody c)))
-
   -- its questions are answered "yes" where the row's own are
   row-read : (i : ℕ) → i < rowLimit → Judged (rowQuestions c) Taken → Judged (placeQuestions (before ++ (rowBytes c ++ after)) i (length before)) Taken
   unfolding placeQuestions
   row-read i room judged =
-      judged-yes 2 _ _ Taken (rw length-there (omega (arith, length-append before (rowBytes c ++ after), length-append (rowBytes c) after, row-long)))
+      judged-yes 2 _ _ Taken (rw length-there (omega (arith, length-append before (rowBytes c ++ after), length-append (rowBytes c) after, row-length c)))
       (judged-yes 3 _ _ Taken room
       (judged-yes 4 _ _ Taken (rw body-there (body-fits c)) (rw (body-there, body-row c (row-ranges c judged)) judged)))
 
@@ -118,13 +114,13 @@ rows-read before i (c ∷ rows) judged =
     let room = judged-all 3 (i < rowLimit) _ judged in
     let parts = judged-parts (rowQuestions c) (rowsQuestions (i + 1) rows []) (room .1) in
     let next : length (before ++ rowBytes c) ≡ length before + 2 + lengthAt bytes (length before) =
-    omega (arith, length-append before (rowBytes c), row-long before c after, length-there before c after) in
+    omega (arith, length-append before (rowBytes c), row-length c, length-there before c after) in
     let later : ReadsRows bytes (i + 1) (length before + 2 + lengthAt bytes (length before)) (table-of rows) =
     subst₂ (λ (l : List ℕ) (place : ℕ). ReadsRows l (i + 1) place (table-of rows)) (append-assoc before (rowBytes c) after) next
     (rows-read (before ++ rowBytes c) (i + 1) rows (parts .1)) in
     subst (λ (row : Constraint). ReadsRows bytes i (length before) (table-of (row ∷ rows)))
     (ap constraintOf (body-there before c after) ∙ body-row c (row-ranges c (parts .0)))
-    (row-taken (omega (arith, length-append before (rowBytes c ++ after), length-append (rowBytes c) after, row-long before c after))
+    (row-taken (omega (arith, length-append before (rowBytes c ++ after), length-append (rowBytes c) after, row-length c))
     (row-read before c after i (room .0) (parts .0)) later)
 
 -- what is written is read back

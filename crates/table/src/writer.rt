@@ -127,12 +127,12 @@ fn put_row(buffer: &mut [u8], place: usize, row: Constraint)
     requires { ⌜ place + length (rowBytes row) ≤ length (now buffer) ⌝ }
     ensures { λ _. ⌜ now (buffer .exit) ≡ sets (now (buffer .entry)) place (rowBytes row) ⌝ }
 {
+    number::put_two(buffer, place, length_of(row));
     let head = head_of(row);
     let bytes = head.bytes;
     let count = head.count;
-    let times = times_of(row);
-    number::put_two(buffer, place, count + 8 * times.count);
     number::put(buffer, place + 2, &bytes[..count]);
+    let times = times_of(row);
     put_times(buffer, place + 2 + count, times);
 }
 

@@ -1,30 +1,34 @@
+-- A body is its head and eight bytes for each time.
+use native.Mathlib.Omega.{arith}
 use borrow.Author.Needs.{needs}
+use Rattle.table.proofs.Bodies.{body-short}
+use Rattle.table.proofs.Stores.{body-length}
 use Rattle.table.proofs.writer.length_of.Statement.{statement}
 use Rattle.table.proofs.writer.length_of.Tie as tie
-use Rattle.table.proofs.writer.length_of.Reads as reads
-use Rattle.table.proofs.writer.length_of.Lts as lts
-use Rattle.table.proofs.writer.head_of.Reads as head-of-reads
-use Rattle.table.proofs.writer.times_of.Reads as times-of-reads
 
--- src/writer.rt:104:9
 head-of-requires : tie.Need-head-of-requires
 head-of-requires c κs = search needs
 
--- src/writer.rt:105:9
 times-of-requires : tie.Need-times-of-requires
 times-of-requires c κs = search needs
 
--- src/writer.rt:106:18
 mul-result : tie.Need-mul-result
-mul-result c = ?
+mul-result c =
+    let at-times = c .before in
+    let row = at-times .before .before .args .row in
+    omega (arith, body-short row, body-length row, at-times .times-of .ensures .counted)
 
--- src/writer.rt:106:5
 add-result : tie.Need-add-result
-add-result c = ?
+add-result c =
+    let at-times = c .before .before in
+    let row = at-times .before .before .args .row in
+    omega (arith, body-short row, body-length row, at-times .times-of .ensures .counted, at-times .before .head-of .ensures .counted)
 
--- src/writer.rt:101:1
 returns : tie.Need-returns
-returns c = ?
+returns c =
+    let at-times = c .before .before in
+    let row = at-times .before .before .args .row in
+    omega (arith, body-length row, at-times .times-of .ensures .counted, at-times .before .head-of .ensures .counted)
 
 pub length-of-spec : {M : Type 1} → statement M
 length-of-spec =

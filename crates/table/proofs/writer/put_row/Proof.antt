@@ -1,83 +1,77 @@
+-- The length field, the head and the times are stored one behind the other.
+use native.Mathlib.Omega.{arith}
 use borrow.Author.Needs.{needs}
+use mathlib.Core.Path.{sym, ap, _∙_}
+use lib.ListN.{length}
+use denote.Ref.{now}
+use Rattle.table.proofs.Bodies.{body-short, row-length}
+use Rattle.table.proofs.Stores.{body-length, holds-fits, row-stores}
 use Rattle.table.proofs.writer.put_row.Statement.{statement}
 use Rattle.table.proofs.writer.put_row.Tie as tie
-use Rattle.table.proofs.writer.put_row.Reads as reads
-use Rattle.table.proofs.writer.put_row.Lts as lts
-use Rattle.number.proofs.put.Reads as put-reads
-use Rattle.number.proofs.put_two.Reads as put-two-reads
-use Rattle.table.proofs.writer.head_of.Reads as head-of-reads
-use Rattle.table.proofs.writer.put_times.Reads as put-times-reads
-use Rattle.table.proofs.writer.times_of.Reads as times-of-reads
 
--- src/writer.rt:130:9
-head-of-requires : tie.Need-head-of-requires
-head-of-requires c κs = search needs
+length-of-requires : tie.Need-length-of-requires
+length-of-requires c κs = search needs
 
--- src/writer.rt:133:9
-times-of-requires : tie.Need-times-of-requires
-times-of-requires c κs = search needs
-
--- src/writer.rt:134:44
-mul-put-two : tie.Need-mul-put-two
-mul-put-two c = ?
-
--- src/writer.rt:134:36
-add-put-two : tie.Need-add-put-two
-add-put-two c = ?
-
--- src/writer.rt:134:5
 put-two-requires : tie.Need-put-two-requires
 put-two-requires c κs = search needs
 
--- src/writer.rt:135:25
+head-of-requires : tie.Need-head-of-requires
+head-of-requires c κs = search needs
+
 add-put : tie.Need-add-put
 add-put c = search needs
 
--- src/writer.rt:135:36
 array-share-prefix-bytes : tie.Need-array-share-prefix-bytes
-array-share-prefix-bytes c = ?
+array-share-prefix-bytes c = holds-fits _ _ _ (c .before .before .head-of .ensures)
 
--- src/writer.rt:135:36
 slice-aggregate-put : tie.Need-slice-aggregate-put
-slice-aggregate-put c = ?
+slice-aggregate-put c = let head = c .before .before .before .head-of .ensures in head .counted ∙ sym (ap length (head .first))
 
--- src/writer.rt:135:5
 put-requires : tie.Need-put-requires
 put-requires c κs = search needs
 
--- src/writer.rt:136:23
+times-of-requires : tie.Need-times-of-requires
+times-of-requires c κs = search needs
+
 add-put-times : tie.Need-add-put-times
 add-put-times c = search needs
 
--- src/writer.rt:136:23
 add-put-times-2 : tie.Need-add-put-times-2
-add-put-times-2 c = ?
+add-put-times-2 c =
+    let head = c .before .before .before .before .before .before .before .before in
+    let start = head .before .before .before .before .before .before .before in
+    omega (arith, start .pre, start .good, head .head-of .ensures .counted, row-length (start .args .row), body-length (start .args .row))
 
--- src/writer.rt:136:5
 put-times-requires : tie.Need-put-times-requires
-put-times-requires c κs = ?
+put-times-requires c κs =
+    let head = c .before .before .before .before .before .before .before .before in
+    let start = head .before .before .before .before .before .before .before in
+    let row = start .args .row in
+    let kept = c .before .before .before .before .put .kept .0 ∙ c .before .before .before .before .before .before .before .before .before .before .before .put-two .kept .0 in
+    (omega (arith, start .pre, head .head-of .ensures .counted, row-length row, body-length row, kept), omega (arith, c .before .times-of .ensures .counted, body-length row, body-short row))
 
--- src/writer.rt:126:1
 same-length : tie.Need-same-length
 same-length c = search needs
 
--- src/writer.rt:126:1
 returns : tie.Need-returns
-returns c = ?
+returns c =
+    let head = c .before .before .before .before .before .before .before .before .before .before .before .head-of .ensures in
+    let a = c .before .before .before .before .before .before .before .before .before .before .before .before .before .before .before .before .before .before .args in
+    row-stores (now (a .buffer)) _ _ _ (a .place) (a .row) _ _ _ _ (c .before .before .before .before .before .before .before .before .before .before .before .before .before .before .before .length-of .ensures) (head .first) (head .counted) (c .before .before .before .before .times-of .ensures .first)
+    (c .before .before .before .before .before .before .before .before .before .before .before .before .before .before .put-two .ensures) (c .before .before .before .before .before .before .before .put .ensures) (c .before .before .put-times .ensures)
 
 pub put-row-spec : {M : Type 1} → statement M
 put-row-spec =
     tie.close
     (tie.spec
-    head-of-requires
-    times-of-requires
-    mul-put-two
-    add-put-two
+    length-of-requires
     put-two-requires
+    head-of-requires
     add-put
     array-share-prefix-bytes
     slice-aggregate-put
     put-requires
+    times-of-requires
     add-put-times
     add-put-times-2
     put-times-requires

@@ -8,10 +8,15 @@ use lib.ListN.{length, getD, take, drop, length-append, length-take}
 use lib.Seq.{sets, drop-cons}
 use Rattle.constraint.specs.Bytes.{bytesOf}
 use Rattle.constraint.specs.Table.{fieldsBytes, rowBody, rowBytes, rowsBytes}
+use Rattle.constraint.specs.Rows.{rowsOf}
+use Rattle.constraint.specs.declared.Entry.{Entry}
+use Rattle.constraint.specs.declared.Table.{Table}
 use Rattle.constraint.specs.declared.Constraint.{Constraint}
 use Rattle.constraint.specs.declared.Constraint.the-variants.{Delay, StrongDelay, Repeat, Sporadic, Burst, Order, StrongSynchronization2, StrongSynchronization3, StrongSynchronization4}
+use Rattle.constraint.proofs.Rows.{rows-from}
 use Rattle.number.proofs.Numbers.{bytes-length}
 use Rattle.number.proofs.Stores.{stores-append}
+use Rattle.table.proofs.Bodies.{row-length}
 use Rattle.table.specs.Writing.{bytesIn, timesIn, headOf, timesOf, timesBytes, HoldsFirst}
 
 -- the fields of one byte stand before the times
@@ -64,3 +69,26 @@ pub row-stores : (buffer one two three : List ℕ) (place : ℕ) (c : Constraint
     → one ≡ sets buffer place (bytesOf 2 size) → two ≡ sets one (place + 2) head → three ≡ sets two (place + 2 + count) (timesBytes times)
     → three ≡ sets buffer place (rowBytes c)
 row-stores buffer one two three place c size count head times s h n t a b d = cc (row-stored buffer place c)
+
+-- Rows one after the other
+
+module _ (table : Table) (i : ℕ) (other : Entry) (counted : i < table .count) (there : i < length (table .rows)) where
+  -- the row of the entry, and the rows after it
+  rows-next : rowsBytes (drop i (rowsOf table)) ≡ rowBytes (getD (table .rows) i other .constraint) ++ rowsBytes (drop (i + 1) (rowsOf table))
+  unfolding rowsBytes
+  rows-next = ap rowsBytes (rows-from table i other counted there)
+
+  pub rows-size : length (rowsBytes (drop i (rowsOf table)))
+      ≡ 2 + length (rowBody (getD (table .rows) i other .constraint)) + length (rowsBytes (drop (i + 1) (rowsOf table)))
+  rows-size =
+      let row = getD (table .rows) i other .constraint in
+      ap length rows-next ∙ length-append (rowBytes row) (rowsBytes (drop (i + 1) (rowsOf table))) ∙ omega (arith, row-length row)
+
+  pub rows-more : (buffer : List ℕ) (place : ℕ) → sets buffer place (rowsBytes (drop i (rowsOf table)))
+      ≡ sets (sets buffer place (rowBytes (getD (table .rows) i other .constraint))) (place + (2 + length (rowBody (getD (table .rows) i other .constraint))))
+      (rowsBytes (drop (i + 1) (rowsOf table)))
+  rows-more buffer place =
+      let row = getD (table .rows) i other .constraint in
+      ap (sets buffer place) rows-next
+      ∙ stores-append buffer place (rowBytes row) (rowsBytes (drop (i + 1) (rowsOf table)))
+      ∙ ap (λ (n : ℕ). sets (sets buffer place (rowBytes row)) (place + n) (rowsBytes (drop (i + 1) (rowsOf table)))) (row-length row)

@@ -3,16 +3,15 @@ use Prim.Native.Nat.{ℕ, zero, suc, _+_, _^_, _≤_, _<_}
 use mathlib.Core.Path.{_≡_, refl, sym, ap, _∙_}
 use mathlib.Core.List.{List, [], _∷_, _++_}
 use mathlib.Core.Logic.{⊎-elim}
-use native.Mathlib.Nat.{add-assoc}
 use native.Mathlib.Numerals.{add-one, one-add}
 use native.Mathlib.Omega.{arith}
-use lib.ListN.{length, take, drop, length-append, length-drop}
+use lib.ListN.{length, drop, length-append, length-drop}
 use lib.Seq.{take-all, take-add, drop-drop, drop-cons, length-take-le, getD-take, getD-drop}
-use Rattle.constraint.specs.Limits.{lastTime, noLimit}
+use Rattle.constraint.specs.Limits.{lastTime}
 use Rattle.constraint.specs.Steps.{at}
 use Rattle.constraint.specs.Bytes.{Bytes, number, bytesOf, bytesAt}
 use Rattle.constraint.specs.Accepted.{InRange, UpperInRange}
-use Rattle.constraint.specs.Table.{Field, byte, time, fieldsBytes, rowBody, rowBytes, lengthOf, ShapeFits, timeAt, synchronizationOf, constraintOf}
+use Rattle.constraint.specs.Table.{Field, byte, time, fieldsBytes, rowBody, rowBytes, ShapeFits, timeAt, synchronizationOf, constraintOf}
 use Rattle.constraint.specs.declared.Constraint.{Constraint}
 use Rattle.constraint.specs.declared.Constraint.the-variants.{Delay, StrongDelay, Repeat, Sporadic, Burst, Order, StrongSynchronization2, StrongSynchronization3, StrongSynchronization4}
 use Rattle.number.proofs.Numbers.{bytes-length, bytes-of-number, number-of-bytes}

@@ -8,3 +8,4 @@ pub mod Records
 pub mod Places
 pub mod Progress
 pub mod Stores
+pub mod Written

@@ -1,11 +1,9 @@
 -- Bytes have one reading, since each question has one answer.
-use Prim.Native.Nat.{ℕ, _+_, _≤_, _<_}
+use Prim.Native.Nat.{ℕ}
 use mathlib.Core.Path.{_≡_, refl, ap}
 use mathlib.Core.List.{List}
 use native.Mathlib.Omega.{arith}
-use lib.ListN.{length}
-use Rattle.constraint.specs.Table.{TableRead, table-refused, rowThen, ReadsRows, no-more, row-refused, row-taken, ReadsTable, version-refused, version-taken, bodyAt, constraintOf, placeQuestions}
-use Rattle.constraint.specs.declared.Answer.{Answer}
+use Rattle.constraint.specs.Table.{TableRead, rowThen, ReadsRows, no-more, row-refused, row-taken, ReadsTable, version-refused, version-taken, bodyAt, constraintOf, placeQuestions}
 use Rattle.constraint.specs.declared.Answer.the-variants.{Taken, Refused}
 use Rattle.constraint.proofs.Judged.{never, judged-once}
 

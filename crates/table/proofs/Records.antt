@@ -1,15 +1,14 @@
 -- The record of some rows holds those rows, and a row put in its next entry makes the record of one row more.
-use Prim.Native.Nat.{ℕ, suc, _+_, _-_, _≤_, _<_}
-use mathlib.Core.Path.{_≡_, refl, sym, ap, ap₂, _∙_}
+use Prim.Native.Nat.{ℕ, suc, _+_, _-_, _<_}
+use mathlib.Core.Path.{_≡_, refl, sym, ap, _∙_}
 use mathlib.Core.List.{List, [], _∷_, _++_, map, map-append, append-assoc}
 use native.Mathlib.Omega.{arith}
-use lib.ListN.{length, set, take, replicate, length-append, length-map}
+use lib.ListN.{length, set, replicate, length-append, length-map}
 use lib.Seq.{set-at, take-append-seam}
 use Rattle.constraint.specs.Limits.{rowLimit}
 use Rattle.constraint.specs.Rows.{filler, rowsOf}
 use Rattle.constraint.specs.declared.Constraint.{Constraint}
 use Rattle.constraint.specs.declared.Entry.{Entry}
-use Rattle.constraint.specs.declared.Table.{Table}
 use Rattle.table.specs.Reading.{entryOf, tableOf, withRow}
 
 -- the entries that no row was put in
@@ -29,11 +28,11 @@ record-more rows c h =
     let long : length (rows ++ (c ∷ [])) ≡ n + 1 = length-append rows (c ∷ []) in
     let next : suc n ≡ length (rows ++ (c ∷ [])) = omega arith in
     let entries : set (map entryOf rows ++ free n) n (entryOf c) ≡ map entryOf (rows ++ (c ∷ [])) ++ free (length (rows ++ (c ∷ []))) =
-        ap (λ (l : List Entry). set (map entryOf rows ++ l) n (entryOf c)) (free-first n h)
-        ∙ set-at (map entryOf rows) (entryOf filler) (free (suc n)) (entryOf c) n (length-map rows entryOf)
-        ∙ ap (λ (k : ℕ). map entryOf rows ++ (entryOf c ∷ free k)) next
-        ∙ sym (append-assoc (map entryOf rows) (entryOf c ∷ []) (free (length (rows ++ (c ∷ [])))))
-        ∙ ap (λ (l : List Entry). l ++ free (length (rows ++ (c ∷ [])))) (sym (map-append entryOf rows (c ∷ []))) in
+    ap (λ (l : List Entry). set (map entryOf rows ++ l) n (entryOf c)) (free-first n h)
+    ∙ set-at (map entryOf rows) (entryOf filler) (free (suc n)) (entryOf c) n (length-map rows entryOf)
+    ∙ ap (λ (k : ℕ). map entryOf rows ++ (entryOf c ∷ free k)) next
+    ∙ sym (append-assoc (map entryOf rows) (entryOf c ∷ []) (free (length (rows ++ (c ∷ [])))))
+    ∙ ap (λ (l : List Entry). l ++ free (length (rows ++ (c ∷ [])))) (sym (map-append entryOf rows (c ∷ []))) in
     λ i. record { rows = entries i; count = sym long i }
 
 entries-rows : (rows : List Constraint) (others : List Entry)

@@ -1,21 +1,18 @@
 -- What is read from bytes is written back to those bytes, and what is written is read back, since a row and its body say the same.
-use Prim.Native.Nat.{ℕ, _+_, _≤_, _<_}
+use Prim.Native.Nat.{ℕ, _+_, _<_}
 use mathlib.Core.Path.{_≡_, refl, sym, ap, ap₂, subst, subst₂, _∙_}
-use mathlib.Core.List.{List, [], _∷_, _++_, append-assoc, append-nil}
-use mathlib.Core.Logic.{inl, inr}
-use native.Mathlib.Nat.{add-assoc}
+use mathlib.Core.List.{List, [], _∷_, _++_, append-assoc}
 use native.Mathlib.Omega.{arith}
-use lib.ListN.{length, take, drop, length-append, length-drop, take-append-drop, drop-of-length-le}
+use lib.ListN.{length, drop, length-append, length-drop, take-append-drop, drop-of-length-le}
 use lib.Seq.{take-at, drop-at, take-append-seam, drop-append-seam, length-take-le, drop-drop, drop-cons}
 use Rattle.constraint.specs.Limits.{rowLimit}
-use Rattle.constraint.specs.Steps.{at}
-use Rattle.constraint.specs.Bytes.{Bytes, number, bytesOf, bytesAt}
-use Rattle.constraint.specs.Questions.{Question, Judged}
+use Rattle.constraint.specs.Bytes.{Bytes, bytesOf, bytesAt}
+use Rattle.constraint.specs.Questions.{Judged}
 use Rattle.constraint.specs.Accepted.{kinds, KindsFit, InRange, rowQuestions, rowsQuestions, Accepted}
-use Rattle.constraint.specs.Table.{rowBody, rowBytes, rowsBytes, tableBytes, ShapeFits, constraintOf, lengthAt, bodyAt, WholeAt, placeQuestions, TableRead, table-of, table-refused, rowThen, ReadsRows, no-more, row-refused, row-taken, ReadsTable, version-refused, version-taken}
+use Rattle.constraint.specs.Table.{rowBody, rowBytes, rowsBytes, tableBytes, ShapeFits, constraintOf, lengthAt, bodyAt, WholeAt, placeQuestions, TableRead, table-of, table-refused, rowThen, ReadsRows, no-more, row-refused, row-taken, ReadsTable, version-taken}
 use Rattle.constraint.specs.declared.Answer.the-variants.{Taken}
 use Rattle.constraint.specs.declared.Constraint.{Constraint}
-use Rattle.constraint.proofs.Judged.{judged-none, judged-yes, judged-all, judged-parts}
+use Rattle.constraint.proofs.Judged.{judged-yes, judged-all, judged-parts}
 use Rattle.number.proofs.Numbers.{bytes-length, number-of-bytes}
 use Rattle.table.proofs.Bodies.{number-back, bytes-part, row-back, body-row, body-short, body-fits, row-length}
 

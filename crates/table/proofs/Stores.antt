@@ -1,10 +1,10 @@
 -- A row's bytes are its length field, its head and its times, so storing these one after the other stores the row.
 use Prim.Native.Nat.{ℕ, suc, _+_, _*_, _≤_, _<_}
 use mathlib.Core.Path.{_≡_, refl, sym, ap, _∙_}
-use mathlib.Core.List.{List, [], _∷_, _++_, append-assoc}
+use mathlib.Core.List.{List, [], _∷_, _++_}
 use native.Mathlib.Numerals.{add-one}
 use native.Mathlib.Omega.{arith}
-use lib.ListN.{length, getD, take, drop, length-append, length-take}
+use lib.ListN.{length, getD, drop, length-append, length-take}
 use lib.Seq.{sets, drop-cons}
 use Rattle.constraint.specs.Bytes.{bytesOf}
 use Rattle.constraint.specs.Table.{fieldsBytes, rowBody, rowBytes, rowsBytes}

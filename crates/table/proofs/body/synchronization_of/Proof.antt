@@ -1,6 +1,6 @@
 -- The fields are read where the definition reads them, by n.
 use borrow.Author.Needs.{needs}
-use mathlib.Core.Path.{_≡_, sym, _∙_}
+use mathlib.Core.Path.{sym, _∙_}
 use borrow.Author.Tests.{ne-eqb}
 use denote.Ref.{now}
 use Rattle.constraint.specs.Steps.{at}

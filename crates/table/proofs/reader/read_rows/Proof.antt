@@ -2,10 +2,8 @@
 use native.Mathlib.Omega.{arith}
 use borrow.Author.Needs.{needs}
 use Prim.Native.Nat.{_-_}
-use mathlib.Core.Path.{_≡_, sym}
 use lib.ListN.{length}
 use denote.Ref.{now}
-use Rattle.constraint.specs.Table.{ReadsRows}
 use Rattle.table.specs.Reading.{ReadsRow}
 use Rattle.table.specs.declared.reader.RowRead.{RowRead}
 use Rattle.table.proofs.Places.{place-taken}
@@ -65,9 +63,10 @@ returns c =
     let at-number = c .before .before in
     let at-loop = at-number .before .before .before .before in
     let bytes = now (at-loop .before .before .before .args .bytes) in
-    let judged = rw (at-number .number .given .1) at (at-number .before .before .read-row .ensures) in
-    ( rw (c .refused .ensures .0) (up-to-refused bytes (at-loop .loop .table) (at-loop .loop .place) _ (at-loop .loop .inv) (omega arith) judged)
-    , rw (c .refused .ensures .0) (c .refused .ensures .1) )
+    let judged = rw (at-number .number .given .1) at (at-number .before .before .read-row .ensures) in (
+      rw (c .refused .ensures .0) (up-to-refused bytes (at-loop .loop .table) (at-loop .loop .place) _ (at-loop .loop .inv) (omega arith) judged),
+      rw (c .refused .ensures .0) (c .refused .ensures .1),
+    )
 
 returns-2 : tie.Need-returns-2 Inv-loop μ-loop
 returns-2 c =

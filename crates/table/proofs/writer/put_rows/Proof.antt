@@ -2,11 +2,11 @@
 use native.Mathlib.Omega.{arith}
 use Prim.Native.Nat.{_+_, _-_, _^_, _≤_, _<_}
 use mathlib.Core.Path.{_≡_, refl, sym, ap, _∙_}
-use mathlib.Core.List.{List, []}
+use mathlib.Core.List.{List}
 use lib.ListN.{length, getD, drop, length-map, drop-of-length-le}
 use lib.Seq.{sets}
 use Rattle.constraint.specs.Rows.{rowsOf}
-use Rattle.constraint.specs.Table.{rowBody, rowBytes, rowsBytes, tableBytes}
+use Rattle.constraint.specs.Table.{rowBody, rowsBytes, tableBytes}
 use Rattle.constraint.specs.declared.Constraint.{Constraint}
 use Rattle.constraint.specs.declared.Constraint.the-variants.{Delay}
 use Rattle.constraint.proofs.Rows.{rows-length}
@@ -75,12 +75,13 @@ loop-again c =
     let at-turn = c .before .before .before .before .before .before in
     let loop = at-turn .before .loop in
     let table = at-turn .before .before .before .args .t2 in
-    let put = c .before .before .before .put-row in
-    ( omega arith
-    , put .kept .0 ∙ loop .inv .1
-    , omega (arith, size at-turn, c .length-of .ensures)
-    , rw (put .ensures, c .length-of .ensures)
-      (sym (rows-more table (loop .i) _ (omega arith) (entries at-turn) (loop .buffer) (loop .place)) ∙ loop .inv .3) )
+    let put = c .before .before .before .put-row in (
+      omega arith,
+      put .kept .0 ∙ loop .inv .1,
+      omega (arith, size at-turn, c .length-of .ensures),
+      rw (put .ensures, c .length-of .ensures)
+          (sym (rows-more table (loop .i) _ (omega arith) (entries at-turn) (loop .buffer) (loop .place)) ∙ loop .inv .3),
+    )
 
 same-length : tie.Need-same-length Inv-loop μ-loop
 same-length c = c .before .loop .inv .1

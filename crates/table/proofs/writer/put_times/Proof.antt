@@ -5,8 +5,6 @@ use mathlib.Core.Path.{_≡_, refl, sym, ap, _∙_}
 use mathlib.Core.List.{List}
 use lib.ListN.{length, getD, take, drop, length-map, drop-of-length-le}
 use lib.Seq.{sets, length-take-le, getD-take}
-use denote.Ref.{now}
-use Rattle.constraint.specs.Bytes.{bytesOf}
 use Rattle.table.specs.Writing.{timesBytes}
 use Rattle.table.proofs.Stores.{times-more}
 use Rattle.table.proofs.writer.put_times.Statement.{statement}
@@ -54,11 +52,12 @@ loop-again c =
     let start = at-loop .before .before in
     let loop = at-loop .loop in
     let xs = take (start .args .t3 .count) (start .args .t3 .values) in
-    let same : getD xs (loop .i) 0 ≡ getD (start .args .t3 .values) (loop .i) 0 = getD-take (start .args .t3 .count) (start .args .t3 .values) (loop .i) 0 (omega arith) in
-    ( omega arith
-    , at-put .put-eight .kept .0 ∙ loop .inv .1
-    , omega arith
-    , rw (at-put .put-eight .ensures, ← same) (sym (times-more (loop .buffer) (loop .next) xs (loop .i) (omega (arith, long start))) ∙ loop .inv .3) )
+    let same : getD xs (loop .i) 0 ≡ getD (start .args .t3 .values) (loop .i) 0 = getD-take (start .args .t3 .count) (start .args .t3 .values) (loop .i) 0 (omega arith) in (
+      omega arith,
+      at-put .put-eight .kept .0 ∙ loop .inv .1,
+      omega arith,
+      rw (at-put .put-eight .ensures, ← same) (sym (times-more (loop .buffer) (loop .next) xs (loop .i) (omega (arith, long start))) ∙ loop .inv .3),
+    )
 
 same-length : tie.Need-same-length Inv-loop μ-loop
 same-length c = c .before .loop .inv .1

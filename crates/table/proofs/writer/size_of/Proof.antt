@@ -56,7 +56,7 @@ loop-again c =
     let i = at-loop .loop .i in
     let table = at-loop .before .args .t1 in
     let next : length (rowsBytes (drop i (rowsOf table))) ≡ 2 + c .length-of .result + length (rowsBytes (drop (i + 1) (rowsOf table))) =
-        rw (c .length-of .ensures) (rows-size table i _ (omega arith) (omega (arith, entries (at-loop .before)))) in
+    rw (c .length-of .ensures) (rows-size table i _ (omega arith) (omega (arith, entries (at-loop .before)))) in
     omega (arith, short c)
 
 returns : tie.Need-returns Inv-loop μ-loop

@@ -1,21 +1,20 @@
 -- What is true of continuations for every row type: a row's definition looks only at the times of its own kinds, and what may still follow after a step might have followed before it, so a row that is open after a step was open before it.
-use Prim.Native.Nat.{ℕ, zero, suc, _+_, _≤_, _<_}
+use Prim.Native.Nat.{ℕ, _≤_, _<_}
 use native.Mathlib.Omega.{arith}
 use mathlib.Core.Path.{_≡_, refl, sym, ap, _∙_, subst, subst₂}
-use mathlib.Core.Bool.{Bool, true, false}
+use mathlib.Core.Bool.{true, false}
 use mathlib.Core.List.{List, [], _∷_, _++_, map, append-nil, append-assoc}
-use lib.ListN.{length}
 use lib.Dec.{eqb}
 use borrow.Author.Tests.{eq-eqb, ne-eqb}
-use Rattle.constraint.specs.Limits.{lastKind, lastTime}
-use Rattle.constraint.specs.Steps.{Step, event, tick, close, at, timeIf, times, clockFrom, clock, closed}
+use Rattle.constraint.specs.Limits.{lastKind}
+use Rattle.constraint.specs.Steps.{Step, event, tick, close, at, timeIf, times, clock, closed}
 use Rattle.constraint.specs.Meets.{Meets, MeetsDelay, MeetsStrongDelay, MeetsRepeat, MeetsSporadic, MeetsBurst, MeetsOrder, MeetsStrongSynchronization}
 use Rattle.constraint.specs.Continuation.{EventInOrder, Continues, stop, more, Open}
 use Rattle.constraint.specs.Accepted.{kinds}
 use Rattle.constraint.specs.declared.Constraint.{Constraint}
 use Rattle.constraint.specs.declared.Constraint.the-variants.{Delay, StrongDelay, Repeat, Sporadic, Burst, Order, StrongSynchronization2, StrongSynchronization3, StrongSynchronization4}
-use Rattle.constraint.proofs.Lists.{split, Each, each-none, each-cons, each-append, Rising, rising-left, rising-right, rising-across, rising-snoc}
-use Rattle.constraint.proofs.History.{times-append, times-own, times-other, times-tick, times-close, clock-event, clock-tick, closed-event, closed-tick, closed-close, Accepts, with-time}
+use Rattle.constraint.proofs.Lists.{split, Each, each-none, each-cons, Rising, rising-right, rising-across, rising-snoc}
+use Rattle.constraint.proofs.History.{times-append, times-own, times-tick, times-close, clock-event, clock-tick, closed-event, closed-tick, closed-close, Accepts, with-time}
 
 -- ---- a row looks only at the times of its own kinds
 

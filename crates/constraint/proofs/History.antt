@@ -1,14 +1,13 @@
 -- What is true of every list of accepted steps: the times of a kind rise strictly and none is after the clock, since each step was accepted in order.
-use Prim.Native.Nat.{ℕ, zero, suc, _+_, _≤_, _<_}
+use Prim.Native.Nat.{ℕ, _≤_, _<_}
 use native.Mathlib.Omega.{arith}
 use mathlib.Core.Path.{_≡_, refl, sym, ap, _∙_, subst}
-use mathlib.Core.Bool.{Bool, true, false}
+use mathlib.Core.Bool.{true, false}
 use mathlib.Core.List.{List, [], _∷_, _++_, append-nil}
-use lib.ListN.{length}
 use lib.Dec.{eqb}
 use borrow.Author.Tests.{eqb-true, eq-eqb, ne-eqb}
 use Rattle.constraint.specs.Limits.{lastKind, lastTime}
-use Rattle.constraint.specs.Steps.{Step, event, tick, close, at, timeIf, times, clockFrom, clock, closed}
+use Rattle.constraint.specs.Steps.{Step, event, tick, close, timeIf, times, clockFrom, clock, closed}
 use Rattle.constraint.specs.Continuation.{EventInOrder}
 use Rattle.constraint.proofs.Lists.{split, Each, each-none, each-append, each-cons, Rising, rising-snoc}
 

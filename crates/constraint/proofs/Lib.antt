@@ -1,4 +1,14 @@
--- Laws of the definitions that every crate above cites.
+-- What is true of the definitions: laws that every crate above cites.
 pub mod Lists
 pub mod History
 pub mod Continuations
+pub mod Verdicts
+pub mod Waitings
+pub mod Counting
+pub mod Judged
+pub mod FittingKinds
+pub mod Rows
+pub mod Accepted
+pub mod Decided
+pub mod Runs
+pub mod Sanity

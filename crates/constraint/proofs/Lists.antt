@@ -1,10 +1,11 @@
--- Laws of lists of times: what holds of each, and lists that rise strictly. All go by recursion on the list.
+-- Laws of tests and of lists of times: what holds of each, and lists that rise strictly. They go by cases on the test and by recursion on the list.
 use Prim.Native.Nat.{ℕ, zero, suc, _+_, _≤_, _<_}
 use native.Mathlib.Nat.{add-zero}
 use native.Mathlib.Omega.{arith}
 use mathlib.Core.Path.{_≡_, refl, sym, subst, _∙_}
-use mathlib.Core.Bool.{Bool, true, false}
+use mathlib.Core.Bool.{Bool, true, false, _||_}
 use mathlib.Core.List.{List, [], _∷_, _++_}
+use mathlib.Core.Logic.{_⊎_, inl, inr}
 use lib.ListN.{length, List·getD-append}
 use lib.Seq.{getD-append-add}
 use Rattle.constraint.specs.Steps.{at}
@@ -13,6 +14,18 @@ use Rattle.constraint.specs.Steps.{at}
 pub split : (b : Bool) (P : Bool → Type 0) → (b ≡ true → P true) → (b ≡ false → P false) → P b
 split true P f g = f refl
 split false P f g = g refl
+
+-- a test cannot say both
+pub both : {A : Type 0} → true ≡ false → A
+both e = absurd (let z : _≡_ {A = ℕ} 0 1 = cc in omega arith)
+
+pub or-true : (a b : Bool) → (a || b) ≡ true → (a ≡ true) ⊎ (b ≡ true)
+or-true true b e = inl refl
+or-true false b e = inr e
+
+pub or-false : (a b : Bool) → (a || b) ≡ false → (a ≡ false) × (b ≡ false)
+or-false true b e = both e
+or-false false b e = (refl, e)
 
 -- ---- places of a joined list
 

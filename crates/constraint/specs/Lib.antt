@@ -6,6 +6,7 @@ pub mod Continuation
 pub mod Waiting
 pub mod Questions
 pub mod Accepted
+pub mod Rows
 pub mod Run
 pub mod Promise
 pub mod Bytes

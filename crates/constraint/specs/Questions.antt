@@ -1,6 +1,7 @@
 -- How questions are put (paper 01, "Questions in order").
 use Prim.Native.Nat.{ℕ}
 use mathlib.Core.Path.{_≡_}
+use mathlib.Core.Bool.{Bool, true, false}
 use mathlib.Core.List.{List, [], _∷_}
 use mathlib.Core.Logic.{_⊎_}
 use Rattle.constraint.specs.declared.Answer.{Answer}
@@ -14,3 +15,8 @@ Question = ℕ × Type 0
 unfoldable pub Judged : List Question → Answer → Type 0
 Judged [] a = a ≡ Taken
 Judged (q ∷ later) a = (q .1 × Judged later a) ⊎ (¬ q .1 × (a ≡ Refused (q .0)))
+
+-- a test that answers one question: true where it is answered "yes"
+abbrev pub Decides : Type 0 → Bool → Type 0
+Decides asked true = asked
+Decides asked false = ¬ asked

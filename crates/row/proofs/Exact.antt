@@ -5,7 +5,7 @@ use mathlib.Core.Bool.{true, false}
 use mathlib.Core.List.{List, [], _∷_, _++_}
 use mathlib.Core.Logic.{_⊎_}
 use lib.ListN.{length}
-use Rattle.constraint.specs.Limits.{waitingLimit}
+use Rattle.constraint.specs.Limits.{lastTime, waitingLimit}
 use Rattle.constraint.specs.Steps.{Step, event, tick, at, clock, closed}
 use Rattle.constraint.specs.Meets.{Meets}
 use Rattle.constraint.specs.Continuation.{Open}
@@ -46,7 +46,7 @@ pub record Exact (c : Constraint) : Type 1 where
   -- Ticks: steps that record nothing of the row's kinds leave it as it is, until its due time has passed
   pub same : (a b : List Step) (marks : Marks) (times : List ℕ) → SameTimes (kinds c) a b → Live a marks times → Live b marks times
   pub late : (steps : List Step) (marks : Marks) (times : List ℕ) (t : ℕ) → Past steps → Live steps marks times → due (ruleOf c) marks times < t
-      → ¬ Open c (steps ++ (tick t ∷ []))
+      → t ≤ lastTime → ¬ Open c (steps ++ (tick t ∷ []))
   -- Open
   pub is-open : (steps : List Step) (marks : Marks) (times : List ℕ) → Past steps → closed steps ≡ false → Live steps marks times
       → clock steps ≤ due (ruleOf c) marks times → Open c steps

@@ -1,6 +1,6 @@
 -- Delay: the times are the waiting sources; `last` is one more than the last target's time.
-use Prim.Native.Nat.{ℕ, zero, suc, _+_}
-use mathlib.Core.Bool.{Bool, true, false, cond, not, _&&_}
+use Prim.Native.Nat.{ℕ, suc, _+_}
+use mathlib.Core.Bool.{Bool, false, cond, not, _&&_}
 use mathlib.Core.List.{List, [], _∷_}
 use lib.Dec.{leb, eqb}
 use Rattle.row.specs.Row.{plus, withLast, goesOn, dueOldest, none-left}

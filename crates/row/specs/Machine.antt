@@ -6,6 +6,7 @@ use lib.ListN.{length}
 use lib.Dec.{ltb, eqb}
 use Rattle.constraint.specs.Limits.{noLimit, waitingLimit}
 use Rattle.constraint.specs.declared.Constraint.{Constraint}
+use Rattle.constraint.specs.declared.Verdict.{Verdict}
 use Rattle.queue.specs.Ring.{items, changed, shifted, emptyQueue, emptied}
 use Rattle.row.specs.Row.{ruleOf, noMarks}
 use Rattle.row.specs.Delay.{decideDelay, dueDelay, keptDelay}
@@ -92,3 +93,7 @@ rowTick r t step = cond (ltb 0 (r .broken)) r (cond (ltb (r .due) t) (brokenRow 
 -- the close
 unfoldable pub rowClose : Row → ℕ → Row
 rowClose r step = cond (ltb 0 (r .broken)) r (cond (kept (r .rule) (r .marks) (items (r .queue))) r (brokenRow r step))
+
+-- the row's verdict, the recording being closed or not
+unfoldable pub rowVerdict : Row → Bool → Verdict
+rowVerdict r closed = cond (ltb 0 (r .broken)) (Verdict.Broken (r .broken)) (cond closed Verdict.Kept Verdict.Open)

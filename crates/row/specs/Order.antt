@@ -1,7 +1,7 @@
 -- Order: no times are kept; `first` is the number of sources beyond the number of targets, `last` one more than the time of a target beyond the number of sources.
 use Prim.Native.Nat.{ℕ, _-_}
-use mathlib.Core.Bool.{Bool, true, false, cond, _&&_}
-use mathlib.Core.List.{List, [], _∷_}
+use mathlib.Core.Bool.{Bool, false, cond, _&&_}
+use mathlib.Core.List.{List}
 use lib.Dec.{eqb}
 use Rattle.constraint.specs.Limits.{noLimit}
 use Rattle.row.specs.Row.{plus, withLast, withFirst, goesOn}

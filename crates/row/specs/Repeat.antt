@@ -1,7 +1,7 @@
 -- Repeat and Burst: the times are those of the last span events, or of all while they are fewer; `last` is one more than the last event's time. A Repeat has minimum 0, a Burst no upper.
 use Prim.Native.Nat.{ℕ, _+_}
-use mathlib.Core.Bool.{Bool, true, false, cond, _&&_, _||_}
-use mathlib.Core.List.{List, [], _∷_}
+use mathlib.Core.Bool.{Bool, true, cond, _&&_, _||_}
+use mathlib.Core.List.{List}
 use lib.ListN.{length}
 use lib.Dec.{leb, ltb, eqb}
 use Rattle.constraint.specs.Limits.{noLimit}

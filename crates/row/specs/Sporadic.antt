@@ -1,7 +1,7 @@
 -- Sporadic: no times are kept; the last hidden point can be at each place from `low` to `high`, and `last` is one more than the last event's time.
-use Prim.Native.Nat.{ℕ, _+_, _-_, min, max}
+use Prim.Native.Nat.{ℕ, _-_, min, max}
 use mathlib.Core.Bool.{Bool, true, false, cond, _&&_}
-use mathlib.Core.List.{List, [], _∷_}
+use mathlib.Core.List.{List}
 use lib.Dec.{leb, eqb}
 use Rattle.constraint.specs.Limits.{noLimit}
 use Rattle.row.specs.Row.{plus, goesOn, breaking}

@@ -1,9 +1,8 @@
 -- StrongDelay: the times are the sources beyond the number of targets; `last` is one more than the time of a target beyond the number of sources.
-use Prim.Native.Nat.{ℕ, zero, suc, _+_, _-_}
+use Prim.Native.Nat.{ℕ, _+_, _-_}
 use mathlib.Core.Bool.{Bool, true, false, cond, _&&_}
-use mathlib.Core.List.{List, [], _∷_}
+use mathlib.Core.List.{List}
 use lib.Dec.{leb, eqb}
-use Rattle.constraint.specs.Limits.{noLimit}
 use Rattle.row.specs.Row.{plus, withLast, goesOn, breaking, front, dueOldest, none-left}
 use Rattle.row.specs.declared.Rule.{Rule}
 use Rattle.row.specs.declared.Marks.{Marks}

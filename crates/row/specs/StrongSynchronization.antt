@@ -1,7 +1,7 @@
 -- StrongSynchronization: the times are the first times of the groups begun and not complete; `first` to `fourth` say how many of these groups have an event of that kind.
 use Prim.Native.Nat.{ℕ, _-_}
 use mathlib.Core.Bool.{Bool, true, false, cond, _&&_, _||_}
-use mathlib.Core.List.{List, [], _∷_}
+use mathlib.Core.List.{List}
 use lib.ListN.{length}
 use lib.Dec.{ltb, eqb}
 use Rattle.row.specs.Row.{noKind, plus, goesOn, dueOldest, none-left}

@@ -1,0 +1,30 @@
+-- A table record has as many rows as its count says, and each of the first 32 is the row of its entry.
+use Prim.Native.Nat.{ℕ, suc, _+_, _<_}
+use mathlib.Core.Path.{_≡_, ap, _∙_}
+use mathlib.Core.List.{List, _∷_, _++_, map}
+use native.Mathlib.Numerals.{add-one}
+use native.Mathlib.Omega.{arith}
+use lib.ListN.{length, getD, drop, replicate, length-append, length-take, length-replicate, length-map, List·getD-append, List·getD-map}
+use lib.Seq.{drop-cons, getD-take}
+use Rattle.constraint.specs.Rows.{filler, rowsOf}
+use Rattle.constraint.specs.declared.Constraint.{Constraint}
+use Rattle.constraint.specs.declared.Entry.{Entry}
+use Rattle.constraint.specs.declared.Table.{Table}
+
+pub rows-length : (table : Table) → length (rowsOf table) ≡ table .count
+unfolding rowsOf
+rows-length table =
+    length-take (table .count) _
+    ∙ omega (arith, length-append (map (λ entry. entry .constraint) (table .rows)) (replicate (table .count) filler), length-replicate (table .count) filler)
+
+-- the rows from a place on: that of the entry, and the others
+pub rows-from : (table : Table) (i : ℕ) (other : Entry) → i < table .count → i < length (table .rows)
+    → drop i (rowsOf table) ≡ getD (table .rows) i other .constraint ∷ drop (i + 1) (rowsOf table)
+unfolding rowsOf
+rows-from table i other counted there =
+    let list : List Constraint = map (λ entry. entry .constraint) (table .rows) in
+    rw (add-one i, drop-cons (rowsOf table) i (other .constraint) (omega (arith, rows-length table)))
+    (ap (λ (c : Constraint). c ∷ drop (suc i) (rowsOf table))
+    (getD-take (table .count) (list ++ replicate (table .count) filler) i (other .constraint) counted
+    ∙ List·getD-append list (replicate (table .count) filler) (other .constraint) i (omega (arith, length-map (table .rows) (λ entry. entry .constraint)))
+    ∙ List·getD-map (λ entry. entry .constraint) (table .rows) i other))

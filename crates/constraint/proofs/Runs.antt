@@ -1,0 +1,76 @@
+-- What is true of every list of calls: the steps that it accepts are in order, so each row reads one verdict, broken exactly when it is not open, and at the close kept exactly when the recorded events meet its definition.
+use Prim.Native.Nat.{ℕ}
+use mathlib.Core.Path.{_≡_, refl, sym, ap, _∙_, subst}
+use mathlib.Core.Bool.{true}
+use mathlib.Core.List.{List, _++_, append-nil}
+use mathlib.Core.Logic.{inl, inr, _↔_}
+use Rattle.constraint.specs.Steps.{Step, event, tick, close, closed}
+use Rattle.constraint.specs.Meets.{Meets}
+use Rattle.constraint.specs.Continuation.{Open, BrokenAt, Reads, reads-open, reads-kept, reads-broken}
+use Rattle.constraint.specs.Questions.{Judged}
+use Rattle.constraint.specs.Run.{questions, Run, done, call}
+use Rattle.constraint.specs.declared.Answer.{Answer}
+use Rattle.constraint.specs.declared.Answer.the-variants.{Taken, Refused}
+use Rattle.constraint.specs.declared.Constraint.{Constraint}
+use Rattle.constraint.specs.declared.Verdict.{Verdict}
+use Rattle.constraint.proofs.Lists.{both}
+use Rattle.constraint.proofs.History.{Accepts, Valid, valid-more}
+use Rattle.constraint.proofs.Continuations.{continues-closed}
+use Rattle.constraint.proofs.Verdicts.{broken-later, broken-shut, broken-once, open-of-meets}
+use Rattle.constraint.proofs.Judged.{never}
+
+-- ---- the steps that a list of calls accepts
+
+-- a step whose questions are all answered "yes"
+accepts-taken : (rows : List Constraint) (steps : List Step) (s : Step) → Judged (questions rows steps s) Taken → Accepts steps s
+unfolding Judged questions
+accepts-taken rows steps (event k t) (inl (a, inl (b, inl (c, inl (d, later))))) = (a, b, c, d)
+accepts-taken rows steps (event k t) (inl (a, inl (b, inl (c, inr e)))) = never (cc (e .1))
+accepts-taken rows steps (event k t) (inl (a, inl (b, inr e))) = never (cc (e .1))
+accepts-taken rows steps (event k t) (inl (a, inr e)) = never (cc (e .1))
+accepts-taken rows steps (event k t) (inr e) = never (cc (e .1))
+accepts-taken rows steps (tick t) (inl (a, inl (b, inl (c, later)))) = (a, b, c)
+accepts-taken rows steps (tick t) (inl (a, inl (b, inr e))) = never (cc (e .1))
+accepts-taken rows steps (tick t) (inl (a, inr e)) = never (cc (e .1))
+accepts-taken rows steps (tick t) (inr e) = never (cc (e .1))
+accepts-taken rows steps close (inl (a, later)) = a
+accepts-taken rows steps close (inr e) = never (cc (e .1))
+
+pub run-valid : {rows : List Constraint} {steps calls end : List Step} {answers : List Answer} → Run rows steps calls answers end → Valid steps → Valid end
+run-valid done v = v
+run-valid {rows = rows} (call {steps = steps} s Taken judged rest) v = run-valid rest (valid-more s v (accepts-taken rows steps s judged))
+run-valid (call s (Refused n) judged rest) v = run-valid rest v
+
+-- what a list of calls leaves broken stays broken, at the same step
+pub run-broken : (c : Constraint) (n : ℕ) {rows : List Constraint} {steps calls end : List Step} {answers : List Answer} → Run rows steps calls answers end → BrokenAt c steps n → BrokenAt c end n
+run-broken c n done b = b
+run-broken c n (call {steps = steps} s Taken judged rest) b = run-broken c n rest (broken-later c steps s n b)
+run-broken c n (call {steps = steps} s (Refused k) judged rest) b = run-broken c n rest b
+
+-- ---- what a row reads after them
+
+module _ (c : Constraint) (steps : List Step) (valid : Valid steps) where
+  -- a row reads one verdict
+  pub reads-once : (v w : Verdict) → Reads c steps v → Reads c steps w → v ≡ w
+  reads-once v w (reads-open e o) (reads-open f p) = refl
+  reads-once v w (reads-open e o) (reads-kept f p) = both (sym f ∙ e)
+  reads-once v w (reads-open e o) (reads-broken n b) = absurd (broken-shut c n valid b o)
+  reads-once v w (reads-kept e o) (reads-open f p) = both (sym e ∙ f)
+  reads-once v w (reads-kept e o) (reads-kept f p) = refl
+  reads-once v w (reads-kept e o) (reads-broken n b) = absurd (broken-shut c n valid b o)
+  reads-once v w (reads-broken n b) (reads-open f p) = absurd (broken-shut c n valid b p)
+  reads-once v w (reads-broken n b) (reads-kept f p) = absurd (broken-shut c n valid b p)
+  reads-once v w (reads-broken n b) (reads-broken k d) = ap Verdict.Broken (broken-once c steps n k b d)
+
+  -- a row reads broken exactly when no continuation can still meet its definition
+  pub broken-exactly : (v : Verdict) → Reads c steps v → ((n : ℕ) × (v ≡ Verdict.Broken n)) ↔ (¬ Open c steps)
+  broken-exactly v (reads-open e o) = (λ b. never (cc (b .1)), λ shut. absurd (shut o))
+  broken-exactly v (reads-kept e o) = (λ b. never (cc (b .1)), λ shut. absurd (shut o))
+  broken-exactly v (reads-broken n b) = (λ k. broken-shut c n valid b, λ shut. (n, refl))
+
+  -- at the close a row is kept exactly when the recorded events meet its definition
+  pub kept-exactly : closed steps ≡ true → (v : Verdict) → Reads c steps v → (v ≡ Verdict.Kept) ↔ Meets c steps
+  kept-exactly shut v (reads-open e o) = both (sym shut ∙ e)
+  kept-exactly shut v (reads-kept e o) =
+      (λ k. subst (Meets c) (append-nil steps) (subst (λ (f : List Step). Meets c (steps ++ f)) (continues-closed shut (o .1)) (o .2)), λ m. refl)
+  kept-exactly shut v (reads-broken n b) = (λ k. never (cc), λ m. absurd (broken-shut c n valid b (open-of-meets c steps m)))

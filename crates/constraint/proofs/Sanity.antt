@@ -1,0 +1,184 @@
+-- What a reader would check first: a list of calls has one list of answers and one record, a row is open before any step, and each definition can be met and can be missed.
+use Prim.Native.Nat.{ℕ, zero, suc, _+_, _≤_, _<_}
+use native.Mathlib.Omega.{arith}
+use mathlib.Core.Path.{_≡_, refl, sym, ap₂, subst}
+use mathlib.Core.List.{List, [], _∷_}
+use mathlib.Core.Logic.{_⊎_, inl, inr}
+use lib.ListN.{length}
+use Rattle.constraint.specs.Limits.{noLimit}
+use Rattle.constraint.specs.Steps.{Step, event, at, times}
+use Rattle.constraint.specs.Meets.{Meets, MeetsDelay, MeetsStrongDelay, MeetsRepeat, MeetsSporadic, MeetsBurst, MeetsOrder, MeetsStrongSynchronization}
+use Rattle.constraint.specs.Continuation.{BrokenAt}
+use Rattle.constraint.specs.Questions.{Question, Judged}
+use Rattle.constraint.specs.Run.{questions, recorded, Run, done, call}
+use Rattle.constraint.specs.declared.Answer.{Answer}
+use Rattle.constraint.specs.declared.Answer.the-variants.{Taken, Refused}
+use Rattle.constraint.specs.declared.Constraint.{Constraint}
+use Rattle.constraint.specs.declared.Constraint.the-variants.{Delay, StrongDelay, Repeat, Sporadic, Burst, Order, StrongSynchronization2, StrongSynchronization3, StrongSynchronization4}
+use Rattle.constraint.proofs.Judged.{judged-once}
+use Rattle.constraint.proofs.Verdicts.{open-of-meets}
+
+-- ---- lists of calls
+
+-- a list of calls has at most one list of answers, and one list of accepted steps
+pub run-once : (rows : List Constraint) {steps calls end end′ : List Step} {xs ys : List Answer} → Run rows steps calls xs end → Run rows steps calls ys end′ → (xs ≡ ys) × (end ≡ end′)
+run-once rows done done = (refl, refl)
+run-once rows (call {steps = steps} {calls = calls} {end = e} {answers = xs} s a j r) (call {end = f} {answers = ys} _ b k q) =
+    let same : a ≡ b = judged-once (questions rows steps s) a b j k in
+    let rest : (xs ≡ ys) × (e ≡ f) = run-once rows r (subst (λ x. Run rows (recorded steps s x) calls ys f) (sym same) q) in
+    (ap₂ (λ (x : Answer) (l : List Answer). x ∷ l) same (rest .0), rest .1)
+
+-- questions cannot fail to have an answer
+judged-some : (qs : List Question) → ¬ ¬ ((a : Answer) × Judged qs a)
+unfolding Judged
+judged-some [] none = none (Taken, refl)
+judged-some (q ∷ later) none =
+    let answered-no : ¬ ¬ q .1 = λ shut. none (Refused (q .0), inr (shut, refl)) in
+    answered-no (λ asked. judged-some later (λ found. none (found .0, inl (asked, found .1))))
+
+-- a list of calls cannot fail to have answers
+pub run-some : (rows : List Constraint) (calls steps : List Step) → ¬ ¬ ((answers : List Answer) × (end : List Step) × Run rows steps calls answers end)
+run-some rows [] steps none = none ([], steps, done)
+run-some rows (s ∷ calls) steps none =
+    judged-some (questions rows steps s) (λ found. run-some rows calls (recorded steps s (found .0))
+    (λ rest. none (found .0 ∷ rest .0, rest .1, call s (found .0) (found .1) (rest .2))))
+
+-- ---- before any step
+
+-- no event at all meets every definition
+pub meets-none : (c : Constraint) → Meets c []
+unfolding Meets MeetsDelay MeetsStrongDelay MeetsRepeat MeetsSporadic MeetsBurst MeetsOrder MeetsStrongSynchronization times
+meets-none (Delay source target lower upper) = λ i h. absurd (omega arith)
+meets-none (StrongDelay source target lower upper) = (refl, λ i h. absurd (omega arith))
+meets-none (Repeat kind span lower upper) = λ i h. absurd (omega arith)
+meets-none (Sporadic kind lower upper jitter minimum) =
+    (([], record { one-each = refl; near = λ i h. absurd (omega arith); rise = λ i h. absurd (omega arith); apart = λ i h. absurd (omega arith) }), λ i h. absurd (omega arith))
+meets-none (Burst kind maximum len minimum) = (λ i h. absurd (omega arith), λ i h. absurd (omega arith))
+meets-none (Order source target) = (refl, λ i h. absurd (omega arith))
+meets-none (StrongSynchronization2 a b tolerance) = λ j k h g. (refl, λ i l. absurd (omega arith))
+meets-none (StrongSynchronization3 a b c tolerance) = λ j k h g. (refl, λ i l. absurd (omega arith))
+meets-none (StrongSynchronization4 a b c d tolerance) = λ j k h g. (refl, λ i l. absurd (omega arith))
+
+-- so the step at which a row broke is one that was taken
+pub broken-counted : (c : Constraint) (steps : List Step) (n : ℕ) → BrokenAt c steps n → 0 < n
+broken-counted c steps zero b = absurd (b .after (open-of-meets c [] (meets-none c)))
+broken-counted c steps (suc n) b = omega arith
+
+-- ---- each definition can be met, by events of its kinds, and can be missed
+
+pub record Contingent (c : Constraint) (met missed : List Step) : Type 0 where
+  pub can-be-met : Meets c met
+  pub can-be-missed : ¬ Meets c missed
+
+pub delay-contingent : Contingent (Delay 0 1 2 3) (event 0 10 ∷ event 1 12 ∷ []) (event 0 10 ∷ event 1 14 ∷ [])
+unfolding Meets MeetsDelay times
+delay-contingent = record { can-be-met = λ i h. answered i h; can-be-missed = λ m. late (m 0 (omega arith)) }
+  where
+    answered : (i : ℕ) → i < 1 → (j : ℕ) × (j < 1) × ((at (10 ∷ []) i + 2 ≤ at (12 ∷ []) j) × (at (12 ∷ []) j ≤ at (10 ∷ []) i + 3))
+    answered zero h = (0, omega arith, (omega arith, omega arith))
+    answered (suc i) h = absurd (omega arith)
+
+    late : (j : ℕ) × (j < 1) × ((12 ≤ at (14 ∷ []) j) × (at (14 ∷ []) j ≤ 13)) → ⊥
+    late (zero, h, b) = omega arith
+    late (suc j, h, b) = omega arith
+
+pub strong-delay-contingent : Contingent (StrongDelay 0 1 1 3) (event 0 10 ∷ event 1 12 ∷ []) (event 1 10 ∷ [])
+unfolding Meets MeetsStrongDelay times
+strong-delay-contingent = record { can-be-met = (refl, λ i h. paired i h); can-be-missed = λ m. omega (arith, m .0) }
+  where
+    paired : (i : ℕ) → i < 1 → (at (10 ∷ []) i + 1 ≤ at (12 ∷ []) i) × (at (12 ∷ []) i ≤ at (10 ∷ []) i + 3)
+    paired zero h = (omega arith, omega arith)
+    paired (suc i) h = absurd (omega arith)
+
+pub repeat-contingent : Contingent (Repeat 0 1 4 4) (event 0 0 ∷ event 0 4 ∷ []) (event 0 0 ∷ event 0 3 ∷ [])
+unfolding Meets MeetsRepeat times
+repeat-contingent = record { can-be-met = λ i h. apart i h; can-be-missed = λ m. let early = m 0 (omega arith) .0 in omega (arith, early) }
+  where
+    apart : (i : ℕ) → i + 1 < 2 → (at (0 ∷ 4 ∷ []) i + 4 ≤ at (0 ∷ 4 ∷ []) (i + 1)) × ((4 ≡ noLimit) ⊎ (at (0 ∷ 4 ∷ []) (i + 1) ≤ at (0 ∷ 4 ∷ []) i + 4))
+    apart zero h = (omega arith, inr (omega arith))
+    apart (suc i) h = absurd (omega arith)
+
+pub sporadic-contingent : Contingent (Sporadic 0 5 5 2 0) (event 0 2 ∷ event 0 9 ∷ []) (event 0 2 ∷ event 0 10 ∷ [])
+unfolding Meets MeetsSporadic MeetsRepeat times
+sporadic-contingent =
+    record {
+      can-be-met = ((2 ∷ 7 ∷ [], record { one-each = refl; near = λ i h. near i h; rise = λ i h. rise i h; apart = λ i h. apart i h }), λ i h. minimum i h);
+      can-be-missed = λ m. let points = m .0 .1 in omega (arith, points .near 0 (omega arith), points .near 1 (omega arith), far (at (m .0 .0) 0) (at (m .0 .0) 1) (points .apart 0 (omega arith) .1));
+    }
+  where
+    near : (i : ℕ) → i < 2 → (at (2 ∷ 7 ∷ []) i + 0 ≤ at (2 ∷ 9 ∷ []) i) × (at (2 ∷ 9 ∷ []) i ≤ at (2 ∷ 7 ∷ []) i + 2)
+    near zero h = (omega arith, omega arith)
+    near (suc zero) h = (omega arith, omega arith)
+    near (suc (suc i)) h = absurd (omega arith)
+
+    rise : (i : ℕ) → i + 1 < 2 → at (2 ∷ 7 ∷ []) i < at (2 ∷ 7 ∷ []) (i + 1)
+    rise zero h = omega arith
+    rise (suc i) h = absurd (omega arith)
+
+    apart : (i : ℕ) → i + 1 < 2 → (at (2 ∷ 7 ∷ []) i + 5 ≤ at (2 ∷ 7 ∷ []) (i + 1)) × ((5 ≡ noLimit) ⊎ (at (2 ∷ 7 ∷ []) (i + 1) ≤ at (2 ∷ 7 ∷ []) i + 5))
+    apart zero h = (omega arith, inr (omega arith))
+    apart (suc i) h = absurd (omega arith)
+
+    minimum : (i : ℕ) → i + 1 < 2 → (at (2 ∷ 9 ∷ []) i + 0 ≤ at (2 ∷ 9 ∷ []) (i + 1)) × ((noLimit ≡ noLimit) ⊎ (at (2 ∷ 9 ∷ []) (i + 1) ≤ at (2 ∷ 9 ∷ []) i + noLimit))
+    minimum zero h = (omega arith, inl refl)
+    minimum (suc i) h = absurd (omega arith)
+
+    far : (x y : ℕ) → (5 ≡ noLimit) ⊎ (y ≤ x + 5) → y ≤ x + 5
+    far x y (inl e) = absurd (omega arith)
+    far x y (inr h) = h
+
+pub burst-contingent : Contingent (Burst 0 1 5 0) (event 0 0 ∷ event 0 5 ∷ []) (event 0 0 ∷ event 0 4 ∷ [])
+unfolding Meets MeetsBurst MeetsRepeat times
+burst-contingent = record { can-be-met = (λ i h. apart 5 (omega arith) i h, λ i h. apart 0 (omega arith) i h); can-be-missed = λ m. omega (arith, m .0 0 (omega arith) .0) }
+  where
+    apart : (lower : ℕ) → lower ≤ 5 → (i : ℕ) → i + 1 < 2 → (at (0 ∷ 5 ∷ []) i + lower ≤ at (0 ∷ 5 ∷ []) (i + 1)) × ((noLimit ≡ noLimit) ⊎ (at (0 ∷ 5 ∷ []) (i + 1) ≤ at (0 ∷ 5 ∷ []) i + noLimit))
+    apart lower small zero h = (omega arith, inl refl)
+    apart lower small (suc i) h = absurd (omega arith)
+
+pub order-contingent : Contingent (Order 0 1) (event 1 5 ∷ event 0 5 ∷ []) (event 1 5 ∷ [])
+unfolding Meets MeetsOrder times
+order-contingent = record { can-be-met = (refl, λ i h. omega arith); can-be-missed = λ m. omega (arith, m .0) }
+
+-- kinds that have one event each, all at the same time
+synchronized-alike : (ks : List ℕ) (tolerance t : ℕ) (steps : List Step) → ((j : ℕ) → j < length ks → times (at ks j) steps ≡ t ∷ []) → MeetsStrongSynchronization ks tolerance steps
+unfolding MeetsStrongSynchronization
+synchronized-alike ks tolerance t steps alike j k h g = rw (alike j h, alike k g) (refl, λ i l. omega arith)
+
+pub synchronization2-contingent : Contingent (StrongSynchronization2 0 1 2) (event 0 5 ∷ event 1 5 ∷ []) (event 0 5 ∷ [])
+unfolding Meets MeetsStrongSynchronization times
+synchronization2-contingent =
+    record { can-be-met = synchronized-alike (0 ∷ 1 ∷ []) 2 5 (event 0 5 ∷ event 1 5 ∷ []) (λ j h. alike j h); can-be-missed = λ m. omega (arith, m 0 1 (omega arith) (omega arith) .0) }
+  where
+    alike : (j : ℕ) → j < 2 → times (at (0 ∷ 1 ∷ []) j) (event 0 5 ∷ event 1 5 ∷ []) ≡ 5 ∷ []
+    alike zero h = refl
+    alike (suc zero) h = refl
+    alike (suc (suc j)) h = absurd (omega arith)
+
+pub synchronization3-contingent : Contingent (StrongSynchronization3 0 1 2 2) (event 0 5 ∷ event 1 5 ∷ event 2 5 ∷ []) (event 0 5 ∷ event 1 5 ∷ [])
+unfolding Meets MeetsStrongSynchronization times
+synchronization3-contingent =
+    record {
+      can-be-met = synchronized-alike (0 ∷ 1 ∷ 2 ∷ []) 2 5 (event 0 5 ∷ event 1 5 ∷ event 2 5 ∷ []) (λ j h. alike j h);
+      can-be-missed = λ m. omega (arith, m 0 2 (omega arith) (omega arith) .0);
+    }
+  where
+    alike : (j : ℕ) → j < 3 → times (at (0 ∷ 1 ∷ 2 ∷ []) j) (event 0 5 ∷ event 1 5 ∷ event 2 5 ∷ []) ≡ 5 ∷ []
+    alike zero h = refl
+    alike (suc zero) h = refl
+    alike (suc (suc zero)) h = refl
+    alike (suc (suc (suc j))) h = absurd (omega arith)
+
+pub synchronization4-contingent : Contingent (StrongSynchronization4 0 1 2 3 2) (event 0 5 ∷ event 1 5 ∷ event 2 5 ∷ event 3 5 ∷ []) (event 0 5 ∷ event 1 5 ∷ event 2 5 ∷ [])
+unfolding Meets MeetsStrongSynchronization times
+synchronization4-contingent =
+    record {
+      can-be-met = synchronized-alike (0 ∷ 1 ∷ 2 ∷ 3 ∷ []) 2 5 (event 0 5 ∷ event 1 5 ∷ event 2 5 ∷ event 3 5 ∷ []) (λ j h. alike j h);
+      can-be-missed = λ m. omega (arith, m 0 3 (omega arith) (omega arith) .0);
+    }
+  where
+    alike : (j : ℕ) → j < 4 → times (at (0 ∷ 1 ∷ 2 ∷ 3 ∷ []) j) (event 0 5 ∷ event 1 5 ∷ event 2 5 ∷ event 3 5 ∷ []) ≡ 5 ∷ []
+    alike zero h = refl
+    alike (suc zero) h = refl
+    alike (suc (suc zero)) h = refl
+    alike (suc (suc (suc zero))) h = refl
+    alike (suc (suc (suc (suc j)))) h = absurd (omega arith)

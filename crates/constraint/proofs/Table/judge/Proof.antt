@@ -1,0 +1,108 @@
+-- The loop puts to each row its questions in turn: the answer to those of the rows left is the answer to all.
+use native.Mathlib.Omega.{arith}
+use borrow.Author.Needs.{needs}
+use Prim.Native.Nat.{_+_, _≤_, _-_}
+use mathlib.Core.Path.{_≡_, sym, _∙_, subst⁻¹}
+use mathlib.Core.List.{[]}
+use lib.ListN.{length, drop, length-map, drop-of-length-le}
+use Rattle.constraint.proofs.Judged.{judged-none}
+use Rattle.constraint.proofs.Rows.{rows-length, rows-from}
+use Rattle.constraint.proofs.Accepted.{rows-taken, rows-refused, rows-full}
+use Rattle.constraint.specs.Questions.{Judged}
+use Rattle.constraint.specs.Accepted.{rowsQuestions}
+use Rattle.constraint.specs.Rows.{rowsOf}
+use Rattle.constraint.specs.declared.Answer.{Answer}
+use Rattle.constraint.specs.declared.Answer.the-variants.{Taken, Refused}
+use Rattle.constraint.proofs.Table.judge.Statement.{statement}
+use Rattle.constraint.proofs.Table.judge.Tie as tie
+
+abbrev Inv-loop : tie.InvT-loop
+Inv-loop self count i₀ i =
+    (i ≤ count) × ((a : Answer) → Judged (rowsQuestions i (drop i (rowsOf self)) []) a → Judged (rowsQuestions 0 (rowsOf self) []) a)
+
+abbrev μ-loop : tie.MeasureT-loop
+μ-loop self count i₀ i = count - i
+
+-- a table has 32 entries
+size : (c : tie.At-loop Inv-loop μ-loop) → length (c .before .args .t1 .rows) ≡ 32
+size c = sym (length-map (c .before .args .t1 .rows) _) ∙ c .before .good .0 .1 .1 .0 .1 .0 .1
+
+loop-holds : tie.Need-loop-holds Inv-loop μ-loop
+loop-holds c = (omega arith, λ a h. h)
+
+returns : tie.Need-returns Inv-loop μ-loop
+returns c =
+    let table = c .before .before .before .args .t1 in
+    let loop = c .before .before .loop in
+    loop .inv .1 _ (rows-full (loop .i) (rowsOf table) [] (omega (arith, rows-length table)) (c .if1 .taken))
+
+mul-entry : tie.Need-mul-entry Inv-loop μ-loop
+mul-entry c = omega arith
+
+element-copy-out-entry : tie.Need-element-copy-out-entry Inv-loop μ-loop
+element-copy-out-entry c = omega arith
+
+judge-requires : tie.Need-judge-requires Inv-loop μ-loop
+judge-requires c κs = tt
+
+enum-known-number : tie.Need-enum-known-number Inv-loop μ-loop
+enum-known-number c = search needs
+
+returns-2 : tie.Need-returns-2 Inv-loop μ-loop
+returns-2 c =
+    let at-judge = c .before .before .before in
+    let at-loop = at-judge .before .before .before .before in
+    let table = at-loop .before .args .t1 in
+    let i = at-loop .loop .i in
+    at-loop .loop .inv .1 _
+    (subst⁻¹ (λ rows. Judged (rowsQuestions i rows []) (Refused (c .before .number .given .0 .0))) (rows-from table i _ (omega arith) (omega (arith, size at-loop)))
+    (rows-refused i _ (drop (i + 1) (rowsOf table)) [] _ (omega arith) (rw (c .before .number .given .1) at (at-judge .judge .ensures))))
+
+enum-told : tie.Need-enum-told Inv-loop μ-loop
+enum-told c = search needs
+
+add-i : tie.Need-add-i Inv-loop μ-loop
+add-i c = omega arith
+
+loop-less : tie.Need-loop-less Inv-loop μ-loop
+loop-less c = omega arith
+
+loop-again : tie.Need-loop-again Inv-loop μ-loop
+loop-again c =
+    let at-judge = c .before .before in
+    let at-loop = at-judge .before .before .before .before in
+    let table = at-loop .before .args .t1 in
+    let i = at-loop .loop .i in (
+      omega arith,
+      λ a later.
+          at-loop .loop .inv .1 a
+          (subst⁻¹ (λ rows. Judged (rowsQuestions i rows []) a) (rows-from table i _ (omega arith) (omega (arith, size at-loop)))
+          (rows-taken i _ (drop (i + 1) (rowsOf table)) [] a (omega arith) (rw (c .enum-told .given .1) at (at-judge .judge .ensures)) later)),
+    )
+
+returns-3 : tie.Need-returns-3 Inv-loop μ-loop
+unfolding rowsQuestions
+returns-3 c =
+    let at-loop = c .before in
+    let table = at-loop .before .args .t1 in
+    at-loop .loop .inv .1 Taken
+    (rw (drop-of-length-le (rowsOf table) {i = at-loop .loop .i} (omega (arith, rows-length table))) judged-none)
+
+pub judge-spec : {M : Type 1} → statement M
+judge-spec =
+    tie.close
+    (tie.spec
+    Inv-loop
+    μ-loop
+    loop-holds
+    returns
+    mul-entry
+    element-copy-out-entry
+    judge-requires
+    enum-known-number
+    returns-2
+    enum-told
+    add-i
+    loop-less
+    loop-again
+    returns-3)

@@ -1,0 +1,221 @@
+-- Demand 3: a fresh monitor follows the empty list of steps, and each call leaves it following the steps accepted so far, so after any list of calls its rows read what the definitions say.
+use Prim.Native.Nat.{ℕ, zero, suc, _+_, _-_, _≤_, _<_}
+use native.Mathlib.Decide.{decLt}
+use native.Mathlib.Omega.{arith}
+use mathlib.Core.Path.{_≡_, refl, sym, ap, _∙_, subst}
+use mathlib.Core.Bool.{Bool, true, false, cond, _||_}
+use mathlib.Core.List.{List, [], _∷_, _++_}
+use mathlib.Core.Logic.{_⊎_, inl, inr, ⊎-elim, by-cases}
+use mathlib.Core.Option.{Option, none, some}
+use lib.ListN.{length, getD, replicate, getElem?, getD-replicate, length-replicate}
+use lib.Dec.{leb, ltb}
+use borrow.Author.Tests.{lt-ltb, le-ltb}
+use Rattle.constraint.specs.Limits.{lastKind, lastTime, rowLimit}
+use Rattle.constraint.specs.Steps.{Step, event, tick, close, times, clockFrom, clock, closed}
+use Rattle.constraint.specs.Continuation.{BrokenAt, Reads, reads-broken}
+use Rattle.constraint.specs.Questions.{Judged}
+use Rattle.constraint.specs.Accepted.{rowsQuestions, Accepted}
+use Rattle.constraint.specs.Run.{Run, done, call, recorded}
+use Rattle.constraint.specs.Promise.{Fresh, fresh, not-fresh, answerOf, ReadsRow, row, no-row, play, Promise}
+use Rattle.constraint.specs.declared.Answer.{Answer}
+use Rattle.constraint.specs.declared.Answer.the-variants.{Taken, Refused}
+use Rattle.constraint.specs.declared.Constraint.{Constraint}
+use Rattle.constraint.specs.declared.Verdict.{Verdict}
+use Rattle.constraint.proofs.History.{Valid, valid-none}
+use Rattle.constraint.proofs.Counting.{nextFree}
+use Rattle.constraint.proofs.Judged.{never}
+use Rattle.constraint.proofs.Decided.{rows-judged}
+use Rattle.constraint.proofs.Runs.{run-broken, reads-once}
+use Rattle.row.specs.Machine.{rowVerdict}
+use Rattle.row.proofs.Exact.{Sound, Exact}
+use Rattle.monitor.specs.Machine.{noRow, monitorOf, refuses, takes, crowds, takenEvent, takenTick, takenClose, stepOf, eventOf, tickOf, closeOf, verdictOf}
+use Rattle.monitor.specs.Contract.{step, after, Recorded, Steps, Reading}
+use Rattle.monitor.specs.declared.Monitor.{Monitor}
+use Rattle.monitor.specs.declared.Stepped.{Stepped}
+use Rattle.monitor.proofs.FittingRows.{SoundRows, fit-start, fit-reads}
+use Rattle.monitor.proofs.Following.{Follows, step-answered}
+
+-- ---- a refusal leaves the monitor as it was
+
+-- a result that refuses only with the monitor as it was
+record Untouched (m : Monitor) (result : Stepped) : Type 0 where
+  same : (n : ℕ) → result .answer ≡ Refused n → result .monitor ≡ m
+
+-- a test that refuses, or what is asked later
+untouched-or : (m : Monitor) (n : ℕ) (test : Bool) {later : Stepped} → Untouched m later → Untouched m (cond test (refuses n m) later)
+untouched-or m n true u = record { same = λ k e. refl }
+untouched-or m n false u = u
+
+untouched-taken : (m after : Monitor) → Untouched m (takes after)
+untouched-taken m after = record { same = λ n e. never (cc) }
+
+step-untouched : (m : Monitor) (s : Step) → Untouched m (stepOf m s)
+unfolding eventOf tickOf closeOf
+step-untouched m (event k t) =
+    untouched-or m 8 (ltb 0 (m .closed)) (untouched-or m 9 (ltb lastKind k) (untouched-or m 10 (ltb lastTime t)
+    (untouched-or m 11 (ltb t (m .clock) || ltb t (getD (m .next) k 0)) (untouched-or m 12 (crowds m k t) (untouched-taken m (takenEvent m k t))))))
+step-untouched m (tick t) =
+    untouched-or m 8 (ltb 0 (m .closed)) (untouched-or m 10 (ltb lastTime t) (untouched-or m 11 (leb t (m .clock)) (untouched-taken m (takenTick m t))))
+step-untouched m close = untouched-or m 8 (ltb 0 (m .closed)) (untouched-taken m (takenClose m))
+
+-- ---- lists of calls
+
+-- calls in two parts
+play-append : (m : Monitor) (a b : List Step) → play step m (a ++ b) .monitor ≡ play step (play step m a .monitor) b .monitor
+unfolding play
+play-append m [] b = refl
+play-append m (s ∷ a) b = play-append (step m s .monitor) a b
+
+-- ---- fresh
+
+-- a table that is accepted has sound rows, and there is room for them
+accepted-sound : (i : ℕ) (rows : List Constraint) → Judged (rowsQuestions i rows []) Taken → SoundRows rows × ((length rows ≡ 0) ⊎ (i + length rows ≤ rowLimit))
+unfolding Judged rowsQuestions
+accepted-sound i [] taken = (tt, inl refl)
+accepted-sound i (c ∷ rows) (inl (room, inl (fit, inl (range, inl (lower, later))))) =
+    let rest = accepted-sound (i + 1) rows later in
+    ((record { kinds-fit = fit; in-range = range; lower-first = lower }, rest .0), inr (⊎-elim (λ e. omega arith) (λ h. omega arith) (rest .1)))
+accepted-sound i (c ∷ rows) (inl (room, inl (fit, inl (range, inr e)))) = never (cc (e .1))
+accepted-sound i (c ∷ rows) (inl (room, inl (fit, inr e))) = never (cc (e .1))
+accepted-sound i (c ∷ rows) (inl (room, inr e)) = never (cc (e .1))
+accepted-sound i (c ∷ rows) (inr e) = never (cc (e .1))
+
+-- a monitor where the rows' questions are all answered "yes"
+freshBy : List Constraint → Answer → Fresh Monitor
+freshBy rows Taken = fresh (monitorOf rows)
+freshBy rows (Refused n) = not-fresh n
+
+pub freshOf : List Constraint → Fresh Monitor
+freshOf rows = freshBy rows (rows-judged 0 rows .0)
+
+fresh-answer : (rows : List Constraint) (a : Answer) → answerOf (freshBy rows a) ≡ a
+unfolding freshBy
+fresh-answer rows Taken = refl
+fresh-answer rows (Refused n) = refl
+
+-- the monitor is fresh over an accepted table
+fresh-accepted : (rows : List Constraint) (m : Monitor) (a : Answer) → Judged (rowsQuestions 0 rows []) a → freshBy rows a ≡ fresh m → Accepted rows × (m ≡ monitorOf rows)
+unfolding freshBy
+fresh-accepted rows m Taken judged e = (judged, cc)
+fresh-accepted rows m (Refused n) judged e = never (cc)
+
+-- ---- verdicts
+
+has-row : (rows : List Constraint) (i : ℕ) → i < length rows → (c : Constraint) × (getElem? rows i ≡ some c)
+has-row [] i h = absurd (omega arith)
+has-row (c ∷ rows) zero h = (c, refl)
+has-row (c ∷ rows) (suc i) h = has-row rows i (omega arith)
+
+has-none : (rows : List Constraint) (i : ℕ) → length rows ≤ i → getElem? rows i ≡ none
+has-none [] i h = refl
+has-none (c ∷ rows) zero h = absurd (omega arith)
+has-none (c ∷ rows) (suc i) h = has-none rows i (omega arith)
+
+-- a row that reads broken at a step
+broken-row : (rows : List Constraint) (steps : List Step) (i n : ℕ) → ReadsRow rows steps i (some (Verdict.Broken n)) → (c : Constraint) × (getElem? rows i ≡ some c) × BrokenAt c steps n
+broken-row rows steps i n (row c v e (reads-broken k b)) = (c, e, b)
+
+-- a row that was broken reads so
+reads-still : (rows : List Constraint) (steps : List Step) (i n : ℕ) (c : Constraint) → Valid steps → getElem? rows i ≡ some c → BrokenAt c steps n
+    → (o : Option Verdict) → ReadsRow rows steps i o → o ≡ some (Verdict.Broken n)
+reads-still rows steps i n c valid e b o (row d v f r) =
+    let same : d ≡ c = cc in
+    ap some (reads-once c steps valid v (Verdict.Broken n) (subst (λ x. Reads x steps v) same r) (reads-broken n b))
+reads-still rows steps i n c valid e b o (no-row f) = never (cc)
+
+module _ (engine : (c : Constraint) → Sound c → Exact c) where
+  -- a fresh monitor follows the empty list of steps
+  pub start-follows : (rows : List Constraint) → Accepted rows → Follows engine rows [] (monitorOf rows)
+  unfolding monitorOf closed clockFrom times nextFree
+  start-follows rows accepted =
+      let sound = accepted-sound 0 rows accepted in
+      record {
+        valid = valid-none;
+        clock-is = refl;
+        count-is = refl;
+        closed-is = refl;
+        next-whole = length-replicate {A = ℕ} 64 0;
+        next-is = λ k kind. getD-replicate 64 k 0 0 (omega arith);
+        len-is = refl;
+        few = ⊎-elim (λ e. omega arith) (λ h. omega arith) (sound .1);
+        fit = fit-start engine rows (replicate (rowLimit - length rows) noRow) (sound .0);
+      }
+
+  -- after any list of calls the monitor follows the steps accepted, and the answers are those of the questions
+  pub play-follows : (rows : List Constraint) (steps : List Step) (m : Monitor) → Follows engine rows steps m → (calls : List Step)
+      → (end : List Step) × Run rows steps calls (play step m calls .answers) end × Follows engine rows end (play step m calls .monitor)
+  unfolding play
+  play-follows rows steps m f [] = (steps, done, f)
+  play-follows rows steps m f (s ∷ calls) =
+      let answered = step-answered engine rows steps m f s in
+      let rest = play-follows rows (recorded steps s (stepOf m s .answer)) (stepOf m s .monitor) (answered .1) calls in
+      (rest .0, call s (stepOf m s .answer) (answered .0) (rest .1), rest .2)
+
+  -- each row number reads what the definitions say
+  pub verdict-reads : (rows : List Constraint) (steps : List Step) (m : Monitor) → Follows engine rows steps m → (i : ℕ) → ReadsRow rows steps i (verdictOf m i)
+  unfolding verdictOf
+  verdict-reads rows steps m f i =
+      by-cases (decLt i (length rows))
+      (λ h. let found = has-row rows i h in
+      rw (f .len-is, lt-ltb i (length rows) h, lt-ltb i rowLimit (omega (arith, f .few)), f .closed-is)
+      (row (found .0) (rowVerdict (getD (m .rows) i noRow) (closed steps)) (found .1) (fit-reads engine steps (f .valid) rows (m .rows) (f .fit) i (found .0) (found .1))))
+      (λ h. rw (f .len-is, le-ltb i (length rows) (omega arith)) (no-row (has-none rows i (omega arith))))
+
+  fresh-follows : (rows : List Constraint) (m : Monitor) → freshOf rows ≡ fresh m → Follows engine rows [] m
+  unfolding freshOf
+  fresh-follows rows m e =
+      let made = fresh-accepted rows m (rows-judged 0 rows .0) (rows-judged 0 rows .1) e in
+      subst (Follows engine rows []) (sym (made .1)) (start-follows rows (made .0))
+
+  final : (rows : List Constraint) (m : Monitor) → freshOf rows ≡ fresh m → (calls further : List Step) (i n : ℕ)
+      → verdictOf (play step m calls .monitor) i ≡ some (Verdict.Broken n) → verdictOf (play step m (calls ++ further) .monitor) i ≡ some (Verdict.Broken n)
+  final rows m e calls further i n broken =
+      let a = play-follows rows [] m (fresh-follows rows m e) calls in
+      let b = play-follows rows (a .0) (play step m calls .monitor) (a .2) further in
+      let c = broken-row rows (a .0) i n (subst (ReadsRow rows (a .0) i) broken (verdict-reads rows (a .0) (play step m calls .monitor) (a .2) i)) in
+      rw (play-append m calls further)
+      (reads-still rows (b .0) i n (c .0) (b .2 .valid) (c .1) (run-broken (c .0) n (b .1) (c .2)) (verdictOf (play step (play step m calls .monitor) further .monitor) i)
+      (verdict-reads rows (b .0) (play step (play step m calls .monitor) further .monitor) (b .2) i))
+
+  pub promise : Promise freshOf step verdictOf
+  promise =
+      record {
+        made = λ rows. made rows;
+        exact = λ rows m e calls. let a = play-follows rows [] m (fresh-follows rows m e) calls in (a .0, a .1, verdict-reads rows (a .0) (play step m calls .monitor) (a .2));
+        untouched = λ m s n e. step-untouched m s .same n e;
+        final = final;
+      }
+    where
+      made : (rows : List Constraint) → Judged (rowsQuestions 0 rows []) (answerOf (freshOf rows))
+      made rows = unfold freshOf in rw (fresh-answer rows (rows-judged 0 rows .0)) (rows-judged 0 rows .1)
+
+  -- ---- the contracts
+
+  -- the monitor after a list of calls follows the steps that they have recorded
+  after-follows : (rows : List Constraint) (calls : List Step) → Accepted rows → (steps : List Step) × Recorded rows calls steps × Follows engine rows steps (after rows calls)
+  unfolding after
+  after-follows rows calls accepted =
+      let a = play-follows rows [] (monitorOf rows) (start-follows rows accepted) calls in
+      (a .0, (play step (monitorOf rows) calls .answers, a .1), a .2)
+
+  after-more : (rows : List Constraint) (calls : List Step) (s : Step) → stepOf (after rows calls) s .monitor ≡ after rows (calls ++ (s ∷ []))
+  unfolding after play
+  after-more rows calls s = sym (play-append (monitorOf rows) calls (s ∷ []))
+
+  pub steps-keep : (m : Monitor) (s : Step) → Steps m s (stepOf m s)
+  steps-keep m s =
+      record {
+        equals = refl;
+        means = λ rows calls accepted e.
+            let a = after-follows rows calls accepted in
+            ((a .0, a .1, step-answered engine rows (a .0) m (subst (Follows engine rows (a .0)) (sym e) (a .2)) s .0), ap (λ (x : Monitor). stepOf x s .monitor) e ∙ after-more rows calls s);
+      }
+
+  pub reading-keeps : (m : Monitor) (i : ℕ) → Reading m i (verdictOf m i)
+  reading-keeps m i =
+      record {
+        equals = refl;
+        means = λ rows calls accepted e.
+            let a = after-follows rows calls accepted in
+            (a .0, a .1, subst (λ (x : Monitor). ReadsRow rows (a .0) i (verdictOf x i)) (sym e) (verdict-reads rows (a .0) (after rows calls) (a .2) i));
+      }

@@ -1,0 +1,148 @@
+-- Examples 1 to 12 of paper 01 read as the paper says: the machine computes each verdict, with every step taken, and demand 3 says that this is the definition's.
+use native.Mathlib.Omega.{arith}
+use mathlib.Core.Path.{_≡_, refl, sym, _∙_, subst}
+use mathlib.Core.Bool.{Bool, true, false}
+use mathlib.Core.List.{List, [], _∷_, _++_, append-nil, append-assoc}
+use mathlib.Core.Logic.{inl}
+use mathlib.Core.Option.{some}
+use Rattle.constraint.specs.Steps.{Step}
+use Rattle.constraint.specs.Continuation.{Reads}
+use Rattle.constraint.specs.Questions.{Judged}
+use Rattle.constraint.specs.Accepted.{kinds, KindsFit, InRange, LowerFirst, rowsQuestions, Accepted}
+use Rattle.constraint.specs.Run.{Run, done, call}
+use Rattle.constraint.specs.Promise.{ReadsRow, row, play}
+use Rattle.constraint.specs.declared.Answer.{Answer}
+use Rattle.constraint.specs.declared.Answer.the-variants.{Taken, Refused}
+use Rattle.constraint.specs.declared.Constraint.{Constraint}
+use Rattle.constraint.specs.declared.Constraint.the-variants.{Delay, StrongDelay, Repeat, Sporadic, Order, StrongSynchronization2}
+use Rattle.constraint.specs.declared.Verdict.{Verdict}
+use Rattle.constraint.proofs.Judged.{never}
+use Rattle.constraint.proofs.FittingKinds.{kinds-none, kinds-more}
+use Rattle.row.specs.Delay.{answeredBy, decideDelay, dueDelay, keptDelay}
+use Rattle.row.specs.StrongDelay.{sourceStrongDelay, targetStrongDelay, decideStrongDelay, dueStrongDelay, keptStrongDelay}
+use Rattle.row.specs.Repeat.{decideRepeat, dueRepeat, keptRepeat}
+use Rattle.row.specs.Sporadic.{laterSporadic, decideSporadic, dueSporadic, keptSporadic}
+use Rattle.row.specs.Order.{decideOrder, dueOrder, keptOrder}
+use Rattle.row.specs.StrongSynchronization.{decideStrongSynchronization, dueStrongSynchronization, keptStrongSynchronization}
+use Rattle.row.specs.Machine.{rowOf, brokenRow, applied, changedRow, rowEvent, rowTick, rowClose, rowVerdict}
+use Rattle.row.proofs.Exact.{Sound, Exact}
+use Rattle.queue.specs.Ring.{ring, shifted}
+use Rattle.monitor.specs.Machine.{monitorOf, mapFirst, anyFirst, takenEvent, takenTick, takenClose, eventOf, tickOf, closeOf, verdictOf}
+use Rattle.monitor.specs.Contract.{step}
+use Rattle.monitor.specs.Examples.{Example, examples, AllRead}
+use Rattle.monitor.proofs.Demand.{start-follows, play-follows, verdict-reads}
+
+-- ---- what the machine computes
+
+-- every call is taken
+allTaken : List Answer → Bool
+allTaken [] = true
+allTaken (Taken ∷ answers) = allTaken answers
+allTaken (Refused n ∷ answers) = false
+
+-- the machine takes every step of the example, and reads its verdict
+Computed : Example → Type 0
+Computed e =
+    (allTaken (play step (monitorOf (e .constraint ∷ [])) (e .steps) .answers) ≡ true)
+    × (verdictOf (play step (monitorOf (e .constraint ∷ [])) (e .steps) .monitor) 0 ≡ some (e .verdict))
+
+AllComputed : List Example → Type 0
+AllComputed [] = Unit {0}
+AllComputed (e ∷ later) = Computed e × AllComputed later
+
+computed : AllComputed examples
+unfolding AllComputed Computed allTaken play monitorOf mapFirst anyFirst takenEvent takenTick takenClose eventOf tickOf closeOf verdictOf rowOf brokenRow applied changedRow rowEvent rowTick rowClose rowVerdict ring shifted answeredBy decideDelay dueDelay keptDelay sourceStrongDelay targetStrongDelay decideStrongDelay dueStrongDelay keptStrongDelay decideRepeat dueRepeat keptRepeat laterSporadic decideSporadic dueSporadic keptSporadic decideOrder dueOrder keptOrder decideStrongSynchronization dueStrongSynchronization keptStrongSynchronization
+computed = (
+  (refl, refl),
+  ((refl, refl), ((refl, refl), ((refl, refl), ((refl, refl), ((refl, refl), ((refl, refl), ((refl, refl), ((refl, refl), ((refl, refl), ((refl, refl), ((refl, refl), ((refl, refl), ((refl, refl), ((refl, refl), ((refl, refl), ((refl, refl), ((refl, refl), ((refl, refl), tt)))))))))))))))))),
+)
+
+-- ---- each row is accepted
+
+accepted-one : (c : Constraint) → KindsFit (kinds c) → InRange c → LowerFirst c → Accepted (c ∷ [])
+unfolding Judged rowsQuestions
+accepted-one c fit range lower = inl (omega arith, inl (fit, inl (range, inl (lower, refl))))
+
+zero-fits : KindsFit (0 ∷ [])
+zero-fits = kinds-more 0 [] (omega arith, tt) kinds-none
+
+pair-fits : KindsFit (0 ∷ 1 ∷ [])
+pair-fits = kinds-more 0 (1 ∷ []) (omega arith, (omega arith, tt)) (kinds-more 1 [] (omega arith, tt) kinds-none)
+
+AllAccepted : List Example → Type 0
+AllAccepted [] = Unit {0}
+AllAccepted (e ∷ later) = Accepted (e .constraint ∷ []) × AllAccepted later
+
+accepted : AllAccepted examples
+unfolding AllAccepted InRange LowerFirst
+accepted =
+    let late : Accepted (Delay 0 1 2 3 ∷ []) = accepted-one (Delay 0 1 2 3) pair-fits (omega arith, omega arith) (omega arith) in
+    let soon : Accepted (StrongDelay 0 1 0 3 ∷ []) = accepted-one (StrongDelay 0 1 0 3) pair-fits (omega arith, omega arith) (omega arith) in
+    let spans : Accepted (Repeat 0 2 4 5 ∷ []) = accepted-one (Repeat 0 2 4 5) zero-fits (omega arith, omega arith, omega arith, inl (omega arith)) (omega arith) in
+    let five : Accepted (Sporadic 0 5 5 2 0 ∷ []) = accepted-one (Sporadic 0 5 5 2 0) zero-fits (omega arith, inl (omega arith), omega arith, omega arith) (omega arith) in
+    let ten : Accepted (Sporadic 0 10 10 5 0 ∷ []) = accepted-one (Sporadic 0 10 10 5 0) zero-fits (omega arith, inl (omega arith), omega arith, omega arith) (omega arith) in
+    let order : Accepted (Order 0 1 ∷ []) = accepted-one (Order 0 1) pair-fits tt tt in
+    let groups : Accepted (StrongSynchronization2 0 1 2 ∷ []) = accepted-one (StrongSynchronization2 0 1 2) pair-fits (omega arith) tt in (
+      late,
+      (
+        late,
+        (
+          late,
+          (
+            late,
+            (
+              accepted-one (Delay 0 1 0 3) pair-fits (omega arith, omega arith) (omega arith),
+              (
+                soon,
+                (
+                  soon,
+                  (
+                    accepted-one (StrongDelay 0 1 1 3) pair-fits (omega arith, omega arith) (omega arith),
+                    (
+                      spans,
+                      (
+                        spans,
+                        (
+                          accepted-one (Repeat 0 1 4 4) zero-fits (omega arith, omega arith, omega arith, inl (omega arith)) (omega arith),
+                          (five, (five, (ten, (ten, (order, (order, (groups, (groups, tt)))))))),
+                        ),
+                      ),
+                    ),
+                  ),
+                ),
+              ),
+            ),
+          ),
+        ),
+      ),
+    )
+
+-- ---- so each reads by the definitions what the machine computes
+
+-- calls that are all taken are the steps accepted
+run-taken : {rows : List Constraint} {steps calls end : List Step} {answers : List Answer} → Run rows steps calls answers end → allTaken answers ≡ true → end ≡ steps ++ calls
+unfolding allTaken
+run-taken (done {steps = steps}) e = sym (append-nil steps)
+run-taken (call {steps = steps} {calls = calls} s Taken judged rest) e = run-taken rest e ∙ append-assoc steps (s ∷ []) calls
+run-taken (call s (Refused n) judged rest) e = never (cc)
+
+only-row : (c : Constraint) (steps : List Step) (v : Verdict) → ReadsRow (c ∷ []) steps 0 (some v) → Reads c steps v
+only-row c steps v (row d w e r) = let same : d ≡ c = cc in subst (λ x. Reads x steps w) same r
+
+module _ (engine : (c : Constraint) → Sound c → Exact c) where
+  example-reads : (e : Example) → Accepted (e .constraint ∷ []) → Computed e → Reads (e .constraint) (e .steps) (e .verdict)
+  unfolding Computed
+  example-reads e accepted computed =
+      let c = e .constraint in
+      let a = play-follows engine (c ∷ []) [] (monitorOf (c ∷ [])) (start-follows engine (c ∷ []) accepted) (e .steps) in
+      only-row c (e .steps) (e .verdict)
+      (subst (λ steps. ReadsRow (c ∷ []) steps 0 (some (e .verdict))) (run-taken (a .1) (computed .0))
+      (subst (ReadsRow (c ∷ []) (a .0) 0) (computed .1) (verdict-reads engine (c ∷ []) (a .0) (play step (monitorOf (c ∷ [])) (e .steps) .monitor) (a .2) 0)))
+
+  all-read : (list : List Example) → AllAccepted list → AllComputed list → AllRead list
+  unfolding AllAccepted AllComputed
+  all-read [] accepted computed = tt
+  all-read (e ∷ later) accepted computed = (example-reads e (accepted .0) (computed .0), all-read later (accepted .1) (computed .1))
+
+  pub examples-read : AllRead examples
+  examples-read = all-read examples accepted computed

@@ -1,0 +1,103 @@
+-- The monitor's rows fit the steps one by one: what a step makes of a row it makes of each of them.
+use Prim.Native.Nat.{ℕ, zero, suc, _+_, _≤_, _<_}
+use native.Mathlib.Omega.{arith}
+use mathlib.Core.Path.{_≡_, refl, sym, subst}
+use mathlib.Core.Bool.{true, false}
+use mathlib.Core.List.{List, [], _∷_, _++_, map}
+use mathlib.Core.Logic.{⊎-elim}
+use mathlib.Core.Option.{some}
+use lib.ListN.{length, getD, getElem?}
+use Rattle.constraint.specs.Limits.{waitingLimit}
+use Rattle.constraint.specs.Steps.{Step, event, closed}
+use Rattle.constraint.specs.Continuation.{Open, Reads}
+use Rattle.constraint.specs.Waiting.{waiting}
+use Rattle.constraint.specs.Run.{Room}
+use Rattle.constraint.specs.declared.Constraint.{Constraint}
+use Rattle.constraint.proofs.Lists.{both, or-true, or-false}
+use Rattle.constraint.proofs.History.{Accepts, Valid}
+use Rattle.row.specs.Machine.{rowOf, rowEvent, rowVerdict}
+use Rattle.row.specs.declared.Row.{Row}
+use Rattle.row.proofs.Exact.{Sound, Exact}
+use Rattle.row.proofs.Steps.{Fits, After, fits-start, fits-room, fits-event, fits-reads}
+use Rattle.monitor.specs.Machine.{mapFirst, anyFirst, noRow}
+
+-- each row of a table is sound
+abbrev pub SoundRows : List Constraint → Type 0
+SoundRows [] = Unit {0}
+SoundRows (c ∷ cs) = Sound c × SoundRows cs
+
+module _ (engine : (c : Constraint) → Sound c → Exact c) where
+  -- each of a table's rows fits the steps
+  abbrev pub FitRows : List Step → List Constraint → List Row → Type 0
+  FitRows steps [] rows = Unit {0}
+  FitRows steps (c ∷ cs) [] = ⊥
+  FitRows steps (c ∷ cs) (r ∷ rows) = ((sound : Sound c) × Fits c (engine c sound) steps r) × FitRows steps cs rows
+
+  pub fit-start : (cs : List Constraint) (rest : List Row) → SoundRows cs → FitRows [] cs (map rowOf cs ++ rest)
+  fit-start [] rest sound = tt
+  fit-start (c ∷ cs) rest sound = ((sound .0, fits-start c (engine c (sound .0))), fit-start cs rest (sound .1))
+
+  -- ---- a step that is the same for every row
+
+  module _ (steps later : List Step) (f : Row → Row) (keeps : (c : Constraint) (sound : Sound c) (r : Row) → Fits c (engine c sound) steps r → Fits c (engine c sound) later (f r)) where
+    pub fit-map : (cs : List Constraint) (rows : List Row) → FitRows steps cs rows → FitRows later cs (mapFirst (length cs) f rows)
+    unfolding mapFirst
+    fit-map [] rows fit = tt
+    fit-map (c ∷ cs) [] fit = fit
+    fit-map (c ∷ cs) (r ∷ rows) fit = ((fit .0 .0, keeps c (fit .0 .0) r (fit .0 .1)), fit-map cs rows (fit .1))
+
+  -- ---- an event
+
+  module _ (steps : List Step) (valid : Valid steps) (k t step : ℕ) (counted : step ≡ length steps + 1) (accepts : Accepts steps (event k t)) where
+    after-event : (c : Constraint) (sound : Sound c) (r : Row) → Fits c (engine c sound) steps r
+        → After c (engine c sound) (steps ++ (event k t ∷ [])) (rowEvent r k t step .crowded) (rowEvent r k t step .row)
+    after-event c sound r fit = rw counted (fits-event c (engine c sound) steps valid k t accepts r fit)
+
+    -- no row is crowded
+    pub fit-event : (cs : List Constraint) (rows : List Row) → FitRows steps cs rows → anyFirst (length cs) (λ r. rowEvent r k t step .crowded) rows ≡ false
+        → FitRows (steps ++ (event k t ∷ [])) cs (mapFirst (length cs) (λ r. rowEvent r k t step .row) rows)
+    unfolding mapFirst anyFirst
+    fit-event [] rows fit free = tt
+    fit-event (c ∷ cs) [] fit free = fit
+    fit-event (c ∷ cs) (r ∷ rows) fit free =
+        let none-crowded = or-false (rowEvent r k t step .crowded) (anyFirst (length cs) (λ r. rowEvent r k t step .crowded) rows) free in (
+          (fit .0 .0, subst (λ b. After c (engine c (fit .0 .0)) (steps ++ (event k t ∷ [])) b (rowEvent r k t step .row)) (none-crowded .0) (after-event c (fit .0 .0) r (fit .0 .1))),
+          fit-event cs rows (fit .1) (none-crowded .1),
+        )
+
+    -- some row is crowded: it would be open with more than 64 waiting
+    pub fit-crowded : (cs : List Constraint) (rows : List Row) → FitRows steps cs rows → anyFirst (length cs) (λ r. rowEvent r k t step .crowded) rows ≡ true
+        → (i : ℕ) × (c : Constraint) × (getElem? cs i ≡ some c) × Open c (steps ++ (event k t ∷ [])) × (waitingLimit < waiting c (steps ++ (event k t ∷ [])))
+    unfolding anyFirst
+    fit-crowded [] rows fit crowded = both (sym crowded)
+    fit-crowded (c ∷ cs) [] fit crowded = absurd fit
+    fit-crowded (c ∷ cs) (r ∷ rows) fit crowded =
+        ⊎-elim
+        (λ e. let full = subst (λ b. After c (engine c (fit .0 .0)) (steps ++ (event k t ∷ [])) b (rowEvent r k t step .row)) e (after-event c (fit .0 .0) r (fit .0 .1)) in
+        (0, c, refl, full .0, full .1))
+        (λ e. let found = fit-crowded cs rows (fit .1) e in (suc (found .0), found .1, found .2, found .3, found .4))
+        (or-true (rowEvent r k t step .crowded) (anyFirst (length cs) (λ r. rowEvent r k t step .crowded) rows) crowded)
+
+  -- ---- what the rows hold and read
+
+  module _ (steps : List Step) (valid : Valid steps) where
+    row-room : (cs : List Constraint) (rows : List Row) → FitRows steps cs rows → (i : ℕ) (c : Constraint) → getElem? cs i ≡ some c → Open c steps → waiting c steps ≤ waitingLimit
+    row-room [] rows fit i c e o = absurd (let z : _≡_ {A = ℕ} 0 1 = cc in omega arith)
+    row-room (d ∷ cs) [] fit i c e o = absurd fit
+    row-room (d ∷ cs) (r ∷ rows) fit zero c e o =
+        let same : d ≡ c = cc in
+        subst (λ x. waiting x steps ≤ waitingLimit) same (fits-room d (engine d (fit .0 .0)) steps valid r (fit .0 .1) (subst (λ x. Open x steps) (sym same) o))
+    row-room (d ∷ cs) (r ∷ rows) fit (suc i) c e o = row-room cs rows (fit .1) i c e o
+
+    pub fit-room : (cs : List Constraint) (rows : List Row) → FitRows steps cs rows → Room cs steps
+    unfolding Room
+    fit-room cs rows fit i c e o = row-room cs rows fit i c e o
+
+    pub fit-reads : (cs : List Constraint) (rows : List Row) → FitRows steps cs rows → (i : ℕ) (c : Constraint) → getElem? cs i ≡ some c
+        → Reads c steps (rowVerdict (getD rows i noRow) (closed steps))
+    fit-reads [] rows fit i c e = absurd (let z : _≡_ {A = ℕ} 0 1 = cc in omega arith)
+    fit-reads (d ∷ cs) [] fit i c e = absurd fit
+    fit-reads (d ∷ cs) (r ∷ rows) fit zero c e =
+        let same : d ≡ c = cc in
+        subst (λ x. Reads x steps (rowVerdict r (closed steps))) same (fits-reads d (engine d (fit .0 .0)) steps valid r (fit .0 .1))
+    fit-reads (d ∷ cs) (r ∷ rows) fit (suc i) c e = fit-reads cs rows (fit .1) i c e

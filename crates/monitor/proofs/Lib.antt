@@ -1,0 +1,6 @@
+-- Why the monitor's machine keeps the promise.
+pub mod FittingRows
+pub mod Following
+pub mod Demand
+pub mod Examples
+pub mod Theorem

@@ -1,0 +1,48 @@
+-- What the monitor's functions promise, in the buyer's words: over every accepted table and every list of calls.
+use Prim.Native.Nat.{ℕ}
+use mathlib.Core.Path.{_≡_}
+use mathlib.Core.List.{List, [], _∷_, _++_}
+use mathlib.Core.Option.{Option}
+use Rattle.constraint.specs.Steps.{Step}
+use Rattle.constraint.specs.Questions.{Judged}
+use Rattle.constraint.specs.Accepted.{rowsQuestions, Accepted}
+use Rattle.constraint.specs.Rows.{rowsOf}
+use Rattle.constraint.specs.Run.{questions, Run}
+use Rattle.constraint.specs.Promise.{ReadsRow, play}
+use Rattle.constraint.specs.declared.Answer.{Answer}
+use Rattle.constraint.specs.declared.Answer.the-variants.{Taken}
+use Rattle.constraint.specs.declared.Constraint.{Constraint}
+use Rattle.constraint.specs.declared.Table.{Table}
+use Rattle.constraint.specs.declared.Verdict.{Verdict}
+use Rattle.monitor.specs.Machine.{monitorOf, stepOf, verdictOf}
+use Rattle.monitor.specs.declared.Monitor.{Monitor}
+use Rattle.monitor.specs.declared.Stepped.{Stepped}
+
+-- a step as demand 3 takes it
+abbrev pub step : Monitor → Step → Rattle.constraint.specs.Promise.Stepped Monitor
+step m s = record { answer = stepOf m s .answer; monitor = stepOf m s .monitor }
+
+-- the monitor after a list of calls, from a fresh one over the rows: "Each call gets the monitor that the last one returned or left"
+unfoldable pub after : List Constraint → List Step → Monitor
+after rows calls = play step (monitorOf rows) calls .monitor
+
+-- the list of calls has accepted these steps
+abbrev pub Recorded : List Constraint → List Step → List Step → Type 0
+Recorded rows calls steps = (answers : List Answer) × Run rows [] calls answers steps
+
+-- a fresh monitor: questions 3 to 7, row by row; over an accepted table the monitor before any call
+pub record Freshly (table : Table) (answer : Answer) (m : Monitor) : Type 0 where
+  pub judged : Judged (rowsQuestions 0 (rowsOf table) []) answer
+  pub made : answer ≡ Taken → m ≡ after (rowsOf table) []
+
+-- a step: the answer that its questions give over what the calls have recorded, and the monitor after the longer list of calls
+pub record Steps (m : Monitor) (s : Step) (result : Stepped) : Type 0 where
+  pub equals : result ≡ stepOf m s
+  pub means : (rows : List Constraint) (calls : List Step) → Accepted rows → m ≡ after rows calls
+      → ((steps : List Step) × Recorded rows calls steps × Judged (questions rows steps s) (result .answer)) × (result .monitor ≡ after rows (calls ++ (s ∷ [])))
+
+-- the verdict of a row number: what the row reads after what the calls have recorded, or none where there is no such row
+pub record Reading (m : Monitor) (i : ℕ) (verdict : Option Verdict) : Type 0 where
+  pub equals : verdict ≡ verdictOf m i
+  pub means : (rows : List Constraint) (calls : List Step) → Accepted rows → m ≡ after rows calls
+      → (steps : List Step) × Recorded rows calls steps × ReadsRow rows steps i verdict

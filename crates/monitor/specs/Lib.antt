@@ -1,0 +1,4 @@
+-- The machine of the monitor: what the code computes, as functions on its records.
+pub mod Machine
+pub mod Contract
+pub mod Examples

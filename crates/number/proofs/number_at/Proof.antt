@@ -1,0 +1,83 @@
+-- The loop reads byte after byte: the number read, behind which the bytes left stand, is the whole.
+use native.Mathlib.Omega.{arith}
+use Prim.Native.Nat.{ℕ, _≤_, _<_}
+use mathlib.Core.Path.{_≡_, refl, sym, ap, _∙_}
+use Rattle.number.proofs.Numbers.{Room, room-first, room-now, room-next, number-more, number-end}
+use Rattle.constraint.specs.Bytes.{numberBehind, numberAt, bytesAt}
+use Rattle.number.proofs.number_at.Statement.{statement}
+use Rattle.number.proofs.number_at.Tie as tie
+
+abbrev Inv-loop : tie.InvT-loop
+Inv-loop bytes place width value₀ next₀ left₀ value next left = (left ≤ width) × Room value left × (numberBehind value (bytesAt left bytes next) ≡ numberAt width bytes place)
+
+abbrev μ-loop : tie.MeasureT-loop
+μ-loop bytes place width value₀ next₀ left₀ value next left = left
+
+loop-holds : tie.Need-loop-holds Inv-loop μ-loop
+loop-holds c = (omega arith, room-first (c .before .args .width) (c .before .pre), refl)
+
+returns : tie.Need-returns Inv-loop μ-loop
+returns c =
+    let loop = c .before .before .loop in
+    let bytes = c .before .before .before .before .args .bytes .now in
+    sym (number-end bytes (loop .value) (loop .next) (loop .left) (c .if1 .taken)) ∙ loop .inv .2
+
+mul-value : tie.Need-mul-value Inv-loop μ-loop
+mul-value c = let loop = c .before .before .loop in omega (arith, room-now (loop .value) (loop .left) (loop .inv .1) (omega arith))
+
+shared-slice-read-wide : tie.Need-shared-slice-read-wide Inv-loop μ-loop
+shared-slice-read-wide c = omega arith
+
+wide-requires : tie.Need-wide-requires Inv-loop μ-loop
+wide-requires c κs = tt
+
+add-value : tie.Need-add-value Inv-loop μ-loop
+add-value c =
+    let at-loop = c .before .before .before .before in
+    let loop = at-loop .loop in
+    omega (arith, room-now (loop .value) (loop .left) (loop .inv .1) (omega arith), c .before .shared-slice-known2 .given (loop .next))
+
+add-next : tie.Need-add-next Inv-loop μ-loop
+add-next c = omega arith
+
+sub-left : tie.Need-sub-left Inv-loop μ-loop
+sub-left c = omega arith
+
+loop-less : tie.Need-loop-less Inv-loop μ-loop
+loop-less c = omega arith
+
+loop-again : tie.Need-loop-again Inv-loop μ-loop
+loop-again c =
+    let at-loop = c .before .before .before .before in
+    let loop = at-loop .loop in
+    let bytes = at-loop .before .before .args .bytes .now in
+    let byte : c .wide .result < 256 = omega (arith, c .before .shared-slice-known2 .given (loop .next)) in (
+      omega arith,
+      room-next (loop .value) (loop .left) (c .wide .result) (loop .inv .1) (omega arith) byte,
+      rw (c .wide .ensures) (sym (number-more bytes (loop .value) (loop .next) (loop .left) (omega arith) (omega arith)) ∙ loop .inv .2),
+    )
+
+returns-2 : tie.Need-returns-2 Inv-loop μ-loop
+unfolding numberBehind
+returns-2 c =
+    let loop = c .before .loop in
+    let none : loop .left ≡ 0 = omega arith in
+    sym (ap (λ (left : ℕ). numberBehind (loop .value) (bytesAt left (c .before .before .before .args .bytes .now) (loop .next))) none) ∙ loop .inv .2
+
+pub number-at-spec : {M : Type 1} → statement M
+number-at-spec =
+    tie.close
+    (tie.spec
+    Inv-loop
+    μ-loop
+    loop-holds
+    returns
+    mul-value
+    shared-slice-read-wide
+    wide-requires
+    add-value
+    add-next
+    sub-left
+    loop-less
+    loop-again
+    returns-2)

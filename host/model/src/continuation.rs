@@ -1,0 +1,69 @@
+//! What may still come ("A continuation is").
+
+use crate::constraint::LAST_KIND;
+use crate::steps::{Events, History, Step};
+
+/// An event of a continuation. Its time has no largest value but that of its number.
+#[derive(Clone, Copy, Debug, PartialEq, Eq)]
+pub struct Event {
+    pub kind: u8,
+    pub time: u64,
+}
+
+/// "a finite list of further events, possibly empty, at or after the clock, none earlier than the one before it,
+/// strictly rising within each kind, the recorded events of that kind counted in, with no largest time. After the
+/// close only the empty one is left."
+pub fn is_continuation(recorded: &History, further: &[Event]) -> bool {
+    let mut after = recorded.clone();
+    further.iter().all(|&Event { kind, time }| {
+        let fits = !after.closed() && kind <= LAST_KIND && after.event_in_order(kind, time);
+        if fits {
+            after.record(Step::Event { kind, time });
+        }
+        fits
+    })
+}
+
+/// The recorded events and those of a continuation: "all events together".
+pub struct Together<'a> {
+    recorded: &'a History,
+    /// The whole lists of the kinds that have further events.
+    joined: Vec<(u8, Vec<u64>)>,
+}
+
+impl<'a> Together<'a> {
+    pub fn of(recorded: &'a History, further: &[Event]) -> Together<'a> {
+        let mut together = Together { recorded, joined: Vec::new() };
+        further.iter().for_each(|event| together.push(*event));
+        together
+    }
+
+    /// The first time that a further event of this kind can have: "at or after the clock", "strictly rising".
+    pub fn first_free(&self, kind: u8) -> u64 {
+        let after_last = self.times(kind).last().map_or(0, |last| last + 1);
+        after_last.max(self.recorded.clock())
+    }
+
+    /// Adds a further event.
+    pub fn push(&mut self, event: Event) {
+        let known = self.joined.iter().position(|(kind, _)| *kind == event.kind);
+        let place = known.unwrap_or_else(|| {
+            self.joined.push((event.kind, self.recorded.times(event.kind).to_vec()));
+            self.joined.len() - 1
+        });
+        self.joined[place].1.push(event.time);
+    }
+
+    /// Takes the last further event of a kind away again.
+    pub fn pop(&mut self, kind: u8) {
+        let list = self.joined.iter_mut().find(|(joined, _)| *joined == kind);
+        list.expect("a further event of this kind").1.pop();
+    }
+}
+
+impl Events for Together<'_> {
+    fn times(&self, kind: u8) -> &[u64] {
+        let joined = self.joined.iter().find(|(joined, _)| *joined == kind);
+        joined.map_or_else(|| self.recorded.times(kind), |(_, times)| times)
+    }
+}

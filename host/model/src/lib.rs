@@ -1,0 +1,42 @@
+//! Paper 01's definitions in plain Rust, written from its sentences: a model for the proved monitor to be executed
+//! beside. It keeps the list of accepted steps and works every answer out from that list, the slow and obvious way.
+//!
+//! ```
+//! use model::{Constraint, Monitor, Verdict};
+//!
+//! // Example 2: Delay 0→1, 2 to 3.
+//! let row = Constraint::Delay { source: 0, target: 1, lower: 2, upper: 3 };
+//! let mut monitor = Monitor::fresh(&[row])?;
+//! monitor.event(0, 10)?;
+//! monitor.tick(13)?;
+//! assert_eq!(monitor.verdict(0), Ok(Verdict::Open));
+//! monitor.tick(14)?;
+//! assert_eq!(monitor.verdict(0), Ok(Verdict::Broken(3)));
+//! # Ok::<(), u8>(())
+//! ```
+
+pub mod constraint;
+pub mod continuation;
+pub mod hidden_points;
+pub mod meets;
+pub mod monitor;
+pub mod open;
+pub mod questions;
+pub mod random;
+pub mod recording;
+pub mod report;
+pub mod search;
+pub mod steps;
+pub mod table;
+pub mod waiting;
+
+pub use constraint::{Constraint, LAST_KIND, LAST_TIME, NO_LIMIT, ROW_LIMIT, SPAN_LIMIT, WAITING_LIMIT};
+pub use meets::meets;
+pub use monitor::{Monitor, Verdict};
+pub use open::open;
+pub use questions::{Answer, Refusal};
+pub use recording::{read_recording, recording_bytes};
+pub use report::{program_output, report, report_text};
+pub use steps::{Events, History, Step};
+pub use table::{read_table, table_bytes, write_table};
+pub use waiting::waiting;

@@ -1,0 +1,89 @@
+//! What each row says of all events together ("What each row says").
+
+use crate::constraint::{Constraint, NO_LIMIT};
+use crate::hidden_points::Spacing;
+use crate::steps::Events;
+
+/// Is the row's definition true of all these events together?
+pub fn meets(constraint: &Constraint, events: &impl Events) -> bool {
+    let times = |kind: &u8| events.times(*kind);
+    match constraint {
+        Constraint::Delay { source, target, lower, upper } => delay(*lower, *upper, times(source), times(target)),
+        Constraint::StrongDelay { source, target, lower, upper } => {
+            strong_delay(*lower, *upper, times(source), times(target))
+        }
+        Constraint::Repeat { event, span, lower, upper } => repeat(*span, *lower, *upper, times(event)),
+        Constraint::Sporadic { event, lower, upper, jitter, minimum } => {
+            let spacing = Spacing { lower: *lower, upper: *upper, jitter: *jitter };
+            spacing.has_hidden_points(times(event)) && at_least_apart(*minimum, times(event))
+        }
+        Constraint::Burst { event, maximum, length, minimum } => burst(*maximum, *length, *minimum, times(event)),
+        Constraint::Order { source, target } => order(times(source), times(target)),
+        Constraint::StrongSynchronization { kinds, tolerance } => {
+            let lists: Vec<&[u64]> = kinds.iter().map(times).collect();
+            strong_synchronization(*tolerance, &lists)
+        }
+    }
+}
+
+/// "lower ≤ t − s ≤ upper"
+pub fn between(lower: u64, upper: u64, s: u64, t: u64) -> bool {
+    s <= t && lower <= t - s && t - s <= upper
+}
+
+/// The same, where "an upper of 2^64 − 1 means no limit".
+pub fn apart(lower: u64, upper: u64, s: u64, t: u64) -> bool {
+    s <= t && lower <= t - s && (upper == NO_LIMIT || t - s <= upper)
+}
+
+/// The sources with no target in their interval, "lower ≤ t − s ≤ upper".
+///
+/// Both lists rise. So targets too early for one source are too early for all later ones, and of those not too early
+/// the first is in the interval if any is.
+pub fn without_target(lower: u64, upper: u64, sources: &[u64], targets: &[u64]) -> impl Iterator<Item = u64> {
+    let mut left = targets.iter().peekable();
+    sources.iter().copied().filter(move |&source| {
+        while left.next_if(|&&target| target < source || target - source < lower).is_some() {}
+        !left.peek().is_some_and(|&&target| between(lower, upper, source, target))
+    })
+}
+
+/// 1. "each source event at s has a target event t with lower ≤ t − s ≤ upper. Further targets are allowed."
+fn delay(lower: u64, upper: u64, sources: &[u64], targets: &[u64]) -> bool {
+    without_target(lower, upper, sources, targets).next().is_none()
+}
+
+/// 2. "there are as many targets as sources, and the i-th target is lower to upper after the i-th source."
+fn strong_delay(lower: u64, upper: u64, sources: &[u64], targets: &[u64]) -> bool {
+    let right = |(&source, &target): (&u64, &u64)| between(lower, upper, source, target);
+    targets.len() == sources.len() && sources.iter().zip(targets).all(right)
+}
+
+/// 3. "of any span + 1 consecutive events, last minus first is from lower to upper."
+fn repeat(span: u8, lower: u64, upper: u64, events: &[u64]) -> bool {
+    let span = usize::from(span);
+    events.windows(span + 1).all(|consecutive| apart(lower, upper, consecutive[0], consecutive[span]))
+}
+
+/// "neighbouring events at least minimum apart"
+fn at_least_apart(minimum: u64, events: &[u64]) -> bool {
+    events.windows(2).all(|pair| apart(minimum, NO_LIMIT, pair[0], pair[1]))
+}
+
+/// 5. "Repeat with span = maximum, lower = length, no upper; and neighbouring events at least minimum apart."
+fn burst(maximum: u8, length: u64, minimum: u64, events: &[u64]) -> bool {
+    repeat(maximum, length, NO_LIMIT, events) && at_least_apart(minimum, events)
+}
+
+/// 6. "there are as many targets as sources, and the i-th source is not later than the i-th target."
+fn order(sources: &[u64], targets: &[u64]) -> bool {
+    targets.len() == sources.len() && sources.iter().zip(targets).all(|(source, target)| source <= target)
+}
+
+/// 7. "all n kinds have equally many events, and the i-th events of all kinds lie within tolerance of one another."
+fn strong_synchronization(tolerance: u64, lists: &[&[u64]]) -> bool {
+    let together = |one: &[u64], other: &[u64]| {
+        one.len() == other.len() && one.iter().zip(other).all(|(x, y)| x.abs_diff(*y) <= tolerance)
+    };
+    lists.iter().enumerate().all(|(i, one)| lists[i..].iter().all(|other| together(one, other)))
+}

@@ -1,0 +1,132 @@
+//! The monitor as the paper defines it: a table, and the list of accepted steps.
+
+use crate::constraint::{Constraint, WAITING_LIMIT};
+use crate::open::open;
+use crate::questions::{Answer, ask, rows_questions, step_questions};
+use crate::steps::{History, Step};
+use crate::waiting::waiting;
+use std::fmt;
+
+/// What a row reads. It is written as in the report: "open", "kept", "broken 3".
+#[derive(Clone, Copy, Debug, PartialEq, Eq)]
+pub enum Verdict {
+    Open,
+    Kept,
+    /// Broken, with "the count right after the first step that broke it".
+    Broken(u64),
+}
+
+impl fmt::Display for Verdict {
+    fn fmt(&self, f: &mut fmt::Formatter) -> fmt::Result {
+        match self {
+            Verdict::Open => write!(f, "open"),
+            Verdict::Kept => write!(f, "kept"),
+            Verdict::Broken(step) => write!(f, "broken {step}"),
+        }
+    }
+}
+
+/// A table with the steps accepted so far. Every answer is worked out from these and the call's arguments alone.
+#[derive(Clone, Debug, PartialEq, Eq)]
+pub struct Monitor {
+    rows: Vec<Constraint>,
+    steps: Vec<Step>,
+    /// What the steps have recorded.
+    recorded: History,
+    /// For each row the count after the first step which left it not open. Broken is for ever, since a continuation
+    /// after more steps is, put behind those, one from before them.
+    broken: Vec<Option<u64>>,
+}
+
+impl Monitor {
+    /// "It starts from a fresh monitor over an accepted table: clock 0, no events, count 0, not closed." Refused as
+    /// questions 3 to 7 say.
+    pub fn fresh(rows: &[Constraint]) -> Result<Monitor, u8> {
+        rows_questions(rows)?;
+        let (rows, broken) = (rows.to_vec(), vec![None; rows.len()]);
+        Ok(Monitor { rows, steps: Vec::new(), recorded: History::default(), broken })
+    }
+
+    pub fn event(&mut self, kind: u8, time: u64) -> Answer {
+        self.step(Step::Event { kind, time })
+    }
+
+    pub fn tick(&mut self, time: u64) -> Answer {
+        self.step(Step::Tick { time })
+    }
+
+    pub fn close(&mut self) -> Answer {
+        self.step(Step::Close)
+    }
+
+    /// Takes a step, or refuses it as questions 8 to 12 say: "events, clock and count stay."
+    pub fn step(&mut self, step: Step) -> Answer {
+        let (after, open) = self.judge(step)?;
+        for (broken, open) in self.broken.iter_mut().zip(open) {
+            if broken.is_none() && !open {
+                *broken = Some(after.count());
+            }
+        }
+        self.steps.push(step);
+        self.recorded = after;
+        Ok(())
+    }
+
+    /// How many rows not yet broken the step would break, or the number of its refusal. Nothing changes.
+    pub fn would_break(&self, step: Step) -> Result<usize, u8> {
+        let (_, open) = self.judge(step)?;
+        Ok(self.broken.iter().zip(open).filter(|(broken, open)| broken.is_none() && !open).count())
+    }
+
+    /// Puts the step's questions; gives what is recorded after it, and for each row whether it is then open.
+    fn judge(&self, step: Step) -> Result<(History, Vec<bool>), u8> {
+        step_questions(&self.recorded, step)?;
+        let after = self.recorded.after(step);
+        let each = self.rows.iter().zip(&self.broken);
+        let open: Vec<bool> = each.map(|(row, broken)| broken.is_none() && open(row, &after)).collect();
+        if step != Step::Close {
+            ask(12, self.has_room(&open, &after))?;
+        }
+        Ok((after, open))
+    }
+
+    /// 12: "Would each row still open after the step have at most 64 waiting?"
+    fn has_room(&self, open: &[bool], after: &History) -> bool {
+        self.rows.iter().zip(open).all(|(row, open)| !open || waiting(row, after) <= WAITING_LIMIT)
+    }
+
+    /// What the row of this number reads; "is there a row of that number? 15". "At the close a row not broken is kept."
+    pub fn verdict(&self, row: usize) -> Result<Verdict, u8> {
+        ask(15, row < self.rows.len())?;
+        Ok(match self.broken[row] {
+            Some(step) => Verdict::Broken(step),
+            None if self.recorded.closed() => Verdict::Kept,
+            None => Verdict::Open,
+        })
+    }
+
+    /// What every row reads, in the order of the table.
+    pub fn verdicts(&self) -> Vec<Verdict> {
+        (0..self.rows.len()).map(|row| self.verdict(row).expect("a row of that number")).collect()
+    }
+
+    /// How many wait in the row of this number: "A broken row holds nothing waiting."
+    pub fn waiting(&self, row: usize) -> Result<usize, u8> {
+        ask(15, row < self.rows.len())?;
+        Ok(if self.broken[row].is_some() { 0 } else { waiting(&self.rows[row], &self.recorded) })
+    }
+
+    pub fn rows(&self) -> &[Constraint] {
+        &self.rows
+    }
+
+    /// The steps accepted so far.
+    pub fn steps(&self) -> &[Step] {
+        &self.steps
+    }
+
+    /// What the accepted steps have recorded: events, clock, count, closed.
+    pub fn recorded(&self) -> &History {
+        &self.recorded
+    }
+}

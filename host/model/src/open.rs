@@ -1,0 +1,87 @@
+//! "A row is open while some continuation makes its definition true of all events together."
+//!
+//! [`open`] tries one continuation, the earliest that the row can use, against the definition. So where it says yes,
+//! it has shown the continuation. Where it says no, none does: each row type's comment below gives the reason, and
+//! the tests compare it with [`crate::search::open_by_search`], which tries them all.
+//!
+//! Both are for rows that pass questions 5 to 7.
+
+use crate::constraint::Constraint;
+use crate::continuation::{Event, Together};
+use crate::meets::{meets, without_target};
+use crate::steps::{Events, History};
+
+/// Does some continuation make the row's definition true of all events together?
+pub fn open(constraint: &Constraint, recorded: &History) -> bool {
+    meets(constraint, &Together::of(recorded, &earliest_continuation(constraint, recorded)))
+}
+
+/// The earliest continuation that the row can use: if any continuation meets the row, this one does.
+///
+/// - "After the close only the empty one is left."
+/// - Repeat, Sporadic and Burst speak of each event together with earlier ones only. What is true with a continuation
+///   is true without it, so the empty one will do.
+/// - Delay needs a target for each source that has none, and a continuation's own sources only ask for more.
+/// - StrongDelay and Order pair by index. Of the events beyond the larger recorded number both members would be
+///   further ones: without them the rest still fits. So only partners of recorded events are wanted.
+/// - StrongSynchronization: the same, with groups for pairs.
+pub fn earliest_continuation(constraint: &Constraint, recorded: &History) -> Vec<Event> {
+    if recorded.closed() {
+        return Vec::new();
+    }
+    match constraint {
+        Constraint::Repeat { .. } | Constraint::Sporadic { .. } | Constraint::Burst { .. } => Vec::new(),
+        Constraint::Delay { source, target, lower, upper } => targets(recorded, *source, *target, *lower, *upper),
+        Constraint::StrongDelay { source, target, lower, .. } => partners(recorded, *source, *target, *lower),
+        Constraint::Order { source, target } => partners(recorded, *source, *target, 0),
+        Constraint::StrongSynchronization { kinds, .. } => members(recorded, kinds),
+    }
+}
+
+/// Further events of one kind, one for each bound: each as early as its bound, the clock and the event before allow.
+/// In any list of events not before these bounds, none is earlier than here.
+fn earliest(recorded: &History, kind: u8, bounds: impl Iterator<Item = u64>) -> Vec<Event> {
+    let mut free = Together::of(recorded, &[]).first_free(kind);
+    let at_bound = |bound: u64| {
+        let time = bound.max(free);
+        free = time + 1;
+        Event { kind, time }
+    };
+    bounds.map(at_bound).collect()
+}
+
+/// A Delay's further targets: for each source with no target yet one of its own.
+///
+/// The first of these sources has its target as early as any continuation can give it one. Sources rise by 1 or more,
+/// so where one has its target in time, the next has it too, at its own source + lower or 1 later than that one.
+fn targets(recorded: &History, source: u8, target: u8, lower: u64, upper: u64) -> Vec<Event> {
+    let waiting = without_target(lower, upper, recorded.times(source), recorded.times(target));
+    earliest(recorded, target, waiting.map(|time| time + lower))
+}
+
+/// The missing partners of recorded events in pairs by index: targets at least lower after their source, or sources.
+///
+/// The other members are recorded, so a missing target has a first and a last place, whatever else comes; the earliest
+/// list that keeps the first places keeps the last ones if any list does. A missing source is not before the clock and
+/// so not before its target: it can only be too late.
+fn partners(recorded: &History, source: u8, target: u8, lower: u64) -> Vec<Event> {
+    let (sources, targets) = (recorded.times(source), recorded.times(target));
+    let source_surplus = sources.iter().skip(targets.len());
+    let target_surplus = targets.iter().skip(sources.len());
+    let mut further = earliest(recorded, target, source_surplus.map(|time| time + lower));
+    further.extend(earliest(recorded, source, target_surplus.map(|_| 0)));
+    further
+}
+
+/// The missing members of recorded events in groups by index, each kind's in a row from its first free place on.
+///
+/// Every group has a recorded member, at most at the clock, and no further event is earlier than the clock. So the
+/// earliest members are not too early for that one or for each other, unless one of them is too late for it.
+fn members(recorded: &History, kinds: &[u8]) -> Vec<Event> {
+    let number = |kind: u8| recorded.times(kind).len();
+    let groups = kinds.iter().map(|&kind| number(kind)).max().unwrap_or(0);
+    let missing = |&kind: &u8| earliest(recorded, kind, (number(kind)..groups).map(|_| 0));
+    let mut further: Vec<Event> = kinds.iter().flat_map(missing).collect();
+    further.sort_by_key(|event| event.time);
+    further
+}

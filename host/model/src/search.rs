@@ -1,0 +1,60 @@
+//! "Open" straight from its definition, by trying every continuation up to a last time. For small numbers only.
+
+use crate::constraint::Constraint;
+use crate::continuation::{Event, Together};
+use crate::meets::meets;
+use crate::steps::{Events, History};
+
+/// Does some continuation make the row's definition true of all events together? Tries all up to [`reach`].
+pub fn open_by_search(constraint: &Constraint, recorded: &History) -> bool {
+    open_within(constraint, recorded, reach(constraint, recorded))
+}
+
+/// The same, of the continuations whose events are at most at the time `last`.
+///
+/// Events of other kinds than the row's are not tried: its definition does not speak of them, and a continuation
+/// without them is one still. A list of times for each kind, put together by time, is a continuation, in whatever
+/// order events of one time stand; and every continuation gives such lists.
+pub fn open_within(constraint: &Constraint, recorded: &History, last: u64) -> bool {
+    let kinds = if recorded.closed() { Vec::new() } else { constraint.kinds() };
+    some_lists_meet(constraint, &kinds, last, &mut Together::of(recorded, &[]))
+}
+
+/// A time so late that a continuation which meets the row can be chosen with no event after it.
+///
+/// - Delay: of a continuation that meets the row keep the targets up to the newest recorded source + upper. Each
+///   recorded source still has its target, and no other source is left.
+/// - StrongDelay, Order, StrongSynchronization: drop what is beyond the larger number recorded of a kind. Each pair or
+///   group left has a recorded member, at most at the clock, and the others are at most upper or tolerance later.
+///   Order has no such bound, but its further targets, whose sources are all recorded, may as well be at
+///   clock + 1, clock + 2 and so on; its further sources are not after recorded targets.
+/// - Repeat, Sporadic, Burst: drop all; what is said of the recorded events alone stays true. A few more places are
+///   searched to see that they change nothing.
+pub fn reach(constraint: &Constraint, recorded: &History) -> u64 {
+    let clock = recorded.clock();
+    match constraint {
+        Constraint::Delay { source, upper, .. } => recorded.times(*source).last().map_or(clock, |last| last + upper),
+        Constraint::StrongDelay { upper, .. } => clock + upper,
+        Constraint::Order { source, target } => {
+            let missing = recorded.times(*source).len().saturating_sub(recorded.times(*target).len());
+            clock + missing as u64
+        }
+        Constraint::StrongSynchronization { tolerance, .. } => clock + tolerance,
+        Constraint::Repeat { .. } | Constraint::Sporadic { .. } | Constraint::Burst { .. } => clock + 3,
+    }
+}
+
+/// Is there, for each of these kinds, a rising list of further times up to `last` so that the row is met? For the
+/// first kind: no more events of it, or one at any free place and then again.
+fn some_lists_meet(constraint: &Constraint, kinds: &[u8], last: u64, together: &mut Together) -> bool {
+    let Some((&kind, later)) = kinds.split_first() else {
+        return meets(constraint, together);
+    };
+    some_lists_meet(constraint, later, last, together)
+        || (together.first_free(kind)..=last).any(|time| {
+            together.push(Event { kind, time });
+            let found = some_lists_meet(constraint, kinds, last, together);
+            together.pop(kind);
+            found
+        })
+}

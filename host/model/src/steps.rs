@@ -1,0 +1,121 @@
+//! Steps, and what a list of accepted steps has recorded ("Time, events, steps").
+
+use crate::constraint::LAST_KIND;
+use std::fmt;
+use std::str::FromStr;
+
+/// A step, or a call that asks for one: any kind and time can stand in it, the questions say which is accepted.
+///
+/// It is written and read in the paper's notation: "0@10", "tick 13", "close".
+#[derive(Clone, Copy, Debug, PartialEq, Eq)]
+pub enum Step {
+    /// "An event step carries a kind and a time".
+    Event { kind: u8, time: u64 },
+    /// "A tick step carries a time later than the clock and moves the clock there."
+    Tick { time: u64 },
+    /// "The close ends the recording."
+    Close,
+}
+
+impl fmt::Display for Step {
+    fn fmt(&self, f: &mut fmt::Formatter) -> fmt::Result {
+        match self {
+            Step::Event { kind, time } => write!(f, "{kind}@{time}"),
+            Step::Tick { time } => write!(f, "tick {time}"),
+            Step::Close => write!(f, "close"),
+        }
+    }
+}
+
+impl FromStr for Step {
+    type Err = String;
+
+    fn from_str(text: &str) -> Result<Step, String> {
+        let number = |digits: &str| digits.parse::<u64>().map_err(|_| format!("no number in {text:?}"));
+        if text == "close" {
+            Ok(Step::Close)
+        } else if let Some(time) = text.strip_prefix("tick ") {
+            Ok(Step::Tick { time: number(time)? })
+        } else {
+            let (kind, time) = text.split_once('@').ok_or_else(|| format!("no step: {text:?}"))?;
+            let kind = kind.parse().map_err(|_| format!("no kind in {text:?}"))?;
+            Ok(Step::Event { kind, time: number(time)? })
+        }
+    }
+}
+
+/// All events together, by kind: what a row's definition speaks of.
+pub trait Events {
+    /// The times of the events of one kind. They rise strictly.
+    fn times(&self, kind: u8) -> &[u64];
+}
+
+/// What a list of accepted steps has recorded: the events, the clock, the count, and whether it was closed.
+#[derive(Clone, Debug, PartialEq, Eq)]
+pub struct History {
+    times: Vec<Vec<u64>>,
+    clock: u64,
+    count: u64,
+    closed: bool,
+}
+
+impl Default for History {
+    /// "clock 0, no events, count 0, not closed"
+    fn default() -> History {
+        History { times: vec![Vec::new(); usize::from(LAST_KIND) + 1], clock: 0, count: 0, closed: false }
+    }
+}
+
+impl History {
+    /// What the steps have recorded, from nothing on.
+    pub fn of(steps: &[Step]) -> History {
+        let mut history = History::default();
+        steps.iter().for_each(|step| history.record(*step));
+        history
+    }
+
+    /// Adds an accepted step: "the count rises by one. An event is added and the clock goes to its time; a tick moves
+    /// the clock; a close ends the recording."
+    pub fn record(&mut self, step: Step) {
+        self.count += 1;
+        match step {
+            Step::Event { kind, time } => {
+                self.times[usize::from(kind)].push(time);
+                self.clock = time;
+            }
+            Step::Tick { time } => self.clock = time,
+            Step::Close => self.closed = true,
+        }
+    }
+
+    /// What is recorded once this step is accepted too.
+    pub fn after(&self, step: Step) -> History {
+        let mut after = self.clone();
+        after.record(step);
+        after
+    }
+
+    pub fn clock(&self) -> u64 {
+        self.clock
+    }
+
+    /// "Steps, the close included, are counted from 1. Refused steps are not counted."
+    pub fn count(&self) -> u64 {
+        self.count
+    }
+
+    pub fn closed(&self) -> bool {
+        self.closed
+    }
+
+    /// "not before the clock and later than every earlier event of that kind"
+    pub fn event_in_order(&self, kind: u8, time: u64) -> bool {
+        time >= self.clock && self.times(kind).iter().all(|&earlier| time > earlier)
+    }
+}
+
+impl Events for History {
+    fn times(&self, kind: u8) -> &[u64] {
+        self.times.get(usize::from(kind)).map_or(&[], Vec::as_slice)
+    }
+}

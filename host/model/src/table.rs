@@ -1,0 +1,152 @@
+//! The table's bytes ("The table" and the table's questions).
+
+use crate::constraint::{Constraint, ROW_LIMIT};
+use crate::questions::{Refusal, ask, fields_questions, rows_questions};
+
+/// "The length expected for each type stands in one constant list." By the type byte; to type 7 its n is added.
+const LENGTHS: [usize; 8] = [0, 19, 19, 19, 34, 19, 3, 10];
+
+/// A field: "Kinds, n, spans and maxima take one byte; every other field is a time of eight bytes."
+enum Field {
+    Byte(u8),
+    Time(u64),
+}
+
+/// The column "Fields" of the paper's list.
+fn fields(row: &Constraint) -> Vec<Field> {
+    use Field::{Byte, Time};
+    match row {
+        Constraint::Delay { source, target, lower, upper }
+        | Constraint::StrongDelay { source, target, lower, upper } => {
+            vec![Byte(*source), Byte(*target), Time(*lower), Time(*upper)]
+        }
+        Constraint::Repeat { event, span, lower, upper } => {
+            vec![Byte(*event), Byte(*span), Time(*lower), Time(*upper)]
+        }
+        Constraint::Sporadic { event, lower, upper, jitter, minimum } => {
+            vec![Byte(*event), Time(*lower), Time(*upper), Time(*jitter), Time(*minimum)]
+        }
+        Constraint::Burst { event, maximum, length, minimum } => {
+            vec![Byte(*event), Byte(*maximum), Time(*length), Time(*minimum)]
+        }
+        Constraint::Order { source, target } => vec![Byte(*source), Byte(*target)],
+        Constraint::StrongSynchronization { kinds, tolerance } => {
+            let n = u8::try_from(kinds.len()).expect("an n of one byte");
+            let kinds = kinds.iter().map(|kind| Byte(*kind));
+            std::iter::once(Byte(n)).chain(kinds).chain([Time(*tolerance)]).collect()
+        }
+    }
+}
+
+/// The row's fields that are times, in order.
+pub(crate) fn time_fields(row: &Constraint) -> Vec<u64> {
+    let time = |field| match field {
+        Field::Time(time) => Some(time),
+        Field::Byte(_) => None,
+    };
+    fields(row).into_iter().filter_map(time).collect()
+}
+
+/// "A row is a 2-byte length, then that many bytes: one type byte and the fields." Whatever stands in the fields.
+fn row_bytes(row: &Constraint) -> Vec<u8> {
+    let mut body = vec![row.type_byte()];
+    for field in fields(row) {
+        match field {
+            Field::Byte(byte) => body.push(byte),
+            Field::Time(time) => body.extend(time.to_be_bytes()),
+        }
+    }
+    with_length(&body)
+}
+
+/// A 2-byte length, then that many bytes. "Numbers are big-endian."
+pub(crate) fn with_length(body: &[u8]) -> Vec<u8> {
+    let length = u16::try_from(body.len()).expect("a length of two bytes");
+    [&length.to_be_bytes(), body].concat()
+}
+
+/// "The file is one version byte 1, then 0 to 32 rows." The bytes for any rows, no question put.
+pub fn table_bytes(rows: &[Constraint]) -> Vec<u8> {
+    std::iter::once(1).chain(rows.iter().flat_map(row_bytes)).collect()
+}
+
+/// Writes the table and answers the number of bytes written, or the number of the refusal: questions 3 to 7, then "is
+/// the buffer long enough? 16. Bytes after those written stay".
+pub fn write_table(rows: &[Constraint], buffer: &mut [u8]) -> Result<usize, u8> {
+    rows_questions(rows)?;
+    let bytes = table_bytes(rows);
+    ask(16, bytes.len() <= buffer.len())?;
+    buffer[..bytes.len()].copy_from_slice(&bytes);
+    Ok(bytes.len())
+}
+
+/// Reads a table: "is the first byte there, and 1? 1. Then row by row".
+pub fn read_table(bytes: &[u8]) -> Result<Vec<Constraint>, Refusal> {
+    ask(1, bytes.first() == Some(&1)).map_err(|number| Refusal { number, place: 0 })?;
+    let mut rows = Vec::new();
+    let mut place = 1;
+    while place < bytes.len() {
+        let (row, size) = read_row(&bytes[place..], rows.len()).map_err(|number| Refusal { number, place })?;
+        rows.push(row);
+        place += size;
+    }
+    Ok(rows)
+}
+
+/// Reads the row at the start of the bytes, with so many rows before it; gives it and the number of bytes it takes.
+fn read_row(bytes: &[u8], before: usize) -> Result<(Constraint, usize), u8> {
+    let body = body_at_start(bytes);
+    // "are both length bytes and the whole row there? 2."
+    ask(2, body.is_some())?;
+    let body = body.unwrap_or(&[]);
+    // "Are there at most 32 rows so far? 3."
+    ask(3, before < ROW_LIMIT)?;
+    ask(4, shape_fits(body))?;
+    let row = constraint_of(body);
+    fields_questions(&row)?;
+    Ok((row, 2 + body.len()))
+}
+
+/// The bytes behind the length field at the start, as many as it says, if "both length bytes" and all these are there.
+pub(crate) fn body_at_start(bytes: &[u8]) -> Option<&[u8]> {
+    let (length, rest) = bytes.split_first_chunk::<2>()?;
+    rest.get(..usize::from(u16::from_be_bytes(*length)))
+}
+
+/// 4: "Is the type 1 to 7, n in range, the length right? 4, also where type byte or n is missing."
+fn shape_fits(body: &[u8]) -> bool {
+    match body {
+        [7, n, ..] => (2..=4).contains(n) && body.len() == LENGTHS[7] + usize::from(*n),
+        [7] | [] => false,
+        [type_byte, ..] => (1..=6).contains(type_byte) && body.len() == LENGTHS[usize::from(*type_byte)],
+    }
+}
+
+/// The row that a body of fitting shape stands for.
+fn constraint_of(body: &[u8]) -> Constraint {
+    let time = |place| time_at(body, place);
+    match body[0] {
+        1 => Constraint::Delay { source: body[1], target: body[2], lower: time(3), upper: time(11) },
+        2 => Constraint::StrongDelay { source: body[1], target: body[2], lower: time(3), upper: time(11) },
+        3 => Constraint::Repeat { event: body[1], span: body[2], lower: time(3), upper: time(11) },
+        4 => Constraint::Sporadic {
+            event: body[1],
+            lower: time(2),
+            upper: time(10),
+            jitter: time(18),
+            minimum: time(26),
+        },
+        5 => Constraint::Burst { event: body[1], maximum: body[2], length: time(3), minimum: time(11) },
+        6 => Constraint::Order { source: body[1], target: body[2] },
+        _ => {
+            let end = 2 + usize::from(body[1]);
+            Constraint::StrongSynchronization { kinds: body[2..end].to_vec(), tolerance: time(end) }
+        }
+    }
+}
+
+/// The time in the eight bytes from a place on.
+pub(crate) fn time_at(body: &[u8], place: usize) -> u64 {
+    let (bytes, _) = body[place..].split_first_chunk::<8>().expect("the eight bytes of a time");
+    u64::from_be_bytes(*bytes)
+}

@@ -1,0 +1,82 @@
+//! The drive of `examples/`: its table and recording are what is written down here, and its report is the stored one.
+//! Times are microseconds. To write the files anew after a change here: `DRIVE=write cargo test --test drive`.
+
+use std::fs;
+use std::path::{Path, PathBuf};
+
+use model::{Constraint, NO_LIMIT, Step, report_text};
+
+const MILLISECOND: u64 = 1_000;
+
+const BRAKE_PEDAL: u8 = 0;
+const BRAKE_LIGHT: u8 = 1;
+const STEERING_REQUEST: u8 = 2;
+const STEERING_REPLY: u8 = 3;
+const WHEEL_SPEED: u8 = 4;
+const CAMERA_FRAME: u8 = 5;
+const DIAGNOSTIC: u8 = 6;
+const BELT_SENSOR: u8 = 7;
+const BELT_LOG: u8 = 8;
+const INDICATOR_FRONT: u8 = 9;
+const INDICATOR_REAR: u8 = 10;
+const INDICATOR_MIRROR: u8 = 11;
+const DOOR_OPEN: u8 = 12;
+const CABIN_LIGHT: u8 = 13;
+
+/// The rows, in the order of `examples/README.md`.
+fn rows() -> Vec<Constraint> {
+    let ms = MILLISECOND;
+    vec![
+        Constraint::Delay { source: BRAKE_PEDAL, target: BRAKE_LIGHT, lower: 0, upper: 50 * ms },
+        Constraint::StrongDelay { source: STEERING_REQUEST, target: STEERING_REPLY, lower: ms, upper: 20 * ms },
+        Constraint::Repeat { event: WHEEL_SPEED, span: 1, lower: 9 * ms, upper: 11 * ms },
+        Constraint::Sporadic { event: CAMERA_FRAME, lower: 40 * ms, upper: 40 * ms, jitter: 3 * ms, minimum: 35 * ms },
+        Constraint::Burst { event: DIAGNOSTIC, maximum: 3, length: 100 * ms, minimum: ms },
+        Constraint::Order { source: BELT_SENSOR, target: BELT_LOG },
+        Constraint::StrongSynchronization {
+            kinds: vec![INDICATOR_FRONT, INDICATOR_REAR, INDICATOR_MIRROR],
+            tolerance: 5 * ms,
+        },
+        Constraint::Delay { source: DOOR_OPEN, target: CABIN_LIGHT, lower: 0, upper: 150 * ms },
+        Constraint::Repeat { event: CAMERA_FRAME, span: 2, lower: 70 * ms, upper: NO_LIMIT },
+    ]
+}
+
+/// The drive: 300 ms, recorded in the order of time, with a tick where the bench's clock ran on without an event.
+fn drive() -> Vec<Step> {
+    let mut events: Vec<(u64, u8)> = Vec::new();
+    events.extend((0..30).map(|i| (10 * i * MILLISECOND + 40 * (i % 7), WHEEL_SPEED)));
+    events.extend([0, 41_500, 80_000, 122_900, 160_000, 201_000, 240_000, 281_000].map(|t| (t, CAMERA_FRAME)));
+    events.extend([(20_500, BRAKE_PEDAL), (31_200, BRAKE_LIGHT), (180_700, BRAKE_PEDAL), (230_700, BRAKE_LIGHT)]);
+    events.extend([(15_100, STEERING_REQUEST), (22_300, STEERING_REPLY)]);
+    events.extend([(95_100, STEERING_REQUEST), (118_300, STEERING_REPLY)]);
+    events.extend([5_300, 7_300, 9_300, 105_400, 107_500].map(|t| (t, DIAGNOSTIC)));
+    events.extend([(140_200, BELT_SENSOR), (140_200, BELT_LOG)]);
+    events.extend([(60_000, INDICATOR_FRONT), (62_500, INDICATOR_MIRROR), (64_900, INDICATOR_REAR)]);
+    events.extend([(90_000, INDICATOR_REAR), (90_000, INDICATOR_FRONT), (95_000, INDICATOR_MIRROR)]);
+    events.push((70_100, DOOR_OPEN));
+    events.sort_by_key(|&(time, _)| time);
+    let mut steps: Vec<Step> = events.into_iter().map(|(time, kind)| Step::Event { kind, time }).collect();
+    steps.push(Step::Tick { time: 300 * MILLISECOND });
+    steps
+}
+
+fn examples(name: &str) -> PathBuf {
+    Path::new(env!("CARGO_MANIFEST_DIR")).join("../../examples").join(name)
+}
+
+fn stored(name: &str, bytes: &[u8]) {
+    if std::env::var_os("DRIVE").is_some() {
+        fs::write(examples(name), bytes).expect("examples/ can be written");
+    }
+    assert_eq!(fs::read(examples(name)).expect("the file of examples/"), bytes, "{name}");
+}
+
+#[test]
+fn the_stored_drive_is_this_one() {
+    let table = model::table_bytes(&rows());
+    let recording = model::recording_bytes(&drive());
+    stored("table.bin", &table);
+    stored("recording.bin", &recording);
+    stored("report.txt", report_text(&table, &recording).as_bytes());
+}

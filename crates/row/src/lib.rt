@@ -1,7 +1,6 @@
 // One row of the monitor: its constraint as numbers, what it keeps of the events so far, and its step.
 use constraint::Constraint;
 use constraint::NO_LIMIT;
-use constraint::Verdict;
 use constraint::WAITING_LIMIT;
 use queue::Queue;
 ghost use mathlib.Core.Path.{_≡_};
@@ -12,7 +11,7 @@ ghost use lib.ListN.{length};
 ghost use Rattle.constraint.specs.Limits.{waitingLimit};
 ghost use Rattle.queue.specs.Ring.{ring, changed};
 ghost use Rattle.row.specs.Row.{noMarks};
-ghost use Rattle.row.specs.Machine.{decide, due, kept, concerns, rowOf, brokenRow, applied, stays, changedRow, rowEvent, rowTick, rowClose, rowVerdict};
+ghost use Rattle.row.specs.Machine.{decide, due, kept, concerns, rowOf, brokenRow, applied, stays, changedRow, rowEvent, rowTick, rowClose};
 
 mod delay;
 mod numbers;
@@ -232,19 +231,6 @@ impl Row {
             return self;
         }
         self.broken_at(step)
-    }
-
-    // The row's verdict, the recording being closed or not.
-    pub fn verdict(self, closed: bool) -> Verdict
-        ensures { λ r. ⌜ r ≡ rowVerdict self closed ⌝ }
-    {
-        if 0 < self.broken {
-            return Verdict::Broken(self.broken);
-        }
-        if closed {
-            return Verdict::Kept;
-        }
-        Verdict::Open
     }
 
     // The row broken at a step: it keeps the step and holds nothing waiting.

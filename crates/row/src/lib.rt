@@ -16,7 +16,7 @@ ghost use Rattle.row.specs.Machine.{decide, due, kept, concerns, rowOf, 
 mod delay;
 mod numbers;
 mod order;
-mod parts;
+pub mod parts;
 mod repeat;
 mod sporadic;
 mod strong_delay;

@@ -2,4 +2,5 @@
 pub mod Judged
 pub mod FittingKinds
 pub mod Rows
+pub mod Records
 pub mod Accepted

@@ -4,7 +4,6 @@ pub mod Once
 pub mod Bodies
 pub mod Shapes
 pub mod RoundTrip
-pub mod Records
 pub mod Places
 pub mod Progress
 pub mod Stores

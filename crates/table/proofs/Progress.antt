@@ -5,15 +5,15 @@ use mathlib.Core.List.{List, [], _∷_, _++_}
 use native.Mathlib.Omega.{arith}
 use lib.ListN.{length, length-append}
 use Rattle.constraint.specs.Questions.{Judged}
-use Rattle.constraint.specs.Rows.{rowsOf}
+use Rattle.constraint.specs.Rows.{rowsOf, tableOf, withRow}
 use Rattle.constraint.specs.Table.{placeQuestions, TableRead, table-of, table-refused, rowThen, ReadsRows, no-more, row-refused, row-taken}
 use Rattle.constraint.specs.declared.Answer.the-variants.{Refused}
 use Rattle.constraint.specs.declared.Constraint.{Constraint}
 use Rattle.constraint.specs.declared.Table.{Table}
-use Rattle.table.specs.Reading.{tableOf, withRow, ReadsRow}
+use Rattle.table.specs.Reading.{ReadsRow}
 use Rattle.table.specs.declared.reader.RowRead.{RowRead}
 use Rattle.table.proofs.Places.{place-taken}
-use Rattle.table.proofs.Records.{record-more, record-rows}
+use Rattle.constraint.proofs.Records.{record-more, record-rows}
 
 -- what is read behind some rows
 unfoldable pub rowsThen : List Constraint → TableRead → TableRead

@@ -5,11 +5,10 @@ use mathlib.Core.List.{List, [], _∷_, _++_, map, map-append, append-assoc}
 use native.Mathlib.Omega.{arith}
 use lib.ListN.{length, set, replicate, length-append, length-map}
 use lib.Seq.{set-at, take-append-seam}
 use Rattle.constraint.specs.Limits.{rowLimit}
-use Rattle.constraint.specs.Rows.{filler, rowsOf}
+use Rattle.constraint.specs.Rows.{filler, rowsOf, entryOf, tableOf, withRow}
 use Rattle.constraint.specs.declared.Constraint.{Constraint}
 use Rattle.constraint.specs.declared.Entry.{Entry}
-use Rattle.table.specs.Reading.{entryOf, tableOf, withRow}
 
 -- the entries that no row was put in
 free : ℕ → List Entry

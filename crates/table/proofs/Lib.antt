@@ -8,3 +8,4 @@ pub mod Places
 pub mod Progress
 pub mod Stores
 pub mod Written
+pub mod Answers

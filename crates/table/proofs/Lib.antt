@@ -4,8 +4,8 @@ pub mod Once
 pub mod Bodies
 pub mod Shapes
 pub mod RoundTrip
-pub mod Records
 pub mod Places
 pub mod Progress
 pub mod Stores
 pub mod Written
+pub mod Answers

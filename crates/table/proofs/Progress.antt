@@ -5,15 +5,15 @@ use mathlib.Core.List.{List, [], _∷_, _++_}
 use native.Mathlib.Omega.{arith}
 use lib.ListN.{length, length-append}
 use Rattle.constraint.specs.Questions.{Judged}
-use Rattle.constraint.specs.Rows.{rowsOf}
+use Rattle.constraint.specs.Rows.{rowsOf, tableOf, withRow}
 use Rattle.constraint.specs.Table.{placeQuestions, TableRead, table-of, table-refused, rowThen, ReadsRows, no-more, row-refused, row-taken}
 use Rattle.constraint.specs.declared.Answer.the-variants.{Refused}
 use Rattle.constraint.specs.declared.Constraint.{Constraint}
 use Rattle.constraint.specs.declared.Table.{Table}
-use Rattle.table.specs.Reading.{tableOf, withRow, ReadsRow}
+use Rattle.table.specs.Reading.{ReadsRow}
 use Rattle.table.specs.declared.reader.RowRead.{RowRead}
 use Rattle.table.proofs.Places.{place-taken}
-use Rattle.table.proofs.Records.{record-more, record-rows}
+use Rattle.constraint.proofs.Records.{record-count, record-more, record-rows}
 
 -- what is read behind some rows
 unfoldable pub rowsThen : List Constraint → TableRead → TableRead
@@ -42,11 +42,6 @@ pub record ReadUpTo (bytes : List ℕ) (table : Table) (place : ℕ) : Type 0 wh
   pub within : place ≤ length bytes
   pub whole : (later : TableRead) → ReadsRows bytes (length rows) place later → ReadsRows bytes 0 1 (rowsThen rows later)
 
--- the record counts its rows
-count-rows : (table : Table) (rows : List Constraint) → table ≡ tableOf rows → table .count ≡ length rows
-unfolding tableOf
-count-rows table rows e = ap (λ (t : Table). t .count) e
-
 pub up-to-start : (bytes : List ℕ) (table : Table) → 0 < length bytes → table ≡ tableOf [] → ReadUpTo bytes table 1
 unfolding rowsThen
 up-to-start bytes table there none = record { rows = []; holds = none; within = there; whole = λ later reads. reads }
@@ -55,7 +50,7 @@ pub up-to-more : (bytes : List ℕ) (table : Table) (place next : ℕ) (c : Cons
     → ReadsRow bytes (table .count) place (RowRead.Row c next) → ReadUpTo bytes (withRow table c) next
 up-to-more bytes table place next c before there read =
     let taken = place-taken bytes (table .count) place (read .0) in
-    let counted = count-rows table (before .rows) (before .holds) in
+    let counted = record-count table (before .rows) (before .holds) in
     record {
       rows = before .rows ++ (c ∷ []);
       holds = ap (λ (t : Table). withRow t c) (before .holds) ∙ record-more (before .rows) c (omega arith);
@@ -71,7 +66,7 @@ up-to-more bytes table place next c before there read =
 pub up-to-refused : (bytes : List ℕ) (table : Table) (place n : ℕ) → ReadUpTo bytes table place → place < length bytes
     → Judged (placeQuestions bytes (table .count) place) (Refused n) → ReadsRows bytes 0 1 (table-refused n place)
 up-to-refused bytes table place n before there judged =
-    let counted = count-rows table (before .rows) (before .holds) in
+    let counted = record-count table (before .rows) (before .holds) in
     subst (ReadsRows bytes 0 1) (then-refused (before .rows) n place)
     (before .whole (table-refused n place) (row-refused n there (rw counted at judged)))
 

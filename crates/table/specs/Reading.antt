@@ -1,30 +1,16 @@
 -- What the reader's answer says, and its promise.
-use Prim.Native.Nat.{ℕ, _+_, _-_}
+use Prim.Native.Nat.{ℕ, _+_}
 use mathlib.Core.Path.{_≡_}
-use mathlib.Core.List.{List, [], _++_, map}
-use lib.ListN.{length, set, replicate}
-use Rattle.constraint.specs.Limits.{rowLimit}
+use mathlib.Core.List.{List, []}
 use Rattle.constraint.specs.Questions.{Judged}
-use Rattle.constraint.specs.Rows.{filler, rowsOf}
+use Rattle.constraint.specs.Rows.{rowsOf, tableOf}
 use Rattle.constraint.specs.Table.{TableRead, table-of, table-refused, ReadsTable, lengthAt, bodyAt, constraintOf, placeQuestions}
 use Rattle.constraint.specs.declared.Answer.the-variants.{Taken, Refused}
 use Rattle.constraint.specs.declared.Constraint.{Constraint}
-use Rattle.constraint.specs.declared.Entry.{Entry}
 use Rattle.constraint.specs.declared.Table.{Table}
 use Rattle.table.specs.declared.ReadAnswer.{ReadAnswer}
 use Rattle.table.specs.declared.Reading.{Reading}
 use Rattle.table.specs.declared.reader.RowRead.{RowRead}
-
-abbrev pub entryOf : Constraint → Entry
-entryOf c = record { constraint = c }
-
--- the table record of some rows: they stand in the first entries, and the filler in the others
-unfoldable pub tableOf : List Constraint → Table
-tableOf rows = record { rows = map entryOf rows ++ replicate (rowLimit - length rows) (entryOf filler); count = length rows }
-
--- a table record with a row put in the entry that its count says
-abbrev pub withRow : Table → Constraint → Table
-withRow table c = record { rows = set (table .rows) (table .count) (entryOf c); count = table .count + 1 }
 
 -- what the reader's answer and the table beside it say
 abbrev pub readAs : ReadAnswer → Table → TableRead

@@ -5,15 +5,14 @@ use super::body::row_of;
 use super::body::shape_fits;
 use constraint::Answer;
 use constraint::Constraint;
-use constraint::Entry;
 use constraint::Table;
 ghost use mathlib.Core.Path.{_≡_};
 ghost use mathlib.Core.List.{[]};
 ghost use Prim.Native.Nat.{_≤_, _<_};
 ghost use lib.ListN.{length};
-ghost use Rattle.constraint.specs.Limits.{rowLimit};
+ghost use Rattle.constraint.specs.Rows.{tableOf};
 ghost use Rattle.constraint.specs.Table.{ReadsRows, table-refused};
-ghost use Rattle.table.specs.Reading.{tableOf, withRow, readOf, rowsRead, ReadsRow};
+ghost use Rattle.table.specs.Reading.{readOf, rowsRead, ReadsRow};
 
 // What reading one row gives: the row and the place of the next, or the number of the refusal.
 enum RowRead {
@@ -21,38 +20,12 @@ enum RowRead {
     Refused(u8),
 }
 
-// The table with no row.
-fn no_rows() -> Table
-    ensures { λ r. ⌜ r ≡ tableOf [] ⌝ }
-{
-    let entry = Entry {
-        constraint: Constraint::Order {
-            source: 0,
-            target: 0,
-        },
-    };
-    let rows = [entry; 32];
-    Table { rows, count: 0 }
-}
-
-// The table with one row more.
-fn with_row(mut table: Table, row: Constraint) -> Table
-    requires { ⌜ table .count < rowLimit ⌝ }
-    ensures { λ r. ⌜ r ≡ withRow table row ⌝ }
-{
-    let i = table.count;
-    let entry = Entry { constraint: row };
-    table.rows[i] = entry;
-    table.count = i + 1;
-    table
-}
-
 // A refusal, beside the table with no row.
 pub(crate) fn refused(number: u8, place: usize) -> Reading
     ensures { λ r. ⌜ (readOf r ≡ table-refused number place) × (r .table ≡ tableOf []) ⌝ }
 {
     let answer = ReadAnswer::Refused { number, place };
-    let table = no_rows();
+    let table = Table::new();
     Reading { answer, table }
 }
 
@@ -90,12 +63,12 @@ pub(crate) fn read_rows(bytes: &[u8]) -> Reading
     requires { ⌜ 0 < length (now bytes) ⌝ }
     ensures { λ r. ⌜ ReadsRows (now (bytes .entry)) 0 1 (readOf r) × (r .table ≡ tableOf (rowsRead (readOf r))) ⌝ }
 {
-    let mut table = no_rows();
+    let mut table = Table::new();
     let mut place = 1;
     while place < bytes.len() {
         match read_row(bytes, place, table.count) {
             RowRead::Row(row, next) => {
-                table = with_row(table, row);
+                table = table.with_row(row);
                 place = next;
             }
             RowRead::Refused(number) => {

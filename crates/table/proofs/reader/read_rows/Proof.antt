@@ -23,11 +23,11 @@ row : (c : tie.After-row Inv-loop μ-loop)
     (c .before .before .before .before .loop .place) (RowRead.Row (c .row .given .0 .0) (c .row .given .0 .1 .0))
 row c = rw (c .row .given .1) at (c .before .before .read-row .ensures)
 
-no-rows-requires : tie.Need-no-rows-requires Inv-loop μ-loop
-no-rows-requires c κs = tt
+new-requires : tie.Need-new-requires Inv-loop μ-loop
+new-requires c κs = tt
 
 loop-holds : tie.Need-loop-holds Inv-loop μ-loop
-loop-holds c = up-to-start (now (c .before .before .args .bytes)) (c .no-rows .result) (omega arith) (c .no-rows .ensures)
+loop-holds c = up-to-start (now (c .before .before .args .bytes)) (c .new .result) (omega arith) (c .new .ensures)
 
 read-row-requires : tie.Need-read-row-requires Inv-loop μ-loop
 read-row-requires c κs = omega arith
@@ -36,9 +36,7 @@ enum-known-row : tie.Need-enum-known-row Inv-loop μ-loop
 enum-known-row c = search needs
 
 with-row-requires : tie.Need-with-row-requires Inv-loop μ-loop
-with-row-requires c κs =
-    let at-loop = c .before .before .before .before .before in
-    place-taken (now (at-loop .before .before .before .args .bytes)) (at-loop .loop .table .count) (at-loop .loop .place) (row (c .before) .0) .1
+with-row-requires c κs = tt
 
 loop-less : tie.Need-loop-less Inv-loop μ-loop
 loop-less c =
@@ -49,8 +47,10 @@ loop-less c =
 loop-again : tie.Need-loop-again Inv-loop μ-loop
 loop-again c =
     let at-loop = c .before .before .before .before .before .before in
-    rw (c .with-row .ensures)
-    (up-to-more (now (at-loop .before .before .before .args .bytes)) (at-loop .loop .table) (at-loop .loop .place) _ _ (at-loop .loop .inv) (omega arith) (row (c .before .before)))
+    let bytes = now (at-loop .before .before .before .args .bytes) in
+    let room = place-taken bytes (at-loop .loop .table .count) (at-loop .loop .place) (row (c .before .before) .0) .1 in
+    rw (c .with-row .ensures .room room)
+    (up-to-more bytes (at-loop .loop .table) (at-loop .loop .place) _ _ (at-loop .loop .inv) (omega arith) (row (c .before .before)))
 
 enum-known-number : tie.Need-enum-known-number Inv-loop μ-loop
 enum-known-number c = search needs
@@ -79,7 +79,7 @@ read-rows-spec =
     (tie.spec
     Inv-loop
     μ-loop
-    no-rows-requires
+    new-requires
     loop-holds
     read-row-requires
     enum-known-row

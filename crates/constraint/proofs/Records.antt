@@ -5,11 +5,11 @@ use mathlib.Core.List.{List, [], _∷_, _++_, map, map-append, append-assoc}
 use native.Mathlib.Omega.{arith}
 use lib.ListN.{length, set, replicate, length-append, length-map}
 use lib.Seq.{set-at, take-append-seam}
 use Rattle.constraint.specs.Limits.{rowLimit}
-use Rattle.constraint.specs.Rows.{filler, rowsOf}
+use Rattle.constraint.specs.Rows.{filler, rowsOf, entryOf, tableOf, withRow}
 use Rattle.constraint.specs.declared.Constraint.{Constraint}
 use Rattle.constraint.specs.declared.Entry.{Entry}
-use Rattle.table.specs.Reading.{entryOf, tableOf, withRow}
+use Rattle.constraint.specs.declared.Table.{Table}
 
 -- the entries that no row was put in
 free : ℕ → List Entry
@@ -20,6 +20,11 @@ unfolding free
 free-first n h =
     let one-less : rowLimit - n ≡ suc (rowLimit - suc n) = omega arith in
     ap (λ (k : ℕ). replicate k (entryOf filler)) one-less
+
+-- it counts them
+pub record-count : (table : Table) (rows : List Constraint) → table ≡ tableOf rows → table .count ≡ length rows
+unfolding tableOf
+record-count table rows e = ap (λ (t : Table). t .count) e
 
 pub record-more : (rows : List Constraint) (c : Constraint) → length rows < rowLimit → withRow (tableOf rows) c ≡ tableOf (rows ++ (c ∷ []))
 unfolding tableOf free

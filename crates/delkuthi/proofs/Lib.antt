@@ -4,3 +4,4 @@ pub mod Taking
 pub mod Progress
 pub mod RowLines
 pub mod Telling
+pub mod Refusals

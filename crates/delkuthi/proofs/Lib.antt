@@ -5,3 +5,6 @@ pub mod Progress
 pub mod RowLines
 pub mod Telling
 pub mod Refusals
+mod Numbers
+mod Elem
+mod Walk

@@ -43,7 +43,7 @@ use denote.Exit.{yes}
 use Rattle.monitor.specs.declared.Monitor.{Monitor}
 use Rattle.monitor.proofs.Monitor as T
 use Rattle.monitor.proofs.Monitor.Laws as T′
-use Rattle.monitor.proofs.Walk.{val, typed}
+use Rattle.delkuthi.proofs.Walk.{val, typed}
 use Rattle.delkuthi.specs.Lent.{Begins}
 use Rattle.delkuthi.specs.declared.lent.Begun.{Begun}
 use Rattle.delkuthi.proofs.lent.Begun as S

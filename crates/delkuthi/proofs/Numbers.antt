@@ -20,14 +20,14 @@ use Rattle.constraint.proofs.Judged.{never}
 use Rattle.constraint.proofs.Lists.{split}
 use Rattle.row.specs.Machine.{rowVerdict}
 use Rattle.row.proofs.Engine.{engine}
 use Rattle.monitor.specs.Machine.{noRow, refuses, crowds, stepOf, eventOf, tickOf, closeOf, verdictOf}
 use Rattle.monitor.specs.Contract.{Steps}
-use Rattle.monitor.specs.Lent.{answerFrom, numberOf, numbered, steppedFrom, verdictFrom, verdictNumber, keptNumber, noRowNumber, NumberOfVerdict, NumberOfRows}
+use Rattle.delkuthi.specs.Lent.{answerFrom, numberOf, numbered, steppedFrom, verdictFrom, verdictNumber, keptNumber, noRowNumber, NumberOfVerdict, NumberOfRows}
 use Rattle.monitor.specs.declared.Monitor.{Monitor}
 use Rattle.monitor.specs.declared.Stepped.{Stepped}
-use Rattle.monitor.specs.declared.lent.Numbered.{Numbered}
+use Rattle.delkuthi.specs.declared.lent.Numbered.{Numbered}
 use Rattle.monitor.proofs.Demand.{broken-row, after-follows, verdict-reads}
 use Rattle.monitor.proofs.Theorem.{step-kept}
 
 -- ---- answers
 

@@ -1,7 +1,7 @@
 -- By cases on the answer.
 use borrow.Author.Needs.{needs}
-use Rattle.monitor.proofs.lent.with_number.Statement.{statement}
-use Rattle.monitor.proofs.lent.with_number.Tie as tie
+use Rattle.delkuthi.proofs.lent.with_number.Statement.{statement}
+use Rattle.delkuthi.proofs.lent.with_number.Tie as tie
 
 enum-told : tie.Need-enum-told
 enum-told c = search needs

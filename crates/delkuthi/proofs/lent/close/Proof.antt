@@ -1,9 +1,9 @@
 -- The step by value keeps its contract, and its number says its answer.
 use borrow.Author.Needs.{needs}
 use Rattle.constraint.specs.Steps.{close}
-use Rattle.monitor.proofs.Numbers.{numbered-kept}
-use Rattle.monitor.proofs.lent.close.Statement.{statement}
-use Rattle.monitor.proofs.lent.close.Tie as tie
+use Rattle.delkuthi.proofs.Numbers.{numbered-kept}
+use Rattle.delkuthi.proofs.lent.close.Statement.{statement}
+use Rattle.delkuthi.proofs.lent.close.Tie as tie
 
 close-requires : tie.Need-close-requires
 close-requires c κs = search needs

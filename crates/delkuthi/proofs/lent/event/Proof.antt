@@ -1,9 +1,9 @@
 -- The step by value keeps its contract, and its number says its answer.
 use borrow.Author.Needs.{needs}
 use Rattle.constraint.specs.Steps.{event}
-use Rattle.monitor.proofs.Numbers.{numbered-kept}
-use Rattle.monitor.proofs.lent.event.Statement.{statement}
-use Rattle.monitor.proofs.lent.event.Tie as tie
+use Rattle.delkuthi.proofs.Numbers.{numbered-kept}
+use Rattle.delkuthi.proofs.lent.event.Statement.{statement}
+use Rattle.delkuthi.proofs.lent.event.Tie as tie
 
 event-requires : tie.Need-event-requires
 event-requires c κs = search needs

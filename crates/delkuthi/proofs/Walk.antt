@@ -16,11 +16,11 @@ use denote.Struct.Laws as LL
 use Rattle.row.specs.declared.Row.{Row}
 use Rattle.row.proofs.Row as S
 use Rattle.row.proofs.Row.Laws as S′
 use Rattle.monitor.specs.Machine.{noRow}
 use Rattle.monitor.specs.declared.Monitor.{Monitor}
 use Rattle.monitor.proofs.Monitor as T
 use Rattle.monitor.proofs.Monitor.Laws as T′
-use Rattle.monitor.proofs.Elem.{array-length, array-get}
+use Rattle.delkuthi.proofs.Elem.{array-length, array-get}
 
 abbrev pub val : Monitor → Val
 val = LL.val T.the-type T′.the-laws

@@ -32,15 +32,15 @@ use denote.Triple.Spec.{Meets, tripleOf}
 use denote.Triple.Table.{entered}
 use denote.Triple.Walked.{says, Stays, stay-none-ref, walkOf, AllGo, goes-none-ref, Walks, ends-at, walked, walk-meets}
 use denote.Exit.{yes}
 use Rattle.monitor.specs.declared.Monitor.{Monitor}
 use Rattle.monitor.proofs.Monitor as T
 use Rattle.monitor.proofs.Monitor.Laws as T′
-use Rattle.monitor.proofs.Numbers.{rows-kept}
-use Rattle.monitor.proofs.Walk.{val}
-use Rattle.monitor.proofs.lent.delkuthi_rows.Key.{name as #monitor·lent·delkuthi-rows}
-use Rattle.monitor.proofs.lent.delkuthi_rows as f
-use Rattle.monitor.proofs.lent.delkuthi_rows.Statement as stated
-use Rattle.monitor.proofs.lent.delkuthi_rows.Code as code
+use Rattle.delkuthi.proofs.Numbers.{rows-kept}
+use Rattle.delkuthi.proofs.Walk.{val}
+use Rattle.delkuthi.proofs.lent.delkuthi_rows.Key.{name as #delkuthi·lent·delkuthi-rows}
+use Rattle.delkuthi.proofs.lent.delkuthi_rows as f
+use Rattle.delkuthi.proofs.lent.delkuthi_rows.Statement as stated
+use Rattle.delkuthi.proofs.lent.delkuthi_rows.Code as code
 
 abbrev Arg : Type 0
 Arg = RefT Monitor × Unit {0}
@@ -97,5 +97,5 @@ pub delkuthi-rows-spec : {M : Type 1} → stated.statement M
 unfolding code.routine tablesOf
 delkuthi-rows-spec 𝓤 H 𝓜 𝓖 𝓡 =
     entered 𝓤 H (tripleOf 𝓤 H (𝓖 .A) f.signature (f.spec 𝓤 H (𝓖 .A) (𝓜 .mem) (𝓡 .run)))
-    (tables 𝓤 H 𝓜 𝓡 code.env .C) (tables 𝓤 H 𝓜 𝓡 code.env .Λ) #monitor·lent·delkuthi-rows code.function (code.unfolded 𝓤 H 𝓜 𝓡)
+    (tables 𝓤 H 𝓜 𝓡 code.env .C) (tables 𝓤 H 𝓜 𝓡 code.env .Λ) #delkuthi·lent·delkuthi-rows code.function (code.unfolded 𝓤 H 𝓜 𝓡)
     (meets 𝓤 H (𝓖 .A) (givenOf 𝓤 H 𝓜 𝓖) (𝓜 .mem) (𝓡 .run) (tablesOf 𝓤 H 𝓜 (tables 𝓤 H 𝓜 𝓡 code.env)))

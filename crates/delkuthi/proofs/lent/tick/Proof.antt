@@ -1,9 +1,9 @@
 -- The step by value keeps its contract, and its number says its answer.
 use borrow.Author.Needs.{needs}
 use Rattle.constraint.specs.Steps.{tick}
-use Rattle.monitor.proofs.Numbers.{numbered-kept}
-use Rattle.monitor.proofs.lent.tick.Statement.{statement}
-use Rattle.monitor.proofs.lent.tick.Tie as tie
+use Rattle.delkuthi.proofs.Numbers.{numbered-kept}
+use Rattle.delkuthi.proofs.lent.tick.Statement.{statement}
+use Rattle.delkuthi.proofs.lent.tick.Tie as tie
 
 tick-requires : tie.Need-tick-requires
 tick-requires c κs = search needs

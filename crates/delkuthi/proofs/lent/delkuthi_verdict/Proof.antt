@@ -39,28 +39,28 @@ use denote.Triple.Walked.{says, Stays, stay-none, stay-none-ref, walkOf, AllGo, 
 use denote.Exit.{yes}
 use Rattle.row.proofs.Row as S
 use Rattle.row.proofs.Row.Laws as S′
 use Rattle.monitor.specs.Machine.{noRow}
 use Rattle.monitor.specs.Parts.{placeOf, verdictBy}
-use Rattle.monitor.specs.Lent.{verdictNumber, numberBy, NumberOfVerdict}
+use Rattle.delkuthi.specs.Lent.{verdictNumber, numberBy, NumberOfVerdict}
 use Rattle.monitor.specs.declared.Monitor.{Monitor}
 use Rattle.monitor.proofs.Monitor as T
 use Rattle.monitor.proofs.Monitor.Laws as T′
-use Rattle.monitor.proofs.Elem.{elem, as-val}
-use Rattle.monitor.proofs.Numbers.{number-kept}
+use Rattle.delkuthi.proofs.Elem.{elem, as-val}
+use Rattle.delkuthi.proofs.Numbers.{number-kept}
 use Rattle.monitor.proofs.RowVerdicts.{place-small, verdict-by-is}
-use Rattle.monitor.proofs.Walk.{val, row-val, row-vals, rows-32, vals-32, row-at, row-is, at-fits}
+use Rattle.delkuthi.proofs.Walk.{val, row-val, row-vals, rows-32, vals-32, row-at, row-is, at-fits}
 use Rattle.monitor.proofs.verdicts.place as p
 use Rattle.monitor.proofs.verdicts.place.Symbol as p-def
 use Rattle.monitor.proofs.verdicts.place.Symbol.{name as #monitor·verdicts·place}
 use Rattle.monitor.proofs.verdicts.place.Met as p-thm
-use Rattle.monitor.proofs.lent.verdict as g
-use Rattle.monitor.proofs.lent.verdict.Symbol as g-def
-use Rattle.monitor.proofs.lent.verdict.Symbol.{name as #monitor·lent·verdict}
-use Rattle.monitor.proofs.lent.verdict.Met as g-thm
-use Rattle.monitor.proofs.lent.delkuthi_verdict.Key.{name as #monitor·lent·delkuthi-verdict}
-use Rattle.monitor.proofs.lent.delkuthi_verdict as f
-use Rattle.monitor.proofs.lent.delkuthi_verdict.Statement as stated
-use Rattle.monitor.proofs.lent.delkuthi_verdict.Code as code
+use Rattle.delkuthi.proofs.lent.verdict as g
+use Rattle.delkuthi.proofs.lent.verdict.Symbol as g-def
+use Rattle.delkuthi.proofs.lent.verdict.Symbol.{name as #delkuthi·lent·verdict}
+use Rattle.delkuthi.proofs.lent.verdict.Met as g-thm
+use Rattle.delkuthi.proofs.lent.delkuthi_verdict.Key.{name as #delkuthi·lent·delkuthi-verdict}
+use Rattle.delkuthi.proofs.lent.delkuthi_verdict as f
+use Rattle.delkuthi.proofs.lent.delkuthi_verdict.Statement as stated
+use Rattle.delkuthi.proofs.lent.delkuthi_verdict.Code as code
 
 -- the reference, and the row's number
 abbrev Arg : Type 0
@@ -128,7 +128,7 @@ module _ {M : Type 1} (𝓤 : URA M) (H : Heap 𝓤) (A : Atoms 𝓤) (W : Given
   small : (at : ℕ) → at ≡ placeOf i → at < 32
   small at e = rw e (place-small i)
 
-  module _ (C : Calls 𝓤 H) (Λ : Loops 𝓤 H) (fm : FmC 𝓤 H (W .laws) C) (known-place : Triple 𝓤 (C #monitor·verdicts·place) (Place 𝓤 H A at-mem run)) (known-verdict : Triple 𝓤 (C #monitor·lent·verdict) (Verdict 𝓤 H A at-mem run)) where
+  module _ (C : Calls 𝓤 H) (Λ : Loops 𝓤 H) (fm : FmC 𝓤 H (W .laws) C) (known-place : Triple 𝓤 (C #monitor·verdicts·place) (Place 𝓤 H A at-mem run)) (known-verdict : Triple 𝓤 (C #delkuthi·lent·verdict) (Verdict 𝓤 H A at-mem run)) where
     walk : ent 𝓤 (onEntry 𝓤 H A f.signature (κ, tt) (q, tt) x at) (WpFn 𝓤 H C Λ code.function (vptr b o ∷ vint w64 i ∷ []) Post)
     walk =
         qed W ((‵ (flft κ q) ⊛ ‵ ftrue) ∷ ‵ (owns (ShrRef (named 0) κ T.the-row ∷ u64 ∷ []) x at) ∷ []) ∵ enter ! C Λ code.function (vptr b o ∷ vint w64 i ∷ []) _ $
@@ -177,7 +177,7 @@ module _ {M : Type 1} (𝓤 : URA M) (H : Heap 𝓤) (A : Atoms 𝓤) (W : Given
         broken-fits was r l = LL.owed S.the-type S′.the-laws (getD (h .rows) r noRow) _ (row-is h was r l) .1 .1 .1 .1 .0 .1
 
 module _ {M : Type 1} (𝓤 : URA M) (H : Heap 𝓤) (A : Atoms 𝓤) (W : Given 𝓤 H A) (mem : Memory → SProp 𝓤) (run : Routine → Fun 𝓤) where
-  walks : (C : Calls 𝓤 H) (Λ : Loops 𝓤 H) → FmC 𝓤 H (W .laws) C → Triple 𝓤 (C #monitor·verdicts·place) (Place 𝓤 H A mem run) → Triple 𝓤 (C #monitor·lent·verdict) (Verdict 𝓤 H A mem run)
+  walks : (C : Calls 𝓤 H) (Λ : Loops 𝓤 H) → FmC 𝓤 H (W .laws) C → Triple 𝓤 (C #monitor·verdicts·place) (Place 𝓤 H A mem run) → Triple 𝓤 (C #delkuthi·lent·verdict) (Verdict 𝓤 H A mem run)
       → Walks 𝓤 H A f.ended stayed (WpFn 𝓤 H C Λ code.function) (f.clauses 𝓤 H A mem run)
   walks C Λ fm known-place known-verdict = walked 𝓤 H A f.ended stayed (f.clauses 𝓤 H A mem run) (WpFn 𝓤 H C Λ code.function) (λ κs. (ptr-vals, (uint-vals w64, tt))) (λ κs. (shr-tells (named 0) (κs .0) T.the-row, (uint-tells w64, tt)))
       (λ κs qs bounds a _ are. via 𝓤 _ (fst∗ 𝓤 _ (emp 𝓤)) (walk 𝓤 H A W mem run (κs .0) (qs .0) (a .0 .ptr .0) (a .0 .ptr .1) (a .0 .name) (a .0 .now) (a .1 .0) (are .1 .0 .1) C Λ fm known-place known-verdict))
@@ -186,7 +186,7 @@ module _ {M : Type 1} (𝓤 : URA M) (H : Heap 𝓤) (A : Atoms 𝓤) (W : Given
   goes = (goes-none-ref 𝓤 H A W 1 (0 ∷ []) tt (plain (λ _. T.the-row)) yes, (goes-none 𝓤 H A W 1 (λ _. u64) yes (λ κs x f. refl), tt))
 
 meets : {M : Type 1} (𝓤 : URA M) (H : Heap 𝓤) (A : Atoms 𝓤) → Given 𝓤 H A → (mem : Memory → SProp 𝓤) (run : Routine → Fun 𝓤) (𝓣 : Tables 𝓤 H)
-    → Triple 𝓤 (𝓣 .C #monitor·verdicts·place) (Place 𝓤 H A mem run) → Triple 𝓤 (𝓣 .C #monitor·lent·verdict) (Verdict 𝓤 H A mem run)
+    → Triple 𝓤 (𝓣 .C #monitor·verdicts·place) (Place 𝓤 H A mem run) → Triple 𝓤 (𝓣 .C #delkuthi·lent·verdict) (Verdict 𝓤 H A mem run)
     → Meets 𝓤 H A f.signature (WpFn 𝓤 H (𝓣 .C) (𝓣 .Λ) code.function) (f.spec 𝓤 H A mem run)
 meets 𝓤 H A W mem run 𝓣 known-place known-verdict = walk-meets 𝓤 H A f.ended stayed W (goes 𝓤 H A W mem run) (f.clauses 𝓤 H A mem run) (WpFn 𝓤 H (𝓣 .C) (𝓣 .Λ) code.function) (WpFn-mono 𝓤 H (W .laws) 𝓣 code.function) (walks 𝓤 H A W mem run (𝓣 .C) (𝓣 .Λ) (fmOf 𝓤 H (W .laws) 𝓣) known-place known-verdict)
 
@@ -194,7 +194,7 @@ pub delkuthi-verdict-spec : {M : Type 1} → stated.statement M
 unfolding code.routine tablesOf
 delkuthi-verdict-spec 𝓤 H 𝓜 𝓖 𝓡 =
     entered 𝓤 H (tripleOf 𝓤 H (𝓖 .A) f.signature (f.spec 𝓤 H (𝓖 .A) (𝓜 .mem) (𝓡 .run)))
-    (tables 𝓤 H 𝓜 𝓡 code.env .C) (tables 𝓤 H 𝓜 𝓡 code.env .Λ) #monitor·lent·delkuthi-verdict code.function (code.unfolded 𝓤 H 𝓜 𝓡)
+    (tables 𝓤 H 𝓜 𝓡 code.env .C) (tables 𝓤 H 𝓜 𝓡 code.env .Λ) #delkuthi·lent·delkuthi-verdict code.function (code.unfolded 𝓤 H 𝓜 𝓡)
     (meets 𝓤 H (𝓖 .A) (givenOf 𝓤 H 𝓜 𝓖) (𝓜 .mem) (𝓡 .run) (tablesOf 𝓤 H 𝓜 (tables 𝓤 H 𝓜 𝓡 code.env))
     (cited 𝓤 H (Place 𝓤 H (𝓖 .A) (𝓜 .mem) (𝓡 .run)) 𝓜 𝓡 code.env #monitor·verdicts·place p-def.routine code.calls-monitor·verdicts·place (p-thm.met 𝓤 H 𝓜 𝓖 𝓡))
-    (cited 𝓤 H (Verdict 𝓤 H (𝓖 .A) (𝓜 .mem) (𝓡 .run)) 𝓜 𝓡 code.env #monitor·lent·verdict g-def.routine code.calls-monitor·lent·verdict (g-thm.met 𝓤 H 𝓜 𝓖 𝓡)))
+    (cited 𝓤 H (Verdict 𝓤 H (𝓖 .A) (𝓜 .mem) (𝓡 .run)) 𝓜 𝓡 code.env #delkuthi·lent·verdict g-def.routine code.calls-delkuthi·lent·verdict (g-thm.met 𝓤 H 𝓜 𝓖 𝓡)))

@@ -1,7 +1,7 @@
 -- By cases on the verdict.
 use borrow.Author.Needs.{needs}
-use Rattle.monitor.proofs.lent.verdict.Statement.{statement}
-use Rattle.monitor.proofs.lent.verdict.Tie as tie
+use Rattle.delkuthi.proofs.lent.verdict.Statement.{statement}
+use Rattle.delkuthi.proofs.lent.verdict.Tie as tie
 
 by-requires : tie.Need-by-requires
 by-requires c κs = search needs

@@ -1,0 +1,1 @@
+//! Hosts in C: compiled, linked with the archive, and run.

@@ -1,0 +1,7 @@
+//! What the tests share.
+
+pub mod beside;
+pub mod hosts;
+pub mod places;
+pub mod reports;
+pub mod table_host;

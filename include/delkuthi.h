@@ -84,14 +84,15 @@
  *
  * A BENCH LOOP
  *
- * The bench stops at the first broken row. next_step is the bench's own.
+ * It holds one monitor, gives it every step as it comes, and stops at the first
+ * broken row. next_step is the bench's own; host/c/bench_loop.c has one that
+ * reads a recording.
 
----- bench.c
 #include "delkuthi.h"
 #include <inttypes.h>
 #include <stdio.h>
 
-// What came next: 'e' an event, 't' only the clock moved, 0 nothing more.
+// What comes next: 'e' an event, 't' a tick, 0 the end.
 extern int next_step(uint8_t *kind, uint64_t *time);
 
 static delkuthi_monitor monitor;
@@ -100,41 +101,45 @@ static delkuthi_monitor monitor;
 static int first_broken(void)
 {
     uint64_t row;
+
     for (row = 0; row < delkuthi_rows(&monitor); row++)
         if (DELKUTHI_IS_BROKEN(delkuthi_verdict(&monitor, row)))
             return (int)row;
     return -1;
 }
 
-// 0: all rows kept. 1: a row is broken. 2: the table or a step was refused.
+// Says what has stopped the bench. 0: every row kept. 1: a row is broken.
+// 2: the table or a step was refused.
 int bench(const uint8_t *table, size_t table_length)
 {
-    uint8_t kind, refused = 0;
     uint64_t time, answer = delkuthi_fresh(&monitor, table, table_length);
-    int what = 0, row = -1;
+    uint8_t kind, refused = 0;
+    int row = -1, what = 'e';
 
     if (answer != DELKUTHI_TAKEN) {
-        printf("table refused: %d at byte %" PRIu64 "\n",
-               (int)DELKUTHI_NUMBER(answer), DELKUTHI_PLACE(answer));
+        printf("table refused with %d at byte %" PRIu64 "\n",
+               DELKUTHI_NUMBER(answer), DELKUTHI_PLACE(answer));
         return 2;
     }
-    while (row < 0 && !refused && (what = next_step(&kind, &time)) != 0) {
-        refused = what == 'e' ? delkuthi_event(&monitor, kind, time)
-                              : delkuthi_tick(&monitor, time);
+    while (row < 0 && !refused && what) {
+        what = next_step(&kind, &time);
+        if (what == 'e')
+            refused = delkuthi_event(&monitor, kind, time);
+        else if (what == 't')
+            refused = delkuthi_tick(&monitor, time);
+        else
+            refused = delkuthi_close(&monitor);
         row = first_broken();
     }
-    if (row < 0 && !refused) {
-        refused = delkuthi_close(&monitor);
-        row = first_broken();
-    }
-    if (refused)
-        printf("step refused: %d\n", (int)refused);
-    else if (row >= 0)
+    if (row >= 0)
         printf("row %d broken at step %" PRIu64 "\n", row,
                delkuthi_verdict(&monitor, (uint64_t)row));
-    return refused ? 2 : row >= 0;
+    else if (refused)
+        printf("step refused with %d\n", refused);
+    else
+        printf("every row kept\n");
+    return row >= 0 ? 1 : refused ? 2 : 0;
 }
-----
 
  */
 #ifndef DELKUTHI_H

@@ -3,5 +3,6 @@
 pub mod beside;
 pub mod hosts;
 pub mod places;
+pub mod program;
 pub mod reports;
 pub mod table_host;

@@ -3,7 +3,8 @@
  *
  * The monitor takes a table of timing constraints (its rows) and the stamped
  * events of a bench, and says for each row, while the recording runs, whether
- * it is open, kept, or broken, and at which step it broke. Link libdelkuthi.a.
+ * it is open, kept, or broken, and at which step it broke. Link libdelkuthi.a;
+ * of the C library it needs no more than memcpy, memmove, memset and memcmp.
  *
  *
  * THE PROMISE
@@ -45,6 +46,7 @@
  *   - One caller at a time for each monitor, and nobody else writes its
  *     memory from the first call to the last. Calls on different monitors,
  *     and delkuthi_report, may run at the same time in different threads.
+ *   - A call uses at most 256 KiB of the stack; that is measured, not proved.
  *   - Every pattern of bits is safe: a call on memory that delkuthi_fresh
  *     never filled still ends and still touches nothing else. But what it
  *     answers then means nothing.

@@ -5,7 +5,7 @@ use bench::measure::{Measured, agree, reports, steps};
 
 /// "A million events".
 const EVENTS: usize = 1_000_000;
-const RUNS: usize = 5;
+const RUNS: usize = 3;
 
 /// A number with a comma before each three digits.
 fn commas(number: f64) -> String {

@@ -32,9 +32,23 @@ impl Ran {
 /// # Panics
 /// With what the compiler says, if it does not compile.
 pub fn c_host(name: &str, level: &str) -> Host {
-    let compiler = env::var_os("CC").unwrap_or_else(|| "cc".into());
     let file = format!("{name}.c");
-    compile(Command::new(compiler).args(["-std=c99", level]), &[&file, "file.c"])
+    compile(c_compiler().args([level, "-pthread"]), &[&file, "file.c"])
+}
+
+/// Compiles a C host of `host/c` without the C library.
+///
+/// # Panics
+/// With what the compiler or linker says, if something is missing.
+pub fn c_host_alone(name: &str) -> Host {
+    let file = format!("{name}.c");
+    compile(c_compiler().args(["-ffreestanding", "-nostdlib", "-Wl,-e,start"]), &[&file])
+}
+
+fn c_compiler() -> Command {
+    let mut compiler = Command::new(env::var_os("CC").unwrap_or_else(|| "cc".into()));
+    compiler.arg("-std=c99");
+    compiler
 }
 
 /// Compiles a C++ host of `host/c`, or gives none where there is no C++ compiler.

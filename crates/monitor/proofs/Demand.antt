@@ -80,6 +80,9 @@ accepted-sound i (c ∷ rows) (inl (room, inl (fit, inr e))) = never (cc (e .1))
 accepted-sound i (c ∷ rows) (inl (room, inr e)) = never (cc (e .1))
 accepted-sound i (c ∷ rows) (inr e) = never (cc (e .1))
 
+pub accepted-few : (rows : List Constraint) → Accepted rows → length rows ≤ rowLimit
+accepted-few rows accepted = ⊎-elim (λ e. omega arith) (λ h. omega arith) (accepted-sound 0 rows accepted .1)
+
 -- a monitor where the rows' questions are all answered "yes"
 freshBy : List Constraint → Answer → Fresh Monitor
 freshBy rows Taken = fresh (monitorOf rows)
@@ -128,7 +131,6 @@ module _ (engine : (c : Constraint) → Sound c → Exact c) where
   pub start-follows : (rows : List Constraint) → Accepted rows → Follows engine rows [] (monitorOf rows)
   unfolding monitorOf closed clockFrom times nextFree
   start-follows rows accepted =
-      let sound = accepted-sound 0 rows accepted in
       record {
         valid = valid-none;
         clock-is = refl;
@@ -137,8 +139,8 @@ module _ (engine : (c : Constraint) → Sound c → Exact c) where
         next-whole = length-replicate {A = ℕ} 64 0;
         next-is = λ k kind. getD-replicate 64 k 0 0 (omega arith);
         len-is = refl;
-        few = ⊎-elim (λ e. omega arith) (λ h. omega arith) (sound .1);
-        fit = fit-start engine rows (replicate (rowLimit - length rows) noRow) (sound .0);
+        few = accepted-few rows accepted;
+        fit = fit-start engine rows (replicate (rowLimit - length rows) noRow) (accepted-sound 0 rows accepted .0);
       }
 
   -- after any list of calls the monitor follows the steps accepted, and the answers are those of the questions

@@ -4,3 +4,6 @@ pub mod Following
 pub mod Demand
 pub mod Examples
 pub mod Theorem
+pub mod First
+pub mod Filled
+pub mod RowVerdicts

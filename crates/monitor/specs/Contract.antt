@@ -1,8 +1,10 @@
 -- What the monitor's functions promise, in the buyer's words: over every accepted table and every list of calls.
-use Prim.Native.Nat.{ℕ}
+use Prim.Native.Nat.{ℕ, _<_}
 use mathlib.Core.Path.{_≡_}
 use mathlib.Core.List.{List, [], _∷_, _++_}
-use mathlib.Core.Option.{Option}
+use mathlib.Core.Option.{Option, none, some}
+use lib.ListN.{length, getD}
+use Rattle.constraint.specs.Limits.{rowLimit}
 use Rattle.constraint.specs.Steps.{Step}
 use Rattle.constraint.specs.Questions.{Judged}
 use Rattle.constraint.specs.Accepted.{rowsQuestions, Accepted}
@@ -10,12 +12,13 @@ use Rattle.constraint.specs.Rows.{rowsOf}
 use Rattle.constraint.specs.Run.{questions, Run}
 use Rattle.constraint.specs.Promise.{ReadsRow, play}
 use Rattle.constraint.specs.declared.Answer.{Answer}
-use Rattle.constraint.specs.declared.Answer.the-variants.{Taken}
+use Rattle.constraint.specs.declared.Answer.the-variants.{Taken, Refused}
 use Rattle.constraint.specs.declared.Constraint.{Constraint}
 use Rattle.constraint.specs.declared.Table.{Table}
 use Rattle.constraint.specs.declared.Verdict.{Verdict}
 use Rattle.monitor.specs.Machine.{monitorOf, stepOf, verdictOf}
 use Rattle.monitor.specs.declared.Monitor.{Monitor}
+use Rattle.monitor.specs.declared.RowVerdict.{RowVerdict}
 use Rattle.monitor.specs.declared.Stepped.{Stepped}
 
 -- a step as demand 3 takes it
@@ -30,10 +33,11 @@ after rows calls = play step (monitorOf rows) calls .monitor
 abbrev pub Recorded : List Constraint → List Step → List Step → Type 0
 Recorded rows calls steps = (answers : List Answer) × Run rows [] calls answers steps
 
--- a fresh monitor: questions 3 to 7, row by row; over an accepted table the monitor before any call
+-- a fresh monitor: questions 3 to 7, row by row; over an accepted table the monitor before any call, and on a refusal the one over no rows
 pub record Freshly (table : Table) (answer : Answer) (m : Monitor) : Type 0 where
   pub judged : Judged (rowsQuestions 0 (rowsOf table) []) answer
   pub made : answer ≡ Taken → m ≡ after (rowsOf table) []
+  pub refused : (n : ℕ) → answer ≡ Refused n → m ≡ after [] []
 
 -- a step: the answer that its questions give over what the calls have recorded, and the monitor after the longer list of calls
 pub record Steps (m : Monitor) (s : Step) (result : Stepped) : Type 0 where
@@ -46,3 +50,25 @@ pub record Reading (m : Monitor) (i : ℕ) (verdict : Option Verdict) : Type 0 w
   pub equals : verdict ≡ verdictOf m i
   pub means : (rows : List Constraint) (calls : List Step) → Accepted rows → m ≡ after rows calls
       → (steps : List Step) × Recorded rows calls steps × ReadsRow rows steps i verdict
+
+-- the verdict in an answer: none in a refusal
+abbrev pub verdictIn : RowVerdict → Option Verdict
+verdictIn (RowVerdict.Reads v) = some v
+verdictIn (RowVerdict.Refused n) = none
+
+-- "Verdict: is there a row of that number? 15."
+pub record VerdictOf (m : Monitor) (i : ℕ) (answer : RowVerdict) : Type 0 where
+  pub reads : Reading m i (verdictIn answer)
+  pub number : (n : ℕ) → answer ≡ RowVerdict.Refused n → n ≡ 15
+
+-- the step in a verdict: 0 where it is another verdict, or none
+abbrev pub stepIn : Option Verdict → ℕ
+stepIn none = 0
+stepIn (some Verdict.Open) = 0
+stepIn (some Verdict.Kept) = 0
+stepIn (some (Verdict.Broken n)) = n
+
+-- the step in the verdict of each row number
+pub record BrokenSteps (m : Monitor) (steps : List ℕ) : Type 0 where
+  pub whole : length steps ≡ rowLimit
+  pub each : (i : ℕ) → i < rowLimit → getD steps i 0 ≡ stepIn (verdictOf m i)

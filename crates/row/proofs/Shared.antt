@@ -1,4 +1,4 @@
--- The tests that the code makes, as the machine makes them.
+-- What the proofs of the code share: tests, the oldest time, and the types by their number.
 use Prim.Native.Nat.{ℕ, _<_, _≤_}
 use mathlib.Core.Path.{_≡_, sym}
 use mathlib.Core.Bool.{Bool, false, cond}
@@ -41,7 +41,7 @@ none-left-ring l f n = sym (none-left-length (ring l f n) n (ring-length l f n))
 pub due-front : (l : List ℕ) (upper f n : ℕ) → 0 < n → dueOldest upper (ring l f n) ≡ plus (front (ring l f n)) upper
 due-front l upper f n h = rw (ring-cons l f n h)
 
--- The types, by their number
+-- The types by their number
 
 -- the number is none of those that the code names
 abbrev pub NoneOf : ℕ → Type 0

@@ -1,0 +1,3 @@
+-- What the parts of the report promise.
+pub mod Taking
+pub mod Telling

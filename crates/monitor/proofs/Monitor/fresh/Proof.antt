@@ -1,0 +1,60 @@
+-- The table's answer is that of its questions; over an accepted table all its rows are taken, and otherwise none.
+use native.Mathlib.Omega.{arith}
+use borrow.Author.Needs.{needs}
+use mathlib.Core.Path.{_≡_, ap, _∙_}
+use mathlib.Core.List.{[]}
+use lib.Seq.{take-all}
+use Rattle.constraint.specs.Accepted.{Accepted}
+use Rattle.constraint.specs.Promise.{play}
+use Rattle.constraint.specs.Rows.{rowsOf}
+use Rattle.constraint.proofs.Judged.{never}
+use Rattle.constraint.proofs.Rows.{rows-length}
+use Rattle.monitor.specs.Machine.{monitorOf}
+use Rattle.monitor.specs.Contract.{after}
+use Rattle.monitor.proofs.Demand.{accepted-few}
+use Rattle.monitor.proofs.Monitor.fresh.Statement.{statement}
+use Rattle.monitor.proofs.Monitor.fresh.Tie as tie
+
+judge-requires : tie.Need-judge-requires
+judge-requires c κs = search needs
+
+enum-known-number : tie.Need-enum-known-number
+enum-known-number c = search needs
+
+over-requires : tie.Need-over-requires
+over-requires c κs = search needs
+
+enum-told : tie.Need-enum-told
+enum-told c = search needs
+
+-- the answer is "taken"
+taken : (c : tie.After-enum-told) → Accepted (rowsOf (c .before .before .before .args .table))
+taken c = rw (c .enum-told .given .1) at (c .before .before .judge .ensures)
+
+over-requires-2 : tie.Need-over-requires-2
+over-requires-2 c κs =
+    let table = c .before .before .before .args .table in
+    (omega arith, omega (arith, accepted-few (rowsOf table) (taken c), rows-length table))
+
+returns : tie.Need-returns
+unfolding after play
+returns c =
+    let at-number = c .before .before in
+    record {
+      judged = rw (at-number .number .given .1) at (at-number .before .before .judge .ensures);
+      made = λ e. never (cc);
+      refused = λ n e. c .over .ensures;
+    }
+
+returns-2 : tie.Need-returns-2
+unfolding after play
+returns-2 c =
+    let table = c .before .before .before .before .args .table in
+    record {
+      judged = taken (c .before);
+      made = λ e. c .over2 .ensures ∙ ap monitorOf (take-all (table .count) (rowsOf table) (omega (arith, rows-length table)));
+      refused = λ n e. never (cc);
+    }
+
+pub fresh-spec : {M : Type 1} → statement M
+fresh-spec = tie.close (tie.spec judge-requires enum-known-number over-requires enum-told over-requires-2 returns returns-2)

@@ -1,0 +1,91 @@
+-- The loop puts the row of one constraint after the other into an array of rows of the filler.
+use Prim.Native.Nat.{ℕ, _≤_, _<_, _-_}
+use native.Mathlib.Omega.{arith}
+use borrow.Author.Needs.{needs}
+use mathlib.Core.Path.{_≡_, sym, _∙_}
+use lib.ListN.{length, getD, length-map}
+use lib.Seq.{length-take-le, drop-cons}
+use Rattle.constraint.specs.Rows.{filler, rowsOf}
+use Rattle.constraint.specs.declared.Entry.{Entry}
+use Rattle.constraint.specs.declared.Table.{Table}
+use Rattle.constraint.proofs.Rows.{rows-length, rows-from}
+use Rattle.row.specs.Machine.{rowOf}
+use Rattle.monitor.specs.Machine.{noRow, monitorOf}
+use Rattle.monitor.proofs.Filled.{filled, filled-next}
+use Rattle.monitor.proofs.rows.over.Statement.{statement}
+use Rattle.monitor.proofs.rows.over.Tie as tie
+
+abbrev Inv-loop : tie.InvT-loop
+Inv-loop len table rows₀ i₀ rows i = (i ≤ len) × (rows ≡ filled rowOf noRow (rowsOf table) 32 i)
+
+abbrev μ-loop : tie.MeasureT-loop
+μ-loop len table rows₀ i₀ rows i = len - i
+
+-- a table has 32 entries
+size : (c : tie.Start Inv-loop μ-loop) → length (c .args .t1 .rows) ≡ 32
+size c = sym (length-map (c .args .t1 .rows) _) ∙ c .good .0 .1 .1 .0 .1 .0 .1
+
+-- the row of an entry
+row-at : (table : Table) (i : ℕ) (other : Entry) → i < table .count → i < length (table .rows) → getD (rowsOf table) i filler ≡ getD (table .rows) i other .constraint
+row-at table i other counted there = cc (drop-cons (rowsOf table) i filler (omega (arith, rows-length table)), rows-from table i other counted there)
+
+begin-requires : tie.Need-begin-requires Inv-loop μ-loop
+begin-requires c κs = search needs
+
+loop-holds : tie.Need-loop-holds Inv-loop μ-loop
+loop-holds c = (omega arith, rw (c .begin .ensures))
+
+mul-entry : tie.Need-mul-entry Inv-loop μ-loop
+mul-entry c = omega arith
+
+element-copy-out-entry : tie.Need-element-copy-out-entry Inv-loop μ-loop
+element-copy-out-entry c = omega arith
+
+begin-requires-2 : tie.Need-begin-requires-2 Inv-loop μ-loop
+begin-requires-2 c κs = search needs
+
+mul-rows : tie.Need-mul-rows Inv-loop μ-loop
+mul-rows c = omega arith
+
+array-set-from-rows : tie.Need-array-set-from-rows Inv-loop μ-loop
+array-set-from-rows c = omega arith
+
+add-i : tie.Need-add-i Inv-loop μ-loop
+add-i c = omega arith
+
+loop-less : tie.Need-loop-less Inv-loop μ-loop
+loop-less c = omega arith
+
+loop-again : tie.Need-loop-again Inv-loop μ-loop
+loop-again c =
+    let at-loop = c .before .before .before in
+    let start = at-loop .before .before in
+    let table = start .args .t1 in
+    let i = at-loop .loop .i in
+    let counted : i < table .count = omega arith in
+    (omega arith, rw (at-loop .loop .inv .1, c .begin2 .ensures, ← row-at table i _ counted (omega (arith, size start))) (filled-next rowOf noRow (rowsOf table) 32 i filler (omega (arith, rows-length table)) (omega arith)))
+
+returns : tie.Need-returns Inv-loop μ-loop
+unfolding monitorOf
+returns c =
+    let args = c .before .before .before .args in
+    let all : c .before .loop .i ≡ args .len = omega arith in
+    rw (c .before .loop .inv .1, all, length-take-le (args .len) (rowsOf (args .t1)) (omega (arith, rows-length (args .t1))))
+
+pub over-spec : {M : Type 1} → statement M
+over-spec =
+    tie.close
+    (tie.spec
+    Inv-loop
+    μ-loop
+    begin-requires
+    loop-holds
+    mul-entry
+    element-copy-out-entry
+    begin-requires-2
+    mul-rows
+    array-set-from-rows
+    add-i
+    loop-less
+    loop-again
+    returns)

@@ -1,0 +1,108 @@
+// The rows of a monitor, one after the other: made from a table, and after a step.
+use crate::Monitor;
+use constraint::Constraint;
+use constraint::Table;
+use row::Row;
+ghost use mathlib.Core.Path.{_≡_};
+ghost use Prim.Native.Nat.{_≤_, min};
+ghost use lib.ListN.{take};
+ghost use Rattle.constraint.specs.Limits.{rowLimit};
+ghost use Rattle.constraint.specs.Rows.{rowsOf};
+ghost use Rattle.monitor.specs.Machine.{monitorOf};
+ghost use Rattle.monitor.specs.Parts.{RowsAfter, rowsTicked, rowsClosed};
+
+// A monitor whose rows have taken an event, and whether it crowds one of them.
+pub struct RowsStepped {
+    pub crowded: bool,
+    pub monitor: Monitor,
+}
+
+// The number of rows that a monitor holds, whatever its record says.
+pub fn held(len: usize) -> usize
+    ensures { λ r. ⌜ r ≡ min len rowLimit ⌝ }
+{
+    if len < Monitor::ROW_LIMIT {
+        len
+    } else {
+        Monitor::ROW_LIMIT
+    }
+}
+
+// The monitor over the first rows of a table, before any step.
+pub fn over(table: Table, len: usize) -> Monitor
+    requires { ⌜ (len ≤ table .count) × (len ≤ rowLimit) ⌝ }
+    ensures { λ r. ⌜ r ≡ monitorOf (take len (rowsOf table)) ⌝ }
+{
+    let mut rows = [Row::begin(Constraint::Order {
+        source: 0,
+        target: 0,
+    }); 32];
+    let mut i = 0;
+    while i < len {
+        let entry = table.rows[i];
+        let constraint = entry.constraint;
+        rows[i] = Row::begin(constraint);
+        i += 1;
+    }
+    Monitor {
+        rows,
+        next: [0u64; 64],
+        clock: 0,
+        count: 0,
+        closed: 0,
+        len,
+    }
+}
+
+// The monitor with each row after the event, which is the step of that number, or up to a row that it crowds.
+pub fn event(mut m: Monitor, kind: u64, time: u64, step: u64) -> RowsStepped
+    ensures { λ r. ⌜ RowsAfter m kind time step r ⌝ }
+{
+    let len = held(m.len);
+    let mut i = 0;
+    while i < len {
+        let row = m.rows[i];
+        let stepped = row.event(kind, time, step);
+        if stepped.crowded {
+            return RowsStepped {
+                crowded: true,
+                monitor: m,
+            };
+        }
+        let after = stepped.row;
+        m.rows[i] = after;
+        i += 1;
+    }
+    RowsStepped {
+        crowded: false,
+        monitor: m,
+    }
+}
+
+// The monitor with each row after the tick.
+pub fn tick(mut m: Monitor, time: u64, step: u64) -> Monitor
+    ensures { λ r. ⌜ r ≡ rowsTicked m time step ⌝ }
+{
+    let len = held(m.len);
+    let mut i = 0;
+    while i < len {
+        let row = m.rows[i];
+        m.rows[i] = row.tick(time, step);
+        i += 1;
+    }
+    m
+}
+
+// The monitor with each row after the close.
+pub fn close(mut m: Monitor, step: u64) -> Monitor
+    ensures { λ r. ⌜ r ≡ rowsClosed m step ⌝ }
+{
+    let len = held(m.len);
+    let mut i = 0;
+    while i < len {
+        let row = m.rows[i];
+        m.rows[i] = row.close(step);
+        i += 1;
+    }
+    m
+}

@@ -1,0 +1,3 @@
+-- What the reader and the writer of tables promise.
+pub mod Reading
+pub mod Writing

@@ -8,4 +8,4 @@ run:
 	@echo "The report is not part of the product yet: see README.md, What stands."
 
 bench:
-	@echo "There is nothing to measure yet: see README.md, What stands."
+	cd host && cargo run --offline --release --quiet -p bench

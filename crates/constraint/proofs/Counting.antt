@@ -90,8 +90,8 @@ cond-small : (b : Bool) → cond b 1 0 ≤ 1
 cond-small true = omega arith
 cond-small false = omega arith
 
--- the number of the next step is no larger than a number can be
-pub count-fits : {steps : List Step} → Valid steps → length steps + 1 ≤ noLimit
+-- the number of the next step is less than the largest number
+pub count-fits : {steps : List Step} → Valid steps → length steps + 1 < noLimit
 unfolding closings
 count-fits {steps} v =
     let p : Past steps = past-of v in

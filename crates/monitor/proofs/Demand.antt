@@ -115,7 +115,7 @@ has-none (c ∷ rows) zero h = absurd (omega arith)
 has-none (c ∷ rows) (suc i) h = has-none rows i (omega arith)
 
 -- a row that reads broken at a step
-broken-row : (rows : List Constraint) (steps : List Step) (i n : ℕ) → ReadsRow rows steps i (some (Verdict.Broken n)) → (c : Constraint) × (getElem? rows i ≡ some c) × BrokenAt c steps n
+pub broken-row : (rows : List Constraint) (steps : List Step) (i n : ℕ) → ReadsRow rows steps i (some (Verdict.Broken n)) → (c : Constraint) × (getElem? rows i ≡ some c) × BrokenAt c steps n
 broken-row rows steps i n (row c v e (reads-broken k b)) = (c, e, b)
 
 -- a row that was broken reads so
@@ -194,7 +194,7 @@ module _ (engine : (c : Constraint) → Sound c → Exact c) where
   -- ---- the contracts
 
   -- the monitor after a list of calls follows the steps that they have recorded
-  after-follows : (rows : List Constraint) (calls : List Step) → Accepted rows → (steps : List Step) × Recorded rows calls steps × Follows engine rows steps (after rows calls)
+  pub after-follows : (rows : List Constraint) (calls : List Step) → Accepted rows → (steps : List Step) × Recorded rows calls steps × Follows engine rows steps (after rows calls)
   unfolding after
   after-follows rows calls accepted =
       let a = play-follows rows [] (monitorOf rows) (start-follows rows accepted) calls in

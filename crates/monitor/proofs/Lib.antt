@@ -7,3 +7,6 @@ pub mod Theorem
 pub mod First
 pub mod Filled
 pub mod RowVerdicts
+pub mod Numbers
+pub mod Elem
+pub mod Walk

@@ -2,4 +2,5 @@
 pub mod Machine
 pub mod Contract
 pub mod Parts
+pub mod Lent
 pub mod Examples

@@ -10,9 +10,11 @@ ghost use Rattle.constraint.specs.Steps.{event, tick, close};
 ghost use Rattle.monitor.specs.Machine.{refuses, takes};
 ghost use Rattle.monitor.specs.Contract.{Freshly, Steps, VerdictOf, BrokenSteps};
 
+pub mod lent;
 mod rows;
 mod verdicts;
 
+#[repr(C)]
 pub struct Monitor {
     pub rows: [Row; 32],
     // for each kind the first time still free: one more than the time of its last event; 0: none

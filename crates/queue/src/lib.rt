@@ -4,6 +4,7 @@ ghost use Prim.Native.Nat.{_-_};
 ghost use Rattle.queue.specs.Ring.{timeAt, shifted, emptyQueue, emptied};
 
 // The times stand from the place head on, round at the end, len of them, the oldest first.
+#[repr(C)]
 pub struct Queue {
     pub times: [u64; 64],
     pub head: usize,

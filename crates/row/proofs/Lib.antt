@@ -4,4 +4,4 @@ pub mod OwnKinds
 pub mod Steps
 pub mod Laws
 pub mod Engine
-pub mod Shared
+mod Shared

@@ -13,16 +13,17 @@ ghost use Rattle.queue.specs.Ring.{ring, changed};
 ghost use Rattle.row.specs.Row.{noMarks};
 ghost use Rattle.row.specs.Machine.{decide, due, kept, concerns, rowOf, brokenRow, applied, stays, changedRow, rowEvent, rowTick, rowClose};
 
-pub mod delay;
-pub mod numbers;
-pub mod order;
+mod delay;
+mod numbers;
+mod order;
 pub mod parts;
-pub mod repeat;
-pub mod sporadic;
-pub mod strong_delay;
-pub mod strong_synchronization;
+mod repeat;
+mod sporadic;
+mod strong_delay;
+mod strong_synchronization;
 
 // The constraint's fields as numbers. A field that a type does not have is 0; a kind that it does not have is 64.
+#[repr(C)]
 pub struct Rule {
     // the type, 1 to 7
     pub form: u64,
@@ -43,6 +44,7 @@ pub struct Rule {
 }
 
 // What a row keeps beside its times; each type's module says which of these it uses, and for what.
+#[repr(C)]
 pub struct Marks {
     // one more than a time; 0: none
     pub last: u64,
@@ -64,6 +66,7 @@ pub struct Change {
     pub marks: Marks,
 }
 
+#[repr(C)]
 pub struct Row {
     pub rule: Rule,
     pub queue: Queue,

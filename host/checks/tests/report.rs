@@ -55,6 +55,21 @@ fn thousands_of_tables_and_recordings() {
     [1..=7, 9..=14].into_iter().for_each(|numbers| seen.demand_refusals(numbers));
 }
 
+/// Buffers of every length, to some bytes more than the report has.
+#[test]
+fn buffers_of_every_length() {
+    let mut random = Random::new(203);
+    for _ in 0..60 {
+        let rows = any_table(&mut random);
+        let (table, recording) = (table_bytes(&rows), recording(&mut random, &rows, 3));
+        let expected = report_text(&table, &recording).into_bytes();
+        for length in 0..expected.len() + 40 {
+            let written = (length >= expected.len()).then_some(&expected);
+            assert_eq!(report_in(&table, &recording, length).as_ref(), written, "a buffer of {length} bytes");
+        }
+    }
+}
+
 /// Every file cut at every byte, with the other whole and empty.
 #[test]
 fn cut_at_every_byte() {

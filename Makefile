@@ -1,11 +1,12 @@
-# make test: the gate. make run: a report for the example. make bench: speed beside plain Rust.
+# make test: the gate. make run: the report on the example drive. make bench: speed beside plain Rust.
 .PHONY: test run bench
 
 test:
 	bash .ci/run
 
 run:
-	@echo "The report is not part of the product yet: see README.md, What stands."
+	rt check delkuthi_cli
+	cd examples && ../target/bin/delkuthi_cli
 
 bench:
-	@echo "There is nothing to measure yet: see README.md, What stands."
+	cd host && cargo run --release --offline -p bench

@@ -12,7 +12,7 @@ use Rattle.constraint.specs.Rows.{filler}
 use Rattle.constraint.specs.declared.Answer.{Answer}
 use Rattle.constraint.specs.declared.Answer.the-variants.{Taken, Refused}
 use Rattle.constraint.specs.declared.Constraint.{Constraint}
-use Rattle.constraint.proofs.Judged.{judged-yes, judged-no, judged-later, judged-first}
+use Rattle.constraint.proofs.Judged.{judged-yes, judged-no, judged-all, judged-parts, judged-later, judged-first}
 
 -- the row's questions, and then those of the rows after it
 pub rows-taken : (i : ℕ) (c : Constraint) (rows : List Constraint) (after : List Question) (a : Answer) → i < rowLimit → Judged (rowQuestions c) Taken
@@ -38,3 +38,12 @@ pub rows-then : (i : ℕ) (rows : List Constraint) (after : List Question) → r
 unfolding rowsQuestions
 rows-then i [] after = refl
 rows-then i (c ∷ rows) after = ap (λ (later : List Question). (3, i < rowLimit) ∷ rowQuestions c ++ later) (rows-then (i + 1) rows after)
+
+-- accepted rows are at most 32
+pub rows-room : (i : ℕ) (rows : List Constraint) → i ≤ rowLimit → Judged (rowsQuestions i rows []) Taken → i + length rows ≤ rowLimit
+unfolding rowsQuestions
+rows-room i [] h judged = omega arith
+rows-room i (c ∷ rows) h judged =
+    let room = judged-all 3 (i < rowLimit) _ judged in
+    let later = rows-room (i + 1) rows (omega arith) (judged-parts (rowQuestions c) (rowsQuestions (i + 1) rows []) (room .1) .1) in
+    omega arith

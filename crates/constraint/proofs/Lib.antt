@@ -8,6 +8,7 @@ pub mod Counting
 pub mod Judged
 pub mod FittingKinds
 pub mod Rows
+pub mod Records
 pub mod Accepted
 pub mod Decided
 pub mod Runs

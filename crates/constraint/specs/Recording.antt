@@ -18,10 +18,13 @@ use Rattle.constraint.specs.declared.Constraint.{Constraint}
 abbrev pub stepOf : List ℕ → Step
 stepOf body = cond (eqb (length body) 9) (event (at body 0) (numberAt 8 body 1)) (tick (numberAt 8 body 0))
 
--- 14: "are both length bytes and the whole record there, its length 8 or 9?" "Then the step's questions."
+-- 14: "are both length bytes and the whole record there, its length 8 or 9?"
+abbrev pub RecordAt : List ℕ → ℕ → Type 0
+RecordAt bytes place = WholeAt bytes place × ((lengthAt bytes place ≡ 8) ⊎ (lengthAt bytes place ≡ 9))
+
+-- 14, "Then the step's questions."
 unfoldable pub recordQuestions : List Constraint → List Step → List ℕ → ℕ → List Question
-recordQuestions rows steps bytes place =
-    (14, WholeAt bytes place × ((lengthAt bytes place ≡ 8) ⊎ (lengthAt bytes place ≡ 9))) ∷ questions rows steps (stepOf (bodyAt bytes place))
+recordQuestions rows steps bytes place = (14, RecordAt bytes place) ∷ questions rows steps (stepOf (bodyAt bytes place))
 
 -- what reading gives: the steps accepted, or the refusal's number and place
 pub data RecordingRead : Type 0 where

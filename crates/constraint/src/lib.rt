@@ -1,11 +1,12 @@
 // What the whole monitor speaks of: a row's constraint, the limits, the answer to a call, and the verdict of a row.
 // The definitions of paper 01 stand in specs/.
+ghost use mathlib.Core.Path.{_≡_};
 ghost use mathlib.Core.List.{[], _∷_};
 ghost use Prim.Native.Nat.{_≤_};
 ghost use Rattle.constraint.specs.Limits.{lastTime, spanLimit};
 ghost use Rattle.constraint.specs.Questions.{Decides, Judged};
 ghost use Rattle.constraint.specs.Accepted.{kinds, KindsFit, UpperInRange, InRange, LowerFirst, rowQuestions, rowsQuestions};
-ghost use Rattle.constraint.specs.Rows.{rowsOf};
+ghost use Rattle.constraint.specs.Rows.{rowsOf, tableOf, Adds};
 
 // The largest kind of event.
 pub const LAST_KIND: u8 = 63;
@@ -299,6 +300,33 @@ impl Constraint {
 }
 
 impl Table {
+    // The table with no row.
+    pub fn new() -> Self
+        ensures { λ r. ⌜ r ≡ tableOf [] ⌝ }
+    {
+        let entry = Entry {
+            constraint: Constraint::Order {
+                source: 0,
+                target: 0,
+            },
+        };
+        let rows = [entry; 32];
+        Table { rows, count: 0 }
+    }
+
+    // The table with one row more. A full table stays as it is.
+    pub fn with_row(mut self, row: Constraint) -> Self
+        ensures { λ r. ⌜ Adds self row r ⌝ }
+    {
+        let i = self.count;
+        if i < ROW_LIMIT {
+            let entry = Entry { constraint: row };
+            self.rows[i] = entry;
+            self.count = i + 1;
+        }
+        self
+    }
+
     // The answer to questions 3 to 7, row by row. Any record is taken, also one whose count is above 32.
     pub fn judge(self) -> Answer
         ensures { λ r. ⌜ Judged (rowsQuestions 0 (rowsOf self) []) r ⌝ }

@@ -2,7 +2,7 @@
 use Prim.Native.Nat.{ℕ, zero, suc, _+_, _*_, _/_, _%_, _-_, _^_, _≤_, _<_}
 use mathlib.Core.Path.{_≡_, refl, ap, ap₂, _∙_}
 use mathlib.Core.List.{List, [], _∷_}
-use native.Mathlib.Nat.{pow-succ', pow-le-pow-right, one-le-pow, one-mul, mod-lt, mod-eq-of-lt, mul-assoc, mul-le-mul-left, mul-le-mul-right, add-mul, zero-add, le-trans}
+use native.Mathlib.Nat.{pow-succ', pow-le-pow-right, one-le-pow, one-mul, mod-eq-of-lt, mul-assoc, mul-le-mul-left, mul-le-mul-right, add-mul, zero-add, le-trans}
 use native.Mathlib.Numerals.{add-one}
 use native.Mathlib.Omega.{arith}
 use lib.Arith.{digits-lt, digits-div, mod-mul}
@@ -18,13 +18,6 @@ pub bytes-length : (n x : ℕ) → length (bytesOf n x) ≡ n
 unfolding bytesOf
 bytes-length zero x = refl
 bytes-length (suc n) x = ap suc (bytes-length n x)
-
--- each of them is a byte
-pub bytes-bytes : (n x : ℕ) → Bytes (bytesOf n x)
-unfolding bytesOf Bytes
-bytes-bytes zero x i h = absurd (omega arith)
-bytes-bytes (suc n) x zero h = mod-lt (x / 256 ^ n) (omega arith)
-bytes-bytes (suc n) x (suc i) h = bytes-bytes n x i (omega arith)
 
 bytes-rest : (byte : ℕ) (bytes : List ℕ) → Bytes (byte ∷ bytes) → Bytes bytes
 unfolding Bytes

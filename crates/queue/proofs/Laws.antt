@@ -22,7 +22,7 @@ ring-length l f zero = refl
 ring-length l f (suc n) = ap suc (ring-length l (suc f) n)
 
 -- a ring goes by its start modulo 64
-pub ring-mod : (l : List ℕ) (f g n : ℕ) → f % 64 ≡ g % 64 → ring l f n ≡ ring l g n
+ring-mod : (l : List ℕ) (f g n : ℕ) → f % 64 ≡ g % 64 → ring l f n ≡ ring l g n
 unfolding ring
 ring-mod l f g zero e = refl
 ring-mod l f g (suc n) e = λ i. getD l (e i) 0 ∷ ring-mod l (suc f) (suc g) n (omega arith) i
@@ -48,8 +48,8 @@ ring-read l f n i h =
     let e : (f % 64 + i % 64) % 64 ≡ (f + i) % 64 = omega arith in
     rw (e, ring-at)
 
--- without its first
-pub ring-drop : (l : List ℕ) (f n d : ℕ) → drop d (ring l f n) ≡ ring l (f + d) (n - d)
+-- without its first d
+ring-drop : (l : List ℕ) (f n d : ℕ) → drop d (ring l f n) ≡ ring l (f + d) (n - d)
 unfolding ring
 ring-drop l f n zero =
     let e : n - 0 ≡ n = omega arith in
@@ -72,7 +72,10 @@ ring-set : (l : List ℕ) (f n p t : ℕ) → ((i : ℕ) → i < n → (f + i) %
 unfolding ring
 ring-set l f zero p t h = refl
 ring-set l f (suc n) p t h =
-    rw (getD-set-other l p (f % 64) t 0 (rw add-zero at (h 0 (omega arith))), ring-set l (suc f) n p t (λ i k. rw (suc-add, ← add-suc) (h (suc i) (omega arith))))
+    rw (
+      getD-set-other l p (f % 64) t 0 (rw add-zero at (h 0 (omega arith))),
+      ring-set l (suc f) n p t (λ i k. rw (suc-add, ← add-suc) (h (suc i) (omega arith))),
+    )
 
 ring-push : (l : List ℕ) (f n p t : ℕ) → length l ≡ 64 → n < 64 → p ≡ (f + n) % 64 → ring (set l p t) f (n + 1) ≡ ring l f n ++ t ∷ []
 ring-push l f n p t size room e =
@@ -84,16 +87,24 @@ ring-push l f n p t size room e =
 place : (x n : ℕ) → (x + n % 64) % 64 ≡ (x % 64 + n) % 64
 place x n = omega arith
 
-pub items-shifted : (q : Queue) → length (q .times) ≡ 64 → (dropped : ℕ) (pushed : Bool) (t : ℕ) → length (changed dropped pushed t (items q)) ≤ 64
+-- a change of the queue is that change of its items, where these are at most 64
+pub items-shifted : (q : Queue) → length (q .times) ≡ 64 → (dropped : ℕ) (pushed : Bool) (t : ℕ)
+    → length (changed dropped pushed t (items q)) ≤ 64
     → items (shifted dropped pushed t q) ≡ changed dropped pushed t (items q)
 unfolding shifted
 items-shifted q size dropped true t fits =
     let left = q .len - dropped in
     let at = q .head % 64 + dropped % 64 in
     let room : left < 64 = omega (arith, simp (length-append, length-drop, ring-length) at fits) in
-    rw (lt-ltb left 64 room, ring-push (q .times) (at % 64) left ((at + left % 64) % 64) t size room (place at left), ring-drop, ring-mod (q .times) (at % 64) (q .head + dropped) left (omega arith))
+    rw (
+      lt-ltb left 64 room,
+      ring-push (q .times) (at % 64) left ((at + left % 64) % 64) t size room (place at left),
+      ring-drop,
+      ring-mod (q .times) (at % 64) (q .head + dropped) left (omega arith),
+    )
 items-shifted q size dropped false t fits =
-    rw ring-drop (ring-mod (q .times) ((q .head % 64 + dropped % 64) % 64) (q .head + dropped) (q .len - dropped) (omega arith))
+    let at = q .head % 64 + dropped % 64 in
+    rw ring-drop (ring-mod (q .times) (at % 64) (q .head + dropped) (q .len - dropped) (omega arith))
 
 times-either : (b : Bool) (x y : Queue) → length (x .times) ≡ length (y .times) → length (cond b x y .times) ≡ length (y .times)
 times-either true x y e = e

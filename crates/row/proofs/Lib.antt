@@ -1,7 +1,7 @@
--- Why each row type's machine is exact, and tests that the code's proofs share.
+-- Why each row type's machine is exact, and what the code's proofs share.
 pub mod Exact
 pub mod OwnKinds
 pub mod Steps
 pub mod Laws
 pub mod Engine
-pub mod Tests
+mod Shared

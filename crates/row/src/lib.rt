@@ -13,14 +13,14 @@ ghost use Rattle.queue.specs.Ring.{ring, changed};
 ghost use Rattle.row.specs.Row.{noMarks};
 ghost use Rattle.row.specs.Machine.{decide, due, kept, concerns, rowOf, brokenRow, applied, stays, changedRow, rowEvent, rowTick, rowClose};
 
-pub mod delay;
-pub mod numbers;
-pub mod order;
+mod delay;
+mod numbers;
+mod order;
 pub mod parts;
-pub mod repeat;
-pub mod sporadic;
-pub mod strong_delay;
-pub mod strong_synchronization;
+mod repeat;
+mod sporadic;
+mod strong_delay;
+mod strong_synchronization;
 
 // The constraint's fields as numbers. A field that a type does not have is 0; a kind that it does not have is 64.
 #[repr(C)]
@@ -194,15 +194,19 @@ impl Row {
         if self.due < t {
             return self.broken_at(step).stays();
         }
-        let rule = self.rule;
-        if !concerns(rule, kind) {
+        if !concerns(self.rule, kind) {
             return self.stays();
         }
-        let marks = self.marks;
         let queue = self.queue;
-        let head = queue.head;
-        let len = queue.len;
-        let change = decide(rule, marks, &queue.times, head, len, kind, t);
+        let change = decide(
+            self.rule,
+            self.marks,
+            &queue.times,
+            queue.head,
+            queue.len,
+            kind,
+            t,
+        );
         self.changed(change, t, step)
     }
 
@@ -226,10 +230,7 @@ impl Row {
         if 0 < self.broken {
             return self;
         }
-        let rule = self.rule;
-        let marks = self.marks;
-        let queue = self.queue;
-        if kept(rule, marks, queue.len) {
+        if kept(self.rule, self.marks, self.queue.len) {
             return self;
         }
         self.broken_at(step)
@@ -240,10 +241,9 @@ impl Row {
         ensures { λ r. ⌜ r ≡ brokenRow self step ⌝ }
     {
         let rule = self.rule;
-        let queue = self.queue;
         Row {
             rule,
-            queue: queue.emptied(),
+            queue: self.queue.emptied(),
             marks: no_marks(),
             due: NO_LIMIT,
             broken: step,
@@ -267,8 +267,7 @@ impl Row {
         if change.breaks {
             return self.broken_at(step).stays();
         }
-        let queue = self.queue;
-        if crowds(queue.len, change.dropped, change.pushed) {
+        if crowds(self.queue.len, change.dropped, change.pushed) {
             return RowStep {
                 crowded: true,
                 row: self,
@@ -284,9 +283,7 @@ impl Row {
         let rule = self.rule;
         let marks = change.marks;
         let queue = self.queue.shifted(change.dropped, change.pushed, t);
-        let head = queue.head;
-        let len = queue.len;
-        let due = due(rule, marks, &queue.times, head, len);
+        let due = due(rule, marks, &queue.times, queue.head, queue.len);
         Row {
             rule,
             queue,

@@ -23,8 +23,7 @@ pub fn decide(
     ensures { λ r. ⌜ ((kind : ℕ) → r ≡ decideRepeat rule marks (ring (now (times .entry)) head len) kind t) ⌝ }
 {
     if far_enough(rule.minimum, marks.last, t) && in_span(rule, times, head, len, t) {
-        let last = parts::plus(t, 1);
-        let marks = parts::with_last(marks, last);
+        let marks = parts::with_last(marks, parts::plus(t, 1));
         if (len as u64) < rule.span {
             return parts::goes_on(0, true, marks);
         }

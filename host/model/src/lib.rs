@@ -17,9 +17,11 @@
 
 pub mod constraint;
 pub mod continuation;
+pub mod examples;
 pub mod hidden_points;
 pub mod meets;
 pub mod monitor;
+pub mod notation;
 pub mod open;
 pub mod questions;
 pub mod random;

@@ -3,15 +3,10 @@
 mod common;
 
 use common::{delay, fresh, order, steps};
+use model::examples::{RECORDING, REPORT, TABLE};
 use model::recording::read_record;
 use model::report::{RECORDING_SIZE_LIMIT, TABLE_SIZE_LIMIT};
 use model::{LAST_TIME, Step, program_output, read_recording, recording_bytes, report, report_text, table_bytes};
-
-/// The paper's table: Delay 0→1, 2 to 3.
-const TABLE: [u8; 22] = [1, 0, 0x13, 1, 0, 1, 0, 0, 0, 0, 0, 0, 0, 2, 0, 0, 0, 0, 0, 0, 0, 3];
-/// The paper's recording: 0@10, tick 14.
-const RECORDING: [u8; 22] = [1, 0, 9, 0, 0, 0, 0, 0, 0, 0, 0, 0x0A, 0, 8, 0, 0, 0, 0, 0, 0, 0, 0x0E];
-const REPORT: &str = "closed 3\n0 broken 2\n";
 
 #[test]
 fn the_papers_files() {

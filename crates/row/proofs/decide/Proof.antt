@@ -1,7 +1,7 @@
 -- The code picks the type by its number, as `byForm` does.
 use mathlib.Core.Path.{sym, _∙_}
 use Rattle.queue.proofs.Laws.{ring-length}
-use Rattle.row.proofs.Tests.{free, form-1, form-2, form-3-5, form-4, form-6, form-none}
+use Rattle.row.proofs.Shared.{free, form-1, form-2, form-3-5, form-4, form-6, form-none}
 use Rattle.row.proofs.decide.Statement.{statement}
 use Rattle.row.proofs.decide.Tie as tie
 
@@ -9,10 +9,10 @@ pub decide-spec : {M : Type 1} → statement M
 decide-spec =
     tie.close
     (tie.spec
-    free free free free free free (λ c. c .decide .ensures ∙ sym (form-1 (c .before .before .args .rule) _ _ _ _
-    _ _ _ (c .before .match .keys1))) (λ c. c .decide2 .ensures ∙ sym (form-2 (c .before .before .args .rule) _ _
-    _ _ _ _ _ (c .before .match .keys2))) (λ c. c .decide3 .ensures _ ∙ sym (form-3-5 (c .before .before .args
-    .rule) _ _ _ _ _ _ (c .before .match .keys3))) (λ c. c .decide4 .ensures _ _ ∙ sym (form-4 (c .before .before
-    .args .rule) _ _ _ _ _ _ _ (c .before .match .keys4))) (λ c. c .decide5 .ensures _ ∙ sym (form-6 (c .before
-    .before .args .rule) _ _ _ _ _ _ _ (c .before .match .keys5))) (λ c. c .decide6 .ensures _ _ (ring-length _ _
-    _) ∙ sym (form-none (c .before .before .args .rule) _ _ _ _ _ _ _ (c .before .match .rest))))
+    free free free free free free
+    (λ c. c .decide .ensures ∙ sym (form-1 (c .before .before .args .rule) _ _ _ _ _ _ _ (c .before .match .keys1)))
+    (λ c. c .decide2 .ensures ∙ sym (form-2 (c .before .before .args .rule) _ _ _ _ _ _ _ (c .before .match .keys2)))
+    (λ c. c .decide3 .ensures _ ∙ sym (form-3-5 (c .before .before .args .rule) _ _ _ _ _ _ (c .before .match .keys3)))
+    (λ c. c .decide4 .ensures _ _ ∙ sym (form-4 (c .before .before .args .rule) _ _ _ _ _ _ _ (c .before .match .keys4)))
+    (λ c. c .decide5 .ensures _ ∙ sym (form-6 (c .before .before .args .rule) _ _ _ _ _ _ _ (c .before .match .keys5)))
+    (λ c. c .decide6 .ensures _ _ (ring-length _ _ _) ∙ sym (form-none (c .before .before .args .rule) _ _ _ _ _ _ _ (c .before .match .rest))))

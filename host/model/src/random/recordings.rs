@@ -3,6 +3,7 @@
 use super::Random;
 use super::calls::Play;
 use crate::constraint::Constraint;
+use crate::questions::Answer;
 use crate::recording::recording_bytes;
 use crate::steps::Step;
 
@@ -13,6 +14,20 @@ pub fn recording(random: &mut Random, rows: &[Constraint], records: usize) -> Ve
     let mut play = Play::new(random.fork(), rows, records);
     let taken = std::iter::from_fn(|| play.call()).filter(|(_, answer)| answer.is_ok() || with_refused);
     let steps: Vec<Step> = taken.map(|(call, _)| call).collect();
+    recording_bytes(&steps)
+}
+
+/// The bytes of a recording of which every record is accepted but the last, if the list has a call that is refused:
+/// the first by question 12, or else the last of all.
+pub fn refused_recording(random: &mut Random, rows: &[Constraint], records: usize) -> Vec<u8> {
+    let mut play = Play::new(random.fork(), rows, records);
+    let calls: Vec<(Step, Answer)> =
+        std::iter::from_fn(|| play.call()).filter(|(call, _)| *call != Step::Close).collect();
+    let crowded = calls.iter().position(|(_, answer)| *answer == Err(12));
+    let refused =
+        crowded.or_else(|| calls.iter().rposition(|(_, answer)| matches!(answer, Err(9..)))).unwrap_or(calls.len());
+    let accepted = calls[..refused].iter().filter(|(_, answer)| answer.is_ok());
+    let steps: Vec<Step> = accepted.chain(calls.get(refused)).map(|(call, _)| *call).collect();
     recording_bytes(&steps)
 }
 

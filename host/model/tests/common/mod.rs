@@ -1,13 +1,8 @@
-//! The paper's notation for tests: "0@10, tick 13, close".
-#![allow(dead_code)]
+//! What the tests share: the paper's notation, and monitors in it.
+#![allow(dead_code, unused_imports)]
 
-use model::{Constraint, History, Monitor, Step};
-
-/// The steps of a list in the paper's notation.
-pub fn steps(text: &str) -> Vec<Step> {
-    let parts = text.split(", ").filter(|part| !part.is_empty());
-    parts.map(|part| part.parse().unwrap_or_else(|error| panic!("{error}"))).collect()
-}
+pub use model::notation::{burst, delay, order, repeat, sporadic, steps, strong_delay, synchronization};
+use model::{Constraint, History, Monitor};
 
 /// What these steps have recorded.
 pub fn recorded(text: &str) -> History {
@@ -30,33 +25,4 @@ pub fn take(monitor: &mut Monitor, text: &str) {
 pub fn verdicts(monitor: &Monitor) -> String {
     let words: Vec<String> = monitor.verdicts().iter().map(ToString::to_string).collect();
     words.join(", ")
-}
-
-pub fn delay(lower: u64, upper: u64) -> Constraint {
-    Constraint::Delay { source: 0, target: 1, lower, upper }
-}
-
-pub fn strong_delay(lower: u64, upper: u64) -> Constraint {
-    Constraint::StrongDelay { source: 0, target: 1, lower, upper }
-}
-
-pub fn repeat(span: u8, lower: u64, upper: u64) -> Constraint {
-    Constraint::Repeat { event: 0, span, lower, upper }
-}
-
-pub fn sporadic(lower: u64, upper: u64, jitter: u64, minimum: u64) -> Constraint {
-    Constraint::Sporadic { event: 0, lower, upper, jitter, minimum }
-}
-
-pub fn burst(maximum: u8, length: u64, minimum: u64) -> Constraint {
-    Constraint::Burst { event: 0, maximum, length, minimum }
-}
-
-pub fn order() -> Constraint {
-    Constraint::Order { source: 0, target: 1 }
-}
-
-/// A StrongSynchronization of kinds 0 to n − 1.
-pub fn synchronization(n: u8, tolerance: u64) -> Constraint {
-    Constraint::StrongSynchronization { kinds: (0..n).collect(), tolerance }
 }

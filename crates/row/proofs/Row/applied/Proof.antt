@@ -1,6 +1,6 @@
 -- Each part is what `applied` says.
 use Rattle.row.specs.Machine.{applied}
-use Rattle.row.proofs.Tests.{free}
+use Rattle.row.proofs.Shared.{free}
 use Rattle.row.proofs.Row.applied.Statement.{statement}
 use Rattle.row.proofs.Row.applied.Tie as tie
 

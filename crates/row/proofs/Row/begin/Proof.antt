@@ -1,6 +1,6 @@
 -- Each part is what `rowOf` says.
 use Rattle.row.specs.Machine.{rowOf}
-use Rattle.row.proofs.Tests.{free}
+use Rattle.row.proofs.Shared.{free}
 use Rattle.row.proofs.Row.begin.Statement.{statement}
 use Rattle.row.proofs.Row.begin.Tie as tie
 

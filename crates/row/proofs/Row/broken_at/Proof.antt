@@ -1,6 +1,6 @@
 -- Each part is what `brokenRow` says.
 use Rattle.row.specs.Machine.{brokenRow}
-use Rattle.row.proofs.Tests.{free}
+use Rattle.row.proofs.Shared.{free}
 use Rattle.row.proofs.Row.broken_at.Statement.{statement}
 use Rattle.row.proofs.Row.broken_at.Tie as tie
 

@@ -1,7 +1,7 @@
 -- The tests are those of `rowEvent`, in its order.
 use borrow.Author.Tests.{lt-ltb, le-ltb, not-true, not-false}
 use Rattle.row.specs.Machine.{rowEvent}
-use Rattle.row.proofs.Tests.{free}
+use Rattle.row.proofs.Shared.{free}
 use Rattle.row.proofs.Row.event.Statement.{statement}
 use Rattle.row.proofs.Row.event.Tie as tie
 
@@ -22,20 +22,21 @@ returns-2 c =
 returns-3 : tie.Need-returns-3
 unfolding rowEvent
 returns-3 c =
-    let b = c .before .before .before .before in
+    let b = c .before .before in
+    let d = b .before in
     rw (
-      le-ltb _ _ (b .before .before .if1 .left),
-      le-ltb _ _ (b .if2 .left),
-      ← c .before .before .concerns .ensures,
-      not-true (c .before .before .concerns .result) (c .before .if3 .taken),
+      le-ltb _ _ (d .before .before .if1 .left),
+      le-ltb _ _ (d .if2 .left),
+      ← b .concerns .ensures,
+      not-true (b .concerns .result) (c .before .if3 .taken),
     )
     (c .stays3 .ensures)
 
 returns-4 : tie.Need-returns-4
 unfolding rowEvent
 returns-4 c =
-    let b = c .before .before .before .before .before .before in
-    let d = b .before .before .before in
+    let b = c .before .before .before .before .before in
+    let d = b .before .before in
     rw (
       le-ltb _ _ (d .before .before .if1 .left),
       le-ltb _ _ (d .if2 .left),

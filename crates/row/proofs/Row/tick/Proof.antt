@@ -1,7 +1,7 @@
 -- The tests are those of `rowTick`, in its order.
 use borrow.Author.Tests.{lt-ltb, le-ltb}
 use Rattle.row.specs.Machine.{rowTick}
-use Rattle.row.proofs.Tests.{free}
+use Rattle.row.proofs.Shared.{free}
 use Rattle.row.proofs.Row.tick.Statement.{statement}
 use Rattle.row.proofs.Row.tick.Tie as tie
 

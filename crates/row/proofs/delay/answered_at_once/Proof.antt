@@ -1,6 +1,6 @@
 -- The two tests of the code are those of `answeredAtOnce`.
 use borrow.Author.Tests.{eq-eqb, ne-eqb}
-use Rattle.row.proofs.Tests.{free}
+use Rattle.row.proofs.Shared.{free}
 use Rattle.row.proofs.delay.answered_at_once.Statement.{statement}
 use Rattle.row.proofs.delay.answered_at_once.Tie as tie
 

@@ -1,7 +1,7 @@
 -- A source joins the times unless the last target answers it; a target leaves with those that it answers.
 use borrow.Author.Tests.{eq-eqb, ne-eqb}
 use Rattle.row.specs.Delay.{decideDelay}
-use Rattle.row.proofs.Tests.{free}
+use Rattle.row.proofs.Shared.{free}
 use Rattle.row.proofs.delay.decide.Statement.{statement}
 use Rattle.row.proofs.delay.decide.Tie as tie
 

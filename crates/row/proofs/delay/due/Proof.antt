@@ -1,6 +1,6 @@
 -- The oldest source that waits gives the due time.
 use Rattle.row.specs.Delay.{dueDelay}
-use Rattle.row.proofs.Tests.{free}
+use Rattle.row.proofs.Shared.{free}
 use Rattle.row.proofs.delay.due.Statement.{statement}
 use Rattle.row.proofs.delay.due.Tie as tie
 

@@ -1,6 +1,6 @@
 -- The row is kept where no source waits, and the length says so.
 use Rattle.row.specs.Delay.{keptDelay}
-use Rattle.row.proofs.Tests.{none-left-length}
+use Rattle.row.proofs.Shared.{none-left-length}
 use Rattle.row.proofs.delay.kept.Statement.{statement}
 use Rattle.row.proofs.delay.kept.Tie as tie
 

@@ -1,5 +1,5 @@
 -- Each variant is laid out by `pairRule` or `groupRule`, as the code does.
-use Rattle.row.proofs.Tests.{free}
+use Rattle.row.proofs.Shared.{free}
 use Rattle.row.proofs.numbers.rule_of.Statement.{statement}
 use Rattle.row.proofs.numbers.rule_of.Tie as tie
 

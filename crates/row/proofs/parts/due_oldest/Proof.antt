@@ -3,7 +3,7 @@ use mathlib.Core.Path.{sym}
 use native.Mathlib.Omega.{arith}
 use borrow.Author.Needs.{needs}
 use Rattle.queue.specs.Ring.{ring}
-use Rattle.row.proofs.Tests.{free, due-front}
+use Rattle.row.proofs.Shared.{free, due-front}
 use Rattle.row.proofs.parts.due_oldest.Statement.{statement}
 use Rattle.row.proofs.parts.due_oldest.Tie as tie
 

@@ -3,7 +3,7 @@ use mathlib.Core.Path.{_∙_, sym}
 use native.Mathlib.Omega.{arith}
 use borrow.Author.Needs.{needs}
 use Rattle.queue.specs.Ring.{ring}
-use Rattle.row.proofs.Tests.{free, front-ring}
+use Rattle.row.proofs.Shared.{free, front-ring}
 use Rattle.row.proofs.parts.front.Statement.{statement}
 use Rattle.row.proofs.parts.front.Tie as tie
 

@@ -2,7 +2,7 @@
 use Prim.Native.Nat.{_+_, _-_}
 use native.Mathlib.Omega.{arith}
 use borrow.Author.Tests.{lt-leb}
-use Rattle.row.proofs.Tests.{leb-same}
+use Rattle.row.proofs.Shared.{leb-same}
 use Rattle.row.proofs.parts.reaches.Statement.{statement}
 use Rattle.row.proofs.parts.reaches.Tie as tie
 

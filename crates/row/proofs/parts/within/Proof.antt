@@ -1,7 +1,7 @@
 -- What is at most by more than from is, without from, at most by.
 use Prim.Native.Nat.{_+_, _-_}
 use native.Mathlib.Omega.{arith}
-use Rattle.row.proofs.Tests.{free, leb-same}
+use Rattle.row.proofs.Shared.{free, leb-same}
 use Rattle.row.proofs.parts.within.Statement.{statement}
 use Rattle.row.proofs.parts.within.Tie as tie
 

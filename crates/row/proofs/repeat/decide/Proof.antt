@@ -3,7 +3,7 @@ use mathlib.Core.Logic.{⊎-elim}
 use borrow.Author.Tests.{lt-ltb, le-ltb}
 use Rattle.queue.proofs.Laws.{ring-length}
 use Rattle.row.specs.Repeat.{decideRepeat}
-use Rattle.row.proofs.Tests.{free}
+use Rattle.row.proofs.Shared.{free}
 use Rattle.row.proofs.repeat.decide.Statement.{statement}
 use Rattle.row.proofs.repeat.decide.Tie as tie
 

@@ -3,7 +3,7 @@ use Prim.Native.Nat.{_+_, _-_}
 use native.Mathlib.Omega.{arith}
 use borrow.Author.Needs.{needs}
 use borrow.Author.Tests.{eq-eqb, ne-eqb}
-use Rattle.row.proofs.Tests.{free, leb-same}
+use Rattle.row.proofs.Shared.{free, leb-same}
 use Rattle.row.proofs.repeat.far_enough.Statement.{statement}
 use Rattle.row.proofs.repeat.far_enough.Tie as tie
 

@@ -1,7 +1,7 @@
 -- The length of a ring is the number of its times, and the tests are those of `inSpan`, in its order.
 use borrow.Author.Tests.{lt-ltb, le-ltb, eq-eqb, ne-eqb}
 use Rattle.queue.proofs.Laws.{ring-length}
-use Rattle.row.proofs.Tests.{free}
+use Rattle.row.proofs.Shared.{free}
 use Rattle.row.proofs.repeat.in_span.Statement.{statement}
 use Rattle.row.proofs.repeat.in_span.Tie as tie
 

@@ -1,7 +1,7 @@
 -- The first event may have its point anywhere within its jitter; a later one has a function of its own.
 use borrow.Author.Tests.{eq-eqb, ne-eqb}
 use Rattle.row.specs.Sporadic.{decideSporadic}
-use Rattle.row.proofs.Tests.{free}
+use Rattle.row.proofs.Shared.{free}
 use Rattle.row.proofs.sporadic.decide.Statement.{statement}
 use Rattle.row.proofs.sporadic.decide.Tie as tie
 

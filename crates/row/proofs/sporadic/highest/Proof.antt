@@ -1,6 +1,6 @@
 -- The two cases are those of `highest`.
 use borrow.Author.Tests.{eq-eqb, ne-eqb}
-use Rattle.row.proofs.Tests.{free}
+use Rattle.row.proofs.Shared.{free}
 use Rattle.row.proofs.sporadic.highest.Statement.{statement}
 use Rattle.row.proofs.sporadic.highest.Tie as tie
 

@@ -1,7 +1,7 @@
 -- The row goes on where the three tests hold.
 use mathlib.Core.Logic.{⊎-elim}
 use Rattle.row.specs.Sporadic.{laterSporadic}
-use Rattle.row.proofs.Tests.{free}
+use Rattle.row.proofs.Shared.{free}
 use Rattle.row.proofs.sporadic.later.Statement.{statement}
 use Rattle.row.proofs.sporadic.later.Tie as tie
 

@@ -1,7 +1,7 @@
 -- A source and a target each have a function of their own.
 use borrow.Author.Tests.{eq-eqb, ne-eqb}
 use Rattle.row.specs.StrongDelay.{decideStrongDelay}
-use Rattle.row.proofs.Tests.{free}
+use Rattle.row.proofs.Shared.{free}
 use Rattle.row.proofs.strong_delay.decide.Statement.{statement}
 use Rattle.row.proofs.strong_delay.decide.Tie as tie
 

@@ -2,7 +2,7 @@
 use native.Mathlib.Omega.{arith}
 use borrow.Author.Tests.{eq-eqb, ne-eqb}
 use Rattle.row.specs.StrongDelay.{dueStrongDelay}
-use Rattle.row.proofs.Tests.{free}
+use Rattle.row.proofs.Shared.{free}
 use Rattle.row.proofs.strong_delay.due.Statement.{statement}
 use Rattle.row.proofs.strong_delay.due.Tie as tie
 

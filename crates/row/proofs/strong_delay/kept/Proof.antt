@@ -1,7 +1,7 @@
 -- The row is kept where nothing waits for a partner, a source or a target.
 use borrow.Author.Tests.{eq-eqb, ne-eqb}
 use Rattle.row.specs.StrongDelay.{keptStrongDelay}
-use Rattle.row.proofs.Tests.{none-left-length}
+use Rattle.row.proofs.Shared.{none-left-length}
 use Rattle.row.proofs.strong_delay.kept.Statement.{statement}
 use Rattle.row.proofs.strong_delay.kept.Tie as tie
 

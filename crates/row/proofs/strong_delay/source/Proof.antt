@@ -1,7 +1,7 @@
 -- A source waits unless there is a target beyond.
 use borrow.Author.Tests.{eq-eqb, ne-eqb}
 use Rattle.row.specs.StrongDelay.{sourceStrongDelay}
-use Rattle.row.proofs.Tests.{free}
+use Rattle.row.proofs.Shared.{free}
 use Rattle.row.proofs.strong_delay.source.Statement.{statement}
 use Rattle.row.proofs.strong_delay.source.Tie as tie
 

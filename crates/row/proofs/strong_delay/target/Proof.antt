@@ -1,7 +1,7 @@
 -- A target takes the oldest source that waits, if that is long enough before it; with none, it is one beyond, if its source may come at once.
 use borrow.Author.Tests.{eq-eqb, ne-eqb}
 use Rattle.row.specs.StrongDelay.{targetStrongDelay}
-use Rattle.row.proofs.Tests.{free, none-left-ring}
+use Rattle.row.proofs.Shared.{free, none-left-ring}
 use Rattle.row.proofs.strong_delay.target.Statement.{statement}
 use Rattle.row.proofs.strong_delay.target.Tie as tie
 

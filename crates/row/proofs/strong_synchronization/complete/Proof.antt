@@ -1,5 +1,5 @@
 -- The tests are those of `complete`, in its order.
-use Rattle.row.proofs.Tests.{free}
+use Rattle.row.proofs.Shared.{free}
 use Rattle.row.proofs.strong_synchronization.complete.Statement.{statement}
 use Rattle.row.proofs.strong_synchronization.complete.Tie as tie
 

@@ -1,5 +1,5 @@
 -- Each count is counted by itself.
-use Rattle.row.proofs.Tests.{free}
+use Rattle.row.proofs.Shared.{free}
 use Rattle.row.proofs.strong_synchronization.counted.Statement.{statement}
 use Rattle.row.proofs.strong_synchronization.counted.Tie as tie
 

@@ -2,7 +2,7 @@
 use mathlib.Core.Path.{sym, _∙_}
 use borrow.Author.Tests.{lt-ltb, le-ltb}
 use Rattle.row.specs.StrongSynchronization.{decideStrongSynchronization}
-use Rattle.row.proofs.Tests.{free}
+use Rattle.row.proofs.Shared.{free}
 use Rattle.row.proofs.strong_synchronization.decide.Statement.{statement}
 use Rattle.row.proofs.strong_synchronization.decide.Tie as tie
 

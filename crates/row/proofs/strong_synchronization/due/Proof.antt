@@ -1,6 +1,6 @@
 -- The oldest group that is not complete gives the due time.
 use Rattle.row.specs.StrongSynchronization.{dueStrongSynchronization}
-use Rattle.row.proofs.Tests.{free}
+use Rattle.row.proofs.Shared.{free}
 use Rattle.row.proofs.strong_synchronization.due.Statement.{statement}
 use Rattle.row.proofs.strong_synchronization.due.Tie as tie
 

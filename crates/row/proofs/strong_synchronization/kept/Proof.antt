@@ -1,6 +1,6 @@
 -- The row is kept where no group is open, and the length says so.
 use Rattle.row.specs.StrongSynchronization.{keptStrongSynchronization}
-use Rattle.row.proofs.Tests.{none-left-length}
+use Rattle.row.proofs.Shared.{none-left-length}
 use Rattle.row.proofs.strong_synchronization.kept.Statement.{statement}
 use Rattle.row.proofs.strong_synchronization.kept.Tie as tie
 

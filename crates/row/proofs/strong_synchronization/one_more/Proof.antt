@@ -1,6 +1,6 @@
 -- The test is that of `oneMore`.
 use borrow.Author.Tests.{eq-eqb, ne-eqb}
-use Rattle.row.proofs.Tests.{free}
+use Rattle.row.proofs.Shared.{free}
 use Rattle.row.proofs.strong_synchronization.one_more.Statement.{statement}
 use Rattle.row.proofs.strong_synchronization.one_more.Tie as tie
 

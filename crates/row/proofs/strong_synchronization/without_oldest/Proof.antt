@@ -1,5 +1,5 @@
 -- Each count is one less by itself.
-use Rattle.row.proofs.Tests.{free}
+use Rattle.row.proofs.Shared.{free}
 use Rattle.row.proofs.strong_synchronization.without_oldest.Statement.{statement}
 use Rattle.row.proofs.strong_synchronization.without_oldest.Tie as tie
 

@@ -1,0 +1,12 @@
+-- An array of the filler is the array of the record with no row.
+use mathlib.Core.Path.{refl}
+use Rattle.constraint.specs.Rows.{tableOf}
+use Rattle.constraint.proofs.Table.new.Statement.{statement}
+use Rattle.constraint.proofs.Table.new.Tie as tie
+
+returns : tie.Need-returns
+unfolding tableOf
+returns c = refl
+
+pub new-spec : {M : Type 1} → statement M
+new-spec = tie.close (tie.spec returns)

@@ -1,0 +1,10 @@
+-- The laws of taking a recording and of telling its report.
+pub mod Reading
+pub mod Taking
+pub mod Progress
+pub mod RowLines
+pub mod Telling
+pub mod Refusals
+mod Numbers
+mod Elem
+mod Walk

@@ -1,0 +1,33 @@
+-- A table that was read is accepted: the questions that a fresh monitor puts to its rows were put when they were read.
+use Prim.Native.Nat.{ℕ, _+_, _<_}
+use mathlib.Core.List.{List, []}
+use Rattle.constraint.specs.Limits.{rowLimit}
+use Rattle.constraint.specs.Questions.{Judged}
+use Rattle.constraint.specs.Accepted.{rowQuestions, rowsQuestions, Accepted}
+use Rattle.constraint.specs.Table.{bodyAt, constraintOf, WholeAt, ShapeFits, placeQuestions, TableRead, table-of, table-refused, rowThen, ReadsRows, no-more, row-refused, row-taken, ReadsTable, version-taken}
+use Rattle.constraint.specs.declared.Answer.the-variants.{Taken}
+use Rattle.constraint.specs.declared.Constraint.{Constraint}
+use Rattle.constraint.proofs.Judged.{judged-none, judged-all}
+use Rattle.constraint.proofs.Accepted.{rows-taken}
+
+-- the rows that were read, with i rows before them, are accepted
+abbrev AcceptedBehind : ℕ → TableRead → Type 0
+AcceptedBehind i (table-of rows) = Judged (rowsQuestions i rows []) Taken
+AcceptedBehind i (table-refused n place) = Unit {0}
+
+-- one row more in front
+accepted-more : (i : ℕ) (c : Constraint) (later : TableRead) → i < rowLimit → Judged (rowQuestions c) Taken → AcceptedBehind (i + 1) later → AcceptedBehind i (rowThen c later)
+accepted-more i c (table-of rows) room own accepted = rows-taken i c rows [] Taken room own accepted
+accepted-more i c (table-refused n place) room own accepted = tt
+
+rows-accepted : (bytes : List ℕ) {i place : ℕ} {read : TableRead} → ReadsRows bytes i place read → AcceptedBehind i read
+unfolding rowsQuestions placeQuestions
+rows-accepted bytes (no-more end) = judged-none
+rows-accepted bytes (row-refused n there refused) = tt
+rows-accepted bytes (row-taken {i} {place} {later} there judged reads) =
+    let whole = judged-all 2 (WholeAt bytes place) _ judged in
+    let room = judged-all 3 (i < rowLimit) _ (whole .1) in
+    accepted-more i (constraintOf (bodyAt bytes place)) later (room .0) (judged-all 4 (ShapeFits (bodyAt bytes place)) _ (room .1) .1) (rows-accepted bytes reads)
+
+pub read-accepted : (bytes : List ℕ) (rows : List Constraint) → ReadsTable bytes (table-of rows) → Accepted rows
+read-accepted bytes rows (version-taken one reads) = rows-accepted bytes reads

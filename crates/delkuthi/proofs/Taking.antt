@@ -1,0 +1,72 @@
+-- A monitor that has taken some steps answers the next as its questions say over those steps, and where it takes it has taken one more: a list of calls has one outcome.
+use Prim.Native.Nat.{ℕ}
+use mathlib.Core.Path.{_≡_, refl, sym, subst}
+use mathlib.Core.List.{List, [], _∷_, _++_}
+use mathlib.Core.Option.{Option}
+use Rattle.constraint.specs.Steps.{Step}
+use Rattle.constraint.specs.Questions.{Judged}
+use Rattle.constraint.specs.Accepted.{rowsQuestions, Accepted}
+use Rattle.constraint.specs.Rows.{rowsOf}
+use Rattle.constraint.specs.Run.{questions, recorded, Run, done, call}
+use Rattle.constraint.specs.Promise.{ReadsRow, play}
+use Rattle.constraint.specs.declared.Answer.{Answer}
+use Rattle.constraint.specs.declared.Answer.the-variants.{Taken}
+use Rattle.constraint.specs.declared.Constraint.{Constraint}
+use Rattle.constraint.specs.declared.Table.{Table}
+use Rattle.constraint.specs.declared.Verdict.{Verdict}
+use Rattle.constraint.proofs.Judged.{judged-once}
+use Rattle.row.proofs.Engine.{engine}
+use Rattle.monitor.specs.Machine.{monitorOf}
+use Rattle.monitor.specs.Contract.{step, after, Freshly, Steps, Reading as VerdictReading}
+use Rattle.monitor.specs.declared.Monitor.{Monitor}
+use Rattle.monitor.specs.declared.Stepped.{Stepped}
+use Rattle.monitor.proofs.Following.{Follows}
+use Rattle.monitor.proofs.Demand.{start-follows, play-follows}
+use Rattle.delkuthi.specs.Taking.{Took}
+
+-- a list of calls accepts one list of steps
+run-once : {rows : List Constraint} {steps calls end other : List Step} {answers others : List Answer} → Run rows steps calls answers end → Run rows steps calls others other → end ≡ other
+run-once done done = refl
+run-once {rows = rows} (call {steps = steps} {calls = calls} s a judged rest) (call {end = other} {answers = others} t b again later) =
+    run-once rest (subst (λ (x : Answer). Run rows (recorded steps s x) calls others other) (judged-once (questions rows steps s) b a again judged) later)
+
+-- one call more, which is taken
+run-more : {rows : List Constraint} {steps calls end : List Step} {answers : List Answer} (s : Step) → Run rows steps calls answers end → Judged (questions rows end s) Taken
+    → Run rows steps (calls ++ (s ∷ [])) (answers ++ (Taken ∷ [])) (end ++ (s ∷ []))
+run-more s done judged = call s Taken judged done
+run-more s (call t a earlier rest) judged = call t a earlier (run-more s rest judged)
+
+-- a fresh monitor over an accepted table has taken none
+pub took-none : (table : Table) (answer : Answer) (m : Monitor) → Accepted (rowsOf table) → Freshly table answer m → Took (rowsOf table) [] m
+took-none table answer m accepted fresh =
+    let taken = judged-once (rowsQuestions 0 (rowsOf table) []) answer Taken (fresh .judged) accepted in
+    record { accepted = accepted; recorded = ([], done); made = fresh .made taken }
+
+module _ (rows : List Constraint) (steps : List Step) (m : Monitor) (took : Took rows steps m) where
+  -- its records follow the steps
+  pub took-follows : Follows engine rows steps m
+  unfolding after
+  took-follows =
+      let played = play-follows engine rows [] (monitorOf rows) (start-follows engine rows (took .accepted)) steps in
+      subst (λ (x : Monitor). Follows engine rows steps x) (sym (took .made))
+      (subst (λ (past : List Step). Follows engine rows past (play step (monitorOf rows) steps .monitor)) (run-once (played .1) (took .recorded .1)) (played .2))
+
+  -- a row reads what the definitions say after the steps
+  pub took-reads : (i : ℕ) (verdict : Option Verdict) → VerdictReading m i verdict → ReadsRow rows steps i verdict
+  took-reads i verdict reading =
+      let means = reading .means rows steps (took .accepted) (took .made) in
+      subst (λ (past : List Step). ReadsRow rows past i verdict) (run-once (means .1 .1) (took .recorded .1)) (means .2)
+
+  module _ (s : Step) (result : Stepped) (kept : Steps m s result) where
+    pub took-judged : Judged (questions rows steps s) (result .answer)
+    took-judged =
+        let means = kept .means rows steps (took .accepted) (took .made) .0 in
+        subst (λ (past : List Step). Judged (questions rows past s) (result .answer)) (run-once (means .1 .1) (took .recorded .1)) (means .2)
+
+    pub took-more : result .answer ≡ Taken → Took rows (steps ++ (s ∷ [])) (result .monitor)
+    took-more e =
+        record {
+          accepted = took .accepted;
+          recorded = (took .recorded .0 ++ (Taken ∷ []), run-more s (took .recorded .1) (subst (Judged (questions rows steps s)) e took-judged));
+          made = kept .means rows steps (took .accepted) (took .made) .1;
+        }

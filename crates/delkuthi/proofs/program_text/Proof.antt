@@ -1,0 +1,36 @@
+-- The two sizes are asked for first, and then the report.
+use native.Mathlib.Omega.{arith}
+use borrow.Author.Needs.{needs}
+use borrow.Author.Tests.{ltb-true, ltb-false}
+use mathlib.Core.Logic.{⊎-elim}
+use Rattle.constraint.specs.Report.{too-large, fits}
+use Rattle.delkuthi.proofs.Telling.{tells-refusal}
+use Rattle.delkuthi.proofs.program_text.Statement.{statement}
+use Rattle.delkuthi.proofs.program_text.Tie as tie
+
+new-requires : tie.Need-new-requires
+new-requires c κs = search needs
+
+refused-line-requires : tie.Need-refused-line-requires
+refused-line-requires c κs = search needs
+
+returns : tie.Need-returns
+returns c =
+    let joined = c .before .before in
+    record {
+      bytes = _;
+      said = too-large (λ small. ⊎-elim (λ w. omega arith) (λ w. omega (arith, ltb-true)) (joined .if1 .came));
+      holds = tells-refusal 17 0 (c .refused-line .result) (rw (← c .before .new .ensures) (c .refused-line .ensures));
+    }
+
+report-text-requires : tie.Need-report-text-requires
+report-text-requires c κs = search needs
+
+returns-2 : tie.Need-returns-2
+returns-2 c =
+    let tells = c .report-text .ensures in
+    record { bytes = tells .bytes; said = fits (omega arith) (omega (arith, ltb-false)) (tells .said); holds = tells .holds }
+
+pub program-text-spec : {M : Type 1} → statement M
+program-text-spec =
+    tie.close (tie.spec new-requires refused-line-requires returns report-text-requires returns-2)

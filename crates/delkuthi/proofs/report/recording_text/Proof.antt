@@ -1,0 +1,53 @@
+-- The lines are those of the answer, behind an empty text.
+use borrow.Author.Needs.{needs}
+use Rattle.delkuthi.proofs.Telling.{tells-refusal, tells-closed}
+use Rattle.delkuthi.proofs.report.recording_text.Statement.{statement}
+use Rattle.delkuthi.proofs.report.recording_text.Tie as tie
+
+enum-told : tie.Need-enum-told
+enum-told c = search needs
+
+new-requires : tie.Need-new-requires
+new-requires c κs = search needs
+
+closed-line-requires : tie.Need-closed-line-requires
+closed-line-requires c κs = search needs
+
+row-lines-requires : tie.Need-row-lines-requires
+row-lines-requires c κs = search needs
+
+enum-known-answer : tie.Need-enum-known-answer
+enum-known-answer c = search needs
+
+new-requires-2 : tie.Need-new-requires-2
+new-requires-2 c κs = search needs
+
+refused-line-requires : tie.Need-refused-line-requires
+refused-line-requires c κs = search needs
+
+returns : tie.Need-returns
+returns c =
+    let at-line = c .before in
+    let told = at-line .before .before in
+    rw (told .enum-told .given .1)
+    (tells-closed (told .before .before .before .args .taken .monitor) (at-line .closed-line .result) (c .row-lines .result)
+    (rw (← at-line .before .new .ensures) (at-line .closed-line .ensures)) (c .row-lines .ensures))
+
+returns-2 : tie.Need-returns-2
+returns-2 c =
+    let at-answer = c .before .before .before in
+    rw (at-answer .answer .given .1) (tells-refusal _ _ (c .refused-line .result) (rw (← c .before .new2 .ensures) (c .refused-line .ensures)))
+
+pub recording-text-spec : {M : Type 1} → statement M
+recording-text-spec =
+    tie.close
+    (tie.spec
+    enum-told
+    new-requires
+    closed-line-requires
+    row-lines-requires
+    enum-known-answer
+    new-requires-2
+    refused-line-requires
+    returns
+    returns-2)

@@ -1,0 +1,4 @@
+-- What the parts of the report and the calls from C promise.
+pub mod Taking
+pub mod Telling
+pub mod Lent

@@ -1,0 +1,31 @@
+// The report on a recording: what the rows of a table read after it. It is also offered to a host in C.
+pub mod lent;
+mod records;
+mod report;
+
+use text::Text;
+ghost use Rattle.constraint.specs.Report.{Reports, Prints};
+ghost use Rattle.delkuthi.specs.Telling.{Tells};
+
+// How many bytes the program takes of a table, and of a recording.
+pub const TABLE_SIZE_LIMIT: usize = 2048;
+
+pub const RECORDING_SIZE_LIMIT: usize = 61440;
+
+// What the program prints for its two files: the report, or "refused 17 0" where one of them is too large.
+pub fn program_text(table: &[u8], recording: &[u8]) -> Text
+    ensures { λ r. ⌜ Tells (Prints (now (table .entry)) (now (recording .entry))) r ⌝ }
+{
+    if TABLE_SIZE_LIMIT < table.len() || RECORDING_SIZE_LIMIT < recording.len() {
+        return Text::new().refused_line(17, 0);
+    }
+    report::report_text(table, recording)
+}
+
+// Writes the report on a recording under a table to a lent buffer and answers the number of bytes written; where the buffer is too short, answers 0 and leaves it as it was.
+#[no_mangle]
+pub extern "C" fn delkuthi_report(table: &[u8], recording: &[u8], buffer: &mut [u8]) -> usize
+    ensures { λ r. ⌜ Reports (now (table .entry)) (now (recording .entry)) (now (buffer .entry)) r (now (buffer .exit)) ⌝ }
+{
+    report::report_text(table, recording).copy_to(buffer)
+}

@@ -1,0 +1,2 @@
+-- Laws of a recording's records.
+pub mod Records

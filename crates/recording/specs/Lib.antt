@@ -1,0 +1,2 @@
+-- What the record reader promises.
+pub mod Record

@@ -1,0 +1,50 @@
+-- The questions of the row at a place are put in their order, so each "no" needs the earlier ones answered "yes".
+use Prim.Native.Nat.{ℕ, _+_, _-_, _≤_, _<_}
+use mathlib.Core.Path.{_≡_}
+use mathlib.Core.List.{List, [], _∷_}
+use native.Mathlib.Nat.{add-sub-cancel-left}
+use native.Mathlib.Omega.{arith}
+use lib.ListN.{take, drop}
+use Rattle.constraint.specs.Limits.{rowLimit}
+use Rattle.constraint.specs.Steps.{at}
+use Rattle.constraint.specs.Questions.{Judged}
+use Rattle.constraint.specs.Accepted.{rowQuestions}
+use Rattle.constraint.specs.Table.{ShapeFits, constraintOf, lengthAt, bodyAt, WholeAt, placeQuestions, VersionOne}
+use Rattle.constraint.specs.declared.Answer.{Answer}
+use Rattle.constraint.specs.declared.Answer.the-variants.{Taken, Refused}
+use Rattle.constraint.proofs.Judged.{judged-yes, judged-no, judged-all}
+
+module _ (bytes : List ℕ) (i place : ℕ) where
+  pub place-short : ¬ WholeAt bytes place → Judged (placeQuestions bytes i place) (Refused 2)
+  unfolding placeQuestions
+  place-short short = judged-no 2 _ _ short
+
+  pub place-full : WholeAt bytes place → rowLimit ≤ i → Judged (placeQuestions bytes i place) (Refused 3)
+  unfolding placeQuestions
+  place-full whole full = judged-yes 2 _ _ _ whole (judged-no 3 _ _ (λ h. omega arith))
+
+  pub place-misshapen : WholeAt bytes place → i < rowLimit → ¬ ShapeFits (bodyAt bytes place) → Judged (placeQuestions bytes i place) (Refused 4)
+  unfolding placeQuestions
+  place-misshapen whole room shape = judged-yes 2 _ _ _ whole (judged-yes 3 _ _ _ room (judged-no 4 _ _ shape))
+
+  pub place-row : (a : Answer) → WholeAt bytes place → i < rowLimit → ShapeFits (bodyAt bytes place) → Judged (rowQuestions (constraintOf (bodyAt bytes place))) a
+      → Judged (placeQuestions bytes i place) a
+  unfolding placeQuestions
+  place-row a whole room shape judged = judged-yes 2 _ _ _ whole (judged-yes 3 _ _ _ room (judged-yes 4 _ _ _ shape judged))
+
+  -- a row that is taken is whole, and there is room for it
+  pub place-taken : Judged (placeQuestions bytes i place) Taken → WholeAt bytes place × (i < rowLimit)
+  unfolding placeQuestions
+  place-taken judged =
+      let whole = judged-all 2 (WholeAt bytes place) _ judged in
+      (whole .0, judged-all 3 (i < rowLimit) _ (whole .1) .0)
+
+-- the part of the bytes from the one place to the other is the body
+pub part-body : (bytes : List ℕ) (place size : ℕ) → size ≡ lengthAt bytes place
+    → take (place + 2 + size - (place + 2)) (drop (place + 2) bytes) ≡ bodyAt bytes place
+part-body bytes place size e = rw (add-sub-cancel-left (place + 2) size, e)
+
+-- a first byte that is 1 is there
+pub version-one : (bytes : List ℕ) → at bytes 0 ≡ 1 → VersionOne bytes
+version-one [] e = absurd (omega arith)
+version-one (byte ∷ bytes) e = (omega arith, e)

@@ -1,0 +1,77 @@
+-- Rows are read one after the other: what reading gives from a place on, behind the rows read before it, is what it gives from the start.
+use Prim.Native.Nat.{ℕ, _≤_, _<_}
+use mathlib.Core.Path.{_≡_, refl, sym, ap, subst, subst₂, _∙_}
+use mathlib.Core.List.{List, [], _∷_, _++_}
+use native.Mathlib.Omega.{arith}
+use lib.ListN.{length, length-append}
+use Rattle.constraint.specs.Questions.{Judged}
+use Rattle.constraint.specs.Rows.{rowsOf, tableOf, withRow}
+use Rattle.constraint.specs.Table.{placeQuestions, TableRead, table-of, table-refused, rowThen, ReadsRows, no-more, row-refused, row-taken}
+use Rattle.constraint.specs.declared.Answer.the-variants.{Refused}
+use Rattle.constraint.specs.declared.Constraint.{Constraint}
+use Rattle.constraint.specs.declared.Table.{Table}
+use Rattle.table.specs.declared.reader.RowRead.{RowRead}
+use Rattle.table.proofs.Places.{place-taken}
+use Rattle.constraint.proofs.Records.{record-count, record-more, record-rows}
+use Rattle.table.specs.Rows.{ReadsRow}
+
+-- what is read behind some rows
+unfoldable pub rowsThen : List Constraint → TableRead → TableRead
+rowsThen [] later = later
+rowsThen (c ∷ rows) later = rowThen c (rowsThen rows later)
+
+then-more : (rows : List Constraint) (c : Constraint) (later : TableRead) → rowsThen rows (rowThen c later) ≡ rowsThen (rows ++ (c ∷ [])) later
+unfolding rowsThen
+then-more [] c later = refl
+then-more (d ∷ rows) c later = ap (rowThen d) (then-more rows c later)
+
+then-refused : (rows : List Constraint) (n place : ℕ) → rowsThen rows (table-refused n place) ≡ table-refused n place
+unfolding rowsThen
+then-refused [] n place = refl
+then-refused (c ∷ rows) n place = ap (rowThen c) (then-refused rows n place)
+
+then-end : (rows : List Constraint) → rowsThen rows (table-of []) ≡ table-of rows
+unfolding rowsThen
+then-end [] = refl
+then-end (c ∷ rows) = ap (rowThen c) (then-end rows)
+
+-- the table holds the rows before a place, and what is read from there on, behind them, is the whole
+pub record ReadUpTo (bytes : List ℕ) (table : Table) (place : ℕ) : Type 0 where
+  pub rows : List Constraint
+  pub holds : table ≡ tableOf rows
+  pub within : place ≤ length bytes
+  pub whole : (later : TableRead) → ReadsRows bytes (length rows) place later → ReadsRows bytes 0 1 (rowsThen rows later)
+
+pub up-to-start : (bytes : List ℕ) (table : Table) → 0 < length bytes → table ≡ tableOf [] → ReadUpTo bytes table 1
+unfolding rowsThen
+up-to-start bytes table there none = record { rows = []; holds = none; within = there; whole = λ later reads. reads }
+
+pub up-to-more : (bytes : List ℕ) (table : Table) (place next : ℕ) (c : Constraint) → ReadUpTo bytes table place → place < length bytes
+    → ReadsRow bytes (table .count) place (RowRead.Row c next) → ReadUpTo bytes (withRow table c) next
+up-to-more bytes table place next c before there read =
+    let taken = place-taken bytes (table .count) place (read .0) in
+    let counted = record-count table (before .rows) (before .holds) in
+    record {
+      rows = before .rows ++ (c ∷ []);
+      holds = ap (λ (t : Table). withRow t c) (before .holds) ∙ record-more (before .rows) c (omega arith);
+      within = omega arith;
+      whole = λ later reads.
+          subst (ReadsRows bytes 0 1) (then-more (before .rows) c later)
+          (before .whole (rowThen c later)
+          (subst (λ (row : Constraint). ReadsRows bytes (length (before .rows)) place (rowThen row later)) (sym (read .1))
+          (row-taken there (rw counted at (read .0))
+          (subst₂ (λ (i p : ℕ). ReadsRows bytes i p later) (length-append (before .rows) (c ∷ [])) (read .2) reads))));
+    }
+
+pub up-to-refused : (bytes : List ℕ) (table : Table) (place n : ℕ) → ReadUpTo bytes table place → place < length bytes
+    → Judged (placeQuestions bytes (table .count) place) (Refused n) → ReadsRows bytes 0 1 (table-refused n place)
+up-to-refused bytes table place n before there judged =
+    let counted = record-count table (before .rows) (before .holds) in
+    subst (ReadsRows bytes 0 1) (then-refused (before .rows) n place)
+    (before .whole (table-refused n place) (row-refused n there (rw counted at judged)))
+
+pub up-to-end : (bytes : List ℕ) (table : Table) (place : ℕ) → ReadUpTo bytes table place → length bytes ≤ place
+    → ReadsRows bytes 0 1 (table-of (rowsOf table)) × (table ≡ tableOf (rowsOf table))
+up-to-end bytes table place before end =
+    let rows : rowsOf table ≡ before .rows = ap rowsOf (before .holds) ∙ record-rows (before .rows) in
+    (rw rows (subst (ReadsRows bytes 0 1) (then-end (before .rows)) (before .whole (table-of []) (no-more end))), before .holds ∙ ap tableOf (sym rows))

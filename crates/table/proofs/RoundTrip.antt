@@ -1,0 +1,126 @@
+-- What is read from bytes is written back to those bytes, and what is written is read back, since a row and its body say the same.
+use Prim.Native.Nat.{ℕ, _+_, _<_}
+use mathlib.Core.Path.{_≡_, refl, sym, ap, ap₂, subst, subst₂, _∙_}
+use mathlib.Core.List.{List, [], _∷_, _++_, append-assoc}
+use native.Mathlib.Omega.{arith}
+use lib.ListN.{length, drop, length-append, length-drop, take-append-drop, drop-of-length-le}
+use lib.Seq.{take-at, drop-at, take-append-seam, drop-append-seam, length-take-le, drop-drop, drop-cons}
+use Rattle.constraint.specs.Limits.{rowLimit}
+use Rattle.constraint.specs.Bytes.{Bytes, bytesOf, bytesAt}
+use Rattle.constraint.specs.Questions.{Judged}
+use Rattle.constraint.specs.Accepted.{kinds, KindsFit, InRange, rowQuestions, rowsQuestions, Accepted}
+use Rattle.constraint.specs.Table.{rowBody, rowBytes, rowsBytes, tableBytes, ShapeFits, constraintOf, lengthAt, bodyAt, WholeAt, placeQuestions, TableRead, table-of, table-refused, rowThen, ReadsRows, no-more, row-refused, row-taken, ReadsTable, version-taken}
+use Rattle.constraint.specs.declared.Answer.the-variants.{Taken}
+use Rattle.constraint.specs.declared.Constraint.{Constraint}
+use Rattle.constraint.proofs.Judged.{judged-yes, judged-all, judged-parts}
+use Rattle.number.proofs.Numbers.{bytes-length, number-of-bytes}
+use Rattle.table.proofs.Bodies.{number-back, bytes-part, row-back, body-row, body-short, body-fits, row-length}
+
+-- From bytes to rows and back
+
+-- the bytes from a place on are a length field, a body and the rest
+split-row : (bytes : List ℕ) (place : ℕ)
+    → drop place bytes ≡ (bytesAt 2 bytes place ++ bodyAt bytes place) ++ drop (place + 2 + lengthAt bytes place) bytes
+split-row bytes place =
+    let size = lengthAt bytes place in
+    sym (append-assoc (bytesAt 2 bytes place) (bodyAt bytes place) (drop (place + 2 + size) bytes)
+    ∙ ap (λ (later : List ℕ). bytesAt 2 bytes place ++ (bodyAt bytes place ++ later)) (sym (drop-drop size (place + 2) bytes))
+    ∙ ap (λ (later : List ℕ). bytesAt 2 bytes place ++ later) (take-append-drop size (drop (place + 2) bytes) ∙ sym (drop-drop 2 place bytes))
+    ∙ take-append-drop 2 (drop place bytes))
+
+-- the bytes of the row at a place are those that stand there
+row-written : (bytes : List ℕ) (place : ℕ) → Bytes bytes → WholeAt bytes place → ShapeFits (bodyAt bytes place)
+    → rowBytes (constraintOf (bodyAt bytes place)) ≡ bytesAt 2 bytes place ++ bodyAt bytes place
+unfolding rowBytes
+row-written bytes place all whole fits =
+    let size = lengthAt bytes place in
+    let long : length (bodyAt bytes place) ≡ size = length-take-le size (drop (place + 2) bytes) (omega (arith, length-drop (place + 2) bytes, whole .1)) in
+    rw (row-back (bodyAt bytes place) (bytes-part bytes size (place + 2) all (whole .1)) fits, long, number-back 2 bytes place all (whole .0))
+
+-- rows that were read from a place on have the bytes that stand there
+abbrev WrittenBack : List ℕ → ℕ → TableRead → Type 0
+WrittenBack bytes place (table-of rows) = rowsBytes rows ≡ drop place bytes
+WrittenBack bytes place (table-refused n p) = Unit
+
+one-more : (bytes : List ℕ) (place : ℕ) (later : TableRead) → Bytes bytes → WholeAt bytes place → ShapeFits (bodyAt bytes place)
+    → WrittenBack bytes (place + 2 + lengthAt bytes place) later → WrittenBack bytes place (rowThen (constraintOf (bodyAt bytes place)) later)
+unfolding rowsBytes
+one-more bytes place (table-of rows) all whole fits written =
+    ap₂ (λ (first later : List ℕ). first ++ later) (row-written bytes place all whole fits) written ∙ sym (split-row bytes place)
+one-more bytes place (table-refused n p) all whole fits written = tt
+
+rows-written : (bytes : List ℕ) {i place : ℕ} {read : TableRead} → Bytes bytes → ReadsRows bytes i place read → WrittenBack bytes place read
+unfolding rowsBytes placeQuestions
+rows-written bytes all (no-more h) = sym (drop-of-length-le bytes h)
+rows-written bytes all (row-refused n h judged) = tt
+rows-written bytes all (row-taken {i} {place} {later} h judged rows) =
+    let whole = judged-all 2 (WholeAt bytes place) _ judged in
+    let shape = judged-all 4 (ShapeFits (bodyAt bytes place)) _ (judged-all 3 (i < rowLimit) _ (whole .1) .1) in
+    one-more bytes place later all (whole .0) (shape .0) (rows-written bytes all rows)
+
+-- what is read from bytes has those bytes
+pub read-then-write : (bytes : List ℕ) (rows : List Constraint) → Bytes bytes → ReadsTable bytes (table-of rows) → tableBytes rows ≡ bytes
+unfolding tableBytes
+read-then-write bytes rows all (version-taken version reads) =
+    ap₂ (λ (first : ℕ) (later : List ℕ). first ∷ later) (sym (version .1)) (rows-written bytes all reads) ∙ sym (drop-cons bytes 0 0 (version .0))
+
+-- From rows to bytes and back
+
+row-ranges : (c : Constraint) → Judged (rowQuestions c) Taken → InRange c
+row-ranges c judged = judged-all 6 (InRange c) _ (judged-all 5 (KindsFit (kinds c)) _ judged .1) .0
+
+-- the length field and the body of a row that stands behind other bytes
+module _ (before : List ℕ) (c : Constraint) (after : List ℕ) where
+  length-there : lengthAt (before ++ (rowBytes c ++ after)) (length before) ≡ length (rowBody c)
+  unfolding rowBytes
+  length-there =
+      rw (
+        drop-append-seam before (rowBytes c ++ after),
+        append-assoc (bytesOf 2 (length (rowBody c))) (rowBody c) after,
+        take-at (bytesOf 2 (length (rowBody c))) (rowBody c ++ after) 2 (bytes-length 2 (length (rowBody c))),
+      )
+      (number-of-bytes 2 (length (rowBody c)) (omega (arith, body-short c)))
+
+  body-there : bodyAt (before ++ (rowBytes c ++ after)) (length before) ≡ rowBody c
+  unfolding rowBytes
+  body-there =
+      rw (
+        length-there,
+        ← drop-drop 2 (length before) (before ++ (rowBytes c ++ after)),
+        drop-append-seam before (rowBytes c ++ after),
+        append-assoc (bytesOf 2 (length (rowBody c))) (rowBody c) after,
+        drop-at (bytesOf 2 (length (rowBody c))) (rowBody c ++ after) 2 (bytes-length 2 (length (rowBody c))),
+      )
+      (take-append-seam (rowBody c) after)
+
+  -- its questions are answered "yes" where the row's own are
+  row-read : (i : ℕ) → i < rowLimit → Judged (rowQuestions c) Taken → Judged (placeQuestions (before ++ (rowBytes c ++ after)) i (length before)) Taken
+  unfolding placeQuestions
+  row-read i room judged =
+      judged-yes 2 _ _ Taken (rw length-there (omega (arith, length-append before (rowBytes c ++ after), length-append (rowBytes c) after, row-length c)))
+      (judged-yes 3 _ _ Taken room
+      (judged-yes 4 _ _ Taken (rw body-there (body-fits c)) (rw (body-there, body-row c (row-ranges c judged)) judged)))
+
+rows-read : (before : List ℕ) (i : ℕ) (rows : List Constraint) → Judged (rowsQuestions i rows []) Taken
+    → ReadsRows (before ++ rowsBytes rows) i (length before) (table-of rows)
+unfolding rowsBytes rowsQuestions
+rows-read before i [] judged = no-more {place = length before} (omega (arith, length-append before []))
+rows-read before i (c ∷ rows) judged =
+    let after = rowsBytes rows in
+    let bytes = before ++ (rowBytes c ++ after) in
+    let room = judged-all 3 (i < rowLimit) _ judged in
+    let parts = judged-parts (rowQuestions c) (rowsQuestions (i + 1) rows []) (room .1) in
+    let next : length (before ++ rowBytes c) ≡ length before + 2 + lengthAt bytes (length before) =
+    omega (arith, length-append before (rowBytes c), row-length c, length-there before c after) in
+    let later : ReadsRows bytes (i + 1) (length before + 2 + lengthAt bytes (length before)) (table-of rows) =
+    subst₂ (λ (l : List ℕ) (place : ℕ). ReadsRows l (i + 1) place (table-of rows)) (append-assoc before (rowBytes c) after) next
+    (rows-read (before ++ rowBytes c) (i + 1) rows (parts .1)) in
+    subst (λ (row : Constraint). ReadsRows bytes i (length before) (table-of (row ∷ rows)))
+    (ap constraintOf (body-there before c after) ∙ body-row c (row-ranges c (parts .0)))
+    (row-taken (omega (arith, length-append before (rowBytes c ++ after), length-append (rowBytes c) after, row-length c))
+    (row-read before c after i (room .0) (parts .0)) later)
+
+-- what is written is read back
+pub write-then-read : (rows : List Constraint) → Accepted rows → ReadsTable (tableBytes rows) (table-of rows)
+unfolding tableBytes
+write-then-read rows accepted = version-taken (omega arith, refl) (rows-read (1 ∷ []) 0 rows accepted)

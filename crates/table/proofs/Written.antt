@@ -1,0 +1,45 @@
+-- The writer's questions are the rows' and then the room's, and storing a table at the front of a buffer leaves what stands behind it.
+use Prim.Native.Nat.{ℕ, _≤_, _<_}
+use mathlib.Core.Path.{_≡_, refl, _∙_}
+use mathlib.Core.List.{List, [], _∷_}
+use native.Mathlib.Omega.{arith}
+use lib.ListN.{length}
+use lib.Seq.{sets}
+use Rattle.constraint.specs.Questions.{Judged}
+use Rattle.constraint.specs.Accepted.{rowsQuestions}
+use Rattle.constraint.specs.Table.{rowsBytes, tableBytes}
+use Rattle.constraint.specs.declared.Answer.the-variants.{Taken, Refused}
+use Rattle.constraint.specs.declared.Constraint.{Constraint}
+use Rattle.constraint.proofs.Judged.{never, judged-none, judged-yes, judged-no, judged-later, judged-first}
+use Rattle.constraint.proofs.Accepted.{rows-then}
+use Rattle.number.proofs.Stores.{stores-front}
+use Rattle.table.specs.Writing.{Writes}
+use Rattle.table.specs.declared.WriteAnswer.{WriteAnswer}
+
+module _ (rows : List Constraint) (before : List ℕ) where
+  pub written-refused : (n : ℕ) → Judged (rowsQuestions 0 rows []) (Refused n) → Writes rows before (WriteAnswer.Refused n) before
+  written-refused n judged =
+      record {
+        judged = rw rows-then (judged-first (rowsQuestions 0 rows []) _ n judged);
+        buffer = refl;
+        counted = λ k e. never (cc);
+      }
+
+  pub written-short : Judged (rowsQuestions 0 rows []) Taken → length before < length (tableBytes rows) → Writes rows before (WriteAnswer.Refused 16) before
+  written-short judged short =
+      record {
+        judged = rw rows-then (judged-later (rowsQuestions 0 rows []) _ _ judged (judged-no 16 _ _ (λ room. omega arith)));
+        buffer = refl;
+        counted = λ k e. never (cc);
+      }
+
+  -- the version byte is stored, and then the rows
+  pub written-all : (size : ℕ) (one after : List ℕ) → Judged (rowsQuestions 0 rows []) Taken → length (tableBytes rows) ≤ length before
+      → size ≡ length (tableBytes rows) → one ≡ sets before 0 (1 ∷ []) → after ≡ sets one 1 (rowsBytes rows) → Writes rows before (WriteAnswer.Written size) after
+  unfolding tableBytes
+  written-all size one after judged room counted version stored =
+      record {
+        judged = rw rows-then (judged-later (rowsQuestions 0 rows []) _ _ judged (judged-yes 16 _ _ _ room judged-none));
+        buffer = stored ∙ rw version (stores-front before (tableBytes rows) room);
+        counted = λ k e. let same : k ≡ size = cc in same ∙ counted;
+      }

@@ -1,0 +1,123 @@
+-- The questions are put in their order, and the body is the part of the bytes that the definition names.
+use native.Mathlib.Omega.{arith}
+use borrow.Author.Needs.{needs}
+use mathlib.Core.Path.{_≡_, ap, subst, _∙_}
+use denote.Ref.{now}
+use Rattle.constraint.specs.Questions.{Judged, Decides}
+use Rattle.constraint.specs.Accepted.{rowQuestions}
+use Rattle.constraint.specs.Table.{ShapeFits, constraintOf, bodyAt, placeQuestions}
+use Rattle.constraint.specs.declared.Answer.{Answer}
+use Rattle.constraint.proofs.Judged.{passed, failed}
+use Rattle.table.proofs.Places.{place-short, place-full, place-misshapen, place-row, part-body}
+use Rattle.table.proofs.reader.read_row.Statement.{statement}
+use Rattle.table.proofs.reader.read_row.Tie as tie
+
+-- the shape that is tested is that of the body at the place
+shape : (c : tie.After-shape-fits) → Decides (ShapeFits (bodyAt (now (c .before .before .before .before .before .before .before .args .bytes)) (c .before .before .before .before .before .before .before .args .place))) (c .shape-fits .result)
+shape c =
+    let a = c .before .before .before .before .before .before .before .args in
+    let size = c .before .before .before .before .two-at in
+    subst (λ body. Decides (ShapeFits body) (c .shape-fits .result)) (part-body (now (a .bytes)) (a .place) (size .result) (size .ensures)) (c .shape-fits .ensures)
+
+-- the row that is judged is that of the body at the place
+row : (c : tie.After-row-of) → c .row-of .result ≡ constraintOf (bodyAt (now (c .before .before .before .before .before .before .before .before .before .args .bytes)) (c .before .before .before .before .before .before .before .before .before .args .place))
+row c =
+    let a = c .before .before .before .before .before .before .before .before .before .args in
+    let size = c .before .before .before .before .before .before .two-at in
+    c .row-of .ensures ∙ ap constraintOf (part-body (now (a .bytes)) (a .place) (size .result) (size .ensures))
+
+-- what the row's own questions answer is the answer
+answer : (c : tie.After-judge) (a : Answer) → c .judge .result ≡ a
+    → Judged (placeQuestions (now (c .before .before .before .before .before .before .before .before .before .before .args .bytes)) (c .before .before .before .before .before .before .before .before .before .before .args .before) (c .before .before .before .before .before .before .before .before .before .before .args .place)) a
+answer c a e =
+    let at-shape = c .before .before .before in
+    let start = at-shape .before .before .before .before .before .before .before .args in
+    place-row (now (start .bytes)) (start .before) (start .place) a (omega arith) (omega arith)
+    (passed (at-shape .shape-fits .result) (shape at-shape) (c .before .before .if4 .left))
+    (subst (λ r. Judged (rowQuestions r) a) (row (c .before)) (rw e at (c .judge .ensures)))
+
+sub-left : tie.Need-sub-left
+sub-left c = search needs
+
+returns : tie.Need-returns
+returns c =
+    let a = c .before .before .args in
+    place-short (now (a .bytes)) (a .before) (a .place) (λ whole. omega arith)
+
+two-at-requires : tie.Need-two-at-requires
+two-at-requires c κs = search needs
+
+returns-2 : tie.Need-returns-2
+returns-2 c =
+    let a = c .before .before .before .before .args in
+    place-short (now (a .bytes)) (a .before) (a .place) (λ whole. omega arith)
+
+returns-3 : tie.Need-returns-3
+returns-3 c =
+    let a = c .before .before .before .before .before .args in
+    place-full (now (a .bytes)) (a .before) (a .place) (omega arith) (c .if3 .taken)
+
+add-start : tie.Need-add-start
+add-start c = search needs
+
+add-next : tie.Need-add-next
+add-next c = search needs
+
+sub-body : tie.Need-sub-body
+sub-body c = search needs
+
+part-body-start : tie.Need-part-body-start
+part-body-start c = search needs
+
+part-body-end : tie.Need-part-body-end
+part-body-end c = search needs
+
+shape-fits-requires : tie.Need-shape-fits-requires
+shape-fits-requires c κs = search needs
+
+returns-4 : tie.Need-returns-4
+returns-4 c =
+    let at-shape = c .before in
+    let a = at-shape .before .before .before .before .before .before .before .args in
+    place-misshapen (now (a .bytes)) (a .before) (a .place) (omega arith) (omega arith) (failed (at-shape .shape-fits .result) (shape at-shape) (c .if4 .taken))
+
+row-of-requires : tie.Need-row-of-requires
+row-of-requires c κs = search needs
+
+judge-requires : tie.Need-judge-requires
+judge-requires c κs = search needs
+
+enum-told : tie.Need-enum-told
+enum-told c = search needs
+
+enum-known-number : tie.Need-enum-known-number
+enum-known-number c = search needs
+
+returns-5 : tie.Need-returns-5
+returns-5 c = (answer (c .before .before) _ (c .enum-told .given .1), row (c .before .before .before), omega arith)
+
+returns-6 : tie.Need-returns-6
+returns-6 c = answer (c .before .before .before) _ (c .before .number .given .1)
+
+pub read-row-spec : {M : Type 1} → statement M
+read-row-spec =
+    tie.close
+    (tie.spec
+    sub-left
+    returns
+    two-at-requires
+    returns-2
+    returns-3
+    add-start
+    add-next
+    sub-body
+    part-body-start
+    part-body-end
+    shape-fits-requires
+    returns-4
+    row-of-requires
+    judge-requires
+    enum-told
+    enum-known-number
+    returns-5
+    returns-6)

@@ -1,0 +1,92 @@
+-- The loop reads row after row: the record holds the rows read so far, and what is read from the place on, behind them, is the whole.
+use native.Mathlib.Omega.{arith}
+use borrow.Author.Needs.{needs}
+use Prim.Native.Nat.{_-_}
+use lib.ListN.{length}
+use denote.Ref.{now}
+use Rattle.table.specs.declared.reader.RowRead.{RowRead}
+use Rattle.table.proofs.Places.{place-taken}
+use Rattle.table.proofs.Progress.{ReadUpTo, up-to-start, up-to-more, up-to-refused, up-to-end}
+use Rattle.table.specs.Rows.{ReadsRow}
+use Rattle.table.proofs.reader.read_rows.Statement.{statement}
+use Rattle.table.proofs.reader.read_rows.Tie as tie
+
+abbrev Inv-loop : tie.InvT-loop
+Inv-loop bytes table₀ place₀ table place = ReadUpTo bytes table place
+
+abbrev μ-loop : tie.MeasureT-loop
+μ-loop bytes table₀ place₀ table place = length bytes - place
+
+-- what was read of the row that is put in the record
+row : (c : tie.After-row Inv-loop μ-loop)
+    → ReadsRow (now (c .before .before .before .before .before .before .before .args .bytes)) (c .before .before .before .before .loop .table .count)
+    (c .before .before .before .before .loop .place) (RowRead.Row (c .row .given .0 .0) (c .row .given .0 .1 .0))
+row c = rw (c .row .given .1) at (c .before .before .read-row .ensures)
+
+new-requires : tie.Need-new-requires Inv-loop μ-loop
+new-requires c κs = tt
+
+loop-holds : tie.Need-loop-holds Inv-loop μ-loop
+loop-holds c = up-to-start (now (c .before .before .args .bytes)) (c .new .result) (omega arith) (c .new .ensures)
+
+read-row-requires : tie.Need-read-row-requires Inv-loop μ-loop
+read-row-requires c κs = omega arith
+
+enum-known-row : tie.Need-enum-known-row Inv-loop μ-loop
+enum-known-row c = search needs
+
+with-row-requires : tie.Need-with-row-requires Inv-loop μ-loop
+with-row-requires c κs = tt
+
+loop-less : tie.Need-loop-less Inv-loop μ-loop
+loop-less c =
+    let at-loop = c .before .before .before .before .before .before in
+    let read = row (c .before .before) in
+    omega (arith, read .2)
+
+loop-again : tie.Need-loop-again Inv-loop μ-loop
+loop-again c =
+    let at-loop = c .before .before .before .before .before .before in
+    let bytes = now (at-loop .before .before .before .args .bytes) in
+    let room = place-taken bytes (at-loop .loop .table .count) (at-loop .loop .place) (row (c .before .before) .0) .1 in
+    rw (c .with-row .ensures .room room)
+    (up-to-more bytes (at-loop .loop .table) (at-loop .loop .place) _ _ (at-loop .loop .inv) (omega arith) (row (c .before .before)))
+
+enum-known-number : tie.Need-enum-known-number Inv-loop μ-loop
+enum-known-number c = search needs
+
+refused-requires : tie.Need-refused-requires Inv-loop μ-loop
+refused-requires c κs = tt
+
+returns : tie.Need-returns Inv-loop μ-loop
+returns c =
+    let at-number = c .before .before in
+    let at-loop = at-number .before .before .before .before in
+    let bytes = now (at-loop .before .before .before .args .bytes) in
+    let judged = rw (at-number .number .given .1) at (at-number .before .before .read-row .ensures) in (
+      rw (c .refused .ensures .0) (up-to-refused bytes (at-loop .loop .table) (at-loop .loop .place) _ (at-loop .loop .inv) (omega arith) judged),
+      rw (c .refused .ensures .0) (c .refused .ensures .1),
+    )
+
+returns-2 : tie.Need-returns-2 Inv-loop μ-loop
+returns-2 c =
+    let at-loop = c .before in
+    up-to-end (now (at-loop .before .before .before .args .bytes)) (at-loop .loop .table) (at-loop .loop .place) (at-loop .loop .inv) (c .loop-test .left)
+
+pub read-rows-spec : {M : Type 1} → statement M
+read-rows-spec =
+    tie.close
+    (tie.spec
+    Inv-loop
+    μ-loop
+    new-requires
+    loop-holds
+    read-row-requires
+    enum-known-row
+    with-row-requires
+    loop-less
+    loop-again
+    enum-known-number
+    refused-requires
+    returns
+    returns-2)

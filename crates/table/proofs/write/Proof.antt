@@ -1,0 +1,83 @@
+-- The rows' questions are put first, then the room's; then the version byte and the rows are stored.
+use native.Mathlib.Omega.{arith}
+use borrow.Author.Needs.{needs}
+use Prim.Native.Nat.{_≤_}
+use mathlib.Core.List.{[]}
+use denote.Ref.{now}
+use Rattle.constraint.specs.Limits.{rowLimit}
+use Rattle.constraint.specs.Questions.{Judged}
+use Rattle.constraint.specs.Accepted.{rowsQuestions}
+use Rattle.constraint.specs.Rows.{rowsOf}
+use Rattle.constraint.specs.declared.Answer.the-variants.{Taken}
+use Rattle.constraint.proofs.Rows.{rows-length}
+use Rattle.constraint.proofs.Accepted.{rows-room}
+use Rattle.table.proofs.Written.{written-refused, written-short, written-all}
+use Rattle.table.proofs.write.Statement.{statement}
+use Rattle.table.proofs.write.Tie as tie
+
+taken : (c : tie.After-enum-told) → Judged (rowsQuestions 0 (rowsOf (c .before .before .before .before .args .table)) []) Taken
+taken c = rw (c .enum-told .given .1) at (c .before .before .judge .ensures)
+
+few : (c : tie.After-enum-told) → c .before .before .before .before .args .table .count ≤ rowLimit
+few c =
+    let table = c .before .before .before .before .args .table in
+    omega (arith, rows-length table, rows-room 0 (rowsOf table) (omega arith) (taken c))
+
+judge-requires : tie.Need-judge-requires
+judge-requires c κs = search needs
+
+enum-known-number : tie.Need-enum-known-number
+enum-known-number c = search needs
+
+returns : tie.Need-returns
+returns c =
+    let at-judge = c .before .before .before in
+    let a = at-judge .before .before .args in
+    written-refused (rowsOf (a .table)) (now (a .buffer)) _ (rw (c .before .number .given .1) at (at-judge .judge .ensures))
+
+enum-told : tie.Need-enum-told
+enum-told c = search needs
+
+size-of-requires : tie.Need-size-of-requires
+size-of-requires c κs = few c
+
+returns-2 : tie.Need-returns-2
+returns-2 c =
+    let at-taken = c .before .before in
+    let a = at-taken .before .before .before .before .args in
+    written-short (rowsOf (a .table)) (now (a .buffer)) (taken at-taken) (omega (arith, c .before .size-of .ensures))
+
+put-byte-requires : tie.Need-put-byte-requires
+put-byte-requires c κs = search needs
+
+put-rows-requires : tie.Need-put-rows-requires
+put-rows-requires c κs =
+    let at-room = c .before .before .before .before .before in
+    let at-size = at-room .before in
+    (few (at-size .before), omega (arith, at-room .if1 .left, at-size .size-of .ensures, c .before .before .before .put-byte .kept .0))
+
+same-length : tie.Need-same-length
+same-length c = search needs
+
+returns-3 : tie.Need-returns-3
+returns-3 c =
+    let at-room = c .before .before .before .before .before .before .before .before in
+    let at-size = at-room .before in
+    let a = at-size .before .before .before .before .before .args in
+    written-all (rowsOf (a .table)) (now (a .buffer)) _ _ _ (taken (at-size .before)) (omega (arith, at-room .if1 .left, at-size .size-of .ensures)) (at-size .size-of .ensures)
+    (c .before .before .before .before .before .before .put-byte .ensures) (c .before .before .put-rows .ensures)
+
+pub write-spec : {M : Type 1} → statement M
+write-spec =
+    tie.close
+    (tie.spec
+    judge-requires
+    enum-known-number
+    returns
+    enum-told
+    size-of-requires
+    returns-2
+    put-byte-requires
+    put-rows-requires
+    same-length
+    returns-3)

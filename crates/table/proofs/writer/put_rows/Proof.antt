@@ -1,0 +1,115 @@
+-- The loop stores row after row: storing those left in what there is now gives the whole.
+use native.Mathlib.Omega.{arith}
+use Prim.Native.Nat.{_+_, _-_, _^_, _≤_, _<_}
+use mathlib.Core.Path.{_≡_, refl, sym, ap, _∙_}
+use mathlib.Core.List.{List}
+use lib.ListN.{length, getD, drop, length-map, drop-of-length-le}
+use lib.Seq.{sets}
+use Rattle.constraint.specs.Rows.{rowsOf}
+use Rattle.constraint.specs.Table.{rowBody, rowsBytes, tableBytes}
+use Rattle.constraint.specs.declared.Constraint.{Constraint}
+use Rattle.constraint.specs.declared.Constraint.the-variants.{Delay}
+use Rattle.constraint.proofs.Rows.{rows-length}
+use Rattle.table.proofs.Bodies.{row-length}
+use Rattle.table.proofs.Stores.{rows-size, rows-more}
+use Rattle.table.proofs.writer.put_rows.Statement.{statement}
+use Rattle.table.proofs.writer.put_rows.Tie as tie
+
+abbrev Inv-loop : tie.InvT-loop
+Inv-loop buffer₀ table count place₀ i₀ buffer place i =
+    (i ≤ count) × (length buffer ≡ length buffer₀) × (place + length (rowsBytes (drop i (rowsOf table))) ≡ length (tableBytes (rowsOf table)))
+    × (sets buffer place (rowsBytes (drop i (rowsOf table))) ≡ sets buffer₀ 1 (rowsBytes (rowsOf table)))
+
+abbrev μ-loop : tie.MeasureT-loop
+μ-loop buffer₀ table count place₀ i₀ buffer place i = count - i
+
+-- there is an entry for each row
+entries : (c : tie.In-loop Inv-loop μ-loop) → c .before .loop .i < length (c .before .before .before .args .t2 .rows)
+entries c =
+    let start = c .before .before .before in
+    let long : length (start .args .t2 .rows) ≡ 32 = sym (length-map (start .args .t2 .rows) _) ∙ start .good .1 .0 .1 .1 .0 .1 .0 .1 in
+    omega arith
+
+-- the row of a turn
+abbrev row : tie.In-loop Inv-loop μ-loop → Constraint
+row c = getD (c .before .before .before .args .t2 .rows) (c .before .loop .i) (record { constraint = Delay 0 0 0 0 }) .constraint
+
+size : (c : tie.In-loop Inv-loop μ-loop) → length (rowsBytes (drop (c .before .loop .i) (rowsOf (c .before .before .before .args .t2))))
+    ≡ 2 + length (rowBody (row c)) + length (rowsBytes (drop (c .before .loop .i + 1) (rowsOf (c .before .before .before .args .t2))))
+size c = rows-size (c .before .before .before .args .t2) (c .before .loop .i) _ (omega arith) (entries c)
+
+-- the row ends within the buffer
+fits : (c : tie.In-loop Inv-loop μ-loop) → c .before .loop .place + (2 + length (rowBody (row c))) < 2 ^ 63
+fits c = omega (arith, size c, c .before .before .before .pre, c .before .before .before .good)
+
+loop-holds : tie.Need-loop-holds Inv-loop μ-loop
+unfolding tableBytes
+loop-holds c = (omega arith, refl, omega arith, refl)
+
+mul-entry : tie.Need-mul-entry Inv-loop μ-loop
+mul-entry c = omega arith
+
+element-copy-out-entry : tie.Need-element-copy-out-entry Inv-loop μ-loop
+element-copy-out-entry c = omega arith
+
+put-row-requires : tie.Need-put-row-requires Inv-loop μ-loop
+put-row-requires c κs = let at-turn = c .before .before in omega (arith, size at-turn, row-length (row at-turn), at-turn .before .before .before .pre)
+
+length-of-requires : tie.Need-length-of-requires Inv-loop μ-loop
+length-of-requires c κs = tt
+
+add-place : tie.Need-add-place Inv-loop μ-loop
+add-place c = let at-turn = c .before .before .before .before .before .before in omega (arith, fits at-turn, c .length-of .ensures)
+
+add-place-2 : tie.Need-add-place-2 Inv-loop μ-loop
+add-place-2 c = let at-turn = c .before .before .before .before .before .before in omega (arith, fits at-turn, c .length-of .ensures)
+
+add-i : tie.Need-add-i Inv-loop μ-loop
+add-i c = omega arith
+
+loop-less : tie.Need-loop-less Inv-loop μ-loop
+loop-less c = omega arith
+
+loop-again : tie.Need-loop-again Inv-loop μ-loop
+loop-again c =
+    let at-turn = c .before .before .before .before .before .before in
+    let loop = at-turn .before .loop in
+    let table = at-turn .before .before .before .args .t2 in
+    let put = c .before .before .before .put-row in (
+      omega arith,
+      put .kept .0 ∙ loop .inv .1,
+      omega (arith, size at-turn, c .length-of .ensures),
+      rw (put .ensures, c .length-of .ensures)
+          (sym (rows-more table (loop .i) _ (omega arith) (entries at-turn) (loop .buffer) (loop .place)) ∙ loop .inv .3),
+    )
+
+same-length : tie.Need-same-length Inv-loop μ-loop
+same-length c = c .before .loop .inv .1
+
+returns : tie.Need-returns Inv-loop μ-loop
+unfolding rowsBytes
+returns c =
+    let at-loop = c .before in
+    let loop = at-loop .loop in
+    let table = at-loop .before .before .args .t2 in
+    sym (ap (λ (left : List Constraint). sets (loop .buffer) (loop .place) (rowsBytes left)) (drop-of-length-le (rowsOf table) {i = loop .i} (omega (arith, rows-length table))))
+    ∙ loop .inv .3
+
+pub put-rows-spec : {M : Type 1} → statement M
+put-rows-spec =
+    tie.close
+    (tie.spec
+    Inv-loop
+    μ-loop
+    loop-holds
+    mul-entry
+    element-copy-out-entry
+    put-row-requires
+    length-of-requires
+    add-place
+    add-place-2
+    add-i
+    loop-less
+    loop-again
+    same-length
+    returns)

@@ -1,0 +1,89 @@
+-- The loop stores time after time: storing those left in what there is now gives the whole.
+use native.Mathlib.Omega.{arith}
+use Prim.Native.Nat.{ℕ, _+_, _*_, _-_, _≤_}
+use mathlib.Core.Path.{_≡_, refl, sym, ap, _∙_}
+use mathlib.Core.List.{List}
+use lib.ListN.{length, getD, take, drop, length-map, drop-of-length-le}
+use lib.Seq.{sets, length-take-le, getD-take}
+use Rattle.table.proofs.Stores.{times-more}
+use Rattle.table.specs.Rows.{timesBytes}
+use Rattle.table.proofs.writer.put_times.Statement.{statement}
+use Rattle.table.proofs.writer.put_times.Tie as tie
+
+abbrev Inv-loop : tie.InvT-loop
+Inv-loop buffer₀ place times count next₀ i₀ buffer next i =
+    (i ≤ count) × (length buffer ≡ length buffer₀) × (next ≡ place + 8 * i)
+    × (sets buffer next (timesBytes (drop i (take count (times .values)))) ≡ sets buffer₀ place (timesBytes (take count (times .values))))
+
+abbrev μ-loop : tie.MeasureT-loop
+μ-loop buffer₀ place times count next₀ i₀ buffer next i = count - i
+
+-- there are as many times as the count says
+long : (c : tie.Start Inv-loop μ-loop) → length (take (c .args .t3 .count) (c .args .t3 .values)) ≡ c .args .t3 .count
+long c =
+    let size : length (c .args .t3 .values) ≡ 4 = sym (length-map (c .args .t3 .values) _) ∙ c .good .1 .1 .0 .1 .1 .0 .1 .0 .1 in
+    length-take-le (c .args .t3 .count) (c .args .t3 .values) (omega arith)
+
+loop-holds : tie.Need-loop-holds Inv-loop μ-loop
+loop-holds c = (omega arith, refl, omega arith, refl)
+
+mul-time : tie.Need-mul-time Inv-loop μ-loop
+mul-time c = omega arith
+
+element-copy-out-time : tie.Need-element-copy-out-time Inv-loop μ-loop
+element-copy-out-time c = omega arith
+
+put-eight-requires : tie.Need-put-eight-requires Inv-loop μ-loop
+put-eight-requires c κs = tt
+
+add-next : tie.Need-add-next Inv-loop μ-loop
+add-next c = omega arith
+
+add-i : tie.Need-add-i Inv-loop μ-loop
+add-i c = omega arith
+
+loop-less : tie.Need-loop-less Inv-loop μ-loop
+loop-less c = omega arith
+
+loop-again : tie.Need-loop-again Inv-loop μ-loop
+loop-again c =
+    let at-put = c .before .before in
+    let at-loop = at-put .before .before .before .before in
+    let start = at-loop .before .before in
+    let loop = at-loop .loop in
+    let xs = take (start .args .t3 .count) (start .args .t3 .values) in
+    let same : getD xs (loop .i) 0 ≡ getD (start .args .t3 .values) (loop .i) 0 = getD-take (start .args .t3 .count) (start .args .t3 .values) (loop .i) 0 (omega arith) in (
+      omega arith,
+      at-put .put-eight .kept .0 ∙ loop .inv .1,
+      omega arith,
+      rw (at-put .put-eight .ensures, ← same) (sym (times-more (loop .buffer) (loop .next) xs (loop .i) (omega (arith, long start))) ∙ loop .inv .3),
+    )
+
+same-length : tie.Need-same-length Inv-loop μ-loop
+same-length c = c .before .loop .inv .1
+
+returns : tie.Need-returns Inv-loop μ-loop
+unfolding timesBytes
+returns c =
+    let at-loop = c .before in
+    let start = at-loop .before .before in
+    let loop = at-loop .loop in
+    let xs = take (start .args .t3 .count) (start .args .t3 .values) in
+    sym (ap (λ (left : List ℕ). sets (loop .buffer) (loop .next) (timesBytes left)) (drop-of-length-le xs {i = loop .i} (omega (arith, long start)))) ∙ loop .inv .3
+
+pub put-times-spec : {M : Type 1} → statement M
+put-times-spec =
+    tie.close
+    (tie.spec
+    Inv-loop
+    μ-loop
+    loop-holds
+    mul-time
+    element-copy-out-time
+    put-eight-requires
+    add-next
+    add-i
+    loop-less
+    loop-again
+    same-length
+    returns)

@@ -1,0 +1,85 @@
+-- The loop adds row after row: the size so far and the bytes of the rows left are the whole.
+use native.Mathlib.Omega.{arith}
+use Prim.Native.Nat.{_+_, _*_, _-_, _≤_}
+use mathlib.Core.Path.{_≡_, sym, _∙_}
+use mathlib.Core.List.{[]}
+use lib.ListN.{length, drop, length-map, drop-of-length-le}
+use Rattle.constraint.specs.Rows.{rowsOf}
+use Rattle.constraint.specs.Table.{rowsBytes, tableBytes}
+use Rattle.constraint.proofs.Rows.{rows-length}
+use Rattle.table.proofs.Bodies.{body-short}
+use Rattle.table.proofs.Stores.{rows-size}
+use Rattle.table.proofs.writer.size_of.Statement.{statement}
+use Rattle.table.proofs.writer.size_of.Tie as tie
+
+abbrev Inv-loop : tie.InvT-loop
+Inv-loop table count size₀ i₀ size i = (i ≤ count) × (size ≤ 1 + 36 * i) × (size + length (rowsBytes (drop i (rowsOf table))) ≡ length (tableBytes (rowsOf table)))
+
+abbrev μ-loop : tie.MeasureT-loop
+μ-loop table count size₀ i₀ size i = count - i
+
+-- a table has 32 entries
+entries : (c : tie.Start Inv-loop μ-loop) → length (c .args .t1 .rows) ≡ 32
+entries c = sym (length-map (c .args .t1 .rows) _) ∙ c .good .0 .1 .1 .0 .1 .0 .1
+
+short : (c : tie.After-length-of Inv-loop μ-loop) → c .length-of .result ≤ 34
+short c = rw (c .length-of .ensures) (body-short _)
+
+loop-holds : tie.Need-loop-holds Inv-loop μ-loop
+unfolding tableBytes
+loop-holds c = (omega arith, omega arith, omega arith)
+
+mul-entry : tie.Need-mul-entry Inv-loop μ-loop
+mul-entry c = omega arith
+
+element-copy-out-entry : tie.Need-element-copy-out-entry Inv-loop μ-loop
+element-copy-out-entry c = omega arith
+
+length-of-requires : tie.Need-length-of-requires Inv-loop μ-loop
+length-of-requires c κs = tt
+
+add-size : tie.Need-add-size Inv-loop μ-loop
+add-size c = omega (arith, short c)
+
+add-size-2 : tie.Need-add-size-2 Inv-loop μ-loop
+add-size-2 c = omega (arith, short c)
+
+add-i : tie.Need-add-i Inv-loop μ-loop
+add-i c = omega arith
+
+loop-less : tie.Need-loop-less Inv-loop μ-loop
+loop-less c = omega arith
+
+loop-again : tie.Need-loop-again Inv-loop μ-loop
+loop-again c =
+    let at-loop = c .before .before .before in
+    let i = at-loop .loop .i in
+    let table = at-loop .before .args .t1 in
+    let next : length (rowsBytes (drop i (rowsOf table))) ≡ 2 + c .length-of .result + length (rowsBytes (drop (i + 1) (rowsOf table))) =
+    rw (c .length-of .ensures) (rows-size table i _ (omega arith) (omega (arith, entries (at-loop .before)))) in
+    omega (arith, short c)
+
+returns : tie.Need-returns Inv-loop μ-loop
+unfolding rowsBytes
+returns c =
+    let at-loop = c .before in
+    let table = at-loop .before .args .t1 in
+    let none : drop (at-loop .loop .i) (rowsOf table) ≡ [] = drop-of-length-le (rowsOf table) {i = at-loop .loop .i} (omega (arith, rows-length table)) in
+    omega (arith, rw none at (at-loop .loop .inv .2))
+
+pub size-of-spec : {M : Type 1} → statement M
+size-of-spec =
+    tie.close
+    (tie.spec
+    Inv-loop
+    μ-loop
+    loop-holds
+    mul-entry
+    element-copy-out-entry
+    length-of-requires
+    add-size
+    add-size-2
+    add-i
+    loop-less
+    loop-again
+    returns)

@@ -1,0 +1,21 @@
+-- What the writer's answer says, and its promise.
+use Prim.Native.Nat.{ℕ}
+use mathlib.Core.Path.{_≡_}
+use mathlib.Core.List.{List}
+use lib.ListN.{length}
+use Rattle.constraint.specs.Questions.{Judged}
+use Rattle.constraint.specs.Table.{tableBytes, writerQuestions, writtenTo}
+use Rattle.constraint.specs.declared.Answer.{Answer}
+use Rattle.constraint.specs.declared.Answer.the-variants.{Taken, Refused}
+use Rattle.constraint.specs.declared.Constraint.{Constraint}
+use Rattle.table.specs.declared.WriteAnswer.{WriteAnswer}
+
+abbrev pub answerOf : WriteAnswer → Answer
+answerOf (WriteAnswer.Written n) = Taken
+answerOf (WriteAnswer.Refused n) = Refused n
+
+-- the writer's promise: its answer is that of its questions, the buffer is what writing leaves, and the number is that of the bytes written
+pub record Writes (rows : List Constraint) (before : List ℕ) (r : WriteAnswer) (after : List ℕ) : Type 0 where
+  pub judged : Judged (writerQuestions rows before) (answerOf r)
+  pub buffer : after ≡ writtenTo before rows (answerOf r)
+  pub counted : (n : ℕ) → r ≡ WriteAnswer.Written n → n ≡ length (tableBytes rows)

@@ -1,0 +1,57 @@
+// The table's bytes: rows are read from a file's bytes, and written to a lent buffer.
+pub mod body;
+mod reader;
+mod writer;
+
+use constraint::Answer;
+use constraint::Table;
+ghost use Rattle.constraint.specs.Rows.{rowsOf};
+ghost use Rattle.table.specs.Reading.{ReadsInto};
+ghost use Rattle.table.specs.Writing.{Writes};
+
+// The answer to reading a table: accepted, or refused with the number of the first question answered "no" and the place.
+pub enum ReadAnswer {
+    Accepted,
+    Refused { number: u8, place: usize },
+}
+
+// What reading a table gives: the answer, and the rows that were read. After a refusal there are none.
+pub struct Reading {
+    pub answer: ReadAnswer,
+    pub table: Table,
+}
+
+// The answer to writing a table: the number of bytes written, or refused with the number of the first question answered "no".
+pub enum WriteAnswer {
+    Written(usize),
+    Refused(u8),
+}
+
+// Reads a table: its rows, or the first question answered "no" and the place.
+pub fn read(bytes: &[u8]) -> Reading
+    ensures { λ r. ⌜ ReadsInto (now (bytes .entry)) r ⌝ }
+{
+    if number::byte_at(bytes, 0) != 1 {
+        return reader::refused(1, 0);
+    }
+    reader::read_rows(bytes)
+}
+
+// Writes a table to a lent buffer. A refusal leaves the buffer as it was, and bytes after those written stay.
+pub fn write(table: Table, buffer: &mut [u8]) -> WriteAnswer
+    ensures { λ r. ⌜ Writes (rowsOf table) (now (buffer .entry)) r (now (buffer .exit)) ⌝ }
+{
+    match table.judge() {
+        Answer::Refused(number) => {
+            return WriteAnswer::Refused(number);
+        }
+        Answer::Taken => {}
+    }
+    let size = writer::size_of(table);
+    if buffer.len() < size {
+        return WriteAnswer::Refused(16);
+    }
+    number::put_byte(buffer, 0, 1);
+    writer::put_rows(buffer, table);
+    WriteAnswer::Written(size)
+}

@@ -1,0 +1,82 @@
+// Reads the rows of a table, row by row.
+use super::ReadAnswer;
+use super::Reading;
+use super::body::row_of;
+use super::body::shape_fits;
+use constraint::Answer;
+use constraint::Constraint;
+use constraint::Table;
+ghost use mathlib.Core.Path.{_≡_};
+ghost use mathlib.Core.List.{[]};
+ghost use Prim.Native.Nat.{_≤_, _<_};
+ghost use lib.ListN.{length};
+ghost use Rattle.constraint.specs.Rows.{tableOf};
+ghost use Rattle.constraint.specs.Table.{ReadsRows, table-refused};
+ghost use Rattle.table.specs.Reading.{readOf, rowsRead};
+ghost use Rattle.table.specs.Rows.{ReadsRow};
+
+// What reading one row gives: the row and the place of the next, or the number of the refusal.
+enum RowRead {
+    Row(Constraint, usize),
+    Refused(u8),
+}
+
+// A refusal, beside the table with no row.
+pub(crate) fn refused(number: u8, place: usize) -> Reading
+    ensures { λ r. ⌜ (readOf r ≡ table-refused number place) × (r .table ≡ tableOf []) ⌝ }
+{
+    let answer = ReadAnswer::Refused { number, place };
+    let table = Table::new();
+    Reading { answer, table }
+}
+
+// Questions 2 to 7, put to the row at a place with some rows before it.
+fn read_row(bytes: &[u8], place: usize, before: usize) -> RowRead
+    requires { ⌜ place ≤ length (now bytes) ⌝ }
+    ensures { λ r. ⌜ ReadsRow (now (bytes .entry)) before place r ⌝ }
+{
+    let left = bytes.len() - place;
+    if left < 2 {
+        return RowRead::Refused(2);
+    }
+    let size = number::two_at(bytes, place);
+    if left - 2 < size {
+        return RowRead::Refused(2);
+    }
+    if constraint::ROW_LIMIT <= before {
+        return RowRead::Refused(3);
+    }
+    let start = place + 2;
+    let next = start + size;
+    let body = &bytes[start..next];
+    if !shape_fits(body, size) {
+        return RowRead::Refused(4);
+    }
+    let row = row_of(body);
+    match row.judge() {
+        Answer::Taken => RowRead::Row(row, next),
+        Answer::Refused(number) => RowRead::Refused(number),
+    }
+}
+
+// The rows behind the version byte, row by row.
+pub(crate) fn read_rows(bytes: &[u8]) -> Reading
+    requires { ⌜ 0 < length (now bytes) ⌝ }
+    ensures { λ r. ⌜ ReadsRows (now (bytes .entry)) 0 1 (readOf r) × (r .table ≡ tableOf (rowsRead (readOf r))) ⌝ }
+{
+    let mut table = Table::new();
+    let mut place = 1;
+    while place < bytes.len() {
+        match read_row(bytes, place, table.count) {
+            RowRead::Row(row, next) => {
+                table = table.with_row(row);
+                place = next;
+            }
+            RowRead::Refused(number) => {
+                return refused(number, place);
+            }
+        }
+    }
+    let answer = ReadAnswer::Accepted;
+    Reading { answer, table }
+}

@@ -1,0 +1,2 @@
+-- Laws of rows given as raw bytes.
+pub mod Raw

@@ -1,0 +1,37 @@
+-- The code is that of the reader's answer.
+use borrow.Author.Needs.{needs}
+use mathlib.Core.Path.{sym}
+use denote.Ref.{now}
+use Rattle.constraint.proofs.Rows.{rows-length}
+use Rattle.table.proofs.Answers.{reads-as}
+use Rattle.table_host.proofs.table_read.Statement.{statement}
+use Rattle.table_host.proofs.table_read.Tie as tie
+
+read-requires : tie.Need-read-requires
+read-requires c κs = search needs
+
+enum-told : tie.Need-enum-told
+enum-told c = search needs
+
+enum-known-answer : tie.Need-enum-known-answer
+enum-known-answer c = search needs
+
+refusal-code-requires : tie.Need-refusal-code-requires
+refusal-code-requires c κs = search needs
+
+returns : tie.Need-returns
+returns c =
+    let at-read = c .before .before .before in
+    let r = at-read .read in
+    record { read = _; reads = reads-as (now (at-read .before .before .args .bytes)) (r .result) _ (c .enum-told .given .1) (r .ensures); code = sym (rows-length (r .result .table)) }
+
+returns-2 : tie.Need-returns-2
+returns-2 c =
+    let at-read = c .before .before .before .before .before in
+    let r = at-read .read in
+    record { read = _; reads = reads-as (now (at-read .before .before .args .bytes)) (r .result) _ (c .before .before .answer .given .1) (r .ensures); code = c .refusal-code .ensures }
+
+pub table-read-spec : {M : Type 1} → statement M
+table-read-spec =
+    tie.close
+    (tie.spec read-requires enum-told enum-known-answer refusal-code-requires returns returns-2)

@@ -1,0 +1,58 @@
+-- The rows that are written are those that were read.
+use borrow.Author.Needs.{needs}
+use denote.Ref.{now}
+use Rattle.table.proofs.Answers.{reads-as}
+use Rattle.table_host.specs.Codes.{not-read, rewritten}
+use Rattle.table_host.proofs.table_rewrite.Statement.{statement}
+use Rattle.table_host.proofs.table_rewrite.Tie as tie
+
+read-requires : tie.Need-read-requires
+read-requires c κs = search needs
+
+enum-told : tie.Need-enum-told
+enum-told c = search needs
+
+write-requires : tie.Need-write-requires
+write-requires c κs = search needs
+
+write-code-requires : tie.Need-write-code-requires
+write-code-requires c κs = search needs
+
+enum-known-answer : tie.Need-enum-known-answer
+enum-known-answer c = search needs
+
+refusal-code-requires : tie.Need-refusal-code-requires
+refusal-code-requires c κs = search needs
+
+same-length : tie.Need-same-length
+same-length c = search needs
+
+returns : tie.Need-returns
+returns c =
+    let at-write = c .before .before .before in
+    let at-told = at-write .before .before in
+    let at-read = at-told .before .before .before in
+    let r = at-read .read in
+    rewritten _ (reads-as (now (at-read .before .before .before .args .bytes)) (r .result) _ (at-told .enum-told .given .1) (r .ensures))
+    (record { answer = _; writes = at-write .write .ensures; code = c .write-code .ensures })
+
+returns-2 : tie.Need-returns-2
+returns-2 c =
+    let at-answer = c .before .before in
+    let at-read = at-answer .before .before .before in
+    let r = at-read .read in
+    not-read _ _ (reads-as (now (at-read .before .before .before .args .bytes)) (r .result) _ (at-answer .answer .given .1) (r .ensures)) (c .refusal-code .ensures)
+
+pub table-rewrite-spec : {M : Type 1} → statement M
+table-rewrite-spec =
+    tie.close
+    (tie.spec
+    read-requires
+    enum-told
+    write-requires
+    write-code-requires
+    enum-known-answer
+    refusal-code-requires
+    same-length
+    returns
+    returns-2)

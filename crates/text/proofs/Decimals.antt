@@ -1,0 +1,118 @@
+-- Decimal digits: how the code takes them off one by one, how many there are, and what they stand for.
+use Prim.Native.Nat.{ℕ, zero, suc, _+_, _-_, _*_, _/_, _%_, _^_, _≤_, _<_}
+use mathlib.Core.Path.{_≡_, refl}
+use mathlib.Core.List.{List, [], _∷_, _++_, append-assoc}
+use mathlib.Core.Bool.{cond}
+use native.Mathlib.Nat.{pow-succ'}
+use native.Mathlib.Omega.{arith}
+use native.Mathlib.Decide.{decLt}
+use borrow.Author.Tests.{lt-ltb, le-ltb}
+use lib.Dec.{ltb}
+use lib.ListN.{length, set, drop, length-append, length-set, List·getD-append}
+use lib.Seq.{drop-cons, getD-set-same, drop-set-lt}
+use Rattle.constraint.specs.Steps.{at}
+use Rattle.constraint.specs.Report.{digits, decimal}
+
+-- One by one from the last
+
+-- the last digit is taken off
+pub digits-more : (n x : ℕ) (rest : List ℕ) → 0 < n → 10 ≤ x → digits n x ++ rest ≡ digits (n - 1) (x / 10) ++ (48 + x % 10) ∷ rest
+unfolding digits
+digits-more zero x rest some more = absurd (omega arith)
+digits-more (suc n) x rest some more =
+    let less : suc n - 1 ≡ n = omega arith in
+    rw (less, le-ltb x 10 more, append-assoc (digits n (x / 10)) ((48 + x % 10) ∷ []) rest)
+
+-- one digit is left
+pub digits-one : (n x : ℕ) → 0 < n → x < 10 → digits n x ≡ (48 + x) ∷ []
+unfolding digits
+digits-one zero x some one = absurd (omega arith)
+digits-one (suc n) x some one =
+    let same : x % 10 ≡ x = omega arith in
+    rw (lt-ltb x 10 one, same)
+
+-- a number with more than one digit, in suc n places: without its last it has room in n
+digits-left : (n x : ℕ) → x < 10 ^ suc n → 10 ≤ x → (0 < n) × (x / 10 < 10 ^ n)
+digits-left zero x fits more = absurd (omega arith)
+digits-left (suc n) x fits more = (omega arith, omega (arith, pow-succ' 10 (suc n)))
+
+pub digits-room : (n x : ℕ) → x < 10 ^ n → 10 ≤ x → (0 < n - 1) × (x / 10 < 10 ^ (n - 1))
+digits-room zero x fits more = absurd (omega arith)
+digits-room (suc n) x fits more =
+    let less : suc n - 1 ≡ n = omega arith in
+    rw less (digits-left n x fits more)
+
+-- a byte is stored in front of the others
+pub drop-stored : (l : List ℕ) (start v : ℕ) → 0 < start → start ≤ length l → drop (start - 1) (set l (start - 1) v) ≡ v ∷ drop start l
+drop-stored l zero v some there = absurd (omega arith)
+drop-stored l (suc i) v some there =
+    let less : suc i - 1 ≡ i = omega arith in
+    rw (less, drop-cons (set l i v) i 0 (omega (arith, length-set l i v)), getD-set-same l i v 0 (omega arith), drop-set-lt (suc i) l i v (omega arith))
+
+-- How many there are
+
+-- the last digit is taken off, or it is the only one
+by-last : (P : List ℕ → Type 0) (n x : ℕ) → (x < 10 → P ((48 + x) ∷ [])) → (10 ≤ x → P (digits n (x / 10) ++ ((48 + x % 10) ∷ []))) → P (digits (suc n) x)
+unfolding digits
+by-last P n x one more = go (decLt x 10)
+  where
+    go : Dec (x < 10) → P (cond (ltb x 10) [] (digits n (x / 10)) ++ ((48 + x % 10) ∷ []))
+    go (yes below) = let same : x % 10 ≡ x = omega arith in rw (lt-ltb x 10 below, same) (one below)
+    go (no above) = let higher : 10 ≤ x = omega arith in rw (le-ltb x 10 higher) (more higher)
+
+digits-length : (n x : ℕ) → length (digits n x) ≤ n
+unfolding digits
+digits-length zero x = omega arith
+digits-length (suc n) x =
+    by-last (λ list. length list ≤ suc n) n x (λ below. omega arith)
+    (λ above. omega (arith, length-append (digits n (x / 10)) ((48 + x % 10) ∷ []), digits-length n (x / 10)))
+
+digits-some : (n x : ℕ) → 0 < n → 0 < length (digits n x)
+digits-some zero x some = absurd (omega arith)
+digits-some (suc n) x some =
+    by-last (λ list. 0 < length list) n x (λ below. omega arith) (λ above. omega (arith, length-append (digits n (x / 10)) ((48 + x % 10) ∷ [])))
+
+-- a number has from 1 to 20 digits
+pub decimal-length : (x : ℕ) → (1 ≤ length (decimal x)) × (length (decimal x) ≤ 20)
+decimal-length x = (digits-some 20 x (omega arith), digits-length 20 x)
+
+-- What they stand for
+
+-- the number that digits stand for, the most significant first, behind those that stand for `high`
+pub valueBehind : ℕ → List ℕ → ℕ
+valueBehind high [] = high
+valueBehind high (digit ∷ list) = valueBehind (high * 10 + (digit - 48)) list
+
+value-last : (high : ℕ) (list : List ℕ) (digit : ℕ) → valueBehind high (list ++ (digit ∷ [])) ≡ valueBehind high list * 10 + (digit - 48)
+unfolding valueBehind
+value-last high [] digit = refl
+value-last high (first ∷ list) digit = value-last (high * 10 + (first - 48)) list digit
+
+digits-value : (n x : ℕ) → 0 < n → x < 10 ^ n → valueBehind 0 (digits n x) ≡ x
+unfolding valueBehind
+digits-value zero x some fits = absurd (omega arith)
+digits-value (suc n) x some fits =
+    by-last (λ list. valueBehind 0 list ≡ x) n x (λ below. omega arith)
+    (λ above.
+    let room = digits-left n x fits above in
+    rw (value-last 0 (digits n (x / 10)) (48 + x % 10), digits-value n (x / 10) (room .0) (room .1)) (omega arith))
+
+digits-first : (n x : ℕ) → 0 < n → x < 10 ^ n → 0 < x → 48 < at (digits n x) 0
+digits-first zero x some fits above = absurd (omega arith)
+digits-first (suc n) x some fits positive =
+    by-last (λ list. 48 < at list 0) n x (λ below. omega arith)
+    (λ above.
+    let room = digits-left n x fits above in
+    rw (List·getD-append (digits n (x / 10)) ((48 + x % 10) ∷ []) 0 0 (digits-some n (x / 10) (room .0)))
+    (digits-first n (x / 10) (room .0) (room .1) (omega arith)))
+
+-- 20 digits are enough: they stand for the number
+pub decimal-value : (x : ℕ) → x < 10 ^ 20 → valueBehind 0 (decimal x) ≡ x
+decimal-value x fits = digits-value 20 x (omega arith) fits
+
+-- no leading zeros: the first digit is 0 of the number 0 alone, which is one digit
+pub decimal-first : (x : ℕ) → x < 10 ^ 20 → 0 < x → 48 < at (decimal x) 0
+decimal-first x fits positive = digits-first 20 x (omega arith) fits positive
+
+pub decimal-zero : decimal 0 ≡ 48 ∷ []
+decimal-zero = digits-one 20 0 (omega arith) (omega arith)

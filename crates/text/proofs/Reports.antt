@@ -1,0 +1,68 @@
+-- A report's text line by line, its length, and what copying it out says of the report.
+use Prim.Native.Nat.{ℕ, suc, _+_, _*_, _≤_, _<_}
+use mathlib.Core.Path.{_≡_, ap}
+use mathlib.Core.List.{List, [], _∷_, _++_, append-assoc}
+use native.Mathlib.Decide.{decLt}
+use native.Mathlib.Nat.{add-zero}
+use native.Mathlib.Omega.{arith}
+use lib.ListN.{length, length-append}
+use Rattle.constraint.specs.Limits.{rowLimit}
+use Rattle.constraint.specs.Report.{verdictText, rowLines, closedText, refusedText, ReportOf, Reports, written, too-short}
+use Rattle.constraint.specs.declared.Verdict.{Verdict}
+use Rattle.constraint.specs.declared.Verdict.the-variants.{Open, Kept, Broken}
+use Rattle.text.specs.Content.{textLimit, Copied}
+use Rattle.text.specs.Lines.{closedLine, rowLine}
+use Rattle.text.proofs.Decimals.{decimal-length}
+
+-- Line by line
+
+-- the first row's line, and those of the rows behind it
+pub rows-more : (i : ℕ) (v : Verdict) (later : List Verdict) → rowLines i (v ∷ later) ≡ rowLine i v ++ rowLines (i + 1) later
+unfolding rowLines
+rows-more i v later = simp append-assoc
+
+-- the lines of some rows, and those of the rows behind them
+pub rows-append : (i : ℕ) (first later : List Verdict) → rowLines i (first ++ later) ≡ rowLines i first ++ rowLines (i + length first) later
+unfolding rowLines
+rows-append i [] later = rw add-zero
+rows-append i (v ∷ first) later =
+    let next : i + 1 + length first ≡ i + suc (length first) = omega arith in
+    rw (rows-append (i + 1) first later, next) (simp append-assoc)
+
+pub closed-append : (count : ℕ) (verdicts : List Verdict) → closedText count verdicts ≡ closedLine count ++ rowLines 0 verdicts
+closed-append count verdicts = simp append-assoc
+
+-- Its length
+
+verdict-length : (v : Verdict) → length (verdictText v) ≤ 27
+verdict-length Open = omega arith
+verdict-length Kept = omega arith
+verdict-length (Broken n) = omega (arith, decimal-length n)
+
+pub row-length : (i : ℕ) (v : Verdict) → length (rowLine i v) ≤ 49
+row-length i v = simp length-append (omega (arith, decimal-length i, verdict-length v))
+
+pub rows-length : (i : ℕ) (verdicts : List Verdict) → length (rowLines i verdicts) ≤ 49 * length verdicts
+unfolding rowLines
+rows-length i [] = omega arith
+rows-length i (v ∷ verdicts) =
+    omega (arith, ap length (rows-more i v verdicts), length-append (rowLine i v) (rowLines (i + 1) verdicts), row-length i v, rows-length (i + 1) verdicts)
+
+pub closed-length : (count : ℕ) (verdicts : List Verdict) → length verdicts ≤ rowLimit → length (closedText count verdicts) ≤ textLimit
+closed-length count verdicts few = simp length-append (omega (arith, decimal-length count, rows-length 0 verdicts))
+
+pub refused-length : (n place : ℕ) → length (refusedText n place) ≤ textLimit
+refused-length n place = simp length-append (omega (arith, decimal-length n, decimal-length place))
+
+-- Copied out
+
+-- a report's text that is copied to a buffer is reported
+pub copied-reports : (table recording text before : List ℕ) (answer : ℕ) (after : List ℕ)
+    → ReportOf table recording text → Copied text before answer after → Reports table recording before answer after
+copied-reports table recording text before answer after report copied = go (decLt (length before) (length text))
+  where
+    go : Dec (length before < length text) → Reports table recording before answer after
+    go (yes short) = rw (copied .too-short short .0, copied .too-short short .1) (too-short text report short)
+    go (no long) =
+        let fits : length text ≤ length before = omega arith in
+        rw (copied .fits fits .0, copied .fits fits .1) (written text report fits)

@@ -1,0 +1,71 @@
+-- The bytes copied are those that the text holds, and also of a text whose length says more than there is.
+use native.Mathlib.Omega.{arith}
+use Prim.Native.Nat.{_≤_}
+use mathlib.Core.Logic.{⊎-elim}
+use mathlib.Core.Path.{_≡_, sym, ap, _∙_}
+use lib.ListN.{length, take, length-map}
+use lib.Seq.{length-take-le, take-all}
+use borrow.Author.Needs.{needs}
+use denote.Ref.{now}
+use Rattle.text.specs.Content.{textLimit, content}
+use Rattle.text.proofs.Texts.{copied-all, copied-none}
+use Rattle.text.proofs.Text.copy_to.Statement.{statement}
+use Rattle.text.proofs.Text.copy_to.Tie as tie
+
+size : (c : tie.Start) → length (c .args .self .bytes) ≡ textLimit
+size c = sym (length-map (c .args .self .bytes) _) ∙ c .good .0 .1 .1 .0 .1 .0 .1
+
+within : (c : tie.Joined1) → c .if1 .len ≤ length (c .before .before .before .before .args .self .bytes)
+within c =
+    let start = c .before .before .before .before in
+    ⊎-elim (λ w. omega (arith, size start)) (λ w. omega (arith, size start)) (c .if1 .came)
+
+-- the bytes copied
+held : (c : tie.Joined1) → take (c .if1 .len) (c .before .before .before .before .args .self .bytes) ≡ content (c .before .before .before .before .args .self)
+held c =
+    let start = c .before .before .before .before in
+    let bytes = start .args .self .bytes in
+    ⊎-elim (λ w. rw (w .1))
+    (λ w. rw (w .1) (take-all textLimit bytes (omega (arith, size start)) ∙ sym (take-all (start .args .self .len) bytes (omega (arith, size start)))))
+    (c .if1 .came)
+
+-- their number
+counted : (c : tie.Joined1) → c .if1 .len ≡ length (content (c .before .before .before .before .args .self))
+counted c =
+    let bytes = c .before .before .before .before .args .self .bytes in
+    sym (length-take-le (c .if1 .len) bytes (within c)) ∙ ap length (held c)
+
+returns : tie.Need-returns
+returns c =
+    let start = c .before .before .before .before .before in
+    copied-none (content (start .args .self)) (now (start .args .buffer)) (omega (arith, counted (c .before)))
+
+array-share-prefix-bytes : tie.Need-array-share-prefix-bytes
+array-share-prefix-bytes c = within (c .before .before)
+
+slice-aggregate-put : tie.Need-slice-aggregate-put
+slice-aggregate-put c = sym (length-take-le _ _ (within (c .before .before .before)))
+
+put-requires : tie.Need-put-requires
+put-requires c κs = search needs
+
+same-length : tie.Need-same-length
+same-length c = search needs
+
+returns-2 : tie.Need-returns-2
+returns-2 c =
+    let joined = c .before .before .before .before .before .before in
+    let start = joined .before .before .before .before in
+    rw (c .before .before .put .ensures, held joined, counted joined)
+    (copied-all (content (start .args .self)) (now (start .args .buffer)) (omega (arith, counted joined)))
+
+pub copy-to-spec : {M : Type 1} → statement M
+copy-to-spec =
+    tie.close
+    (tie.spec
+    returns
+    array-share-prefix-bytes
+    slice-aggregate-put
+    put-requires
+    same-length
+    returns-2)

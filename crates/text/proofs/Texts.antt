@@ -1,0 +1,76 @@
+-- Bytes put behind a text, one after the other: what it holds then is what it held and those bytes, as long as there is room.
+use Prim.Native.Nat.{ℕ, suc, _+_, _≤_, _<_}
+use mathlib.Core.Path.{_≡_, refl, ap, _∙_}
+use mathlib.Core.List.{List, [], _∷_, _++_, append-assoc, append-nil}
+use native.Mathlib.Numerals.{add-one}
+use native.Mathlib.Omega.{arith}
+use borrow.Author.Tests.{lt-ltb, le-ltb}
+use lib.ListN.{length, getD, set, drop, length-append, length-set, length-replicate}
+use lib.Seq.{length-take-le, drop-cons, take-suc-set, sets}
+use Rattle.text.specs.Content.{textLimit, emptyText, pushed, extended, Holds, Copied}
+use Rattle.number.proofs.Stores.{stores-front}
+use Rattle.text.specs.declared.Text.{Text}
+
+-- Bytes behind a text
+
+pub extended-append : (first later : List ℕ) (text : Text) → extended (first ++ later) text ≡ extended later (extended first text)
+unfolding extended
+extended-append [] later text = refl
+extended-append (byte ∷ first) later text = extended-append first later (pushed byte text)
+
+-- a text with room stores the byte behind what it holds
+pushed-stored : (byte : ℕ) (text : Text) → text .len < textLimit → pushed byte text ≡ record { bytes = set (text .bytes) (text .len) byte; len = text .len + 1 }
+unfolding pushed
+pushed-stored byte text room = rw (lt-ltb (text .len) textLimit room)
+
+-- the first of the bytes left is stored
+pub extended-next : (list : List ℕ) (i : ℕ) (text : Text) → i < length list → text .len < textLimit
+    → extended (drop i list) text ≡ extended (drop (i + 1) list) (record { bytes = set (text .bytes) (text .len) (getD list i 0); len = text .len + 1 })
+unfolding extended
+extended-next list i text there room =
+    rw (drop-cons list i 0 there, add-one i) (ap (λ (next : Text). extended (drop (suc i) list) next) (pushed-stored (getD list i 0) text room))
+
+-- a full text takes none
+pub extended-full : (list : List ℕ) (text : Text) → textLimit ≤ text .len → extended list text ≡ text
+unfolding extended pushed
+extended-full [] text full = refl
+extended-full (byte ∷ list) text full = rw (le-ltb (text .len) textLimit full) (extended-full list text full)
+
+-- What a text holds
+
+held-length : (text : Text) (list : List ℕ) → Holds text list → text .len ≡ length list
+held-length text list holds = rw (← holds .held, length-take-le (text .len) (text .bytes) (omega arith))
+
+pub holds-nothing : Holds emptyText []
+unfolding emptyText
+holds-nothing = record { size = length-replicate {A = ℕ} textLimit 0; within = omega arith; held = refl }
+
+holds-pushed : (text : Text) (list : List ℕ) (byte : ℕ) → Holds text list → length list < textLimit → Holds (pushed byte text) (list ++ (byte ∷ []))
+holds-pushed text list byte holds room =
+    let len : text .len < textLimit = omega (arith, held-length text list holds) in
+    rw (pushed-stored byte text len)
+    (record {
+      size = length-set (text .bytes) (text .len) byte ∙ holds .size;
+      within = omega arith;
+      held = rw (add-one (text .len), take-suc-set (text .bytes) (text .len) byte (omega arith), holds .held);
+    })
+
+pub holds-extended : (text : Text) (list more : List ℕ) → Holds text list → length list + length more ≤ textLimit → Holds (extended more text) (list ++ more)
+unfolding extended
+holds-extended text list [] holds room = rw (append-nil list) holds
+holds-extended text list (byte ∷ more) holds room =
+    rw (← append-assoc list (byte ∷ []) more)
+    (holds-extended (pushed byte text) (list ++ (byte ∷ [])) more (holds-pushed text list byte holds (omega arith)) (omega (arith, length-append list (byte ∷ []))))
+
+-- a text that was made from nothing holds what was put there
+pub holds-all : (list : List ℕ) → length list ≤ textLimit → Holds (extended list emptyText) list
+holds-all list room = holds-extended emptyText [] list holds-nothing (omega arith)
+
+-- A text copied to a buffer
+
+pub copied-all : (text before : List ℕ) → length text ≤ length before → Copied text before (length text) (sets before 0 text)
+copied-all text before long =
+    record { fits = λ h. (refl, stores-front before text long); too-short = λ h. absurd (omega arith) }
+
+pub copied-none : (text before : List ℕ) → length before < length text → Copied text before 0 before
+copied-none text before short = record { fits = λ h. absurd (omega arith); too-short = λ h. (refl, refl) }

@@ -1,0 +1,90 @@
+-- The loop takes off the last digit: those of what is left, and those stored, are those of the number.
+use native.Mathlib.Omega.{arith}
+use Prim.Native.Nat.{_+_, _-_, _%_, _^_, _≤_, _<_}
+use mathlib.Core.List.{_++_, append-nil}
+use mathlib.Core.Path.{_≡_, refl, sym, _∙_}
+use lib.ListN.{length, drop, length-set}
+use Rattle.constraint.specs.Report.{digits, decimal}
+use Rattle.text.proofs.Decimals.{digits-more, digits-one, digits-room, drop-stored}
+use Rattle.text.proofs.digits_of.Statement.{statement}
+use Rattle.text.proofs.digits_of.Tie as tie
+
+abbrev Inv-loop : tie.InvT-loop
+Inv-loop x bytes₀ start₀ left₀ bytes start left =
+    (0 < start) × (start ≤ 20) × (left < 10 ^ start) × (length bytes ≡ 20) × (digits start left ++ drop start bytes ≡ decimal x)
+
+abbrev μ-loop : tie.MeasureT-loop
+μ-loop x bytes₀ start₀ left₀ bytes start left = start
+
+loop-holds : tie.Need-loop-holds Inv-loop μ-loop
+loop-holds c = (omega arith, omega arith, omega arith, refl, append-nil (decimal (c .args .x)))
+
+sub-start : tie.Need-sub-start Inv-loop μ-loop
+sub-start c = omega arith
+
+add-bytes : tie.Need-add-bytes Inv-loop μ-loop
+add-bytes c = omega arith
+
+cast-bytes : tie.Need-cast-bytes Inv-loop μ-loop
+cast-bytes c = omega arith
+
+array-write-bytes : tie.Need-array-write-bytes Inv-loop μ-loop
+array-write-bytes c = omega arith
+
+loop-less : tie.Need-loop-less Inv-loop μ-loop
+loop-less c = omega arith
+
+loop-again : tie.Need-loop-again Inv-loop μ-loop
+loop-again c =
+    let loop = c .before .loop in
+    let digit = 48 + loop .left % 10 in
+    let room = digits-room (loop .start) (loop .left) (omega arith) (omega arith) in (
+      room .0,
+      omega arith,
+      room .1,
+      length-set (loop .bytes) (loop .start - 1) digit ∙ loop .inv .3,
+      rw (drop-stored (loop .bytes) (loop .start) digit (omega arith) (omega arith))
+          (sym (digits-more (loop .start) (loop .left) (drop (loop .start) (loop .bytes)) (omega arith) (omega arith)) ∙ loop .inv .4),
+    )
+
+sub-start-2 : tie.Need-sub-start-2 Inv-loop μ-loop
+sub-start-2 c = omega arith
+
+add-bytes-2 : tie.Need-add-bytes-2 Inv-loop μ-loop
+add-bytes-2 c = omega arith
+
+cast-bytes-2 : tie.Need-cast-bytes-2 Inv-loop μ-loop
+cast-bytes-2 c = omega arith
+
+array-write-bytes-2 : tie.Need-array-write-bytes-2 Inv-loop μ-loop
+array-write-bytes-2 c = omega arith
+
+returns : tie.Need-returns Inv-loop μ-loop
+returns c =
+    let loop = c .before .loop in
+    let digit = 48 + loop .left in
+    record {
+      size = length-set (loop .bytes) (loop .start - 1) digit ∙ loop .inv .3;
+      within = omega arith;
+      spelled = rw (drop-stored (loop .bytes) (loop .start) digit (omega arith) (omega arith))
+          (rw (digits-one (loop .start) (loop .left) (omega arith) (omega arith)) at (loop .inv .4));
+    }
+
+pub digits-of-spec : {M : Type 1} → statement M
+digits-of-spec =
+    tie.close
+    (tie.spec
+    Inv-loop
+    μ-loop
+    loop-holds
+    sub-start
+    add-bytes
+    cast-bytes
+    array-write-bytes
+    loop-less
+    loop-again
+    sub-start-2
+    add-bytes-2
+    cast-bytes-2
+    array-write-bytes-2
+    returns)

@@ -1,0 +1,48 @@
+-- What a text holds, and what is made of it.
+use Prim.Native.Nat.{ℕ, _+_, _≤_, _<_}
+use mathlib.Core.Path.{_≡_}
+use mathlib.Core.Bool.{cond}
+use mathlib.Core.List.{List, [], _∷_, _++_}
+use lib.ListN.{length, take, drop, set, replicate}
+use lib.Dec.{ltb}
+use Rattle.constraint.specs.Report.{decimal}
+use Rattle.text.specs.declared.Digits.{Digits}
+use Rattle.text.specs.declared.Text.{Text}
+
+-- the digits of a number stand at the end of 20 bytes
+pub record Spells (digits : Digits) (x : ℕ) : Type 0 where
+  pub size : length (digits .bytes) ≡ 20
+  pub within : digits .start ≤ 20
+  pub spelled : drop (digits .start) (digits .bytes) ≡ decimal x
+
+-- how many bytes a text holds at most, which is more than any report has
+abbrev pub textLimit : ℕ
+textLimit = 2048
+
+-- what a text holds
+abbrev pub content : Text → List ℕ
+content text = take (text .len) (text .bytes)
+
+-- the text that holds nothing
+unfoldable pub emptyText : Text
+emptyText = record { bytes = replicate textLimit 0; len = 0 }
+
+-- the text with one byte more; a full one takes none
+unfoldable pub pushed : ℕ → Text → Text
+pushed byte text = cond (ltb (text .len) textLimit) (record { bytes = set (text .bytes) (text .len) byte; len = text .len + 1 }) text
+
+-- the text with bytes behind those that it holds, as many as it takes
+unfoldable pub extended : List ℕ → Text → Text
+extended [] text = text
+extended (byte ∷ list) text = extended list (pushed byte text)
+
+-- the text holds just that list
+pub record Holds (text : Text) (list : List ℕ) : Type 0 where
+  pub size : length (text .bytes) ≡ textLimit
+  pub within : text .len ≤ textLimit
+  pub held : content text ≡ list
+
+-- what copying a text to a lent buffer answers and leaves there: "the number of bytes written, or 0, with nothing written, if the buffer is too short"; "Bytes after those written stay"
+pub record Copied (text before : List ℕ) (answer : ℕ) (after : List ℕ) : Type 0 where
+  pub fits : length text ≤ length before → (answer ≡ length text) × (after ≡ text ++ drop (length text) before)
+  pub too-short : length before < length text → (answer ≡ 0) × (after ≡ before)

@@ -1,0 +1,5 @@
+//! What the benchmark measures, and a plain Rust monitor to measure it beside.
+
+pub mod load;
+pub mod measure;
+pub mod plain;

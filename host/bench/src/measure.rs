@@ -1,0 +1,136 @@
+//! The measurements: the library and plain Rust in turn, in one run, on the same steps.
+
+use crate::load::Load;
+use crate::plain::{self, Plain};
+use delkuthi::Monitor;
+use model::{Step, Verdict};
+use std::hint::black_box;
+use std::time::{Duration, Instant};
+
+/// How long something took, for so many steps or records: the best of several runs each.
+pub struct Measured {
+    pub what: String,
+    pub number: usize,
+    pub library: Duration,
+    pub plain: Duration,
+}
+
+impl Measured {
+    /// Steps or records of the library in a second.
+    pub fn library_rate(&self) -> f64 {
+        self.number as f64 / self.library.as_secs_f64()
+    }
+
+    /// Steps or records of plain Rust in a second.
+    pub fn plain_rate(&self) -> f64 {
+        self.number as f64 / self.plain.as_secs_f64()
+    }
+
+    /// How many times as long the library takes.
+    pub fn ratio(&self) -> f64 {
+        self.library.as_secs_f64() / self.plain.as_secs_f64()
+    }
+}
+
+/// Runs both, in turn, so many times; gives the best time of each.
+fn in_turn(runs: usize, mut library: impl FnMut(), mut plain: impl FnMut()) -> (Duration, Duration) {
+    let mut best = (Duration::MAX, Duration::MAX);
+    for _ in 0..runs {
+        best = (best.0.min(time(&mut library)), best.1.min(time(&mut plain)));
+    }
+    best
+}
+
+fn time(act: &mut impl FnMut()) -> Duration {
+    let start = Instant::now();
+    act();
+    start.elapsed()
+}
+
+/// Gives the steps to the library's monitor.
+///
+/// # Panics
+/// If one is refused.
+fn play_library(monitor: &mut Monitor, steps: &[Step]) {
+    for step in steps {
+        let answer = match *step {
+            Step::Event { kind, time } => monitor.event(kind, time),
+            Step::Tick { time } => monitor.tick(time),
+            Step::Close => monitor.close(),
+        };
+        assert!(answer.is_ok(), "{step}: {answer:?}");
+    }
+}
+
+/// Gives the steps to the plain monitor.
+///
+/// # Panics
+/// If one is refused.
+fn play_plain(monitor: &mut Plain, steps: &[Step]) {
+    for step in steps {
+        let answer = monitor.step(*step);
+        assert!(answer.is_ok(), "{step}: {answer:?}");
+    }
+}
+
+/// What the rows of the library's monitor read.
+fn verdicts(monitor: &Monitor) -> Vec<Verdict> {
+    let as_model = |verdict| match verdict {
+        delkuthi::Verdict::Open => Verdict::Open,
+        delkuthi::Verdict::Kept => Verdict::Kept,
+        delkuthi::Verdict::Broken(step) => Verdict::Broken(step),
+    };
+    monitor.verdicts().map(as_model).collect()
+}
+
+/// Plays the load on both: every row is open until the close, and the verdicts agree, before it and after.
+///
+/// # Panics
+/// If it is not so.
+pub fn agree(load: &Load) {
+    let mut library = Monitor::fresh(&load.table()).expect("an accepted table");
+    let mut plain = Plain::new(&load.rows);
+    play_library(&mut library, &load.steps);
+    play_plain(&mut plain, &load.steps);
+    assert_eq!(verdicts(&library), vec![Verdict::Open; load.rows.len()], "{}: open until the close", load.name);
+    assert_eq!(plain.verdicts(), verdicts(&library), "{}: before the close", load.name);
+    play_library(&mut library, &[Step::Close]);
+    play_plain(&mut plain, &[Step::Close]);
+    assert_eq!(plain.verdicts(), verdicts(&library), "{}: at the close", load.name);
+}
+
+/// Times the steps of a load on both monitors.
+pub fn steps(load: &Load, runs: usize) -> Measured {
+    let fresh = Monitor::fresh(&load.table()).expect("an accepted table");
+    let (library, plain) = in_turn(
+        runs,
+        || {
+            let mut monitor = fresh.clone();
+            play_library(&mut monitor, &load.steps);
+            black_box(monitor.rows());
+        },
+        || {
+            let mut monitor = Plain::new(&load.rows);
+            play_plain(&mut monitor, &load.steps);
+            black_box(monitor.count());
+        },
+    );
+    Measured { what: format!("steps, {}", load.name), number: load.steps.len(), library, plain }
+}
+
+/// Times reports on the load's largest recording, so many reports in a run.
+///
+/// # Panics
+/// If the reports differ.
+pub fn reports(load: &Load, runs: usize, each: usize) -> Measured {
+    let (table, recording) = (load.table(), load.largest_recording());
+    let mut buffers = [[0; delkuthi::REPORT_LIMIT]; 2];
+    let [one, other] = &mut buffers;
+    let (library, plain) = in_turn(
+        runs,
+        || (0..each).for_each(|_| assert!(delkuthi::report(black_box(&table), &recording, one).is_some())),
+        || (0..each).for_each(|_| assert!(plain::report::report(black_box(&table), &recording, other).is_some())),
+    );
+    assert!(buffers[0].starts_with(b"closed 5587\n") && buffers[0] == buffers[1], "the reports agree");
+    Measured { what: format!("records, {}", load.name), number: each * 5_586, library, plain }
+}

@@ -1,0 +1,182 @@
+//! A monitor in plain Rust, written for speed: everything changed in place, and only the rows looked at that a step
+//! concerns. It keeps the same waiting sources and gives the same answers and verdicts as the proved one.
+
+pub mod report;
+mod ring;
+mod rule;
+
+use model::{Answer, Constraint, LAST_KIND, LAST_TIME, Step, Verdict};
+use rule::Rule;
+
+/// A row: its rule, the last clock at which it is open without an event of its own, and the step that broke it (or 0).
+#[derive(Clone, Debug)]
+struct Row {
+    rule: Rule,
+    due: u64,
+    broken: u64,
+}
+
+/// The plain monitor. Sets of rows are bits of a number.
+#[derive(Clone, Debug)]
+pub struct Plain {
+    rows: Vec<Row>,
+    /// The rows that an event of each kind concerns.
+    concerned: [u32; 64],
+    /// The rows not broken, and those in which 64 wait.
+    open: u32,
+    full: u32,
+    /// No open row is due before this time.
+    soonest: u64,
+    /// For each kind the first time still free.
+    free: [u64; 64],
+    clock: u64,
+    count: u64,
+    closed: bool,
+}
+
+impl Plain {
+    /// A fresh monitor over at most 32 rows that are accepted.
+    pub fn new(rows: &[Constraint]) -> Plain {
+        let mut concerned = [0; 64];
+        for (place, row) in rows.iter().enumerate() {
+            row.kinds().iter().for_each(|kind| concerned[usize::from(*kind)] |= 1 << place);
+        }
+        let open = ((1u64 << rows.len()) - 1) as u32;
+        let rows = rows.iter().map(|row| Row { rule: Rule::new(row), due: u64::MAX, broken: 0 }).collect();
+        Plain { rows, concerned, open, full: 0, soonest: u64::MAX, free: [0; 64], clock: 0, count: 0, closed: false }
+    }
+
+    /// Takes a step, or refuses it with the number of its refusal.
+    pub fn step(&mut self, step: Step) -> Answer {
+        match step {
+            Step::Event { kind, time } => self.event(kind, time),
+            Step::Tick { time } => self.tick(time),
+            Step::Close => self.close(),
+        }
+    }
+
+    pub fn event(&mut self, kind: u8, time: u64) -> Answer {
+        if self.closed {
+            return Err(8);
+        }
+        if kind > LAST_KIND {
+            return Err(9);
+        }
+        if time > LAST_TIME {
+            return Err(10);
+        }
+        let place = usize::from(kind);
+        if time < self.clock || time < self.free[place] {
+            return Err(11);
+        }
+        let concerned = self.concerned[place] & self.open;
+        if concerned & self.full != 0 && self.crowded(concerned & self.full, kind, time) {
+            return Err(12);
+        }
+        self.count += 1;
+        self.clock = time;
+        self.free[place] = time + 1;
+        self.pass(time);
+        each(concerned & self.open, |row| self.row_event(row, kind, time));
+        Ok(())
+    }
+
+    pub fn tick(&mut self, time: u64) -> Answer {
+        if self.closed {
+            return Err(8);
+        }
+        if time > LAST_TIME {
+            return Err(10);
+        }
+        if time <= self.clock {
+            return Err(11);
+        }
+        self.count += 1;
+        self.clock = time;
+        self.pass(time);
+        Ok(())
+    }
+
+    pub fn close(&mut self) -> Answer {
+        if self.closed {
+            return Err(8);
+        }
+        self.count += 1;
+        self.closed = true;
+        each(self.open, |row| {
+            if !self.rows[row].rule.kept() {
+                self.break_row(row);
+            }
+        });
+        Ok(())
+    }
+
+    /// What the row of this number reads.
+    pub fn verdict(&self, row: usize) -> Result<Verdict, u8> {
+        match self.rows.get(row).map(|row| row.broken) {
+            None => Err(15),
+            Some(0) if self.closed => Ok(Verdict::Kept),
+            Some(0) => Ok(Verdict::Open),
+            Some(step) => Ok(Verdict::Broken(step)),
+        }
+    }
+
+    /// What every row reads.
+    pub fn verdicts(&self) -> Vec<Verdict> {
+        (0..self.rows.len()).filter_map(|row| self.verdict(row).ok()).collect()
+    }
+
+    /// How many steps were taken.
+    pub fn count(&self) -> u64 {
+        self.count
+    }
+
+    /// Would more than 64 wait in one of these rows that the event leaves open?
+    fn crowded(&self, rows: u32, kind: u8, time: u64) -> bool {
+        let mut crowded = false;
+        each(rows, |row| crowded |= time <= self.rows[row].due && self.rows[row].rule.crowded(kind, time));
+        crowded
+    }
+
+    /// The clock has passed to a time: rows that were due before are broken.
+    fn pass(&mut self, time: u64) {
+        if time <= self.soonest {
+            return;
+        }
+        self.soonest = u64::MAX;
+        each(self.open, |row| {
+            if self.rows[row].due < time {
+                self.break_row(row);
+            } else {
+                self.soonest = self.soonest.min(self.rows[row].due);
+            }
+        });
+    }
+
+    /// A row takes an event of one of its kinds.
+    fn row_event(&mut self, place: usize, kind: u8, time: u64) {
+        let row = &mut self.rows[place];
+        if !row.rule.event(kind, time) {
+            return self.break_row(place);
+        }
+        row.due = row.rule.due();
+        self.soonest = self.soonest.min(row.due);
+        let full = u32::from(row.rule.is_full()) << place;
+        self.full = self.full & !(1 << place) | full;
+    }
+
+    /// The step just counted breaks a row.
+    fn break_row(&mut self, place: usize) {
+        self.rows[place].broken = self.count;
+        self.open &= !(1 << place);
+        self.full &= !(1 << place);
+    }
+}
+
+/// Does something for each row of a set.
+fn each(mut rows: u32, mut act: impl FnMut(usize)) {
+    while rows != 0 {
+        act(rows.trailing_zeros() as usize);
+        rows &= rows - 1;
+    }
+}

@@ -1,0 +1,194 @@
+//! A row's constraint with what it keeps of the events so far, changed in place.
+
+use super::ring::Ring;
+use model::{Constraint, NO_LIMIT};
+
+/// No time: later than all.
+const NEVER: u64 = u64::MAX;
+
+/// A row type with its fields and its state.
+#[derive(Clone, Debug)]
+pub enum Rule {
+    /// The waiting sources, and the last target.
+    Delay { source: u8, lower: u64, upper: u64, waiting: Ring, target: u64 },
+    /// The sources beyond the targets, or the one target beyond the sources.
+    StrongDelay { source: u8, lower: u64, upper: u64, waiting: Ring, early: u64 },
+    /// The last events, as many as the span; a Burst too.
+    Repeat { span: usize, lower: u64, upper: u64, minimum: u64, events: Ring, last: u64 },
+    /// From where to where the last hidden point can be.
+    Sporadic { stride: u64, upper: u64, jitter: u64, minimum: u64, low: u64, high: u64, last: u64 },
+    /// How many sources are beyond the targets, or the one target beyond the sources.
+    Order { source: u8, ahead: u64, early: u64 },
+    /// The first times of the groups begun, and how many of these groups have an event of each kind.
+    StrongSynchronization { kinds: [u8; 4], n: usize, tolerance: u64, begun: Ring, counts: [usize; 4] },
+}
+
+impl Rule {
+    /// The rule before any event.
+    pub fn new(row: &Constraint) -> Rule {
+        match *row {
+            Constraint::Delay { source, lower, upper, .. } => {
+                Rule::Delay { source, lower, upper, waiting: Ring::default(), target: NEVER }
+            }
+            Constraint::StrongDelay { source, lower, upper, .. } => {
+                Rule::StrongDelay { source, lower, upper, waiting: Ring::default(), early: NEVER }
+            }
+            Constraint::Repeat { span, lower, upper, .. } => repeat(span, lower, upper, 0),
+            Constraint::Burst { maximum, length, minimum, .. } => repeat(maximum, length, NO_LIMIT, minimum),
+            Constraint::Sporadic { lower, upper, jitter, minimum, .. } => {
+                Rule::Sporadic { stride: lower.max(1), upper, jitter, minimum, low: 0, high: 0, last: NEVER }
+            }
+            Constraint::Order { source, .. } => Rule::Order { source, ahead: 0, early: NEVER },
+            Constraint::StrongSynchronization { kinds: ref list, tolerance } => {
+                let kinds = std::array::from_fn(|place| list.get(place).copied().unwrap_or(u8::MAX));
+                Rule::StrongSynchronization { kinds, n: list.len(), tolerance, begun: Ring::default(), counts: [0; 4] }
+            }
+        }
+    }
+
+    /// Would more than 64 wait after an event of one of its kinds?
+    pub fn crowded(&self, kind: u8, time: u64) -> bool {
+        match self {
+            Rule::Delay { source, lower, waiting, target, .. } => {
+                kind == *source && waiting.is_full() && !(*lower == 0 && *target == time)
+            }
+            Rule::StrongDelay { source, waiting, .. } => kind == *source && waiting.is_full(),
+            Rule::StrongSynchronization { kinds, begun, counts, .. } => {
+                begun.is_full() && counts[place(kinds, kind)] == begun.length()
+            }
+            Rule::Repeat { .. } | Rule::Sporadic { .. } | Rule::Order { .. } => false,
+        }
+    }
+
+    /// Takes an event of one of its kinds, before which it was not overdue. Is it still open?
+    pub fn event(&mut self, kind: u8, time: u64) -> bool {
+        match self {
+            Rule::Delay { source, lower, waiting, target, .. } => {
+                delay_event(kind == *source, *lower, waiting, target, time)
+            }
+            Rule::StrongDelay { source, lower, waiting, early, .. } => {
+                strong_delay_event(kind == *source, *lower, waiting, early, time)
+            }
+            Rule::Repeat { span, lower, upper, minimum, events, last } => {
+                let far_enough = *last == NEVER || time - *last >= *minimum;
+                *last = time;
+                let gap = if events.length() == *span { events.pop().map(|first| time - first) } else { None };
+                events.push(time);
+                far_enough && gap.is_none_or(|gap| *lower <= gap && gap <= *upper)
+            }
+            Rule::Sporadic { .. } => self.sporadic_event(time),
+            Rule::Order { source, ahead, early } => {
+                match (kind == *source, *early == NEVER) {
+                    (true, true) => *ahead += 1,
+                    (true, false) => *early = NEVER,
+                    (false, _) if *ahead > 0 => *ahead -= 1,
+                    (false, _) => *early = time,
+                }
+                true
+            }
+            Rule::StrongSynchronization { kinds, n, begun, counts, .. } => {
+                group_event(place(kinds, kind), &mut counts[..*n], begun, time);
+                true
+            }
+        }
+    }
+
+    /// A Sporadic's event: the places for the next point are those a stride to an upper behind the places for the last.
+    fn sporadic_event(&mut self, time: u64) -> bool {
+        let Rule::Sporadic { stride, upper, jitter, minimum, low, high, last } = self else { return true };
+        let first = *last == NEVER;
+        let fits = first || (time - *last >= *minimum && *stride <= *upper);
+        let near = time.saturating_sub(*jitter);
+        *low = if first { near } else { near.max(low.saturating_add(*stride)) };
+        *high = if first { time } else { time.min(high.saturating_add(*upper)) };
+        *last = time;
+        fits && *low <= *high
+    }
+
+    /// The last clock at which the row is open if none of its events comes.
+    pub fn due(&self) -> u64 {
+        match self {
+            Rule::Delay { upper, waiting, .. } => waiting.first().map_or(NEVER, |first| first + upper),
+            Rule::StrongDelay { upper, waiting, early, .. } => waiting.first().map_or(*early, |first| first + upper),
+            Rule::Order { early, .. } => *early,
+            Rule::StrongSynchronization { tolerance, begun, .. } => {
+                begun.first().map_or(NEVER, |first| first + tolerance)
+            }
+            Rule::Repeat { .. } | Rule::Sporadic { .. } => NEVER,
+        }
+    }
+
+    /// Is it kept if the recording is closed now?
+    pub fn kept(&self) -> bool {
+        match self {
+            Rule::Delay { waiting, .. } => waiting.is_empty(),
+            Rule::StrongDelay { waiting, early, .. } => waiting.is_empty() && *early == NEVER,
+            Rule::Order { ahead, early, .. } => *ahead == 0 && *early == NEVER,
+            Rule::StrongSynchronization { begun, .. } => begun.is_empty(),
+            Rule::Repeat { .. } | Rule::Sporadic { .. } => true,
+        }
+    }
+
+    /// Do 64 wait?
+    pub fn is_full(&self) -> bool {
+        match self {
+            Rule::Delay { waiting, .. } | Rule::StrongDelay { waiting, .. } => waiting.is_full(),
+            Rule::StrongSynchronization { begun, .. } => begun.is_full(),
+            Rule::Repeat { .. } | Rule::Sporadic { .. } | Rule::Order { .. } => false,
+        }
+    }
+}
+
+fn repeat(span: u8, lower: u64, upper: u64, minimum: u64) -> Rule {
+    Rule::Repeat { span: span.into(), lower, upper, minimum, events: Ring::default(), last: NEVER }
+}
+
+/// The place of a kind in a row's list, which has it.
+fn place(kinds: &[u8; 4], kind: u8) -> usize {
+    kinds.iter().position(|one| *one == kind).unwrap_or(0)
+}
+
+/// A Delay's source waits, unless the last target is its own; a target answers all sources that are far enough back.
+fn delay_event(source: bool, lower: u64, waiting: &mut Ring, target: &mut u64, time: u64) -> bool {
+    if source {
+        if lower != 0 || *target != time {
+            waiting.push(time);
+        }
+        return true;
+    }
+    while waiting.first().is_some_and(|first| time - first >= lower) {
+        waiting.pop();
+    }
+    *target = time;
+    true
+}
+
+/// A StrongDelay's source is the partner of the target beyond, or waits; a target is the oldest source's, or beyond.
+fn strong_delay_event(source: bool, lower: u64, waiting: &mut Ring, early: &mut u64, time: u64) -> bool {
+    if source {
+        if *early == NEVER {
+            waiting.push(time);
+        }
+        *early = NEVER;
+        return true;
+    }
+    match waiting.pop() {
+        Some(first) => time - first >= lower,
+        None => {
+            *early = time;
+            lower == 0
+        }
+    }
+}
+
+/// An event of a group: the next group of its kind has it, and may be complete by it; or it begins a group.
+fn group_event(place: usize, counts: &mut [usize], begun: &mut Ring, time: u64) {
+    if counts[place] == begun.length() {
+        begun.push(time);
+    }
+    counts[place] += 1;
+    if counts.iter().all(|count| *count > 0) {
+        begun.pop();
+        counts.iter_mut().for_each(|count| *count -= 1);
+    }
+}

@@ -1,0 +1,76 @@
+//! The loads of the benchmark: what they claim to be, and the verdicts of both monitors on them.
+
+use bench::load::{Load, dense, sparse};
+use bench::measure::agree;
+use bench::plain::report::report;
+use model::random::Random;
+use model::random::recordings::{damaged_recording, recording};
+use model::random::tables::{any_table, damaged_table};
+use model::{Verdict, report_text, table_bytes};
+
+fn loads(events: usize) -> [Load; 2] {
+    [sparse(events), dense(events)]
+}
+
+#[test]
+fn thirty_two_rows_of_all_types() {
+    for load in loads(10) {
+        let types = |row: &model::Constraint| row.type_byte();
+        assert_eq!(load.rows.len(), 32);
+        assert!((1..=7).all(|type_byte| load.rows.iter().map(types).any(|one| one == type_byte)));
+    }
+    assert_eq!((sparse(10).concerned(), dense(10).concerned()), ((1, 2), (25, 26)));
+}
+
+#[test]
+fn both_monitors_agree_and_rows_stay_open() {
+    loads(30_000).iter().for_each(agree);
+}
+
+#[test]
+fn the_model_agrees_too() {
+    for load in loads(1_500) {
+        let mut monitor = model::Monitor::fresh(&load.rows).expect("an accepted table");
+        load.steps.iter().for_each(|step| assert_eq!(monitor.step(*step), Ok(()), "{step}"));
+        assert_eq!(monitor.verdicts(), vec![Verdict::Open; 32]);
+    }
+}
+
+#[test]
+fn many_wait() {
+    for load in loads(8_000) {
+        let mut monitor = model::Monitor::fresh(&load.rows).expect("an accepted table");
+        let last = load.steps.len().min(4_000);
+        load.steps[..last].iter().for_each(|step| assert_eq!(monitor.step(*step), Ok(()), "{step}"));
+        let most = (0..32).filter_map(|row| monitor.waiting(row).ok()).max();
+        assert!(most >= Some(40), "{}: {most:?} wait at most", load.name);
+    }
+}
+
+#[test]
+fn the_largest_recording() {
+    for load in loads(6_000) {
+        let (table, recording) = (load.table(), load.largest_recording());
+        let mut buffers = [[0; delkuthi::REPORT_LIMIT]; 2];
+        assert_eq!(recording.len(), 61_440);
+        let written = report(&table, &recording, &mut buffers[0]);
+        assert_eq!(written, delkuthi::report(&table, &recording, &mut buffers[1]));
+        assert!(buffers[0] == buffers[1] && buffers[0].starts_with(b"closed 5587\n"));
+    }
+}
+
+#[test]
+fn plain_reports_beside_the_model() {
+    let mut random = Random::new(602);
+    let check = |table: &[u8], recording: &[u8]| {
+        let mut buffer = [0; 1024];
+        let written = report(table, recording, &mut buffer).expect("a buffer that is long enough");
+        assert_eq!(buffer[..written], *report_text(table, recording).as_bytes());
+    };
+    for _ in 0..500 {
+        let rows = any_table(&mut random);
+        check(&table_bytes(&rows), &recording(&mut random, &rows, 40));
+        check(&table_bytes(&rows), &damaged_recording(&mut random, &rows, 20));
+        check(&damaged_table(&mut random), &[1]);
+    }
+}

@@ -1,0 +1,121 @@
+/*
+ * The monitor's memory: memory ROUNDS
+ *
+ * Prints the size and the alignment of delkuthi_monitor, then makes calls on
+ * monitors in static memory, on the stack, in a struct and on the heap, filled
+ * with any bytes. They need only return, and leave the memory around alone.
+ */
+#include "delkuthi.h"
+#include "file.h"
+#include <stdio.h>
+#include <stdlib.h>
+#include <string.h>
+
+/* One row: Order of kinds 0 and 1. */
+static const uint8_t table[6] = {1, 0, 3, 6, 0, 1};
+
+struct aligned {
+    char before;
+    delkuthi_monitor monitor;
+};
+
+struct fenced {
+    uint64_t before[8];
+    delkuthi_monitor monitor;
+    uint64_t after[8];
+};
+
+static delkuthi_monitor in_static;
+static uint64_t state = 88172645463325252u;
+
+/* The next random number. */
+static uint64_t number(void)
+{
+    state ^= state << 13;
+    state ^= state >> 7;
+    state ^= state << 17;
+    return state;
+}
+
+/* Fills memory with random bytes, of all bits or of few. */
+static void fill(delkuthi_monitor *monitor)
+{
+    uint64_t shift = number() % 2 ? 0 : 64;
+    size_t i;
+
+    for (i = 0; i < sizeof monitor->words / sizeof monitor->words[0]; i++)
+        monitor->words[i] = number() >> (shift ? number() % shift : 0);
+}
+
+/* Calls of every sort, on whatever the memory holds. */
+static void calls(delkuthi_monitor *monitor)
+{
+    int i;
+
+    for (i = 0; i < 16; i++) {
+        uint64_t time = number() >> (number() % 64);
+
+        (void)delkuthi_event(monitor, (uint8_t)(number() % 72), time);
+        (void)delkuthi_tick(monitor, time + 1);
+        (void)delkuthi_verdict(monitor, number() % 40);
+        (void)delkuthi_verdict(monitor, number());
+        (void)delkuthi_rows(monitor);
+        if (i % 8 == 7)
+            (void)delkuthi_close(monitor);
+        if (number() % 8 == 0)
+            monitor->words[number() % 2788] = number();
+    }
+}
+
+/* Says whether a fresh monitor on this memory is fresh. */
+static int fresh(delkuthi_monitor *monitor)
+{
+    return delkuthi_fresh(monitor, table, sizeof table) == DELKUTHI_TAKEN && delkuthi_rows(monitor) == 1
+        && delkuthi_verdict(monitor, 0) == DELKUTHI_OPEN && delkuthi_verdict(monitor, 1) == DELKUTHI_NO_ROW
+        && delkuthi_event(monitor, 0, 5) == DELKUTHI_TAKEN && delkuthi_close(monitor) == DELKUTHI_TAKEN
+        && delkuthi_verdict(monitor, 0) == 2 && delkuthi_close(monitor) == DELKUTHI_CLOSED;
+}
+
+/* Calls on a monitor with a fence on both sides, which must stand. */
+static int stands(struct fenced *fenced)
+{
+    struct fenced like;
+
+    memset(like.before, 7, sizeof like.before);
+    memset(like.after, 7, sizeof like.after);
+    memcpy(fenced->before, like.before, sizeof like.before);
+    memcpy(fenced->after, like.after, sizeof like.after);
+    fill(&fenced->monitor);
+    calls(&fenced->monitor);
+    return fresh(&fenced->monitor) && memcmp(fenced->before, like.before, sizeof like.before) == 0
+        && memcmp(fenced->after, like.after, sizeof like.after) == 0;
+}
+
+/* Calls on memory of its own, at an address that is a multiple of 8, and of 16 or not. */
+static int stands_alone(size_t shift)
+{
+    uint8_t *block = block_of(sizeof(delkuthi_monitor) + shift);
+    delkuthi_monitor *monitor = (delkuthi_monitor *)(void *)(block + shift);
+    int well;
+
+    fill(monitor);
+    calls(monitor);
+    well = fresh(monitor);
+    free_block(block);
+    return well;
+}
+
+int main(int argc, char **argv)
+{
+    struct fenced on_stack;
+    int rounds = argc == 2 ? atoi(argv[1]) : 0;
+
+    printf("%lu %lu\n", (unsigned long)sizeof(delkuthi_monitor), (unsigned long)offsetof(struct aligned, monitor));
+    calls(&in_static);
+    if (!fresh(&in_static))
+        return 1;
+    while (rounds-- > 0)
+        if (!stands(&on_stack) || !stands_alone(0) || !stands_alone(8))
+            return 1;
+    return 0;
+}

@@ -1,0 +1,108 @@
+/*
+ * How much of the stack each call uses: stack TABLE RECORDING
+ *
+ * The calls run in a thread whose stack was filled with a pattern; what is not
+ * the pattern any more was used. Prints a line for each call: bytes and name.
+ */
+#define _XOPEN_SOURCE 600
+#include "delkuthi.h"
+#include "file.h"
+#include <pthread.h>
+#include <stdio.h>
+#include <stdlib.h>
+#include <string.h>
+
+#define SIZE ((size_t)1 << 22)
+#define PATTERN 0xA5
+
+static struct file table, recording;
+static delkuthi_monitor monitor;
+static uint8_t report[DELKUTHI_REPORT_LIMIT];
+static uint8_t *stack;
+
+static void *nothing(void *unused)
+{
+    return unused;
+}
+
+static void *fresh(void *unused)
+{
+    (void)delkuthi_fresh(&monitor, table.bytes, table.length);
+    return unused;
+}
+
+static void *event(void *unused)
+{
+    (void)delkuthi_event(&monitor, 0, 1000);
+    return unused;
+}
+
+static void *tick(void *unused)
+{
+    (void)delkuthi_tick(&monitor, 2000);
+    return unused;
+}
+
+static void *verdict(void *unused)
+{
+    (void)delkuthi_verdict(&monitor, delkuthi_rows(&monitor) - 1);
+    return unused;
+}
+
+static void *close_it(void *unused)
+{
+    (void)delkuthi_close(&monitor);
+    return unused;
+}
+
+static void *whole_report(void *unused)
+{
+    (void)delkuthi_report(table.bytes, table.length, recording.bytes, recording.length, report, sizeof report);
+    return unused;
+}
+
+/* The bytes of the stack that a thread used which did this. */
+static size_t used_by(void *(*act)(void *))
+{
+    pthread_attr_t attributes;
+    pthread_t thread;
+    size_t untouched = 0;
+
+    memset(stack, PATTERN, SIZE);
+    if (pthread_attr_init(&attributes) != 0 || pthread_attr_setstack(&attributes, stack, SIZE) != 0
+        || pthread_create(&thread, &attributes, act, NULL) != 0 || pthread_join(thread, NULL) != 0) {
+        fprintf(stderr, "no thread\n");
+        exit(3);
+    }
+    (void)pthread_attr_destroy(&attributes);
+    while (untouched < SIZE && stack[untouched] == PATTERN)
+        untouched++;
+    return SIZE - untouched;
+}
+
+static void print(const char *name, void *(*act)(void *))
+{
+    size_t before = used_by(nothing), used = used_by(act);
+
+    printf("%lu %s\n", (unsigned long)(used > before ? used - before : 0), name);
+}
+
+int main(int argc, char **argv)
+{
+    void *memory;
+
+    if (argc != 3 || !read_file(argv[1], &table) || !read_file(argv[2], &recording)
+        || posix_memalign(&memory, 1 << 16, SIZE) != 0)
+        return 3;
+    stack = memory;
+    print("fresh", fresh);
+    print("event", event);
+    print("tick", tick);
+    print("verdict", verdict);
+    print("close", close_it);
+    print("report", whole_report);
+    free(stack);
+    free_file(&table);
+    free_file(&recording);
+    return 0;
+}

@@ -1,0 +1,92 @@
+//! A monitor of the library beside the model: the same calls, and everything compared after each.
+
+use delkuthi::Monitor;
+use model::random::Random;
+use model::random::calls::Play;
+use model::random::seen::Seen;
+use model::{Answer, Constraint, Step, Verdict, table_bytes};
+
+/// The library's fresh monitor over rows that are accepted.
+///
+/// # Panics
+/// If they are refused.
+pub fn fresh(rows: &[Constraint]) -> Monitor {
+    Monitor::fresh(&table_bytes(rows)).unwrap_or_else(|refusal| panic!("{refusal}: {rows:?}"))
+}
+
+/// Gives a call to the library's monitor.
+pub fn take(monitor: &mut Monitor, call: Step) -> Answer {
+    let answer = match call {
+        Step::Event { kind, time } => monitor.event(kind, time),
+        Step::Tick { time } => monitor.tick(time),
+        Step::Close => monitor.close(),
+    };
+    answer.map_err(|refusal| refusal.number())
+}
+
+/// Gives calls to the library's monitor, one after the other, and gives its answers.
+pub fn take_all(monitor: &mut Monitor, calls: &[Step]) -> Vec<Answer> {
+    calls.iter().map(|call| take(monitor, *call)).collect()
+}
+
+/// A row's verdict as the model has it.
+pub fn verdict(monitor: &Monitor, row: usize) -> Result<Verdict, u8> {
+    match monitor.verdict(row) {
+        Ok(delkuthi::Verdict::Open) => Ok(Verdict::Open),
+        Ok(delkuthi::Verdict::Kept) => Ok(Verdict::Kept),
+        Ok(delkuthi::Verdict::Broken(step)) => Ok(Verdict::Broken(step)),
+        Err(refusal) => Err(refusal.number()),
+    }
+}
+
+/// A random list of calls, played by the library's monitor and by the model.
+pub struct Beside {
+    play: Play,
+    monitor: Monitor,
+}
+
+impl Beside {
+    /// A list of so many calls from a fresh monitor over an accepted table.
+    pub fn new(random: &mut Random, rows: &[Constraint], calls: usize) -> Beside {
+        let beside = Beside { play: Play::new(random.fork(), rows, calls), monitor: fresh(rows) };
+        beside.compare("fresh", &mut Seen::default());
+        beside
+    }
+
+    /// Makes the next call, if there is one: the answer must be the model's, and so must all verdicts after it. A
+    /// refused call must leave every bit of the monitor as it was.
+    pub fn call(&mut self, seen: &mut Seen) -> bool {
+        let Some((call, expected)) = self.play.call() else { return false };
+        let before = self.monitor.clone();
+        let answer = seen.answer(take(&mut self.monitor, call));
+        assert_eq!(answer, expected, "{}", self.told(&call.to_string()));
+        assert!(answer.is_ok() || self.monitor == before, "a refusal changed the monitor: {call}");
+        self.compare(&call.to_string(), seen);
+        true
+    }
+
+    /// Makes all calls that are left.
+    pub fn play(mut self, seen: &mut Seen) {
+        while self.call(seen) {}
+    }
+
+    /// The number of rows and the verdicts are the model's, and there is no row behind the last.
+    fn compare(&self, call: &str, seen: &mut Seen) {
+        let rows = self.play.monitor().rows();
+        assert_eq!(self.monitor.rows(), rows.len(), "the number of rows");
+        for (number, (row, expected)) in rows.iter().zip(self.play.monitor().verdicts()).enumerate() {
+            let verdict = seen.answer(verdict(&self.monitor, number));
+            assert_eq!(verdict, Ok(expected), "row {number}, {}", self.told(call));
+            seen.verdict(row, expected);
+        }
+        for behind in [rows.len(), rows.len() + 1, 32, 33, 64, 1 << 32, usize::MAX] {
+            assert_eq!(seen.answer(verdict(&self.monitor, behind)), Err(15), "row {behind} of {}", rows.len());
+        }
+    }
+
+    /// The call, the steps so far and the table, for a test that fails.
+    fn told(&self, call: &str) -> String {
+        let steps: Vec<String> = self.play.monitor().steps().iter().map(ToString::to_string).collect();
+        format!("at {call}, accepted so far: {}, over {:?}", steps.join(", "), self.play.monitor().rows())
+    }
+}

@@ -1,0 +1,115 @@
+//! Hosts in C: compiled, linked with the archive, and run.
+
+use crate::places::{Folder, archive_folder, root};
+use std::ffi::OsStr;
+use std::io::Write;
+use std::path::{Path, PathBuf};
+use std::process::{Command, Output};
+use std::{env, fs};
+
+/// A compiled host.
+pub struct Host {
+    program: PathBuf,
+    _folder: Folder,
+}
+
+/// What a host did: its exit status and what it printed.
+#[derive(Debug, PartialEq, Eq)]
+pub struct Ran {
+    pub status: Option<i32>,
+    pub printed: String,
+}
+
+impl Ran {
+    /// A host that ended with this status and printed this.
+    pub fn new(status: i32, printed: &str) -> Ran {
+        Ran { status: Some(status), printed: printed.to_string() }
+    }
+}
+
+/// Compiles a C host of `host/c`, at an optimisation level as "-O2", with every warning an error.
+///
+/// # Panics
+/// With what the compiler says, if it does not compile.
+pub fn c_host(name: &str, level: &str) -> Host {
+    let file = format!("{name}.c");
+    compile(c_compiler().args([level, "-pthread"]), &[&file, "file.c"])
+}
+
+/// Compiles a C host of `host/c` without the C library.
+///
+/// # Panics
+/// With what the compiler or linker says, if something is missing.
+pub fn c_host_alone(name: &str) -> Host {
+    let file = format!("{name}.c");
+    compile(c_compiler().args(["-ffreestanding", "-nostdlib", "-Wl,-e,start"]), &[&file])
+}
+
+fn c_compiler() -> Command {
+    let mut compiler = Command::new(env::var_os("CC").unwrap_or_else(|| "cc".into()));
+    compiler.arg("-std=c99");
+    compiler
+}
+
+/// Compiles a C++ host of `host/c`, or gives none where there is no C++ compiler.
+pub fn cpp_host(file: &str) -> Option<Host> {
+    let compiler = env::var_os("CXX").unwrap_or_else(|| "c++".into());
+    found(&compiler).then(|| compile(Command::new(compiler).arg("-std=c++11"), &[file]))
+}
+
+/// Compiles files of `host/c` and links them with the archive.
+fn compile(compiler: &mut Command, files: &[&str]) -> Host {
+    let folder = Folder::new();
+    let program = folder.path().join("host");
+    let sources = root().join("host/c");
+    let output = compiler
+        .args(["-Wall", "-Wextra", "-Werror", "-pedantic", "-g", "-I"])
+        .arg(root().join("include"))
+        .arg("-o")
+        .arg(&program)
+        .args(files.iter().map(|file| sources.join(file)))
+        .arg(archive_folder().join("libdelkuthi.a"))
+        .output()
+        .expect("the C compiler can be run");
+    assert!(output.status.success(), "{files:?}: {}", String::from_utf8_lossy(&output.stderr));
+    Host { program, _folder: folder }
+}
+
+impl Host {
+    /// Runs the host.
+    pub fn run<A: AsRef<OsStr>>(&self, arguments: &[A]) -> Ran {
+        ran(Command::new(&self.program).args(arguments).output())
+    }
+
+    /// Runs the host under valgrind, whose every complaint is an exit status of 99. Where there is no valgrind the test
+    /// says so, and the host runs without it.
+    pub fn run_in_valgrind<A: AsRef<OsStr>>(&self, arguments: &[A]) -> Ran {
+        if !found("valgrind") {
+            say("valgrind is not installed: a host in C ran without it");
+            return self.run(arguments);
+        }
+        let checked = ["--quiet", "--error-exitcode=99", "--leak-check=full"];
+        ran(Command::new("valgrind").args(checked).arg(&self.program).args(arguments).output())
+    }
+}
+
+/// What a process did; what it says in errors is told if the test fails.
+fn ran(output: std::io::Result<Output>) -> Ran {
+    let output = output.expect("the program can be run");
+    if !output.stderr.is_empty() {
+        println!("{}", String::from_utf8_lossy(&output.stderr));
+    }
+    Ran { status: output.status.code(), printed: String::from_utf8(output.stdout).expect("ASCII") }
+}
+
+/// Is there a program of this name, or at this path?
+pub fn found(name: impl AsRef<OsStr>) -> bool {
+    let file = Path::new(name.as_ref());
+    let in_folder = |folder: PathBuf| fs::metadata(folder.join(file)).is_ok_and(|data| data.is_file());
+    file.is_file() || env::var_os("PATH").is_some_and(|path| env::split_paths(&path).any(in_folder))
+}
+
+/// Says something in the test's output, also where the test passes.
+pub fn say(text: &str) {
+    let _ = writeln!(std::io::stderr(), "{text}");
+}

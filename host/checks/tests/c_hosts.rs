@@ -1,0 +1,221 @@
+//! The header and the archive in C and C++: hosts compiled at -O0 and -O2, run, and run under valgrind.
+
+use checks::hosts::{Host, Ran, c_host, c_host_alone, cpp_host, say};
+use checks::places::{Folder, example, example_bytes, root};
+use delkuthi::Monitor;
+use model::examples::{Example, RECORDING, REPORT, TABLE, examples};
+use model::random::Random;
+use model::random::recordings::{recording, refused_recording};
+use model::random::tables::{any_table, damaged_table, table};
+use model::{Constraint, Step, Verdict, read_table, recording_bytes, report_text, table_bytes};
+use std::fs;
+use std::path::PathBuf;
+
+const LEVELS: [&str; 2] = ["-O0", "-O2"];
+
+/// A table and a recording as files.
+struct Files {
+    paths: [PathBuf; 2],
+    _folder: Folder,
+}
+
+impl Files {
+    fn new(table: &[u8], recording: &[u8]) -> Files {
+        let folder = Folder::new();
+        let paths = [folder.write("table.bin", table), folder.write("recording.bin", recording)];
+        Files { paths, _folder: folder }
+    }
+}
+
+/// What the bench loop is to do with the steps of a recording, by the model: it stops at the first break or refusal.
+fn bench(rows: &[Constraint], steps: &[Step]) -> Ran {
+    let mut monitor = model::Monitor::fresh(rows).expect("an accepted table");
+    for step in steps.iter().chain([&Step::Close]) {
+        if let Err(number) = monitor.step(*step) {
+            return Ran::new(2, &format!("step refused with {number}\n"));
+        }
+        for (row, verdict) in monitor.verdicts().into_iter().enumerate() {
+            if let Verdict::Broken(step) = verdict {
+                return Ran::new(1, &format!("row {row} broken at step {step}\n"));
+            }
+        }
+    }
+    Ran::new(0, "every row kept\n")
+}
+
+/// The steps in a recording's bytes, all of whose records are whole.
+fn steps_of(recording: &[u8]) -> Vec<Step> {
+    let mut steps = Vec::new();
+    let mut place = 1;
+    while place < recording.len() {
+        let (step, size) = model::recording::read_record(&recording[place..]).expect("a whole record");
+        steps.push(step);
+        place += size;
+    }
+    steps
+}
+
+/// The bench loop on examples of the paper.
+fn play(examples: impl IntoIterator<Item = Example>, run: impl Fn(&[PathBuf; 2]) -> Ran) {
+    for example in examples {
+        let steps: Vec<Step> =
+            example.steps.iter().map(|(step, _)| *step).filter(|step| *step != Step::Close).collect();
+        let rows = std::slice::from_ref(&example.row);
+        let ran = run(&Files::new(&table_bytes(rows), &recording_bytes(&steps)).paths);
+        assert_eq!(ran, bench(rows, &steps), "example {}", example.number);
+        if let Verdict::Broken(step) = example.end() {
+            assert_eq!(ran, Ran::new(1, &format!("row 0 broken at step {step}\n")), "example {}", example.number);
+        }
+    }
+}
+
+#[test]
+fn the_loop_in_the_header_is_the_one_that_runs() {
+    let header = fs::read_to_string(root().join("include/delkuthi.h")).expect("the header");
+    let host = fs::read_to_string(root().join("host/c/bench_loop.c")).expect("the bench loop");
+    let start = header.find("#include \"delkuthi.h\"").expect("the example in the header");
+    let end = start + header[start..].find("\n */").expect("the end of the comment");
+    assert!(header[start..end].contains("int bench(") && host.contains(&header[start..end]));
+}
+
+#[test]
+fn the_report_host() {
+    let drive = String::from_utf8(example_bytes("report.txt")).expect("ASCII");
+    let file = Files::new(&TABLE, &RECORDING);
+    let empty = Files::new(&[], &[]);
+    for level in LEVELS {
+        let host = c_host("report", level);
+        let runs: [fn(&Host, &[PathBuf; 2]) -> Ran; 2] =
+            [|host, files| host.run(files), |host, files| host.run_in_valgrind(files)];
+        for run in runs {
+            assert_eq!(run(&host, &file.paths), Ran::new(0, REPORT));
+            assert_eq!(run(&host, &[example("table.bin"), example("recording.bin")]), Ran::new(0, &drive));
+            assert_eq!(run(&host, &empty.paths), Ran::new(0, "refused 1 0\n"));
+        }
+    }
+}
+
+#[test]
+fn the_bench_loop_stops_at_the_very_step() {
+    let drive = [example("table.bin"), example("recording.bin")];
+    let mut random = Random::new(401);
+    for level in LEVELS {
+        let host = c_host("bench_loop", level);
+        assert_eq!(host.run(&drive), Ran::new(1, "row 1 broken at step 33\n"));
+        assert_eq!(host.run_in_valgrind(&drive), Ran::new(1, "row 1 broken at step 33\n"));
+        play(examples(), |files| host.run(files));
+        for _ in 0..150 {
+            let number = random.place(12);
+            let rows = table(&mut random, number);
+            let bytes = refused_recording(&mut random, &rows, 40);
+            let ran = host.run(&Files::new(&table_bytes(&rows), &bytes).paths);
+            assert_eq!(ran, bench(&rows, &steps_of(&bytes)), "{rows:?}, {bytes:02x?}");
+        }
+    }
+}
+
+#[test]
+fn the_bench_loop_under_valgrind() {
+    let host = c_host("bench_loop", "-O2");
+    let breaks = |example: &Example| matches!(example.end(), Verdict::Broken(_));
+    play(examples().into_iter().filter(breaks), |files| host.run_in_valgrind(files));
+}
+
+#[test]
+fn the_bench_loop_says_where_a_table_is_refused() {
+    let mut random = Random::new(402);
+    let host = c_host("bench_loop", "-O2");
+    for _ in 0..50 {
+        let bytes = damaged_table(&mut random);
+        let Err(refusal) = read_table(&bytes) else { continue };
+        let told = format!("table refused with {} at byte {}\n", refusal.number, refusal.place);
+        assert_eq!(host.run(&Files::new(&bytes, &[1]).paths), Ran::new(2, &told));
+    }
+}
+
+/// What the host with every cut is to print, by the model.
+fn cuts(table: &[u8], recording: &[u8]) -> String {
+    let fresh = |table: &[u8]| match read_table(table) {
+        Ok(rows) => format!("fresh {}\n", rows.len()),
+        Err(refusal) => format!("fresh refused {} {}\n", refusal.number, refusal.place),
+    };
+    let of_table = (0..=table.len()).map(|end| &table[..end]).map(|cut| fresh(cut) + &report_text(cut, recording));
+    let of_recording = (0..=recording.len()).map(|end| report_text(table, &recording[..end]));
+    of_table.chain(of_recording).collect()
+}
+
+#[test]
+fn every_cut_in_blocks_of_just_that_length() {
+    let mut random = Random::new(403);
+    let hosts = LEVELS.map(|level| c_host("every_cut", level));
+    for number in [1, 7, 32] {
+        let rows = table(&mut random, number);
+        let (table, recording) = (table_bytes(&rows), recording(&mut random, &rows, 12));
+        let (files, expected) = (Files::new(&table, &recording), cuts(&table, &recording));
+        for host in &hosts {
+            assert_eq!(host.run(&files.paths), Ran::new(0, &expected));
+        }
+        if number < 32 {
+            assert_eq!(hosts[1].run_in_valgrind(&files.paths), Ran::new(0, &expected));
+        }
+    }
+}
+
+/// A monitor has the size and alignment that Rust knows, and any memory is safe.
+#[test]
+fn the_monitors_memory() {
+    let size = format!("{} {}\n", size_of::<Monitor>(), align_of::<Monitor>());
+    assert_eq!(size, "22304 8\n");
+    for level in LEVELS {
+        let host = c_host("memory", level);
+        assert_eq!(host.run(&["300"]), Ran::new(0, &size));
+        assert_eq!(host.run_in_valgrind(&["20"]), Ran::new(0, &size));
+    }
+}
+
+/// No call uses more of the stack than the header says.
+#[test]
+fn the_stack() {
+    let host = c_host("stack", "-O2");
+    let rows = table(&mut Random::new(405), 32);
+    let files = Files::new(&table_bytes(&rows), &recording(&mut Random::new(406), &rows, 100));
+    let ran = host.run(&files.paths);
+    assert_eq!(ran.status, Some(0));
+    println!("{}", ran.printed);
+    for line in ran.printed.lines() {
+        let (bytes, call) = line.split_once(' ').expect("bytes and a call");
+        assert!(bytes.parse::<usize>().expect("bytes") <= 256 * 1024, "{call}: {bytes} bytes of stack");
+    }
+}
+
+#[test]
+fn the_archive_without_a_c_library() {
+    c_host_alone("alone");
+}
+
+#[test]
+fn the_header_in_cpp() {
+    match cpp_host("header.cpp") {
+        Some(host) => assert_eq!(host.run_in_valgrind::<&str>(&[]), Ran::new(0, "")),
+        None => say("there is no C++ compiler: the header was not compiled as C++"),
+    }
+}
+
+/// A longer drive than the examples', in both directions of the interface: the loop and the report agree.
+#[test]
+fn loop_and_report_agree() {
+    let mut random = Random::new(404);
+    let (report, bench_loop) = (c_host("report", "-O2"), c_host("bench_loop", "-O2"));
+    for _ in 0..100 {
+        let rows = any_table(&mut random);
+        let files = Files::new(&table_bytes(&rows), &recording(&mut random, &rows, 60));
+        let (reported, looped) = (report.run(&files.paths), bench_loop.run(&files.paths));
+        let breaks: Vec<&str> = reported.printed.lines().filter(|line| line.contains("broken")).collect();
+        let steps = breaks.iter().map(|line| line.rsplit(' ').next().expect("a step").parse::<u64>().expect("a step"));
+        match (steps.min(), reported.printed.starts_with("refused")) {
+            (_, true) => {}
+            (None, _) => assert_eq!(looped, Ran::new(0, "every row kept\n")),
+            (Some(step), _) => assert!(looped.printed.ends_with(&format!(" broken at step {step}\n"))),
+        }
+    }
+}

@@ -1,0 +1,190 @@
+//! Lists of calls through the exports, beside the model after every call.
+
+use checks::beside::{Beside, fresh, take, take_all, verdict};
+use delkuthi::{Monitor, WORDS};
+use model::random::Random;
+use model::random::calls::calls;
+use model::random::seen::Seen;
+use model::random::tables::{any_table, damaged_table, table};
+use model::{Constraint, LAST_TIME, Step, read_table, table_bytes};
+
+#[test]
+fn thousands_of_lists() {
+    let mut random = Random::new(101);
+    let mut seen = Seen::default();
+    for _ in 0..3_000 {
+        let rows = any_table(&mut random);
+        let number = 60 + random.place(140);
+        Beside::new(&mut random, &rows, number).play(&mut seen);
+    }
+    seen.demand_refusals(8..=12);
+    seen.demand_refusals(15..=15);
+    seen.demand_verdicts();
+}
+
+#[test]
+fn long_lists() {
+    let mut random = Random::new(102);
+    let mut seen = Seen::default();
+    for _ in 0..12 {
+        let number = 1 + random.place(4);
+        let rows = table(&mut random, number);
+        Beside::new(&mut random, &rows, 1_500).play(&mut seen);
+    }
+    seen.demand_refusals(8..=11);
+}
+
+/// A list of calls is at its monitor's place only: others' calls in between change nothing.
+#[test]
+fn several_monitors_interleaved() {
+    let mut random = Random::new(103);
+    let mut seen = Seen::default();
+    for _ in 0..60 {
+        let list = |random: &mut Random| {
+            let rows = any_table(random);
+            Beside::new(random, &rows, 80)
+        };
+        let mut playing: Vec<Beside> = (0..7).map(|_| list(&mut random)).collect();
+        while !playing.is_empty() {
+            let place = random.place(playing.len());
+            if !playing[place].call(&mut seen) {
+                playing.swap_remove(place);
+            }
+        }
+    }
+    seen.demand_refusals(8..=12);
+    seen.demand_verdicts();
+}
+
+#[test]
+fn two_threads_each_its_own() {
+    let lists = |seed| {
+        let mut random = Random::new(seed);
+        let mut seen = Seen::default();
+        for _ in 0..300 {
+            let rows = any_table(&mut random);
+            Beside::new(&mut random, &rows, 100).play(&mut seen);
+        }
+        seen.demand_refusals(8..=12);
+    };
+    let threads = [104, 105].map(|seed| std::thread::spawn(move || lists(seed)));
+    assert!(threads.into_iter().all(|thread| thread.join().is_ok()));
+}
+
+/// A copy of a monitor is a monitor of its own, and goes on as the first one would have.
+#[test]
+fn a_copy_goes_its_own_way() {
+    let mut random = Random::new(106);
+    for _ in 0..200 {
+        let rows = any_table(&mut random);
+        let list = calls(&mut random, &rows, 60);
+        let mut monitor = fresh(&rows);
+        let (before, after) = list.split_at(random.place(list.len()));
+        take_all(&mut monitor, before);
+        let mut copy = Monitor::from_words(*monitor.words());
+        assert_eq!(take_all(&mut copy, after), take_all(&mut monitor, after));
+        assert_eq!(copy, monitor);
+    }
+}
+
+/// What a fresh monitor answers to a table's bytes, and that a refusal leaves the memory as it was.
+#[test]
+fn fresh_from_damaged_tables() {
+    let mut random = Random::new(107);
+    let mut seen = Seen::default();
+    let mut monitor = Monitor::from_words([0; WORDS]);
+    for _ in 0..20_000 {
+        let bytes = damaged_table(&mut random);
+        let before = monitor.clone();
+        let answer = monitor.restart(&bytes).map_err(|refusal| (refusal.number(), refusal.place()));
+        let expected = read_table(&bytes).map_err(|refusal| (refusal.number, Some(refusal.place as u64)));
+        assert_eq!(answer, expected.as_ref().map(|_| ()).map_err(|refusal| *refusal), "{bytes:02x?}");
+        match expected {
+            Ok(rows) => assert_eq!(monitor.rows(), rows.len()),
+            Err((number, _)) => {
+                seen.refusal(number);
+                assert!(monitor == before, "a refusal changed the memory");
+            }
+        }
+    }
+    seen.demand_refusals(1..=7);
+}
+
+/// What the memory held before has no say in what a fresh monitor is.
+#[test]
+fn fresh_in_used_memory() {
+    let mut random = Random::new(108);
+    for _ in 0..500 {
+        let bytes = table_bytes(&any_table(&mut random));
+        let mut used = Monitor::from_words(std::array::from_fn(|_| random.number()));
+        used.restart(&bytes).expect("an accepted table");
+        assert!(used == Monitor::fresh(&bytes).expect("an accepted table"));
+    }
+}
+
+/// Memory that no calls produced, in four sorts: any bits, few bits, all bits, and a monitor with some words changed.
+fn any_memory(random: &mut Random) -> Monitor {
+    let words = match random.below(4) {
+        0 => std::array::from_fn(|_| random.number()),
+        1 => std::array::from_fn(|_| random.number() >> random.below(64)),
+        2 => [*random.pick(&[u64::MAX, 1 << 63, LAST_TIME, 1]); WORDS],
+        _ => changed_memory(random),
+    };
+    Monitor::from_words(words)
+}
+
+/// The memory of a monitor in use, with some words changed.
+fn changed_memory(random: &mut Random) -> [u64; WORDS] {
+    let rows = any_table(random);
+    let mut monitor = fresh(&rows);
+    take_all(&mut monitor, &calls(random, &rows, 50));
+    let mut words = *monitor.words();
+    for _ in 0..random.from_to(1, 200) {
+        // the last words are the monitor's own, the others the rows'
+        let place = if random.chance(20) { WORDS - 1 - random.place(80) } else { random.place(WORDS) };
+        words[place] = *random.pick(&[0, 1, 64, 65, u64::MAX, random.clone().number()]);
+    }
+    words
+}
+
+/// A monitor with memory around it that is not the library's to touch.
+#[repr(C)]
+struct Fenced {
+    before: [u64; 64],
+    monitor: Monitor,
+    after: [u64; 64],
+}
+
+#[test]
+fn any_memory_is_safe() {
+    let mut random = Random::new(109);
+    let list: Vec<Step> = calls(&mut random, &table(&mut Random::new(110), 32), 400);
+    for _ in 0..1_000 {
+        let mut fenced = Fenced { before: [7; 64], monitor: any_memory(&mut random), after: [7; 64] };
+        for _ in 0..40 {
+            let call = *random.pick(&list);
+            let _ = take(&mut fenced.monitor, call);
+            let row = *random.pick(&[0, 1, 31, 32, 33, usize::MAX]);
+            let _ = (verdict(&fenced.monitor, row), fenced.monitor.rows());
+        }
+        assert!(fenced.before == [7; 64] && fenced.after == [7; 64]);
+    }
+}
+
+/// Every time and kind at and beyond the ends of their ranges, in a row, on one monitor.
+#[test]
+fn the_ends_of_the_ranges() {
+    let rows = [Constraint::Delay { source: 0, target: 63, lower: LAST_TIME, upper: LAST_TIME }];
+    let mut monitor = fresh(&rows);
+    let mut model = model::Monitor::fresh(&rows).expect("an accepted table");
+    let times = [0, 1, LAST_TIME - 1, LAST_TIME, LAST_TIME + 1, 1 << 63, u64::MAX];
+    for time in times {
+        for kind in [0, 1, 62, 63, 64, 128, 255] {
+            let call = Step::Event { kind, time };
+            assert_eq!(take(&mut monitor, call), model.step(call), "{call}");
+        }
+        let call = Step::Tick { time };
+        assert_eq!(take(&mut monitor, call), model.step(call), "{call}");
+        assert_eq!(verdict(&monitor, 0), model.verdict(0));
+    }
+}

@@ -1,0 +1,90 @@
+//! The small program on files, beside what the model says it prints.
+
+use checks::places::example_bytes;
+use checks::program::printed;
+use checks::reports::refusal;
+use model::examples::{RECORDING, REPORT, TABLE};
+use model::notation::{delay, order};
+use model::random::Random;
+use model::random::recordings::{damaged_recording, recording};
+use model::random::seen::Seen;
+use model::random::tables::{any_table, damaged_table};
+use model::{Step, program_output, recording_bytes, table_bytes};
+
+/// The program prints what the model says; counts the refusal.
+fn compare(table: &[u8], recording: &[u8], seen: &mut Seen) {
+    let text = printed(Some(table), Some(recording));
+    assert_eq!(text, program_output(table, recording), "{} and {} bytes", table.len(), recording.len());
+    if let Some(number) = refusal(text.as_bytes()) {
+        seen.refusal(number);
+    }
+}
+
+#[test]
+fn the_papers_file() {
+    assert_eq!(printed(Some(&TABLE), Some(&RECORDING)), REPORT);
+}
+
+#[test]
+fn the_drive() {
+    let report = printed(Some(&example_bytes("table.bin")), Some(&example_bytes("recording.bin")));
+    assert_eq!(report.into_bytes(), example_bytes("report.txt"));
+}
+
+/// "one that can't be opened counts as empty"
+#[test]
+fn files_that_are_missing_or_empty() {
+    for empty in [None, Some(&[][..])] {
+        assert_eq!(printed(empty, None), "refused 1 0\n");
+        assert_eq!(printed(empty, Some(&RECORDING)), "refused 1 0\n");
+        assert_eq!(printed(Some(&TABLE), empty), "refused 13 0\n");
+        assert_eq!(printed(Some(&[1]), empty), "refused 13 0\n");
+    }
+    assert_eq!(printed(Some(&[1]), Some(&[1])), "closed 1\n");
+}
+
+#[test]
+fn files_at_the_limit_and_beyond() {
+    let mut seen = Seen::default();
+    let pair = |time: u64| [Step::Event { kind: 0, time: 5 * time }, Step::Event { kind: 1, time: 5 * time + 2 }];
+    let events: Vec<Step> = (1..=3_000).flat_map(pair).collect();
+    let records = recording_bytes(&events);
+    let rows = table_bytes(&[delay(0, 3), order()]);
+    for length in [61_436, 61_439, 61_440, 61_441, 65_536] {
+        compare(&rows, &records[..length], &mut seen);
+    }
+    let long_table = [table_bytes(&vec![order(); 33]), vec![0; 4_000]].concat();
+    for length in [1, 166, 2_047, 2_048, 2_049, 2_100] {
+        compare(&long_table[..length], &RECORDING, &mut seen);
+        compare(&long_table[..length], &records[..61_441], &mut seen);
+    }
+    seen.demand_refusals(17..=17);
+    seen.demand_refusals(14..=14);
+}
+
+/// The largest recording that is accepted whole, of 61,440 bytes: 5,579 events and 7 ticks.
+#[test]
+fn the_largest_recording() {
+    let event = |time| Step::Event { kind: (time % 64) as u8, time };
+    let mut steps: Vec<Step> = (0..5_579).map(event).collect();
+    steps.extend((6_000..6_007).map(|time| Step::Tick { time }));
+    let bytes = recording_bytes(&steps);
+    assert_eq!(bytes.len(), 61_440);
+    let text = printed(Some(&table_bytes(&[order()])), Some(&bytes));
+    assert_eq!(text, "closed 5587\n0 kept\n");
+}
+
+#[test]
+fn random_files() {
+    let mut random = Random::new(501);
+    let mut seen = Seen::default();
+    for _ in 0..150 {
+        let rows = any_table(&mut random);
+        compare(&table_bytes(&rows), &recording(&mut random, &rows, 60), &mut seen);
+        compare(&table_bytes(&rows), &damaged_recording(&mut random, &rows, 10), &mut seen);
+        compare(&damaged_table(&mut random), &RECORDING, &mut seen);
+    }
+    seen.demand_refusals(1..=2);
+    seen.demand_refusals(4..=7);
+    seen.demand_refusals(13..=14);
+}

@@ -1,0 +1,42 @@
+//! For build scripts: a proved library as an archive, and where cargo finds it.
+
+use std::env;
+use std::fs;
+use std::path::{Path, PathBuf};
+use std::process::Command;
+
+/// Has cargo link the archive of a proved library, and gives the folder that it is in.
+///
+/// The archive is the one in the folder that the environment variable `DELKUTHI_LIB` names, or else it is built from
+/// `crates/`. It is copied to the build's own folder, so that the build still has it when `target/` at the
+/// repository's root is removed.
+pub fn link(name: &str) -> PathBuf {
+    let file = format!("lib{name}.a");
+    println!("cargo::rerun-if-env-changed=DELKUTHI_LIB");
+    let archive = match env::var_os("DELKUTHI_LIB") {
+        Some(folder) => changing(&Path::new(&folder).join(&file)),
+        None => built(name).join(&file),
+    };
+    let folder = PathBuf::from(env::var_os("OUT_DIR").expect("cargo sets OUT_DIR"));
+    fs::copy(&archive, folder.join(&file)).unwrap_or_else(|error| panic!("no archive {}: {error}", archive.display()));
+    println!("cargo::rustc-link-search=native={}", folder.display());
+    println!("cargo::rustc-link-lib=static={name}");
+    folder
+}
+
+/// Proves and builds the library, unless nothing has changed since it was proved; gives the folder of the archive.
+fn built(name: &str) -> PathBuf {
+    let root = Path::new(env!("CARGO_MANIFEST_DIR")).join("../..");
+    changing(&root.join("crates.txt"));
+    changing(&root.join("crates"));
+    let status = Command::new("rt").args(["staticlib", name]).current_dir(&root).status();
+    let status = status.unwrap_or_else(|error| panic!("rt, of the Rattle kit, must be in the PATH: {error}"));
+    assert!(status.success(), "rt staticlib {name} failed: {status}");
+    root.join("target/staticlib")
+}
+
+/// The path, with which cargo runs the build script again if something changes there.
+fn changing(path: &Path) -> PathBuf {
+    println!("cargo::rerun-if-changed={}", path.display());
+    path.to_path_buf()
+}

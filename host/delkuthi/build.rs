@@ -1,0 +1,7 @@
+//! Links `libdelkuthi.a`, and tells the crates that use this one where it is.
+
+mod archive;
+
+fn main() {
+    println!("cargo::metadata=folder={}", archive::link("delkuthi").display());
+}

@@ -1,0 +1,23 @@
+//! The functions of `libdelkuthi.a`, as `include/delkuthi.h` declares them.
+//!
+//! They keep to Rust's rules for what they are lent: a monitor is lent by reference, bytes are read and written only as
+//! far as their length says, and nothing is kept. So the calls are safe wherever the references are.
+
+use crate::monitor::Monitor;
+
+unsafe extern "C" {
+    pub fn delkuthi_fresh(monitor: &mut Monitor, table: *const u8, table_length: usize) -> u64;
+    pub safe fn delkuthi_event(monitor: &mut Monitor, kind: u8, time: u64) -> u8;
+    pub safe fn delkuthi_tick(monitor: &mut Monitor, time: u64) -> u8;
+    pub safe fn delkuthi_close(monitor: &mut Monitor) -> u8;
+    pub safe fn delkuthi_verdict(monitor: &Monitor, row: u64) -> u64;
+    pub safe fn delkuthi_rows(monitor: &Monitor) -> u64;
+    pub fn delkuthi_report(
+        table: *const u8,
+        table_length: usize,
+        recording: *const u8,
+        recording_length: usize,
+        report: *mut u8,
+        report_length: usize,
+    ) -> usize;
+}

@@ -1,0 +1,42 @@
+//! The proved monitor for TADL2 timing constraints, from Rust: a safe wrapper of `libdelkuthi.a`.
+//!
+//! A [`Monitor`] takes a table of timing constraints and the stamped events of a bench, and says for each row, while
+//! the recording runs, whether it is open, kept, or broken, and at which step it broke. [`report`] does it for a whole
+//! recording at once. `include/delkuthi.h` is the manual, with the table's bytes and what is promised.
+//!
+//! ```
+//! use delkuthi::{Monitor, Verdict};
+//!
+//! // One row: a Delay from kind 0 to kind 1, of 2 to 3.
+//! let table = [1, 0, 19, 1, 0, 1, 0, 0, 0, 0, 0, 0, 0, 2, 0, 0, 0, 0, 0, 0, 0, 3];
+//! let mut monitor = Monitor::fresh(&table)?;
+//! monitor.event(0, 10)?;
+//! monitor.tick(13)?;
+//! assert_eq!(monitor.verdict(0), Ok(Verdict::Open));
+//! monitor.tick(14)?;
+//! assert_eq!(monitor.verdict(0), Ok(Verdict::Broken(3)));
+//! # Ok::<(), delkuthi::Refusal>(())
+//! ```
+//!
+//! The wrapper needs no operating system, no heap and no other crate.
+
+#![no_std]
+#![warn(missing_docs)]
+
+mod ffi;
+mod monitor;
+mod refusal;
+mod report;
+
+pub use monitor::{Monitor, Verdict, WORDS};
+pub use refusal::Refusal;
+pub use report::{REPORT_LIMIT, report};
+
+/// The largest kind of event.
+pub const LAST_KIND: u8 = 63;
+/// The largest time, 2^56 − 1.
+pub const LAST_TIME: u64 = (1 << 56) - 1;
+/// How many rows a table has at most.
+pub const ROW_LIMIT: usize = 32;
+/// How many a row keeps waiting at most.
+pub const WAITING_LIMIT: usize = 64;

@@ -1,0 +1,127 @@
+//! The monitor, and what a row of it reads.
+
+use crate::ffi;
+use crate::refusal::Refusal;
+use core::fmt;
+
+/// How many words of 64 bits a monitor takes.
+pub const WORDS: usize = 2788;
+
+/// A monitor over a table: 22,304 bytes, with no pointer in them. A copy is a monitor of its own.
+#[derive(Clone, PartialEq, Eq)]
+#[repr(transparent)]
+pub struct Monitor {
+    words: [u64; WORDS],
+}
+
+/// What a row reads. It is written as in the report: "open", "kept", "broken 3".
+#[derive(Clone, Copy, Debug, PartialEq, Eq, Hash)]
+pub enum Verdict {
+    /// Its definition can still be met.
+    Open,
+    /// The recording is closed, and meets its definition.
+    Kept,
+    /// Its definition cannot be met any more: since this step, the first being 1.
+    Broken(u64),
+}
+
+impl fmt::Display for Verdict {
+    fn fmt(&self, f: &mut fmt::Formatter) -> fmt::Result {
+        match self {
+            Verdict::Open => write!(f, "open"),
+            Verdict::Kept => write!(f, "kept"),
+            Verdict::Broken(step) => write!(f, "broken {step}"),
+        }
+    }
+}
+
+impl Monitor {
+    /// A fresh monitor over a table: clock 0, no events, count 0, not closed.
+    ///
+    /// # Errors
+    /// 1 to 7, with the place in the table.
+    pub fn fresh(table: &[u8]) -> Result<Monitor, Refusal> {
+        let mut monitor = Monitor::from_words([0; WORDS]);
+        monitor.restart(table)?;
+        Ok(monitor)
+    }
+
+    /// Makes this the fresh monitor over a table, in the memory that it has. On a refusal it stays as it was.
+    ///
+    /// # Errors
+    /// 1 to 7, with the place in the table.
+    pub fn restart(&mut self, table: &[u8]) -> Result<(), Refusal> {
+        // SAFETY: pointer and length are a slice's, and its memory is not the monitor's.
+        let answer = unsafe { ffi::delkuthi_fresh(self, table.as_ptr(), table.len()) };
+        Refusal::of_table(answer)
+    }
+
+    /// Takes an event, not before the clock and later than every earlier event of its kind. On a refusal the monitor
+    /// stays as it was.
+    ///
+    /// # Errors
+    /// 8 closed, 9 the kind, 10 the time's range, 11 its order, 12 more than 64 would wait in a row.
+    pub fn event(&mut self, kind: u8, time: u64) -> Result<(), Refusal> {
+        Refusal::of_step(ffi::delkuthi_event(self, kind, time))
+    }
+
+    /// Takes a tick: the clock moves to a time later than it. On a refusal the monitor stays as it was.
+    ///
+    /// # Errors
+    /// 8 closed, 10 the time's range, 11 its order.
+    pub fn tick(&mut self, time: u64) -> Result<(), Refusal> {
+        Refusal::of_step(ffi::delkuthi_tick(self, time))
+    }
+
+    /// Closes the recording: no step is taken after it, and no row is open.
+    ///
+    /// # Errors
+    /// 8 closed already.
+    pub fn close(&mut self) -> Result<(), Refusal> {
+        Refusal::of_step(ffi::delkuthi_close(self))
+    }
+
+    /// What the row of this number reads, the first row being 0.
+    ///
+    /// # Errors
+    /// 15 no row of that number.
+    pub fn verdict(&self, row: usize) -> Result<Verdict, Refusal> {
+        const KEPT: u64 = u64::MAX;
+        const NO_ROW: u64 = u64::MAX - 1;
+        match ffi::delkuthi_verdict(self, row as u64) {
+            0 => Ok(Verdict::Open),
+            KEPT => Ok(Verdict::Kept),
+            NO_ROW => Err(Refusal::NO_ROW),
+            step => Ok(Verdict::Broken(step)),
+        }
+    }
+
+    /// The number of rows of the table.
+    pub fn rows(&self) -> usize {
+        ffi::delkuthi_rows(self) as usize
+    }
+
+    /// What each row reads, in the order of the table.
+    pub fn verdicts(&self) -> impl Iterator<Item = Verdict> {
+        (0..self.rows()).map_while(|row| self.verdict(row).ok())
+    }
+
+    /// The monitor's memory, to be put aside.
+    pub fn words(&self) -> &[u64; WORDS] {
+        &self.words
+    }
+
+    /// A monitor from memory that was put aside. Any words are safe: each call on them still ends and touches nothing
+    /// else. But on words that [`Monitor::words`] did not give, what a call answers means nothing.
+    pub fn from_words(words: [u64; WORDS]) -> Monitor {
+        Monitor { words }
+    }
+}
+
+impl fmt::Debug for Monitor {
+    /// The verdicts; what the words mean is the library's own business.
+    fn fmt(&self, f: &mut fmt::Formatter) -> fmt::Result {
+        f.write_str("Monitor ")?;
+        f.debug_list().entries(self.verdicts()).finish()
+    }
+}

@@ -1,0 +1,71 @@
+//! The refusals: the number of the first question answered "no".
+
+use core::fmt;
+
+/// A call that was refused. It has changed nothing.
+#[derive(Clone, Copy, Debug, PartialEq, Eq, Hash)]
+pub struct Refusal {
+    number: u8,
+    place: Option<u64>,
+}
+
+impl Refusal {
+    pub(crate) const NO_ROW: Refusal = Refusal { number: 15, place: None };
+
+    /// What the answer of a fresh monitor's call says: the place in the table, times 256, and the number.
+    pub(crate) fn of_table(answer: u64) -> Result<(), Refusal> {
+        let (number, place) = ((answer % 256) as u8, answer / 256);
+        if number == 0 { Ok(()) } else { Err(Refusal { number, place: Some(place) }) }
+    }
+
+    /// What the answer of a step says.
+    pub(crate) fn of_step(number: u8) -> Result<(), Refusal> {
+        if number == 0 { Ok(()) } else { Err(Refusal { number, place: None }) }
+    }
+
+    /// The refusal's number, as `include/delkuthi.h` lists them.
+    pub fn number(&self) -> u8 {
+        self.number
+    }
+
+    /// For a table's refusal the place of the length field concerned, in bytes: 0 for the version byte.
+    pub fn place(&self) -> Option<u64> {
+        self.place
+    }
+
+    /// What the number means, in a line.
+    pub fn text(&self) -> &'static str {
+        match self.number {
+            1 => "the table does not begin with a version byte 1",
+            2 => "a length field or a row of the table is not whole",
+            3 => "the table has more than 32 rows",
+            4 => "a row has no known type, an n out of range, or the wrong length",
+            5 => "a row has a kind above 63, or one kind twice",
+            6 => "a row has a time, span or maximum out of range",
+            7 => "a row has a lower that is more than its upper",
+            8 => "the recording is closed",
+            9 => "the kind is above 63",
+            10 => "the time is above 2^56 - 1",
+            11 => "the time is not in order",
+            12 => "more than 64 would wait in a row",
+            13 => "the recording does not begin with a version byte 1",
+            14 => "a record is not whole, or its length is neither 8 nor 9",
+            15 => "there is no row of that number",
+            16 => "the buffer is too short",
+            17 => "a file is too large",
+            _ => "a refusal without a text",
+        }
+    }
+}
+
+impl fmt::Display for Refusal {
+    fn fmt(&self, f: &mut fmt::Formatter) -> fmt::Result {
+        write!(f, "refused with {}: {}", self.number, self.text())?;
+        match self.place {
+            Some(place) => write!(f, " (at byte {place})"),
+            None => Ok(()),
+        }
+    }
+}
+
+impl core::error::Error for Refusal {}

@@ -1,0 +1,306 @@
+/*
+ * delkuthi.h: a proved monitor for TADL2 timing constraints
+ *
+ * The monitor takes a table of timing constraints (its rows) and the stamped
+ * events of a bench, and says for each row, while the recording runs, whether
+ * it is open, kept, or broken, and at which step it broke. Link libdelkuthi.a;
+ * of the C library it needs no more than memcpy, memmove, memset and memcmp.
+ *
+ *
+ * THE PROMISE
+ *
+ * For every table, every recording and every order of calls, the refused ones
+ * included:
+ *   - Each call answers: a result, or the number of a refusal. A refusal
+ *     changes nothing. No call reads or writes outside what it is lent, and
+ *     none runs without end.
+ *   - A row reads broken exactly when no continuation of the recording can
+ *     still meet its TADL2 definition, with the first step after which that
+ *     was so. Else it reads open, or kept once the recording is closed.
+ *   - A broken row stays broken, at the same step.
+ * This is the theorem monitor-is-exact, checked by a machine, not by tests.
+ * docs/DATASHEET.md has what it says, what it assumes, and what is not
+ * promised.
+ *
+ *
+ * STEPS
+ *
+ * A time is a whole number from 0 to DELKUTHI_LAST_TIME, in any unit that the
+ * table and the events share. A kind of event is a number from 0 to
+ * DELKUTHI_LAST_KIND. A step is an event (a kind and a time), a tick (the
+ * clock moved on to a time, without an event) or the close. Steps that are
+ * taken are counted from 1, the close included; refused ones are not counted.
+ *
+ *
+ * MEMORY AND THREADS
+ *
+ * The host owns all memory. The library allocates nothing and keeps nothing
+ * between calls: a monitor is its delkuthi_monitor and no more. It can be
+ * copied as a struct, and the copy is a monitor of its own.
+ *
+ *   - No pointer may be NULL, not even where its length is 0: give the
+ *     address of any byte then.
+ *   - A pointer is to as many bytes as its length says, and is aligned for
+ *     its type. Of one call's arguments, memory that it writes does not
+ *     overlap with the rest.
+ *   - One caller at a time for each monitor, and nobody else writes its
+ *     memory from the first call to the last. Calls on different monitors,
+ *     and delkuthi_report, may run at the same time in different threads.
+ *   - A call uses at most 256 KiB of the stack; that is measured, not proved.
+ *   - Every pattern of bits is safe: a call on memory that delkuthi_fresh
+ *     never filled still ends and still touches nothing else. But what it
+ *     answers then means nothing.
+ *
+ *
+ * LIMITS
+ *
+ *   times            0 to 2^56 - 1        DELKUTHI_LAST_TIME
+ *   kinds            0 to 63              DELKUTHI_LAST_KIND
+ *   rows of a table  0 to 32              DELKUTHI_ROW_LIMIT
+ *   waiting in a row at most 64           DELKUTHI_WAITING_LIMIT
+ *   a report         at most 1,024 bytes  DELKUTHI_REPORT_LIMIT
+ *
+ * What waits in a row: sources that have no target yet (Delay, StrongDelay),
+ * groups begun and not complete (StrongSynchronization). In other rows nothing
+ * waits.
+ *
+ *
+ * THE TABLE
+ *
+ * One byte 1, then the rows, numbered from 0. A row is a length of two bytes,
+ * then that many bytes: the type and the fields. Kinds, n, span and maximum
+ * take one byte, all other fields eight. Numbers are big-endian.
+ *
+ *   type                      fields                                   length
+ *   1 Delay                   source, target, lower, upper                 19
+ *   2 StrongDelay             source, target, lower, upper                 19
+ *   3 Repeat                  event, span, lower, upper                    19
+ *   4 Sporadic                event, lower, upper, jitter, minimum         34
+ *   5 Burst                   event, maximum, length, minimum              19
+ *   6 Order                   source, target                                3
+ *   7 StrongSynchronization   n from 2 to 4, n kinds, tolerance        10 + n
+ *
+ * Span and maximum are 1 to 64. In types 3 and 4 an upper of 2^64 - 1 means no
+ * limit.
+ *
+ *
+ * A BENCH LOOP
+ *
+ * It holds one monitor, gives it every step as it comes, and stops at the first
+ * broken row. next_step is the bench's own; host/c/bench_loop.c has one that
+ * reads a recording.
+
+#include "delkuthi.h"
+#include <inttypes.h>
+#include <stdio.h>
+
+// What comes next: 'e' an event, 't' a tick, 0 the end.
+extern int next_step(uint8_t *kind, uint64_t *time);
+
+static delkuthi_monitor monitor;
+
+// The first broken row, or -1.
+static int first_broken(void)
+{
+    uint64_t row;
+
+    for (row = 0; row < delkuthi_rows(&monitor); row++)
+        if (DELKUTHI_IS_BROKEN(delkuthi_verdict(&monitor, row)))
+            return (int)row;
+    return -1;
+}
+
+// Says what has stopped the bench. 0: every row kept. 1: a row is broken.
+// 2: the table or a step was refused.
+int bench(const uint8_t *table, size_t table_length)
+{
+    uint64_t time, answer = delkuthi_fresh(&monitor, table, table_length);
+    uint8_t kind, refused = 0;
+    int row = -1, what = 'e';
+
+    if (answer != DELKUTHI_TAKEN) {
+        printf("table refused with %d at byte %" PRIu64 "\n",
+               DELKUTHI_NUMBER(answer), DELKUTHI_PLACE(answer));
+        return 2;
+    }
+    while (row < 0 && !refused && what) {
+        what = next_step(&kind, &time);
+        if (what == 'e')
+            refused = delkuthi_event(&monitor, kind, time);
+        else if (what == 't')
+            refused = delkuthi_tick(&monitor, time);
+        else
+            refused = delkuthi_close(&monitor);
+        row = first_broken();
+    }
+    if (row >= 0)
+        printf("row %d broken at step %" PRIu64 "\n", row,
+               delkuthi_verdict(&monitor, (uint64_t)row));
+    else if (refused)
+        printf("step refused with %d\n", refused);
+    else
+        printf("every row kept\n");
+    return row >= 0 ? 1 : refused ? 2 : 0;
+}
+
+ */
+#ifndef DELKUTHI_H
+#define DELKUTHI_H
+
+#include <stddef.h>
+#include <stdint.h>
+
+#ifdef __cplusplus
+extern "C" {
+#endif
+
+#define DELKUTHI_LAST_TIME     UINT64_C(72057594037927935)
+#define DELKUTHI_LAST_KIND     63
+#define DELKUTHI_ROW_LIMIT     32
+#define DELKUTHI_WAITING_LIMIT 64
+#define DELKUTHI_REPORT_LIMIT  1024
+
+/*
+ * A monitor: 22,304 bytes, aligned as a uint64_t is. Put it on the stack, in
+ * static memory, on a heap or in a struct of your own, and give it to
+ * delkuthi_fresh first. What its words mean is the library's own business.
+ */
+typedef struct delkuthi_monitor {
+    uint64_t words[2788];
+} delkuthi_monitor;
+
+/* The answer of a call that was taken. */
+#define DELKUTHI_TAKEN 0
+
+/*
+ * The refusals, with what to do about each. The first question answered "no"
+ * gives the number.
+ */
+enum delkuthi_refusal {
+    /* A table (delkuthi_fresh, delkuthi_report). Mend the table. */
+    DELKUTHI_TABLE_VERSION = 1, /* it does not begin with a byte 1 */
+    DELKUTHI_ROW_CUT = 2,       /* a length field, or a row, is not whole */
+    DELKUTHI_ROW_TOO_MANY = 3,  /* more than 32 rows: use two monitors */
+    DELKUTHI_ROW_SHAPE = 4,     /* no such type or n, or the wrong length */
+    DELKUTHI_ROW_KINDS = 5,     /* a kind above 63, or one kind twice */
+    DELKUTHI_ROW_RANGE = 6,     /* a time, span or maximum out of range */
+    DELKUTHI_ROW_BOUNDS = 7,    /* lower is more than upper */
+
+    /* A step (delkuthi_event, _tick, _close, _report). */
+    DELKUTHI_CLOSED = 8,     /* it is closed: start a fresh monitor */
+    DELKUTHI_KIND = 9,       /* a kind above 63: leave the event out */
+    DELKUTHI_TIME_RANGE = 10,/* a time above 2^56 - 1: mend the host's clock */
+    DELKUTHI_TIME_ORDER = 11,/* an event before the clock, or not after the
+                                last one of its kind; a tick not after the
+                                clock: give steps in the order of time */
+    DELKUTHI_CROWDED = 12,   /* more than 64 would wait in a row: give the
+                                event again once something was answered, or
+                                take a table that asks for less patience */
+
+    /* A recording (delkuthi_report). Mend the recording. */
+    DELKUTHI_RECORDING_VERSION = 13, /* it does not begin with a byte 1 */
+    DELKUTHI_RECORD = 14             /* a record is not whole, or its length
+                                        is neither 8 nor 9 */
+
+    /*
+     * Three more have no call of this header that answers them: 15, no row of
+     * that number, is DELKUTHI_NO_ROW here; 16, a buffer that is too short, is
+     * the table writer's; 17, a file that is too large, is the program's.
+     */
+};
+
+/*
+ * Makes the memory a fresh monitor over a table: clock 0, no events, count 0,
+ * not closed. Whatever the memory held before is gone. The table's bytes are
+ * not needed any more once the call has returned.
+ *
+ * Returns DELKUTHI_TAKEN, or a refusal of number 1 to 7: DELKUTHI_NUMBER of it
+ * is the number, DELKUTHI_PLACE the place in the table of the length field
+ * concerned, counted in bytes (0 for the version byte). On a refusal the
+ * memory stays as it was: a monitor that it held can go on.
+ */
+uint64_t delkuthi_fresh(delkuthi_monitor *monitor,
+                        const uint8_t *table, size_t table_length);
+
+/* The number and the place in a refusal of delkuthi_fresh. */
+#define DELKUTHI_NUMBER(answer) ((uint8_t)((answer) & 255))
+#define DELKUTHI_PLACE(answer)  ((uint64_t)((answer) >> 8))
+
+/*
+ * Takes an event: its time is not before the clock and later than every
+ * earlier event of its kind. The clock moves to its time.
+ *
+ * Returns DELKUTHI_TAKEN, or a refusal, which is one of DELKUTHI_CLOSED,
+ * DELKUTHI_KIND, DELKUTHI_TIME_RANGE, DELKUTHI_TIME_ORDER and DELKUTHI_CROWDED
+ * and leaves the monitor as it was.
+ */
+uint8_t delkuthi_event(delkuthi_monitor *monitor, uint8_t kind, uint64_t time);
+
+/*
+ * Takes a tick: the clock moves to a time later than it. A host whose clock
+ * runs on without events learns by ticks that a row's answer did not come.
+ *
+ * Returns DELKUTHI_TAKEN, or a refusal, which is one of DELKUTHI_CLOSED,
+ * DELKUTHI_TIME_RANGE and DELKUTHI_TIME_ORDER and leaves the monitor as it
+ * was.
+ */
+uint8_t delkuthi_tick(delkuthi_monitor *monitor, uint64_t time);
+
+/*
+ * Closes the recording. No step is taken after it, and no row is open.
+ *
+ * Returns DELKUTHI_TAKEN, or DELKUTHI_CLOSED if it is closed already.
+ */
+uint8_t delkuthi_close(delkuthi_monitor *monitor);
+
+/*
+ * Says what the row of a number reads, the first row being 0. It changes
+ * nothing and can be asked at any time.
+ *
+ * Returns
+ *   DELKUTHI_OPEN    it can still be met, and the recording is not closed
+ *   DELKUTHI_KEPT    it is met, and the recording is closed
+ *   DELKUTHI_NO_ROW  the table has no row of that number (refusal 15)
+ *   any other        it is broken, and this is the number of the step that
+ *                    broke it: DELKUTHI_IS_BROKEN
+ */
+uint64_t delkuthi_verdict(const delkuthi_monitor *monitor, uint64_t row);
+
+#define DELKUTHI_OPEN   UINT64_C(0)
+#define DELKUTHI_KEPT   UINT64_MAX
+#define DELKUTHI_NO_ROW (UINT64_MAX - 1)
+#define DELKUTHI_IS_BROKEN(verdict) ((uint64_t)(verdict) - 1 < UINT64_MAX - 2)
+
+/* Returns the number of rows of the monitor's table, 0 to 32. */
+uint64_t delkuthi_rows(const delkuthi_monitor *monitor);
+
+/*
+ * Reports on a whole recording: reads the table, takes all records, closes,
+ * and writes to the report, in ASCII, each line ended by byte 10,
+ *
+ *   closed N         N: the number of steps, the close included
+ *   0 kept           then a line for each row: its number, and kept,
+ *   1 broken 33      or broken and the step that broke it
+ *
+ * or, if the table, a record or a step was refused, only
+ *
+ *   refused N P      the number 1 to 14, and the place P of the length field
+ *                    concerned, in the table (1 to 7) or in the recording
+ *
+ * A recording is one byte 1, then records: a length of two bytes, then a kind
+ * and a time (length 9, an event) or a time (length 8, a tick), big-endian.
+ * A record's place is that of its length; the place of a version byte is 0.
+ *
+ * Returns the number of bytes written, at most DELKUTHI_REPORT_LIMIT; or 0,
+ * with nothing written, if the report is longer than report_length. Bytes
+ * after those written stay as they were; no byte 0 is put behind them.
+ */
+size_t delkuthi_report(const uint8_t *table, size_t table_length,
+                       const uint8_t *recording, size_t recording_length,
+                       uint8_t *report, size_t report_length);
+
+#ifdef __cplusplus
+}
+#endif
+
+#endif

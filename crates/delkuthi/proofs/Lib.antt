@@ -4,3 +4,7 @@ pub mod Taking
 pub mod Progress
 pub mod RowLines
 pub mod Telling
+pub mod Refusals
+mod Numbers
+mod Elem
+mod Walk

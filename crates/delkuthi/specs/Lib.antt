@@ -1,3 +1,4 @@
--- What the parts of the report promise.
+-- What the parts of the report and the calls from C promise.
 pub mod Taking
 pub mod Telling
+pub mod Lent

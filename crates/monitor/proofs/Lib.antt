@@ -7,6 +7,3 @@ pub mod Theorem
 pub mod First
 pub mod Filled
 pub mod RowVerdicts
-pub mod Numbers
-pub mod Elem
-pub mod Walk

@@ -10,9 +10,8 @@ ghost use Rattle.constraint.specs.Steps.{event, tick, close};
 ghost use Rattle.monitor.specs.Machine.{refuses, takes};
 ghost use Rattle.monitor.specs.Contract.{Freshly, Steps, VerdictOf, BrokenSteps};
 
-pub mod lent;
 mod rows;
-mod verdicts;
+pub mod verdicts;
 
 #[repr(C)]
 pub struct Monitor {

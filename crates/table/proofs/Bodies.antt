@@ -39,7 +39,7 @@ bytes-part bytes n place all fits i h =
     let size : length (bytesAt n bytes place) ≡ n = length-take-le n (drop place bytes) (omega (arith, length-drop place bytes)) in
     rw (getD-take n (drop place bytes) i 0 (omega arith), getD-drop place bytes i 0) (all (place + i) (omega arith))
 
--- the bytes of the number in eight bytes are those eight bytes
+-- the bytes of the number in n bytes are those bytes
 pub number-back : (n : ℕ) (bytes : List ℕ) (place : ℕ) → Bytes bytes → place + n ≤ length bytes → bytesOf n (number (bytesAt n bytes place)) ≡ bytesAt n bytes place
 number-back n bytes place all fits =
     let size : length (bytesAt n bytes place) ≡ n = length-take-le n (drop place bytes) (omega (arith, length-drop place bytes)) in

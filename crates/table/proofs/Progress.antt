@@ -10,10 +10,10 @@ use Rattle.constraint.specs.Table.{placeQuestions, TableRead, table-of, table-r
 use Rattle.constraint.specs.declared.Answer.the-variants.{Refused}
 use Rattle.constraint.specs.declared.Constraint.{Constraint}
 use Rattle.constraint.specs.declared.Table.{Table}
-use Rattle.table.specs.Reading.{ReadsRow}
 use Rattle.table.specs.declared.reader.RowRead.{RowRead}
 use Rattle.table.proofs.Places.{place-taken}
 use Rattle.constraint.proofs.Records.{record-count, record-more, record-rows}
+use Rattle.table.specs.Rows.{ReadsRow}
 
 -- what is read behind some rows
 unfoldable pub rowsThen : List Constraint → TableRead → TableRead

@@ -19,9 +19,9 @@ use Rattle.table.proofs.Bodies.{number-back, bytes-part, row-back, body
 -- From bytes to rows and back
 
 -- the bytes from a place on are a length field, a body and the rest
-split-row : (bytes : List ℕ) (place : ℕ) → WholeAt bytes place
+split-row : (bytes : List ℕ) (place : ℕ)
     → drop place bytes ≡ (bytesAt 2 bytes place ++ bodyAt bytes place) ++ drop (place + 2 + lengthAt bytes place) bytes
-split-row bytes place whole =
+split-row bytes place =
     let size = lengthAt bytes place in
     sym (append-assoc (bytesAt 2 bytes place) (bodyAt bytes place) (drop (place + 2 + size) bytes)
     ∙ ap (λ (later : List ℕ). bytesAt 2 bytes place ++ (bodyAt bytes place ++ later)) (sym (drop-drop size (place + 2) bytes))
@@ -46,7 +46,7 @@ one-more : (bytes : List ℕ) (place : ℕ) (later : TableRead) → Bytes bytes 
     → WrittenBack bytes (place + 2 + lengthAt bytes place) later → WrittenBack bytes place (rowThen (constraintOf (bodyAt bytes place)) later)
 unfolding rowsBytes
 one-more bytes place (table-of rows) all whole fits written =
-    ap₂ (λ (first later : List ℕ). first ++ later) (row-written bytes place all whole fits) written ∙ sym (split-row bytes place whole)
+    ap₂ (λ (first later : List ℕ). first ++ later) (row-written bytes place all whole fits) written ∙ sym (split-row bytes place)
 one-more bytes place (table-refused n p) all whole fits written = tt
 
 rows-written : (bytes : List ℕ) {i place : ℕ} {read : TableRead} → Bytes bytes → ReadsRows bytes i place read → WrittenBack bytes place read

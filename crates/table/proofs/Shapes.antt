@@ -13,22 +13,22 @@ use Rattle.constraint.specs.Table.{lengths, lengthOf, ShapeFits, synchronizatio
 use Rattle.constraint.proofs.Judged.{same-test, test-equal}
 
 -- types 1 to 6
-pub shape-fixed : (body : List ℕ) (size kind : ℕ) → size ≡ length body → kind ≡ at body 0 → 0 < size → 1 ≤ kind → kind < 7
-    → Decides (ShapeFits body) (eqb size (at lengths kind))
-shape-fixed body size kind long type there low high =
-    let right : lengthOf body ≡ at lengths kind = rw (← type, ne-eqb kind 7 (λ e. omega arith), add-zero) in
+pub shape-fixed : (body : List ℕ) (size t : ℕ) → size ≡ length body → t ≡ at body 0 → 0 < size → 1 ≤ t → t < 7
+    → Decides (ShapeFits body) (eqb size (at lengths t))
+shape-fixed body size t long typed there low high =
+    let right : lengthOf body ≡ at lengths t = rw (← typed, ne-eqb t 7 (λ e. omega arith), add-zero) in
     same-test
     (λ e. record { type-there = omega arith; type-known = omega arith; n-there = λ k. absurd (omega arith); n-known = λ k. absurd (omega arith); length-right = sym long ∙ e ∙ sym right })
-    (λ fits. long ∙ fits .length-right ∙ right) (eqb size (at lengths kind)) (test-equal size (at lengths kind))
+    (λ fits. long ∙ fits .length-right ∙ right) (eqb size (at lengths t)) (test-equal size (at lengths t))
 
 -- type 7
-pub shape-counted : (body : List ℕ) (size kind n : ℕ) → size ≡ length body → kind ≡ at body 0 → n ≡ at body 1 → 1 < size → kind ≡ 7 → 2 ≤ n → n ≤ 4
-    → Decides (ShapeFits body) (eqb size (at lengths kind + n))
-shape-counted body size kind n long type count there seven low high =
-    let right : lengthOf body ≡ at lengths kind + n = rw (← type, ← count, seven) in
+pub shape-counted : (body : List ℕ) (size t n : ℕ) → size ≡ length body → t ≡ at body 0 → n ≡ at body 1 → 1 < size → t ≡ 7 → 2 ≤ n → n ≤ 4
+    → Decides (ShapeFits body) (eqb size (at lengths t + n))
+shape-counted body size t n long typed count there seven low high =
+    let right : lengthOf body ≡ at lengths t + n = rw (← typed, ← count, seven) in
     same-test
     (λ e. record { type-there = omega arith; type-known = omega arith; n-there = λ k. omega arith; n-known = λ k. omega arith; length-right = sym long ∙ e ∙ sym right })
-    (λ fits. long ∙ fits .length-right ∙ right) (eqb size (at lengths kind + n)) (test-equal size (at lengths kind + n))
+    (λ fits. long ∙ fits .length-right ∙ right) (eqb size (at lengths t + n)) (test-equal size (at lengths t + n))
 
 -- a body of any other type is read as a StrongSynchronization
 pub row-else : (body : List ℕ) → 6 < at body 0 → constraintOf body ≡ synchronizationOf body

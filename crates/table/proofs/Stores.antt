@@ -17,10 +17,10 @@ use Rattle.constraint.proofs.Rows.{rows-from}
 use Rattle.number.proofs.Numbers.{bytes-length}
 use Rattle.number.proofs.Stores.{stores-append}
 use Rattle.table.proofs.Bodies.{row-length}
-use Rattle.table.specs.Writing.{bytesIn, timesIn, headOf, timesOf, timesBytes, HoldsFirst}
+use Rattle.table.specs.Rows.{bytesIn, timesIn, headOf, timesOf, timesBytes, HoldsFirst}
 
 -- the fields of one byte stand before the times
-pub body-parts : (c : Constraint) → rowBody c ≡ headOf c ++ timesBytes (timesOf c)
+body-parts : (c : Constraint) → rowBody c ≡ headOf c ++ timesBytes (timesOf c)
 unfolding rowBody fieldsBytes bytesIn timesIn timesBytes
 body-parts (Delay source target lower upper) = refl
 body-parts (StrongDelay source target lower upper) = refl
@@ -32,7 +32,7 @@ body-parts (StrongSynchronization2 a b tolerance) = refl
 body-parts (StrongSynchronization3 a b c tolerance) = refl
 body-parts (StrongSynchronization4 a b c d tolerance) = refl
 
-pub times-length : (xs : List ℕ) → length (timesBytes xs) ≡ 8 * length xs
+times-length : (xs : List ℕ) → length (timesBytes xs) ≡ 8 * length xs
 unfolding timesBytes
 times-length [] = refl
 times-length (x ∷ xs) = omega (arith, length-append (bytesOf 8 x) (timesBytes xs), bytes-length 8 x, times-length xs)
@@ -52,7 +52,7 @@ times-more buffer place xs i there =
     rw (add-one i, drop-cons xs i 0 there, stores-append buffer place (bytesOf 8 (getD xs i 0)) (timesBytes (drop (suc i) xs)), bytes-length 8 (getD xs i 0))
 
 -- the length field, the head and the times
-pub row-stored : (buffer : List ℕ) (place : ℕ) (c : Constraint)
+row-stored : (buffer : List ℕ) (place : ℕ) (c : Constraint)
     → sets (sets (sets buffer place (bytesOf 2 (length (rowBody c)))) (place + 2) (headOf c)) (place + 2 + length (headOf c)) (timesBytes (timesOf c))
     ≡ sets buffer place (rowBytes c)
 unfolding rowBytes

@@ -1,3 +1,4 @@
 -- What the reader and the writer of tables promise.
 pub mod Reading
 pub mod Writing
+pub mod Rows

@@ -1,16 +1,13 @@
 -- What the reader's answer says, and its promise.
-use Prim.Native.Nat.{ℕ, _+_}
+use Prim.Native.Nat.{ℕ}
 use mathlib.Core.Path.{_≡_}
 use mathlib.Core.List.{List, []}
-use Rattle.constraint.specs.Questions.{Judged}
 use Rattle.constraint.specs.Rows.{rowsOf, tableOf}
-use Rattle.constraint.specs.Table.{TableRead, table-of, table-refused, ReadsTable, lengthAt, bodyAt, constraintOf, placeQuestions}
-use Rattle.constraint.specs.declared.Answer.the-variants.{Taken, Refused}
+use Rattle.constraint.specs.Table.{TableRead, table-of, table-refused, ReadsTable}
 use Rattle.constraint.specs.declared.Constraint.{Constraint}
 use Rattle.constraint.specs.declared.Table.{Table}
 use Rattle.table.specs.declared.ReadAnswer.{ReadAnswer}
 use Rattle.table.specs.declared.Reading.{Reading}
-use Rattle.table.specs.declared.reader.RowRead.{RowRead}
 
 -- what the reader's answer and the table beside it say
 abbrev pub readAs : ReadAnswer → Table → TableRead
@@ -29,9 +26,3 @@ rowsRead (table-refused n place) = []
 pub record ReadsInto (bytes : List ℕ) (r : Reading) : Type 0 where
   pub reads : ReadsTable bytes (readOf r)
   pub holds : r .table ≡ tableOf (rowsRead (readOf r))
-
--- what reading the row at a place gives, with i rows before it: the row and the place of the next, or the refusal's number
-abbrev pub ReadsRow : List ℕ → ℕ → ℕ → RowRead → Type 0
-ReadsRow bytes i place (RowRead.Row c next) =
-    Judged (placeQuestions bytes i place) Taken × (c ≡ constraintOf (bodyAt bytes place)) × (next ≡ place + 2 + lengthAt bytes place)
-ReadsRow bytes i place (RowRead.Refused n) = Judged (placeQuestions bytes i place) (Refused n)

@@ -19,15 +19,15 @@ pub(crate) fn shape_fits(body: &[u8], size: usize) -> bool
     if size == 0 {
         return false;
     }
-    let kind = number::byte_at(body, 0) as usize;
-    if kind == 0 {
+    let type_byte = number::byte_at(body, 0) as usize;
+    if type_byte == 0 {
         return false;
     }
-    if 7 < kind {
+    if 7 < type_byte {
         return false;
     }
-    let expected = LENGTHS[kind];
-    if kind < 7 {
+    let expected = LENGTHS[type_byte];
+    if type_byte < 7 {
         return size == expected;
     }
     if size == 1 {
@@ -94,15 +94,15 @@ fn sporadic_of(body: &[u8]) -> Constraint
 }
 
 // The row of a body with two fields of one byte and two times: types 1, 2, 3 and 5.
-fn two_times_of(body: &[u8], kind: u8) -> Constraint
-    requires { ⌜ (at (now body) 0 ≡ kind) × (1 ≤ kind) × (kind ≤ 5) × (kind ≢ 4) ⌝ }
+fn two_times_of(body: &[u8]) -> Constraint
+    requires { ⌜ (1 ≤ at (now body) 0) × (at (now body) 0 ≤ 5) × (at (now body) 0 ≢ 4) ⌝ }
     ensures { λ r. ⌜ r ≡ constraintOf (now (body .entry)) ⌝ }
 {
     let a = number::byte_at(body, 1);
     let b = number::byte_at(body, 2);
     let x = number::eight_at(body, 3);
     let y = number::eight_at(body, 11);
-    match kind {
+    match number::byte_at(body, 0) {
         1 => Constraint::Delay {
             source: a,
             target: b,
@@ -134,21 +134,21 @@ fn two_times_of(body: &[u8], kind: u8) -> Constraint
 pub fn row_of(body: &[u8]) -> Constraint
     ensures { λ r. ⌜ r ≡ constraintOf (now (body .entry)) ⌝ }
 {
-    let kind = number::byte_at(body, 0);
-    if kind == 4 {
+    let type_byte = number::byte_at(body, 0);
+    if type_byte == 4 {
         return sporadic_of(body);
     }
-    if kind == 6 {
+    if type_byte == 6 {
         return Constraint::Order {
             source: number::byte_at(body, 1),
             target: number::byte_at(body, 2),
         };
     }
-    if kind == 0 {
+    if type_byte == 0 {
         return synchronization_of(body);
     }
-    if 6 < kind {
+    if 6 < type_byte {
         return synchronization_of(body);
     }
-    two_times_of(body, kind)
+    two_times_of(body)
 }

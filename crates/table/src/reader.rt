@@ -12,7 +12,8 @@ ghost use Prim.Native.Nat.{_≤_, _<_};
 ghost use lib.ListN.{length};
 ghost use Rattle.constraint.specs.Rows.{tableOf};
 ghost use Rattle.constraint.specs.Table.{ReadsRows, table-refused};
-ghost use Rattle.table.specs.Reading.{readOf, rowsRead, ReadsRow};
+ghost use Rattle.table.specs.Reading.{readOf, rowsRead};
+ghost use Rattle.table.specs.Rows.{ReadsRow};
 
 // What reading one row gives: the row and the place of the next, or the number of the refusal.
 enum RowRead {

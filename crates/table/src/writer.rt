@@ -8,7 +8,7 @@ ghost use lib.Seq.{sets};
 ghost use Rattle.constraint.specs.Limits.{rowLimit};
 ghost use Rattle.constraint.specs.Rows.{rowsOf};
 ghost use Rattle.constraint.specs.Table.{rowBody, rowBytes, rowsBytes, tableBytes};
-ghost use Rattle.table.specs.Writing.{headOf, timesOf, timesBytes, HoldsFirst};
+ghost use Rattle.table.specs.Rows.{headOf, timesOf, timesBytes, HoldsFirst};
 
 // The bytes of a row before its times: the type byte and the fields of one byte.
 struct Head {

@@ -13,8 +13,8 @@ returns c = search needs
 byte-at-requires : tie.Need-byte-at-requires
 byte-at-requires c κs = search needs
 
-cast-kind : tie.Need-cast-kind
-cast-kind c = search needs
+cast-type-byte : tie.Need-cast-type-byte
+cast-type-byte c = search needs
 
 returns-2 : tie.Need-returns-2
 returns-2 c = search needs
@@ -30,9 +30,9 @@ array-read-expected c = search needs
 
 returns-4 : tie.Need-returns-4
 returns-4 c =
-    let at-kind = c .before .before .before in
-    let a = at-kind .before .before .before .args in
-    shape-fixed (now (a .body)) (a .size) (at-kind .byte-at .result) (at-kind .before .before .before .pre) (at-kind .byte-at .ensures) (omega arith) (omega arith) (c .if4 .taken)
+    let at-type = c .before .before .before in
+    let a = at-type .before .before .before .args in
+    shape-fixed (now (a .body)) (a .size) (at-type .byte-at .result) (at-type .before .before .before .pre) (at-type .byte-at .ensures) (omega arith) (omega arith) (c .if4 .taken)
 
 returns-5 : tie.Need-returns-5
 returns-5 c = λ fits. omega (arith, fits .n-there (omega arith))
@@ -57,9 +57,9 @@ add-result c =
 returns-8 : tie.Need-returns-8
 returns-8 c =
     let at-n = c .before .before in
-    let at-kind = at-n .before .before .before .before .before in
-    let a = at-kind .before .before .before .args in
-    shape-counted (now (a .body)) (a .size) (at-kind .byte-at .result) (at-n .byte-at2 .result) (at-kind .before .before .before .pre) (at-kind .byte-at .ensures) (at-n .byte-at2 .ensures)
+    let at-type = at-n .before .before .before .before .before in
+    let a = at-type .before .before .before .args in
+    shape-counted (now (a .body)) (a .size) (at-type .byte-at .result) (at-n .byte-at2 .result) (at-type .before .before .before .pre) (at-type .byte-at .ensures) (at-n .byte-at2 .ensures)
     (omega arith) (omega arith) (omega arith) (omega arith)
 
 pub shape-fits-spec : {M : Type 1} → statement M
@@ -68,7 +68,7 @@ shape-fits-spec =
     (tie.spec
     returns
     byte-at-requires
-    cast-kind
+    cast-type-byte
     returns-2
     returns-3
     mul-expected

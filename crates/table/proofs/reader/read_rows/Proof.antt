@@ -4,10 +4,10 @@ use borrow.Author.Needs.{needs}
 use Prim.Native.Nat.{_-_}
 use lib.ListN.{length}
 use denote.Ref.{now}
-use Rattle.table.specs.Reading.{ReadsRow}
 use Rattle.table.specs.declared.reader.RowRead.{RowRead}
 use Rattle.table.proofs.Places.{place-taken}
 use Rattle.table.proofs.Progress.{ReadUpTo, up-to-start, up-to-more, up-to-refused, up-to-end}
+use Rattle.table.specs.Rows.{ReadsRow}
 use Rattle.table.proofs.reader.read_rows.Statement.{statement}
 use Rattle.table.proofs.reader.read_rows.Tie as tie
 

@@ -1,7 +1,7 @@
 -- In each case the array begins with the type byte and the fields of one byte.
 use borrow.Author.Needs.{needs}
 use mathlib.Core.Path.{refl}
-use Rattle.table.specs.Writing.{bytesIn}
+use Rattle.table.specs.Rows.{bytesIn}
 use Rattle.table.proofs.writer.head_of.Statement.{statement}
 use Rattle.table.proofs.writer.head_of.Tie as tie
 

@@ -5,8 +5,8 @@ use mathlib.Core.Path.{_≡_, refl, sym, ap, _∙_}
 use mathlib.Core.List.{List}
 use lib.ListN.{length, getD, take, drop, length-map, drop-of-length-le}
 use lib.Seq.{sets, length-take-le, getD-take}
-use Rattle.table.specs.Writing.{timesBytes}
 use Rattle.table.proofs.Stores.{times-more}
+use Rattle.table.specs.Rows.{timesBytes}
 use Rattle.table.proofs.writer.put_times.Statement.{statement}
 use Rattle.table.proofs.writer.put_times.Tie as tie
 

@@ -1,7 +1,7 @@
 -- In each case the array begins with the times.
 use borrow.Author.Needs.{needs}
 use mathlib.Core.Path.{refl}
-use Rattle.table.specs.Writing.{timesIn}
+use Rattle.table.specs.Rows.{timesIn}
 use Rattle.table.proofs.writer.times_of.Statement.{statement}
 use Rattle.table.proofs.writer.times_of.Tie as tie
 

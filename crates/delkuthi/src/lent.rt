@@ -1,0 +1,158 @@
+// The monitor lent to a host in C: functions on numbers, bytes and references alone. The numbers are those of specs/Lent.antt.
+use constraint::Answer;
+use constraint::Verdict;
+use monitor::Monitor;
+use monitor::RowVerdict;
+use monitor::Stepped;
+use monitor::verdicts;
+use table::ReadAnswer;
+ghost use mathlib.Core.Path.{_≡_};
+ghost use Rattle.constraint.specs.Steps.{event, tick, close};
+ghost use Rattle.monitor.specs.Contract.{Steps};
+ghost use Rattle.monitor.specs.Parts.{verdictBy};
+ghost use Rattle.delkuthi.specs.Lent.{Begins, numbered, steppedFrom, numberBy, NumberOfVerdict, NumberOfRows};
+
+// The answer as a number, 0 where the table is accepted, and the monitor then.
+pub struct Begun {
+    pub number: u64,
+    pub monitor: Monitor,
+}
+
+// The fresh monitor over a table's bytes, or the refusal and the monitor as it was.
+fn fresh(m: Monitor, table: &[u8]) -> Begun
+    ensures { λ r. ⌜ Begins (now (table .entry)) m (r .number) (r .monitor) ⌝ }
+{
+    let reading = table::read(table);
+    let answer = reading.answer;
+    match answer {
+        ReadAnswer::Accepted => {
+            let fresh = Monitor::fresh(reading.table);
+            let monitor = fresh.monitor;
+            Begun { number: 0, monitor }
+        }
+        ReadAnswer::Refused { number, place } => Begun {
+            number: place as u64 * 256 + number as u64,
+            monitor: m,
+        },
+    }
+}
+
+// Makes the monitor fresh over a table's bytes and answers 0; on a refusal answers 256 times its place and its number, and leaves the monitor as it was.
+#[no_mangle]
+pub extern "C" fn delkuthi_fresh(m: &mut Monitor, table: &[u8]) -> u64
+    ensures { λ r. ⌜ Begins (now (table .entry)) (now (m .entry)) r (now (m .exit)) ⌝ }
+{
+    let s = fresh(*m, table);
+    let n = s.monitor;
+    *m = n;
+    s.number
+}
+
+// The number for "kept", 2^64 - 1.
+pub const KEPT: u64 = 18446744073709551615;
+// The number for "there is no row of that number", 2^64 - 2.
+pub const NO_ROW: u64 = 18446744073709551614;
+
+// The answer to a step as a number, 0 where it is taken, and the monitor after it.
+pub struct Numbered {
+    pub number: u8,
+    pub monitor: Monitor,
+}
+
+// What a step gives, with its answer as a number.
+fn with_number(stepped: Stepped) -> Numbered
+    ensures { λ r. ⌜ r ≡ numbered stepped ⌝ }
+{
+    let answer = stepped.answer;
+    let monitor = stepped.monitor;
+    match answer {
+        Answer::Taken => Numbered { number: 0, monitor },
+        Answer::Refused(number) => Numbered { number, monitor },
+    }
+}
+
+// An event, by value.
+fn event(m: Monitor, kind: u8, time: u64) -> Numbered
+    ensures { λ r. ⌜ Steps m (event kind time) (steppedFrom (r .number) (r .monitor)) ⌝ }
+{
+    with_number(m.event(kind, time))
+}
+
+// A tick, by value.
+fn tick(m: Monitor, time: u64) -> Numbered
+    ensures { λ r. ⌜ Steps m (tick time) (steppedFrom (r .number) (r .monitor)) ⌝ }
+{
+    with_number(m.tick(time))
+}
+
+// The close, by value.
+fn close(m: Monitor) -> Numbered
+    ensures { λ r. ⌜ Steps m close (steppedFrom (r .number) (r .monitor)) ⌝ }
+{
+    with_number(m.close())
+}
+
+// The number for a row's verdict, by the numbers that it is read off.
+fn verdict(row: u64, len: usize, closed: u64, broken: u64) -> u64
+    ensures { λ r. ⌜ r ≡ numberBy (verdictBy row len closed broken) ⌝ }
+{
+    match verdicts::by(row, len, closed, broken) {
+        RowVerdict::Refused(_) => NO_ROW,
+        RowVerdict::Reads(v) => match v {
+            Verdict::Open => 0,
+            Verdict::Kept => KEPT,
+            Verdict::Broken(step) => step,
+        },
+    }
+}
+
+// An event of a kind at a time: 0 if it is taken, else the number of its refusal.
+#[no_mangle]
+pub extern "C" fn delkuthi_event(m: &mut Monitor, kind: u8, time: u64) -> u8
+    ensures { λ r. ⌜ Steps (now (m .entry)) (event kind time) (steppedFrom r (now (m .exit))) ⌝ }
+{
+    let s = event(*m, kind, time);
+    let n = s.monitor;
+    *m = n;
+    s.number
+}
+
+// A tick to a time: 0 if it is taken, else the number of its refusal.
+#[no_mangle]
+pub extern "C" fn delkuthi_tick(m: &mut Monitor, time: u64) -> u8
+    ensures { λ r. ⌜ Steps (now (m .entry)) (tick time) (steppedFrom r (now (m .exit))) ⌝ }
+{
+    let s = tick(*m, time);
+    let n = s.monitor;
+    *m = n;
+    s.number
+}
+
+// The close: 0 if it is taken, else the number of its refusal.
+#[no_mangle]
+pub extern "C" fn delkuthi_close(m: &mut Monitor) -> u8
+    ensures { λ r. ⌜ Steps (now (m .entry)) close (steppedFrom r (now (m .exit))) ⌝ }
+{
+    let s = close(*m);
+    let n = s.monitor;
+    *m = n;
+    s.number
+}
+
+// The verdict of a row: 0 for "open", KEPT, NO_ROW, or the step that broke it.
+#[no_mangle]
+pub extern "C" fn delkuthi_verdict(m: &Monitor, row: u64) -> u64
+    ensures { λ r. ⌜ NumberOfVerdict (now (m .entry)) row r ⌝ }
+{
+    let at = verdicts::place(row);
+    let broken = m.rows[at].broken;
+    verdict(row, m.len, m.closed, broken)
+}
+
+// The number of rows.
+#[no_mangle]
+pub extern "C" fn delkuthi_rows(m: &Monitor) -> u64
+    ensures { λ r. ⌜ NumberOfRows (now (m .entry)) r ⌝ }
+{
+    m.len as u64
+}

@@ -1,5 +1,6 @@
 //! What the benchmark measures, and a plain Rust monitor to measure it beside.
 
+mod clock;
 pub mod load;
 pub mod measure;
 pub mod plain;

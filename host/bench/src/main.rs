@@ -16,7 +16,7 @@ fn commas(number: f64) -> String {
 
 fn print_line(measured: &Measured) {
     println!(
-        "| {:<16} | {:>9} | {:>15} | {:>13} | {:>5.2} |",
+        "| {:<16} | {:>9} | {:>15} | {:>13} | {:>5.1} |",
         measured.what,
         commas(measured.number as f64),
         commas(measured.library_rate()),
@@ -32,7 +32,8 @@ fn main() {
         let (fewest, most) = load.concerned();
         println!("{}: 32 rows of all types; an event concerns {fewest} to {most} of them", load.name);
     }
-    println!("the verdicts of both monitors agree; every row is open until the close; best of {RUNS} runs, in turn\n");
+    println!("the verdicts of both monitors agree; every row is open until the close");
+    println!("processor time, the best of {RUNS} runs in turn\n");
     println!("| what             |    number | library, in 1 s | plain, in 1 s | times |");
     println!("|------------------|----------:|----------------:|--------------:|------:|");
     loads.iter().for_each(|load| print_line(&steps(load, RUNS)));

@@ -1,11 +1,12 @@
 //! The measurements: the library and plain Rust in turn, in one run, on the same steps.
 
+use crate::clock::thread_time;
 use crate::load::Load;
 use crate::plain::{self, Plain};
 use delkuthi::Monitor;
 use model::{Step, Verdict};
 use std::hint::black_box;
-use std::time::{Duration, Instant};
+use std::time::Duration;
 
 /// How long something took, for so many steps or records: the best of several runs each.
 pub struct Measured {
@@ -41,10 +42,11 @@ fn in_turn(runs: usize, mut library: impl FnMut(), mut plain: impl FnMut()) -> (
     best
 }
 
+/// The processor time that something takes.
 fn time(act: &mut impl FnMut()) -> Duration {
-    let start = Instant::now();
+    let start = thread_time();
     act();
-    start.elapsed()
+    thread_time() - start
 }
 
 /// Gives the steps to the library's monitor.

@@ -46,7 +46,6 @@
  *   - One caller at a time for each monitor, and nobody else writes its
  *     memory from the first call to the last. Calls on different monitors,
  *     and delkuthi_report, may run at the same time in different threads.
- *   - A call uses at most 256 KiB of the stack; that is measured, not proved.
  *   - Every pattern of bits is safe: a call on memory that delkuthi_fresh
  *     never filled still ends and still touches nothing else. But what it
  *     answers then means nothing.
@@ -59,10 +58,12 @@
  *   rows of a table  0 to 32              DELKUTHI_ROW_LIMIT
  *   waiting in a row at most 64           DELKUTHI_WAITING_LIMIT
  *   a report         at most 1,024 bytes  DELKUTHI_REPORT_LIMIT
+ *   stack, report    at most 384 KiB      DELKUTHI_REPORT_STACK
+ *   stack, others    at most 256 KiB      DELKUTHI_MONITOR_STACK
  *
  * What waits in a row: sources that have no target yet (Delay, StrongDelay),
  * groups begun and not complete (StrongSynchronization). In other rows nothing
- * waits.
+ * waits. The stack that a call uses is measured, not proved.
  *
  *
  * THE TABLE
@@ -159,6 +160,8 @@ extern "C" {
 #define DELKUTHI_ROW_LIMIT     32
 #define DELKUTHI_WAITING_LIMIT 64
 #define DELKUTHI_REPORT_LIMIT  1024
+#define DELKUTHI_REPORT_STACK  393216
+#define DELKUTHI_MONITOR_STACK 262144
 
 /*
  * A monitor: 22,304 bytes, aligned as a uint64_t is. Put it on the stack, in

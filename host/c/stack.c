@@ -3,6 +3,7 @@
  *
  * The calls run in a thread whose stack was filled with a pattern; what is not
  * the pattern any more was used. Prints a line for each call: bytes and name.
+ * The exit status is 1 where a call uses more than the header says.
  */
 #define _XOPEN_SOURCE 600
 #include "delkuthi.h"
@@ -33,7 +34,10 @@ static void *fresh(void *unused)
 
 static void *event(void *unused)
 {
-    (void)delkuthi_event(&monitor, 0, 1000);
+    uint64_t time;
+
+    for (time = 0; time < 1000; time++)
+        (void)delkuthi_event(&monitor, (uint8_t)(time % 64), time);
     return unused;
 }
 
@@ -80,29 +84,33 @@ static size_t used_by(void *(*act)(void *))
     return SIZE - untouched;
 }
 
-static void print(const char *name, void *(*act)(void *))
+/* Prints what a call uses; returns whether that is within its limit. */
+static int within(size_t limit, const char *name, void *(*act)(void *))
 {
     size_t before = used_by(nothing), used = used_by(act);
 
-    printf("%lu %s\n", (unsigned long)(used > before ? used - before : 0), name);
+    used = used > before ? used - before : 0;
+    printf("%lu %s\n", (unsigned long)used, name);
+    return used <= limit;
 }
 
 int main(int argc, char **argv)
 {
     void *memory;
+    int well = 1;
 
     if (argc != 3 || !read_file(argv[1], &table) || !read_file(argv[2], &recording)
         || posix_memalign(&memory, 1 << 16, SIZE) != 0)
         return 3;
     stack = memory;
-    print("fresh", fresh);
-    print("event", event);
-    print("tick", tick);
-    print("verdict", verdict);
-    print("close", close_it);
-    print("report", whole_report);
+    well &= within(DELKUTHI_MONITOR_STACK, "fresh", fresh);
+    well &= within(DELKUTHI_MONITOR_STACK, "event", event);
+    well &= within(DELKUTHI_MONITOR_STACK, "tick", tick);
+    well &= within(DELKUTHI_MONITOR_STACK, "verdict", verdict);
+    well &= within(DELKUTHI_MONITOR_STACK, "close", close_it);
+    well &= within(DELKUTHI_REPORT_STACK, "report", whole_report);
     free(stack);
     free_file(&table);
     free_file(&recording);
-    return 0;
+    return well ? 0 : 1;
 }

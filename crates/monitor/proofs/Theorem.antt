@@ -1,13 +1,25 @@
 -- Demand 3 for all seven row types: the promise over the machine, with the engine of every type put in.
 use Prim.Native.Nat.{ℕ}
-use mathlib.Core.Path.{_≡_, sym, subst}
-use mathlib.Core.Option.{Option}
-use Rattle.constraint.specs.Steps.{Step}
-use Rattle.constraint.specs.Promise.{Promise}
+use mathlib.Core.Path.{_≡_, refl, sym, subst}
+use mathlib.Core.Bool.{true}
+use mathlib.Core.List.{List}
+use mathlib.Core.Logic.{_↔_, Iff·trans}
+use mathlib.Core.Option.{Option, some}
+use lib.ListN.{getElem?}
+use Rattle.constraint.specs.Steps.{Step, closed}
+use Rattle.constraint.specs.Meets.{Meets}
+use Rattle.constraint.specs.Continuation.{Open, Reads}
+use Rattle.constraint.specs.Accepted.{Accepted}
+use Rattle.constraint.specs.Promise.{Promise, ReadsRow, row, no-row}
+use Rattle.constraint.specs.declared.Constraint.{Constraint}
 use Rattle.constraint.specs.declared.Verdict.{Verdict}
+use Rattle.constraint.proofs.History.{valid-none}
+use Rattle.constraint.proofs.Judged.{never}
+use Rattle.constraint.proofs.Runs.{run-valid, broken-exactly, kept-exactly}
+use Rattle.constraint.proofs.Sanity.{run-once}
 use Rattle.row.proofs.Engine.{engine}
 use Rattle.monitor.specs.Machine.{stepOf, verdictOf}
-use Rattle.monitor.specs.Contract.{step, Steps, Reading}
+use Rattle.monitor.specs.Contract.{step, after, Recorded, Steps, Reading}
 use Rattle.monitor.specs.Examples.{examples, AllRead}
 use Rattle.monitor.specs.declared.Monitor.{Monitor}
 use Rattle.monitor.specs.declared.Stepped.{Stepped}
@@ -29,3 +41,29 @@ step-kept m s e = subst (Steps m s) (sym e) (steps-keep engine m s)
 -- what equals a verdict of the machine keeps the contract of a verdict
 pub reading-kept : (m : Monitor) (i : ℕ) {verdict : Option Verdict} → verdict ≡ verdictOf m i → Reading m i verdict
 reading-kept m i e = subst (Reading m i) (sym e) (reading-keeps engine m i)
+
+-- ---- in the buyer's words, after any list of calls over an accepted table
+
+module _ (rows : List Constraint) (calls steps : List Step) (accepted : Accepted rows) (recorded : Recorded rows calls steps) (i : ℕ) (c : Constraint) (there : getElem? rows i ≡ some c) where
+  -- the row has a verdict, and it reads that after the steps recorded
+  row-reads : (v : Verdict) × (verdictOf (after rows calls) i ≡ some v) × Reads c steps v
+  row-reads =
+      let read = reading-keeps engine (after rows calls) i .means rows calls accepted refl in
+      of-row (verdictOf (after rows calls) i) (subst (λ (past : List Step). ReadsRow rows past i (verdictOf (after rows calls) i)) (run-once rows (read .1 .1) (recorded .1) .1) (read .2))
+    where
+      of-row : (o : Option Verdict) → ReadsRow rows steps i o → (v : Verdict) × (o ≡ some v) × Reads c steps v
+      of-row o (row d v e r) = let same : d ≡ c = cc in (v, refl, subst (λ (x : Constraint). Reads x steps v) same r)
+      of-row o (no-row e) = never (cc)
+
+  same-verdict : (v : Verdict) → (verdictOf (after rows calls) i ≡ some v) ↔ (row-reads .0 ≡ v)
+  same-verdict v = let e = row-reads .1 in (λ p. cc, λ q. cc)
+
+  -- at the close a row is kept exactly when the recorded events meet its definition
+  pub kept-at-the-close : closed steps ≡ true → (verdictOf (after rows calls) i ≡ some Verdict.Kept) ↔ Meets c steps
+  kept-at-the-close shut = Iff·trans (same-verdict Verdict.Kept) (kept-exactly c steps (run-valid (recorded .1) valid-none) shut (row-reads .0) (row-reads .2))
+
+  -- a row reads broken exactly when no continuation can still meet its definition
+  pub broken-while-it-runs : ((n : ℕ) × (verdictOf (after rows calls) i ≡ some (Verdict.Broken n))) ↔ (¬ Open c steps)
+  broken-while-it-runs =
+      let exactly = broken-exactly c steps (run-valid (recorded .1) valid-none) (row-reads .0) (row-reads .2) in
+      (λ b. exactly .0 (b .0, same-verdict (Verdict.Broken (b .0)) .0 (b .1)), λ shut. let b = exactly .1 shut in (b .0, same-verdict (Verdict.Broken (b .0)) .1 (b .1)))

@@ -10,6 +10,21 @@ use Rattle.constraint.specs.declared.Constraint.{Constraint}
 use Rattle.constraint.proofs.Judged.{judged-none, judged-all}
 use Rattle.constraint.proofs.Accepted.{rows-taken}
 
+-- what is known of a row that is taken
+pub record PlaceTaken (bytes : List ℕ) (i place : ℕ) : Type 0 where
+  pub whole : WholeAt bytes place
+  pub room : i < rowLimit
+  pub shape : ShapeFits (bodyAt bytes place)
+  pub own : Judged (rowQuestions (constraintOf (bodyAt bytes place))) Taken
+
+pub place-taken : (bytes : List ℕ) (i place : ℕ) → Judged (placeQuestions bytes i place) Taken → PlaceTaken bytes i place
+unfolding placeQuestions
+place-taken bytes i place judged =
+    let whole = judged-all 2 (WholeAt bytes place) _ judged in
+    let room = judged-all 3 (i < rowLimit) _ (whole .1) in
+    let shape = judged-all 4 (ShapeFits (bodyAt bytes place)) _ (room .1) in
+    record { whole = whole .0; room = room .0; shape = shape .0; own = shape .1 }
+
 -- the rows that were read, with i rows before them, are accepted
 abbrev AcceptedBehind : ℕ → TableRead → Type 0
 AcceptedBehind i (table-of rows) = Judged (rowsQuestions i rows []) Taken
@@ -21,13 +36,12 @@ accepted-more i c (table-of rows) room own accepted = rows-taken i c rows [] Tak
 accepted-more i c (table-refused n place) room own accepted = tt
 
 rows-accepted : (bytes : List ℕ) {i place : ℕ} {read : TableRead} → ReadsRows bytes i place read → AcceptedBehind i read
-unfolding rowsQuestions placeQuestions
+unfolding rowsQuestions
 rows-accepted bytes (no-more end) = judged-none
 rows-accepted bytes (row-refused n there refused) = tt
 rows-accepted bytes (row-taken {i} {place} {later} there judged reads) =
-    let whole = judged-all 2 (WholeAt bytes place) _ judged in
-    let room = judged-all 3 (i < rowLimit) _ (whole .1) in
-    accepted-more i (constraintOf (bodyAt bytes place)) later (room .0) (judged-all 4 (ShapeFits (bodyAt bytes place)) _ (room .1) .1) (rows-accepted bytes reads)
+    let taken = place-taken bytes i place judged in
+    accepted-more i (constraintOf (bodyAt bytes place)) later (taken .room) (taken .own) (rows-accepted bytes reads)
 
 pub read-accepted : (bytes : List ℕ) (rows : List Constraint) → ReadsTable bytes (table-of rows) → Accepted rows
 read-accepted bytes rows (version-taken one reads) = rows-accepted bytes reads

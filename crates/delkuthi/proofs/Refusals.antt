@@ -12,13 +12,14 @@ use lib.Seq.{length-take-le}
 use Rattle.constraint.specs.Limits.{rowLimit}
 use Rattle.constraint.specs.Steps.{at}
 use Rattle.constraint.specs.Questions.{Question, Judged}
-use Rattle.constraint.specs.Table.{lengths, ShapeFits, lengthAt, bodyAt, WholeAt, placeQuestions, TableRead, table-of, table-refused, rowThen, constraintOf, ReadsRows, no-more, row-refused, row-taken, ReadsTable, version-refused, version-taken}
+use Rattle.constraint.specs.Table.{lengths, ShapeFits, lengthAt, bodyAt, placeQuestions, TableRead, table-of, table-refused, rowThen, constraintOf, ReadsRows, no-more, row-refused, row-taken, ReadsTable, version-refused, version-taken}
 use Rattle.constraint.specs.declared.Answer.the-variants.{Taken, Refused}
 use Rattle.constraint.specs.declared.Constraint.{Constraint}
-use Rattle.constraint.proofs.Judged.{never, judged-all}
+use Rattle.constraint.proofs.Judged.{never}
 use Rattle.constraint.proofs.Lists.{split}
+use Rattle.delkuthi.proofs.Reading.{place-taken}
 
--- the lengths in the list are at most 34
+-- each of a list is at most a number, and so is the 0 that stands past its end
 AllAtMost : ℕ → List ℕ → Type 0
 AllAtMost most [] = 0 ≤ most
 AllAtMost most (x ∷ list) = (x ≤ most) × AllAtMost most list
@@ -41,13 +42,10 @@ shape-short body fits =
 
 -- a row that is taken has at most 36 bytes
 row-short : (bytes : List ℕ) (i place : ℕ) → Judged (placeQuestions bytes i place) Taken → (i < rowLimit) × (lengthAt bytes place ≤ 34)
-unfolding placeQuestions
 row-short bytes i place judged =
-    let whole = judged-all 2 (WholeAt bytes place) _ judged in
-    let room = judged-all 3 (i < rowLimit) _ (whole .1) in
-    let shape = judged-all 4 (ShapeFits (bodyAt bytes place)) _ (room .1) .0 in
+    let taken = place-taken bytes i place judged in
     let body = length-take-le (lengthAt bytes place) (drop (place + 2) bytes) (omega (arith, length-drop (place + 2) bytes)) in
-    (room .0, omega (arith, shape-short (bodyAt bytes place) shape))
+    (taken .room, omega (arith, shape-short (bodyAt bytes place) (taken .shape)))
 
 -- questions with numbers above 0 refuse with such a number
 AllAbove : List Question → Type 0

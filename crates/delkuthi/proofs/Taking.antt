@@ -1,6 +1,6 @@
 -- A monitor that has taken some steps answers the next as its questions say over those steps, and where it takes it has taken one more: a list of calls has one outcome.
 use Prim.Native.Nat.{ℕ}
-use mathlib.Core.Path.{_≡_, refl, sym, subst}
+use mathlib.Core.Path.{_≡_, sym, subst}
 use mathlib.Core.List.{List, [], _∷_, _++_}
 use mathlib.Core.Option.{Option}
 use Rattle.constraint.specs.Steps.{Step}
@@ -17,18 +17,13 @@ use Rattle.constraint.specs.declared.Verdict.{Verdict}
 use Rattle.constraint.proofs.Judged.{judged-once}
 use Rattle.row.proofs.Engine.{engine}
 use Rattle.monitor.specs.Machine.{monitorOf}
+use Rattle.constraint.proofs.Sanity.{run-once}
 use Rattle.monitor.specs.Contract.{step, after, Freshly, Steps, Reading as VerdictReading}
 use Rattle.monitor.specs.declared.Monitor.{Monitor}
 use Rattle.monitor.specs.declared.Stepped.{Stepped}
 use Rattle.monitor.proofs.Following.{Follows}
 use Rattle.monitor.proofs.Demand.{start-follows, play-follows}
 use Rattle.delkuthi.specs.Taking.{Took}
-
--- a list of calls accepts one list of steps
-run-once : {rows : List Constraint} {steps calls end other : List Step} {answers others : List Answer} → Run rows steps calls answers end → Run rows steps calls others other → end ≡ other
-run-once done done = refl
-run-once {rows = rows} (call {steps = steps} {calls = calls} s a judged rest) (call {end = other} {answers = others} t b again later) =
-    run-once rest (subst (λ (x : Answer). Run rows (recorded steps s x) calls others other) (judged-once (questions rows steps s) b a again judged) later)
 
 -- one call more, which is taken
 run-more : {rows : List Constraint} {steps calls end : List Step} {answers : List Answer} (s : Step) → Run rows steps calls answers end → Judged (questions rows end s) Taken
@@ -49,19 +44,19 @@ module _ (rows : List Constraint) (steps : List Step) (m : Monitor) (took : Took
   took-follows =
       let played = play-follows engine rows [] (monitorOf rows) (start-follows engine rows (took .accepted)) steps in
       subst (λ (x : Monitor). Follows engine rows steps x) (sym (took .made))
-      (subst (λ (past : List Step). Follows engine rows past (play step (monitorOf rows) steps .monitor)) (run-once (played .1) (took .recorded .1)) (played .2))
+      (subst (λ (past : List Step). Follows engine rows past (play step (monitorOf rows) steps .monitor)) (run-once rows (played .1) (took .recorded .1) .1) (played .2))
 
   -- a row reads what the definitions say after the steps
   pub took-reads : (i : ℕ) (verdict : Option Verdict) → VerdictReading m i verdict → ReadsRow rows steps i verdict
   took-reads i verdict reading =
       let means = reading .means rows steps (took .accepted) (took .made) in
-      subst (λ (past : List Step). ReadsRow rows past i verdict) (run-once (means .1 .1) (took .recorded .1)) (means .2)
+      subst (λ (past : List Step). ReadsRow rows past i verdict) (run-once rows (means .1 .1) (took .recorded .1) .1) (means .2)
 
   module _ (s : Step) (result : Stepped) (kept : Steps m s result) where
     pub took-judged : Judged (questions rows steps s) (result .answer)
     took-judged =
         let means = kept .means rows steps (took .accepted) (took .made) .0 in
-        subst (λ (past : List Step). Judged (questions rows past s) (result .answer)) (run-once (means .1 .1) (took .recorded .1)) (means .2)
+        subst (λ (past : List Step). Judged (questions rows past s) (result .answer)) (run-once rows (means .1 .1) (took .recorded .1) .1) (means .2)
 
     pub took-more : result .answer ≡ Taken → Took rows (steps ++ (s ∷ [])) (result .monitor)
     took-more e =

@@ -7,9 +7,9 @@ use text::Text;
 ghost use Rattle.constraint.specs.Report.{Reports, Prints};
 ghost use Rattle.delkuthi.specs.Telling.{Tells};
 
-// How many bytes the program takes of a table, and of a recording.
+// How many bytes a table file has at most.
 pub const TABLE_SIZE_LIMIT: usize = 2048;
-
+// How many bytes a recording file has at most.
 pub const RECORDING_SIZE_LIMIT: usize = 61440;
 
 // What the program prints for its two files: the report, or "refused 17 0" where one of them is too large.

@@ -91,9 +91,9 @@ pub(crate) fn take_recording(fresh: Monitor, bytes: &[u8]) -> RecordingTaken
         }
     }
     let closed = monitor.close();
-    monitor = closed.monitor;
+    let last = closed.monitor;
     RecordingTaken {
         answer: RecordingAnswer::Closed,
-        monitor,
+        monitor: last,
     }
 }

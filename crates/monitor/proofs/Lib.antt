@@ -1,4 +1,4 @@
--- Why the monitor's machine keeps the promise.
+-- Why the monitor's machine keeps the promise, and the laws that the proofs of its code share.
 pub mod FittingRows
 pub mod Following
 pub mod Demand

@@ -1,4 +1,4 @@
--- The machine of the monitor: what the code computes, as functions on its records.
+-- What the monitor is and promises: its machine, as functions on its records, and the contracts of its code.
 pub mod Machine
 pub mod Contract
 pub mod Parts

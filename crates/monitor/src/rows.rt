@@ -29,7 +29,7 @@ pub fn held(len: usize) -> usize
 }
 
 // The monitor over the first rows of a table, before any step.
-pub fn over(table: Table, len: usize) -> Monitor
+pub(crate) fn over(table: Table, len: usize) -> Monitor
     requires { ⌜ (len ≤ table .count) × (len ≤ rowLimit) ⌝ }
     ensures { λ r. ⌜ r ≡ monitorOf (take len (rowsOf table)) ⌝ }
 {

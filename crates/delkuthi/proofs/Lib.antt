@@ -1,5 +1,4 @@
 -- The laws of taking a recording and of telling its report.
-pub mod Reading
 pub mod Taking
 pub mod Progress
 pub mod RowLines

@@ -17,7 +17,7 @@ use Rattle.constraint.specs.declared.Answer.the-variants.{Taken, Refused}
 use Rattle.constraint.specs.declared.Constraint.{Constraint}
 use Rattle.constraint.proofs.Judged.{never}
 use Rattle.constraint.proofs.Lists.{split}
-use Rattle.delkuthi.proofs.Reading.{place-taken}
+use Rattle.table.proofs.Places.{place-taken}
 
 -- each of a list is at most a number, and so is the 0 that stands past its end
 AllAtMost : ℕ → List ℕ → Type 0

@@ -4,6 +4,7 @@ pub mod Once
 pub mod Bodies
 pub mod Shapes
 pub mod RoundTrip
+pub mod AcceptedRows
 pub mod Places
 pub mod Progress
 pub mod Stores

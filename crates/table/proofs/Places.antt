@@ -32,12 +32,20 @@ module _ (bytes : List ℕ) (i place : ℕ) where
   unfolding placeQuestions
   place-row a whole room shape judged = judged-yes 2 _ _ _ whole (judged-yes 3 _ _ _ room (judged-yes 4 _ _ _ shape judged))
 
-  -- a row that is taken is whole, and there is room for it
-  pub place-taken : Judged (placeQuestions bytes i place) Taken → WholeAt bytes place × (i < rowLimit)
-  unfolding placeQuestions
-  place-taken judged =
-      let whole = judged-all 2 (WholeAt bytes place) _ judged in
-      (whole .0, judged-all 3 (i < rowLimit) _ (whole .1) .0)
+-- what is known of a row that is taken
+pub record PlaceTaken (bytes : List ℕ) (i place : ℕ) : Type 0 where
+  pub whole : WholeAt bytes place
+  pub room : i < rowLimit
+  pub shape : ShapeFits (bodyAt bytes place)
+  pub own : Judged (rowQuestions (constraintOf (bodyAt bytes place))) Taken
+
+pub place-taken : (bytes : List ℕ) (i place : ℕ) → Judged (placeQuestions bytes i place) Taken → PlaceTaken bytes i place
+unfolding placeQuestions
+place-taken bytes i place judged =
+    let whole = judged-all 2 (WholeAt bytes place) _ judged in
+    let room = judged-all 3 (i < rowLimit) _ (whole .1) in
+    let shape = judged-all 4 (ShapeFits (bodyAt bytes place)) _ (room .1) in
+    record { whole = whole .0; room = room .0; shape = shape .0; own = shape .1 }
 
 -- the part of the bytes from the one place to the other is the body
 pub part-body : (bytes : List ℕ) (place size : ℕ) → size ≡ lengthAt bytes place

@@ -6,7 +6,7 @@ use denote.Ref.{now}
 use Rattle.constraint.specs.Rows.{rowsOf}
 use Rattle.constraint.specs.Table.{ReadsTable, table-of, table-refused}
 use Rattle.delkuthi.specs.Lent.{begun, refused}
-use Rattle.delkuthi.proofs.Reading.{read-accepted}
+use Rattle.table.proofs.AcceptedRows.{read-accepted}
 use Rattle.delkuthi.proofs.Refusals.{refused-small}
 use Rattle.delkuthi.proofs.Taking.{took-none}
 use Rattle.delkuthi.proofs.lent.fresh.Statement.{statement}

@@ -4,7 +4,7 @@ use denote.Ref.{now}
 use Rattle.constraint.specs.Rows.{rowsOf}
 use Rattle.constraint.specs.Table.{ReadsTable, table-of}
 use Rattle.constraint.specs.Report.{no-table}
-use Rattle.delkuthi.proofs.Reading.{read-accepted}
+use Rattle.table.proofs.AcceptedRows.{read-accepted}
 use Rattle.delkuthi.proofs.Taking.{took-none}
 use Rattle.delkuthi.proofs.Telling.{tells-refusal, tells-report}
 use Rattle.delkuthi.proofs.report.report_text.Statement.{statement}

@@ -4,26 +4,12 @@ use mathlib.Core.List.{List, []}
 use Rattle.constraint.specs.Limits.{rowLimit}
 use Rattle.constraint.specs.Questions.{Judged}
 use Rattle.constraint.specs.Accepted.{rowQuestions, rowsQuestions, Accepted}
-use Rattle.constraint.specs.Table.{bodyAt, constraintOf, WholeAt, ShapeFits, placeQuestions, TableRead, table-of, table-refused, rowThen, ReadsRows, no-more, row-refused, row-taken, ReadsTable, version-taken}
+use Rattle.constraint.specs.Table.{bodyAt, constraintOf, TableRead, table-of, table-refused, rowThen, ReadsRows, no-more, row-refused, row-taken, ReadsTable, version-taken}
 use Rattle.constraint.specs.declared.Answer.the-variants.{Taken}
 use Rattle.constraint.specs.declared.Constraint.{Constraint}
-use Rattle.constraint.proofs.Judged.{judged-none, judged-all}
+use Rattle.constraint.proofs.Judged.{judged-none}
 use Rattle.constraint.proofs.Accepted.{rows-taken}
-
--- what is known of a row that is taken
-pub record PlaceTaken (bytes : List ℕ) (i place : ℕ) : Type 0 where
-  pub whole : WholeAt bytes place
-  pub room : i < rowLimit
-  pub shape : ShapeFits (bodyAt bytes place)
-  pub own : Judged (rowQuestions (constraintOf (bodyAt bytes place))) Taken
-
-pub place-taken : (bytes : List ℕ) (i place : ℕ) → Judged (placeQuestions bytes i place) Taken → PlaceTaken bytes i place
-unfolding placeQuestions
-place-taken bytes i place judged =
-    let whole = judged-all 2 (WholeAt bytes place) _ judged in
-    let room = judged-all 3 (i < rowLimit) _ (whole .1) in
-    let shape = judged-all 4 (ShapeFits (bodyAt bytes place)) _ (room .1) in
-    record { whole = whole .0; room = room .0; shape = shape .0; own = shape .1 }
+use Rattle.table.proofs.Places.{place-taken}
 
 -- the rows that were read, with i rows before them, are accepted
 abbrev AcceptedBehind : ℕ → TableRead → Type 0

@@ -10,6 +10,5 @@ pub mod FittingKinds
 pub mod Rows
 pub mod Records
 pub mod Accepted
-pub mod Decided
 pub mod Runs
 pub mod Sanity

@@ -6,10 +6,9 @@ use mathlib.Core.Option.{Option, none, some}
 use lib.ListN.{getElem?}
 use Rattle.constraint.specs.Steps.{Step}
 use Rattle.constraint.specs.Continuation.{Reads}
-use Rattle.constraint.specs.Questions.{Judged}
 use Rattle.constraint.specs.declared.Answer.{Answer}
-use Rattle.constraint.specs.declared.Answer.the-variants.{Taken, Refused}
-use Rattle.constraint.specs.Accepted.{rowsQuestions}
+use Rattle.constraint.specs.declared.Answer.the-variants.{Refused}
+use Rattle.constraint.specs.Accepted.{Accepted}
 use Rattle.constraint.specs.Run.{Run}
 use Rattle.constraint.specs.declared.Constraint.{Constraint}
 use Rattle.constraint.specs.declared.Verdict.{Verdict}
@@ -24,15 +23,6 @@ pub record Played (Monitor : Type 0) : Type 0 where
   pub answers : List Answer
   pub monitor : Monitor
 
--- what fresh gives: a monitor over the table, or the number of its refusal
-pub data Fresh (Monitor : Type 0) : Type 0 where
-  fresh : Monitor → Fresh Monitor
-  not-fresh : ℕ → Fresh Monitor
-
-abbrev pub answerOf : {Monitor : Type 0} → Fresh Monitor → Answer
-answerOf (fresh m) = Taken
-answerOf (not-fresh n) = Refused n
-
 -- the verdict of a row number: what the row reads, or none where there is no row of that number (15)
 pub data ReadsRow (rows : List Constraint) (steps : List Step) (i : ℕ) : Option Verdict → Type 0 where
   row : (c : Constraint) (v : Verdict) → getElem? rows i ≡ some c → Reads c steps v → ReadsRow rows steps i (some v)
@@ -45,17 +35,15 @@ play step m (s ∷ calls) =
     let later = play step (step m s .monitor) calls in
     record { answers = step m s .answer ∷ later .answers; monitor = later .monitor }
 
-module _ {Monitor : Type 0} (freshOf : List Constraint → Fresh Monitor) (step : Monitor → Step → Stepped Monitor) (verdict : Monitor → ℕ → Option Verdict) where
+module _ {Monitor : Type 0} (fresh : List Constraint → Monitor) (step : Monitor → Step → Stepped Monitor) (verdict : Monitor → ℕ → Option Verdict) where
   pub record Promise : Type 0 where
-    -- "Fresh [..] put questions 3 to 7 to their rows first, row by row"
-    pub made : (rows : List Constraint) → Judged (rowsQuestions 0 rows []) (answerOf (freshOf rows))
-    -- the answers are those of the questions, and each row reads what the definitions say, after any list of calls
-    pub exact : (rows : List Constraint) (m : Monitor) → freshOf rows ≡ fresh m → (calls : List Step)
-        → (steps : List Step) × Run rows [] calls (play step m calls .answers) steps
-        × ((i : ℕ) → ReadsRow rows steps i (verdict (play step m calls .monitor) i))
+    -- over an accepted table and after any list of calls the answers are those of the questions, and each row reads what the definitions say
+    pub exact : (rows : List Constraint) → Accepted rows → (calls : List Step)
+        → (steps : List Step) × Run rows [] calls (play step (fresh rows) calls .answers) steps
+        × ((i : ℕ) → ReadsRow rows steps i (verdict (play step (fresh rows) calls .monitor) i))
     -- "A refusal leaves monitor and buffers untouched"
     pub untouched : (m : Monitor) (s : Step) (n : ℕ) → step m s .answer ≡ Refused n → step m s .monitor ≡ m
-    -- runs A and B: "Broken stays broken, at the same step", whatever further calls follow
-    pub final : (rows : List Constraint) (m : Monitor) → freshOf rows ≡ fresh m → (calls further : List Step) (i n : ℕ)
-        → verdict (play step m calls .monitor) i ≡ some (Verdict.Broken n)
-        → verdict (play step m (calls ++ further) .monitor) i ≡ some (Verdict.Broken n)
+    -- runs A and B: a row broken in A is broken in B too, at the same step, whatever further calls B has
+    pub final : (rows : List Constraint) → Accepted rows → (calls further : List Step) (i n : ℕ)
+        → verdict (play step (fresh rows) calls .monitor) i ≡ some (Verdict.Broken n)
+        → verdict (play step (fresh rows) (calls ++ further) .monitor) i ≡ some (Verdict.Broken n)

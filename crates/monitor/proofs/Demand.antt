@@ -16,15 +16,13 @@ use Rattle.constraint.specs.Continuation.{BrokenAt, Reads, reads-broken}
 use Rattle.constraint.specs.Questions.{Judged}
 use Rattle.constraint.specs.Accepted.{rowsQuestions, Accepted}
 use Rattle.constraint.specs.Run.{Run, done, call, recorded}
-use Rattle.constraint.specs.Promise.{Fresh, fresh, not-fresh, answerOf, ReadsRow, row, no-row, play, Promise}
-use Rattle.constraint.specs.declared.Answer.{Answer}
+use Rattle.constraint.specs.Promise.{ReadsRow, row, no-row, play, Promise}
 use Rattle.constraint.specs.declared.Answer.the-variants.{Taken, Refused}
 use Rattle.constraint.specs.declared.Constraint.{Constraint}
 use Rattle.constraint.specs.declared.Verdict.{Verdict}
 use Rattle.constraint.proofs.History.{Valid, valid-none}
 use Rattle.constraint.proofs.Counting.{nextFree}
 use Rattle.constraint.proofs.Judged.{never}
-use Rattle.constraint.proofs.Decided.{rows-judged}
 use Rattle.constraint.proofs.Runs.{run-broken, reads-once}
 use Rattle.row.specs.Machine.{rowVerdict}
 use Rattle.row.proofs.Exact.{Sound, Exact}
@@ -82,25 +80,6 @@ accepted-sound i (c ∷ rows) (inr e) = never (cc (e .1))
 
 pub accepted-few : (rows : List Constraint) → Accepted rows → length rows ≤ rowLimit
 accepted-few rows accepted = ⊎-elim (λ e. omega arith) (λ h. omega arith) (accepted-sound 0 rows accepted .1)
-
--- a monitor where the rows' questions are all answered "yes"
-freshBy : List Constraint → Answer → Fresh Monitor
-freshBy rows Taken = fresh (monitorOf rows)
-freshBy rows (Refused n) = not-fresh n
-
-pub freshOf : List Constraint → Fresh Monitor
-freshOf rows = freshBy rows (rows-judged 0 rows .0)
-
-fresh-answer : (rows : List Constraint) (a : Answer) → answerOf (freshBy rows a) ≡ a
-unfolding freshBy
-fresh-answer rows Taken = refl
-fresh-answer rows (Refused n) = refl
-
--- the monitor is fresh over an accepted table
-fresh-accepted : (rows : List Constraint) (m : Monitor) (a : Answer) → Judged (rowsQuestions 0 rows []) a → freshBy rows a ≡ fresh m → Accepted rows × (m ≡ monitorOf rows)
-unfolding freshBy
-fresh-accepted rows m Taken judged e = (judged, cc)
-fresh-accepted rows m (Refused n) judged e = never (cc)
 
 -- ---- verdicts
 
@@ -163,33 +142,26 @@ module _ (engine : (c : Constraint) → Sound c → Exact c) where
       (row (found .0) (rowVerdict (getD (m .rows) i noRow) (closed steps)) (found .1) (fit-reads engine steps (f .valid) rows (m .rows) (f .fit) i (found .0) (found .1))))
       (λ h. rw (f .len-is, le-ltb i (length rows) (omega arith)) (no-row (has-none rows i (omega arith))))
 
-  fresh-follows : (rows : List Constraint) (m : Monitor) → freshOf rows ≡ fresh m → Follows engine rows [] m
-  unfolding freshOf
-  fresh-follows rows m e =
-      let made = fresh-accepted rows m (rows-judged 0 rows .0) (rows-judged 0 rows .1) e in
-      subst (Follows engine rows []) (sym (made .1)) (start-follows rows (made .0))
-
-  final : (rows : List Constraint) (m : Monitor) → freshOf rows ≡ fresh m → (calls further : List Step) (i n : ℕ)
-      → verdictOf (play step m calls .monitor) i ≡ some (Verdict.Broken n) → verdictOf (play step m (calls ++ further) .monitor) i ≡ some (Verdict.Broken n)
-  final rows m e calls further i n broken =
-      let a = play-follows rows [] m (fresh-follows rows m e) calls in
+  final : (rows : List Constraint) → Accepted rows → (calls further : List Step) (i n : ℕ)
+      → verdictOf (play step (monitorOf rows) calls .monitor) i ≡ some (Verdict.Broken n) → verdictOf (play step (monitorOf rows) (calls ++ further) .monitor) i ≡ some (Verdict.Broken n)
+  final rows accepted calls further i n broken =
+      let m = monitorOf rows in
+      let a = play-follows rows [] m (start-follows rows accepted) calls in
       let b = play-follows rows (a .0) (play step m calls .monitor) (a .2) further in
       let c = broken-row rows (a .0) i n (subst (ReadsRow rows (a .0) i) broken (verdict-reads rows (a .0) (play step m calls .monitor) (a .2) i)) in
       rw (play-append m calls further)
       (reads-still rows (b .0) i n (c .0) (b .2 .valid) (c .1) (run-broken (c .0) n (b .1) (c .2)) (verdictOf (play step (play step m calls .monitor) further .monitor) i)
       (verdict-reads rows (b .0) (play step (play step m calls .monitor) further .monitor) (b .2) i))
 
-  pub promise : Promise freshOf step verdictOf
+  pub promise : Promise monitorOf step verdictOf
   promise =
       record {
-        made = λ rows. made rows;
-        exact = λ rows m e calls. let a = play-follows rows [] m (fresh-follows rows m e) calls in (a .0, a .1, verdict-reads rows (a .0) (play step m calls .monitor) (a .2));
+        exact = λ rows accepted calls.
+            let a = play-follows rows [] (monitorOf rows) (start-follows rows accepted) calls in
+            (a .0, a .1, verdict-reads rows (a .0) (play step (monitorOf rows) calls .monitor) (a .2));
         untouched = λ m s n e. step-untouched m s .same n e;
         final = final;
       }
-    where
-      made : (rows : List Constraint) → Judged (rowsQuestions 0 rows []) (answerOf (freshOf rows))
-      made rows = unfold freshOf in rw (fresh-answer rows (rows-judged 0 rows .0)) (rows-judged 0 rows .1)
 
   -- ---- the contracts
 

@@ -28,7 +28,7 @@ use Rattle.row.specs.Machine.{rowOf, brokenRow, applied, changedRow, rowEvent, 
 use Rattle.row.proofs.Exact.{Sound, Exact}
 use Rattle.queue.specs.Ring.{ring, shifted}
 use Rattle.monitor.specs.Machine.{monitorOf, mapFirst, anyFirst, takenEvent, takenTick, takenClose, eventOf, tickOf, closeOf, verdictOf}
-use Rattle.monitor.specs.Contract.{step}
+use Rattle.monitor.specs.Contract.{step, after, Recorded}
 use Rattle.monitor.specs.Examples.{Example, examples, AllRead}
 use Rattle.monitor.proofs.Demand.{start-follows, play-follows, verdict-reads}
 
@@ -130,14 +130,19 @@ only-row : (c : Constraint) (steps : List Step) (v : Verdict) → ReadsRow (c �
 only-row c steps v (row d w e r) = let same : d ≡ c = cc in subst (λ x. Reads x steps w) same r
 
 module _ (engine : (c : Constraint) → Sound c → Exact c) where
-  example-reads : (e : Example) → Accepted (e .constraint ∷ []) → Computed e → Reads (e .constraint) (e .steps) (e .verdict)
-  unfolding Computed
+  example-reads : (e : Example) → Accepted (e .constraint ∷ []) → Computed e
+      → Recorded (e .constraint ∷ []) (e .steps) (e .steps) × Reads (e .constraint) (e .steps) (e .verdict) × (verdictOf (after (e .constraint ∷ []) (e .steps)) 0 ≡ some (e .verdict))
+  unfolding Computed after
   example-reads e accepted computed =
       let c = e .constraint in
       let a = play-follows engine (c ∷ []) [] (monitorOf (c ∷ [])) (start-follows engine (c ∷ []) accepted) (e .steps) in
-      only-row c (e .steps) (e .verdict)
-      (subst (λ steps. ReadsRow (c ∷ []) steps 0 (some (e .verdict))) (run-taken (a .1) (computed .0))
-      (subst (ReadsRow (c ∷ []) (a .0) 0) (computed .1) (verdict-reads engine (c ∷ []) (a .0) (play step (monitorOf (c ∷ [])) (e .steps) .monitor) (a .2) 0)))
+      let answers = play step (monitorOf (c ∷ [])) (e .steps) .answers in (
+        (answers, subst (λ steps. Run (c ∷ []) [] (e .steps) answers steps) (run-taken (a .1) (computed .0)) (a .1)),
+        only-row c (e .steps) (e .verdict)
+            (subst (λ steps. ReadsRow (c ∷ []) steps 0 (some (e .verdict))) (run-taken (a .1) (computed .0))
+            (subst (ReadsRow (c ∷ []) (a .0) 0) (computed .1) (verdict-reads engine (c ∷ []) (a .0) (play step (monitorOf (c ∷ [])) (e .steps) .monitor) (a .2) 0))),
+        computed .1,
+      )
 
   all-read : (list : List Example) → AllAccepted list → AllComputed list → AllRead list
   unfolding AllAccepted AllComputed

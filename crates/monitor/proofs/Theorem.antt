@@ -18,16 +18,16 @@ use Rattle.constraint.proofs.Judged.{never}
 use Rattle.constraint.proofs.Runs.{run-valid, broken-exactly, kept-exactly}
 use Rattle.constraint.proofs.Sanity.{run-once}
 use Rattle.row.proofs.Engine.{engine}
-use Rattle.monitor.specs.Machine.{stepOf, verdictOf}
+use Rattle.monitor.specs.Machine.{monitorOf, stepOf, verdictOf}
 use Rattle.monitor.specs.Contract.{step, after, Recorded, Steps, Reading}
 use Rattle.monitor.specs.Examples.{examples, AllRead}
 use Rattle.monitor.specs.declared.Monitor.{Monitor}
 use Rattle.monitor.specs.declared.Stepped.{Stepped}
-use Rattle.monitor.proofs.Demand.{freshOf, promise, steps-keep, reading-keeps}
+use Rattle.monitor.proofs.Demand.{promise, steps-keep, reading-keeps}
 use Rattle.monitor.proofs.Examples.{examples-read}
 
 -- over every table, every list of calls from a fresh monitor, and every row
-pub monitor-is-exact : Promise freshOf step verdictOf
+pub monitor-is-exact : Promise monitorOf step verdictOf
 monitor-is-exact = promise engine
 
 -- examples 1 to 12 of paper 01

@@ -1,11 +1,15 @@
 -- Examples 1 to 12 of paper 01: a row, steps, and what the row reads after them.
+use mathlib.Core.Path.{_≡_}
 use mathlib.Core.List.{List, [], _∷_}
+use mathlib.Core.Option.{some}
 use Rattle.constraint.specs.Steps.{Step, event, tick, close}
 use Rattle.constraint.specs.Continuation.{Reads}
 use Rattle.constraint.specs.declared.Constraint.{Constraint}
 use Rattle.constraint.specs.declared.Constraint.the-variants.{Delay, StrongDelay, Repeat, Sporadic, Order, StrongSynchronization2}
 use Rattle.constraint.specs.declared.Verdict.{Verdict}
 use Rattle.constraint.specs.declared.Verdict.the-variants.{Open, Kept, Broken}
+use Rattle.monitor.specs.Machine.{verdictOf}
+use Rattle.monitor.specs.Contract.{after, Recorded}
 
 pub record Example : Type 0 where
   pub constraint : Constraint
@@ -50,7 +54,9 @@ examples =
     ∷ reads (StrongSynchronization2 0 1 2) (event 0 5 ∷ event 0 6 ∷ tick 8 ∷ []) (Broken 3)
     ∷ []
 
--- each reads so, by the definitions
+-- the questions take every step; the row reads so by the definitions, and by the monitor
 abbrev pub AllRead : List Example → Type 0
 AllRead [] = Unit {0}
-AllRead (e ∷ later) = Reads (e .constraint) (e .steps) (e .verdict) × AllRead later
+AllRead (e ∷ later) =
+    (Recorded (e .constraint ∷ []) (e .steps) (e .steps) × Reads (e .constraint) (e .steps) (e .verdict) × (verdictOf (after (e .constraint ∷ []) (e .steps)) 0 ≡ some (e .verdict)))
+    × AllRead later

@@ -10,3 +10,4 @@ pub mod Progress
 pub mod Stores
 pub mod Written
 pub mod Answers
+pub mod Again

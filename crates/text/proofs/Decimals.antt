@@ -1,6 +1,6 @@
 -- Decimal digits: how the code takes them off one by one, how many there are, and what they stand for.
 use Prim.Native.Nat.{ℕ, zero, suc, _+_, _-_, _*_, _/_, _%_, _^_, _≤_, _<_}
-use mathlib.Core.Path.{_≡_, refl}
+use mathlib.Core.Path.{_≡_, refl, ap}
 use mathlib.Core.List.{List, [], _∷_, _++_, append-assoc}
 use mathlib.Core.Bool.{cond}
 use native.Mathlib.Nat.{pow-succ'}
@@ -75,6 +75,12 @@ digits-some (suc n) x some =
 -- a number has from 1 to 20 digits
 pub decimal-length : (x : ℕ) → (1 ≤ length (decimal x)) × (length (decimal x) ≤ 20)
 decimal-length x = (digits-some 20 x (omega arith), digits-length 20 x)
+
+-- a number below 100 has at most 2
+pub decimal-two : (x : ℕ) → x < 100 → length (decimal x) ≤ 2
+decimal-two x small =
+    by-last (λ list. length list ≤ 2) 19 x (λ below. omega arith)
+    (λ above. omega (arith, length-append (digits 19 (x / 10)) ((48 + x % 10) ∷ []), ap length (digits-one 19 (x / 10) (omega arith) (omega arith))))
 
 -- What they stand for
 

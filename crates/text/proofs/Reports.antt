@@ -10,9 +10,9 @@ use Rattle.constraint.specs.Limits.{rowLimit}
 use Rattle.constraint.specs.Report.{verdictText, rowLines, closedText, refusedText, ReportOf, Reports, written, too-short}
 use Rattle.constraint.specs.declared.Verdict.{Verdict}
 use Rattle.constraint.specs.declared.Verdict.the-variants.{Open, Kept, Broken}
-use Rattle.text.specs.Content.{textLimit, Copied}
+use Rattle.text.specs.Content.{Copied}
 use Rattle.text.specs.Lines.{closedLine, rowLine}
-use Rattle.text.proofs.Decimals.{decimal-length}
+use Rattle.text.proofs.Decimals.{decimal-length, decimal-two}
 
 -- Line by line
 
@@ -39,19 +39,23 @@ verdict-length Open = omega arith
 verdict-length Kept = omega arith
 verdict-length (Broken n) = omega (arith, decimal-length n)
 
-pub row-length : (i : ℕ) (v : Verdict) → length (rowLine i v) ≤ 49
-row-length i v = simp length-append (omega (arith, decimal-length i, verdict-length v))
+row-length : (i : ℕ) (v : Verdict) → i < rowLimit → length (rowLine i v) ≤ 31
+row-length i v few = simp length-append (omega (arith, decimal-two i (omega arith), verdict-length v))
 
-pub rows-length : (i : ℕ) (verdicts : List Verdict) → length (rowLines i verdicts) ≤ 49 * length verdicts
+rows-length : (i : ℕ) (verdicts : List Verdict) → i + length verdicts ≤ rowLimit → length (rowLines i verdicts) ≤ 31 * length verdicts
 unfolding rowLines
-rows-length i [] = omega arith
-rows-length i (v ∷ verdicts) =
-    omega (arith, ap length (rows-more i v verdicts), length-append (rowLine i v) (rowLines (i + 1) verdicts), row-length i v, rows-length (i + 1) verdicts)
+rows-length i [] few = omega arith
+rows-length i (v ∷ verdicts) few =
+    omega (arith, ap length (rows-more i v verdicts), length-append (rowLine i v) (rowLines (i + 1) verdicts), row-length i v (omega arith), rows-length (i + 1) verdicts (omega arith))
 
-pub closed-length : (count : ℕ) (verdicts : List Verdict) → length verdicts ≤ rowLimit → length (closedText count verdicts) ≤ textLimit
-closed-length count verdicts few = simp length-append (omega (arith, decimal-length count, rows-length 0 verdicts))
+-- the longest report
+abbrev pub reportLimit : ℕ
+reportLimit = 1024
 
-pub refused-length : (n place : ℕ) → length (refusedText n place) ≤ textLimit
+pub closed-length : (count : ℕ) (verdicts : List Verdict) → length verdicts ≤ rowLimit → length (closedText count verdicts) ≤ reportLimit
+closed-length count verdicts few = simp length-append (omega (arith, decimal-length count, rows-length 0 verdicts (omega arith)))
+
+pub refused-length : (n place : ℕ) → length (refusedText n place) ≤ reportLimit
 refused-length n place = simp length-append (omega (arith, decimal-length n, decimal-length place))
 
 -- Copied out

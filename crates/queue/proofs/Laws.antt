@@ -1,4 +1,4 @@
--- Laws of `ring`, the times of a list of 64 from a place on, and of what a queue holds.
+-- Laws of `ring`, the times of a list of 64 from a place on, and of what a ring holds.
 use mathlib.Core.Path.{_≡_, refl, ap}
 use mathlib.Core.Bool.{Bool, true, false, cond, _&&_}
 use mathlib.Core.Logic.{_≢_}
@@ -11,8 +11,7 @@ use borrow.Author.Tests.{lt-ltb}
 use lib.Dec.{ltb}
 use lib.ListN.{length, getD, set, drop, length-append, length-drop, length-set}
 use lib.Seq.{getD-set-same, getD-set-other}
-use Rattle.queue.specs.Ring.{ring, timeAt, items, changed, shifted, emptyQueue, emptied}
-use Rattle.queue.specs.declared.Queue.{Queue}
+use Rattle.queue.specs.Ring.{Ring, ring, timeAt, items, changed, shifted}
 
 -- Rings
 
@@ -81,14 +80,14 @@ ring-push : (l : List ℕ) (f n p t : ℕ) → length l ≡ 64 → n < 64 → p 
 ring-push l f n p t size room e =
     rw (add-one, ring-snoc, ring-set l f n p t (λ i k. omega arith), ← e, getD-set-same l p t 0 (omega arith))
 
--- Queues
+-- Changes
 
 -- the place of the time that is pushed, from the new head
 place : (x n : ℕ) → (x + n % 64) % 64 ≡ (x % 64 + n) % 64
 place x n = omega arith
 
--- a change of the queue is that change of its items, where these are at most 64
-pub items-shifted : (q : Queue) → length (q .times) ≡ 64 → (dropped : ℕ) (pushed : Bool) (t : ℕ)
+-- a change of the ring is that change of its items, where these are at most 64
+pub items-shifted : (q : Ring) → length (q .times) ≡ 64 → (dropped : ℕ) (pushed : Bool) (t : ℕ)
     → length (changed dropped pushed t (items q)) ≤ 64
     → items (shifted dropped pushed t q) ≡ changed dropped pushed t (items q)
 unfolding shifted
@@ -106,18 +105,10 @@ items-shifted q size dropped false t fits =
     let at = q .head % 64 + dropped % 64 in
     rw ring-drop (ring-mod (q .times) (at % 64) (q .head + dropped) (q .len - dropped) (omega arith))
 
-times-either : (b : Bool) (x y : Queue) → length (x .times) ≡ length (y .times) → length (cond b x y .times) ≡ length (y .times)
+times-either : (b : Bool) (x y : Ring) → length (x .times) ≡ length (y .times) → length (cond b x y .times) ≡ length (y .times)
 times-either true x y e = e
 times-either false x y e = refl
 
-pub times-shifted : (q : Queue) (dropped : ℕ) (pushed : Bool) (t : ℕ) → length (shifted dropped pushed t q .times) ≡ length (q .times)
+pub times-shifted : (q : Ring) (dropped : ℕ) (pushed : Bool) (t : ℕ) → length (shifted dropped pushed t q .times) ≡ length (q .times)
 unfolding shifted
 times-shifted q dropped pushed t = times-either (pushed && ltb (q .len - dropped) 64) _ _ (length-set (q .times) _ t)
-
-pub items-emptied : (q : Queue) → items (emptied q) ≡ []
-unfolding ring
-items-emptied q = refl
-
-pub items-empty : items emptyQueue ≡ []
-unfolding ring
-items-empty = refl

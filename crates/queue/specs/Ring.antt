@@ -1,10 +1,18 @@
--- What a queue holds, and what a change makes of it.
+-- What a ring of 64 words holds, and what a change makes of it.
 use Prim.Native.Nat.{ℕ, zero, suc, _+_, _-_, _%_}
 use mathlib.Core.Bool.{Bool, true, false, cond, _&&_}
 use mathlib.Core.List.{List, [], _∷_, _++_}
-use lib.ListN.{getD, set, drop, replicate}
+use lib.ListN.{getD, set, drop}
 use lib.Dec.{ltb}
-use Rattle.queue.specs.declared.Queue.{Queue}
+
+-- the words, the place of the oldest time, and how many times there are
+pub record Ring : Type 0 where
+  pub times : List ℕ
+  pub head : ℕ
+  pub len : ℕ
+
+abbrev pub ringOf : List ℕ → ℕ → ℕ → Ring
+ringOf times head len = record { times = times; head = head; len = len }
 
 -- n times of a list of 64, from a place on, and round at the end
 unfoldable pub ring : List ℕ → ℕ → ℕ → List ℕ
@@ -15,8 +23,8 @@ ring times head (suc n) = getD times (head % 64) 0 ∷ ring times (suc head) n
 abbrev pub timeAt : List ℕ → ℕ → ℕ → ℕ
 timeAt times head i = getD times ((head % 64 + i % 64) % 64) 0
 
--- what a queue holds, the oldest first
-abbrev pub items : Queue → List ℕ
+-- what a ring holds, the oldest first
+abbrev pub items : Ring → List ℕ
 items q = ring (q .times) (q .head) (q .len)
 
 -- a list without its first `dropped`, with t behind the rest where it is pushed
@@ -24,8 +32,8 @@ abbrev pub changed : ℕ → Bool → ℕ → List ℕ → List ℕ
 changed dropped true t list = drop dropped list ++ (t ∷ [])
 changed dropped false t list = drop dropped list
 
--- the queue so changed: the head moves on, and t goes behind the last; one that would hold more than 64 times takes no t
-unfoldable pub shifted : ℕ → Bool → ℕ → Queue → Queue
+-- the ring so changed: the head moves on, and t goes behind the last; one that would hold more than 64 times takes no t
+unfoldable pub shifted : ℕ → Bool → ℕ → Ring → Ring
 shifted dropped pushed t q =
     cond (pushed && ltb (q .len - dropped) 64)
     (record {
@@ -34,10 +42,3 @@ shifted dropped pushed t q =
       len = q .len - dropped + 1;
     })
     (record { times = q .times; head = (q .head % 64 + dropped % 64) % 64; len = q .len - dropped })
-
--- a queue that holds nothing, and one that holds nothing any more
-abbrev pub emptyQueue : Queue
-emptyQueue = record { times = replicate 64 0; head = 0; len = 0 }
-
-abbrev pub emptied : Queue → Queue
-emptied q = record { times = q .times; head = 0; len = 0 }

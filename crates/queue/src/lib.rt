@@ -1,12 +1,13 @@
-// The ring of at most 64 times that every row keeps, by value.
+// The ring of at most 64 times that every row keeps: functions on the 64 words where they lie.
 ghost use mathlib.Core.Path.{_≡_};
 ghost use Prim.Native.Nat.{_-_};
-ghost use Rattle.queue.specs.Ring.{timeAt, shifted, emptyQueue, emptied};
+ghost use Rattle.queue.specs.Ring.{timeAt, ringOf, shifted};
 
-// The times stand from the place head on, round at the end, len of them, the oldest first.
-#[repr(C)]
-pub struct Queue {
-    pub times: [u64; 64],
+// How many times a ring holds at most.
+pub const SIZE: usize = 64;
+
+// Where a ring begins, and how many times it holds: they stand from the place head on, round at the end, the oldest first.
+pub struct Ends {
     pub head: usize,
     pub len: usize,
 }
@@ -15,7 +16,7 @@ pub struct Queue {
 pub fn time_at(times: &[u64; 64], head: usize, i: usize) -> u64
     ensures { λ r. ⌜ r ≡ timeAt (now (times .entry)) head i ⌝ }
 {
-    let at = (head % 64 + i % 64) % 64;
+    let at = (head % SIZE + i % SIZE) % SIZE;
     times[at]
 }
 
@@ -26,40 +27,29 @@ pub fn minus(a: usize, b: usize) -> usize
     if a < b { 0 } else { a - b }
 }
 
-impl Queue {
-    // A queue that holds nothing.
-    pub fn new() -> Self
-        ensures { λ r. ⌜ r ≡ emptyQueue ⌝ }
-    {
-        Queue {
-            times: [0u64; 64],
-            head: 0,
-            len: 0,
-        }
+// The ring without its oldest times, as many as dropped says, and with t behind the rest where it is pushed.
+pub fn shift(
+    times: &mut [u64; 64],
+    head: usize,
+    len: usize,
+    dropped: usize,
+    pushed: bool,
+    t: u64,
+) -> Ends
+    ensures { λ r. ⌜ ringOf (now (times .exit)) (r .head) (r .len) ≡ shifted dropped pushed t (ringOf (now (times .entry)) head len) ⌝ }
+{
+    let left = minus(len, dropped);
+    let first = (head % SIZE + dropped % SIZE) % SIZE;
+    let at = (head % SIZE + dropped % SIZE + left % SIZE) % SIZE;
+    if pushed && left < SIZE {
+        times[at] = t;
+        return Ends {
+            head: first,
+            len: left + 1,
+        };
     }
-
-    // The queue without its oldest times, as many as dropped says, and with t behind the rest where it is pushed.
-    pub fn shifted(mut self, dropped: usize, pushed: bool, t: u64) -> Self
-        ensures { λ r. ⌜ r ≡ shifted dropped pushed t self ⌝ }
-    {
-        let left = minus(self.len, dropped);
-        let head = (self.head % 64 + dropped % 64) % 64;
-        let at = (self.head % 64 + dropped % 64 + left % 64) % 64;
-        self.head = head;
-        self.len = left;
-        if pushed && left < 64 {
-            self.times[at] = t;
-            self.len = left + 1;
-        }
-        self
-    }
-
-    // The queue with nothing left in it.
-    pub fn emptied(mut self) -> Self
-        ensures { λ r. ⌜ r ≡ emptied self ⌝ }
-    {
-        self.head = 0;
-        self.len = 0;
-        self
+    Ends {
+        head: first,
+        len: left,
     }
 }

@@ -13,9 +13,9 @@ use Rattle.constraint.specs.Steps.{at}
 use Rattle.constraint.specs.Accepted.{kinds}
 use Rattle.constraint.specs.declared.Constraint.{Constraint}
 use Rattle.constraint.specs.declared.Constraint.the-variants.{Delay, StrongDelay, Repeat, Sporadic, Burst, Order, StrongSynchronization2, StrongSynchronization3, StrongSynchronization4}
-use Rattle.constraint.proofs.Lists.{or-true, or-false, both, Each, each-none, each-cons}
+use Rattle.constraint.proofs.Lists.{split, or-true, or-false, both, Each, each-none, each-cons}
 use Rattle.row.specs.Row.{noKind, ruleOf}
-use Rattle.row.specs.Machine.{concerns}
+use Rattle.row.specs.Machine.{concerns, noEvent}
 use Rattle.row.proofs.Exact.{OfKind}
 
 -- k is among the kinds of a list
@@ -66,3 +66,15 @@ concerns-own c k small e =
 
 pub concerns-other : (c : Constraint) (k : ℕ) → concerns (ruleOf c) k ≡ false → Each (λ j. ¬ (k ≡ j)) (kinds c)
 concerns-other c k e = among-none k (kinds c) (absent c) (rw (concerns-among c k) at e)
+
+-- no event concerns a row: no kind is so large
+pub concerns-none : (c : Constraint) → Each (λ j. j ≤ lastKind) (kinds c) → concerns (ruleOf c) noEvent ≡ false
+concerns-none c small =
+    split (concerns (ruleOf c) noEvent) (λ x. x ≡ false)
+    (λ e. ⊎-elim (λ p. absurd (omega (arith, small (p .0) (p .1), p .2))) (λ q. absurd (absent-small (4 - length (kinds c)) q))
+    (among-where noEvent (kinds c) (absent c) (rw (concerns-among c noEvent) at e)))
+    (λ e. refl)
+  where
+    absent-small : (n : ℕ) → among noEvent (replicate n noKind) ≡ true → ⊥
+    absent-small zero e = both (sym e)
+    absent-small (suc n) e = ⊎-elim (λ p. omega arith) (absent-small n) (among-head noEvent noKind (replicate n noKind) e)

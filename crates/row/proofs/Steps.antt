@@ -2,13 +2,13 @@
 use Prim.Native.Nat.{ℕ, _+_, _≤_, _<_}
 use native.Mathlib.Omega.{arith}
 use mathlib.Core.Path.{_≡_, refl, sym, ap, _∙_, subst}
-use mathlib.Core.Bool.{Bool, true, false, cond}
+use mathlib.Core.Bool.{Bool, true, false, cond, _&&_}
 use mathlib.Core.List.{List, [], _∷_, _++_, append-nil}
 use mathlib.Core.Logic.{_⊎_, inl, inr, ⊎-elim}
 use lib.ListN.{length}
-use lib.Dec.{ltb}
-use borrow.Author.Tests.{ltb-true, ltb-false, lt-ltb}
-use Rattle.constraint.specs.Limits.{noLimit, waitingLimit}
+use lib.Dec.{ltb, eqb}
+use borrow.Author.Tests.{ltb-true, ltb-false, lt-ltb, le-ltb, eqb-true, eqb-false}
+use Rattle.constraint.specs.Limits.{lastKind, lastTime, noLimit, waitingLimit}
 use Rattle.constraint.specs.Steps.{Step, event, tick, close, at, times, clockFrom, clock, closed}
 use Rattle.constraint.specs.Meets.{Meets}
 use Rattle.constraint.specs.Continuation.{Open, BrokenAt, Reads, reads-open, reads-kept, reads-broken}
@@ -21,34 +21,37 @@ use Rattle.constraint.proofs.Lists.{split, both, Each}
 use Rattle.constraint.proofs.History.{times-other, times-tick, times-close, clock-event, clock-tick, clock-close, closed-event, closed-tick, closed-close, Accepts, Valid, valid-more, Past, past-of}
 use Rattle.constraint.proofs.Continuations.{SameTimes, meets-same, continues-closed, open-at-tick}
 use Rattle.constraint.proofs.Verdicts.{broken-now, broken-later, broken-shut, open-of-meets}
-use Rattle.queue.specs.Ring.{items, changed, shifted}
-use Rattle.queue.specs.declared.Queue.{Queue}
-use Rattle.queue.proofs.Laws.{items-shifted, times-shifted}
+use Rattle.queue.specs.Ring.{Ring, ringOf, ring, items, changed, shifted}
+use Rattle.queue.proofs.Laws.{ring-length, items-shifted, times-shifted}
 use Rattle.row.specs.Row.{ruleOf, noMarks}
-use Rattle.row.specs.Delay.{dueDelay}
-use Rattle.row.specs.StrongDelay.{dueStrongDelay}
-use Rattle.row.specs.Repeat.{dueRepeat}
-use Rattle.row.specs.Sporadic.{dueSporadic}
-use Rattle.row.specs.Order.{dueOrder}
-use Rattle.row.specs.StrongSynchronization.{dueStrongSynchronization}
-use Rattle.row.specs.Machine.{decide, due, kept, concerns, rowOf, brokenRow, applied, stays, changedRow, rowEvent, rowTick, rowClose, rowVerdict}
+use Rattle.row.specs.Delay.{dueDelay, keptDelay}
+use Rattle.row.specs.StrongDelay.{dueStrongDelay, keptStrongDelay}
+use Rattle.row.specs.Repeat.{dueRepeat, keptRepeat}
+use Rattle.row.specs.Sporadic.{dueSporadic, keptSporadic}
+use Rattle.row.specs.Order.{dueOrder, keptOrder}
+use Rattle.row.specs.StrongSynchronization.{dueStrongSynchronization, keptStrongSynchronization}
+use Rattle.row.specs.Machine.{decide, due, kept, concerns, rowFrom, itemsOf, mark, rowOf, brokenState, brokenRow, goingRow, applied, stays, crowding, changedRow, noEvent, eventAt, tickAt, closeAt, rowStep, rowVerdict}
+use Rattle.row.specs.declared.Rule.{Rule}
 use Rattle.row.specs.declared.Marks.{Marks}
 use Rattle.row.specs.declared.Change.{Change}
+use Rattle.row.specs.declared.State.{State}
+use Rattle.row.specs.declared.Occurrence.{Occurrence}
 use Rattle.row.specs.declared.Row.{Row}
 use Rattle.row.specs.declared.RowStep.{RowStep}
-use Rattle.row.proofs.Exact.{Exact, OfKind}
-use Rattle.row.proofs.OwnKinds.{concerns-own, concerns-other}
+use Rattle.row.proofs.Exact.{Sound, Exact, OfKind}
+use Rattle.row.proofs.OwnKinds.{concerns-own, concerns-other, concerns-none}
 
 -- ---- what holds between the steps and a row
 
 module _ (c : Constraint) (exact : Exact c) where
   -- a row that goes on
-  pub record Going (steps : List Step) (queue : Queue) (marks : Marks) (until broken : ℕ) : Type 0 where
-    pub unbroken : broken ≡ 0
-    pub live : exact .Live steps marks (items queue)
-    pub due-is : until ≡ due (ruleOf c) marks (items queue)
-    pub in-time : clock steps ≤ until
-    pub room : length (items queue) ≤ waitingLimit
+  pub record Going (steps : List Step) (words : List ℕ) (s : State) : Type 0 where
+    pub unbroken : s .broken ≡ 0
+    pub live : exact .Live steps (s .marks) (ring words (s .head) (s .len))
+    pub due-is : s .due ≡ due (ruleOf c) (s .marks) (ring words (s .head) (s .len))
+    pub kept-is : s .kept ≡ mark (kept (ruleOf c) (s .marks) (ring words (s .head) (s .len)))
+    pub in-time : clock steps ≤ s .due
+    pub room : s .len ≤ waitingLimit
     pub met : closed steps ≡ true → Meets c steps
 
   -- a broken row
@@ -58,22 +61,23 @@ module _ (c : Constraint) (exact : Exact c) where
 
   pub record Fits (steps : List Step) (r : Row) : Type 0 where
     pub rule-is : r .rule ≡ ruleOf c
-    pub whole : length (r .queue .times) ≡ 64
-    pub state : Going steps (r .queue) (r .marks) (r .due) (r .broken) ⊎ Broken steps (r .broken)
+    pub whole : length (r .times) ≡ 64
+    pub state : Going steps (r .times) (r .now) ⊎ Broken steps (r .now .broken)
 
--- what an event makes of a row: crowded, it would be open with more than 64 waiting; else it fits the steps with the event
+-- what a step makes of a row: crowded, it would be open with more than 64 waiting; else it fits the steps with the step
 abbrev pub After : (c : Constraint) → Exact c → List Step → Bool → Row → Type 0
 After c exact steps true r = Open c steps × (waitingLimit < waiting c steps)
 After c exact steps false r = Fits c exact steps r
 
--- a row of the constraint's rule
-abbrev rowWith : Constraint → Queue → Marks → ℕ → ℕ → Row
-rowWith c queue marks until broken = record { rule = ruleOf c; queue = queue; marks = marks; due = until; broken = broken }
-
 -- what holds of each row of the constraint's rule holds of a row that has that rule
-with-rule : (c : Constraint) (P : Row → Type 0) (r : Row) → r .rule ≡ ruleOf c → P (rowWith c (r .queue) (r .marks) (r .due) (r .broken)) → P r
-with-rule c P r e p =
-    subst (λ rule. P (record { rule = rule; queue = r .queue; marks = r .marks; due = r .due; broken = r .broken })) (sym e) p
+with-rule : (c : Constraint) (P : Row → Type 0) (r : Row) → r .rule ≡ ruleOf c → P (rowFrom (ruleOf c) (r .times) (r .now)) → P r
+with-rule c P r e p = subst (λ (rule : Rule). P (rowFrom rule (r .times) (r .now))) (sym e) p
+
+-- what a row sees of a step over the steps before it
+abbrev pub seen : List Step → Step → Occurrence
+seen steps (event k t) = eventAt k t
+seen steps (tick t) = tickAt t
+seen steps close = closeAt (clock steps)
 
 -- ---- Start
 
@@ -89,13 +93,33 @@ due-start (StrongSynchronization2 x y tolerance) = refl
 due-start (StrongSynchronization3 x y z tolerance) = refl
 due-start (StrongSynchronization4 x y z w tolerance) = refl
 
+kept-start : (c : Constraint) → 1 ≡ mark (kept (ruleOf c) noMarks [])
+unfolding keptDelay keptStrongDelay keptRepeat keptSporadic keptOrder keptStrongSynchronization
+kept-start (Delay source target lower upper) = refl
+kept-start (StrongDelay source target lower upper) = refl
+kept-start (Repeat kind span lower upper) = refl
+kept-start (Sporadic kind lower upper jitter minimum) = refl
+kept-start (Burst kind maximum len minimum) = refl
+kept-start (Order source target) = refl
+kept-start (StrongSynchronization2 x y tolerance) = refl
+kept-start (StrongSynchronization3 x y z tolerance) = refl
+kept-start (StrongSynchronization4 x y z w tolerance) = refl
+
 pub fits-start : (c : Constraint) (exact : Exact c) → Fits c exact [] (rowOf c)
 unfolding rowOf clockFrom closed Rattle.queue.specs.Ring.ring
 fits-start c exact =
     record {
       rule-is = refl;
       whole = refl;
-      state = inl (record { unbroken = refl; live = exact .start; due-is = due-start c; in-time = omega arith; room = omega arith; met = λ e. both (sym e) });
+      state = inl (record {
+        unbroken = refl;
+        live = exact .start;
+        due-is = due-start c;
+        kept-is = kept-start c;
+        in-time = omega arith;
+        room = omega arith;
+        met = λ e. both (sym e);
+      });
     }
 
 module _ (c : Constraint) (exact : Exact c) (steps : List Step) (valid : Valid steps) where
@@ -107,179 +131,207 @@ module _ (c : Constraint) (exact : Exact c) (steps : List Step) (valid : Valid s
 
   -- by whether a row goes on or is broken
   by-state : (P : Row → Type 0) (r : Row) → Fits c exact steps r
-      → ((queue : Queue) (marks : Marks) (until : ℕ) → length (queue .times) ≡ 64 → Going c exact steps queue marks until 0 → P (rowWith c queue marks until 0))
-      → (ltb 0 (r .broken) ≡ true → Broken c exact steps (r .broken) → P r) → P r
+      → ((words : List ℕ) (s : State) → length words ≡ 64 → ltb 0 (s .broken) ≡ false → Going c exact steps words s → P (rowFrom (ruleOf c) words s))
+      → (ltb 0 (r .now .broken) ≡ true → Broken c exact steps (r .now .broken) → P r) → P r
   by-state P r f going broken =
       ⊎-elim
-      (λ g. with-rule c P r (f .rule-is)
-      (subst (λ b. P (rowWith c (r .queue) (r .marks) (r .due) b)) (sym (g .unbroken))
-      (going (r .queue) (r .marks) (r .due) (f .whole) (subst (Going c exact steps (r .queue) (r .marks) (r .due)) (g .unbroken) g))))
-      (λ b. broken (lt-ltb 0 (r .broken) (b .counted)) b)
+      (λ (g : Going c exact steps (r .times) (r .now)).
+      with-rule c P r (f .rule-is) (going (r .times) (r .now) (f .whole) (le-ltb 0 (r .now .broken) (omega (arith, g .unbroken))) g))
+      (λ b. broken (lt-ltb 0 (r .now .broken) (b .counted)) b)
       (f .state)
 
   -- ---- Open and Waiting
 
-  going-open : (queue : Queue) (marks : Marks) (until broken : ℕ) → closed steps ≡ false → Going c exact steps queue marks until broken → Open c steps
-  going-open queue marks until broken o g = exact .is-open steps marks (items queue) past o (g .live) (rw (← g .due-is) (g .in-time))
+  going-open : (words : List ℕ) (s : State) → closed steps ≡ false → Going c exact steps words s → Open c steps
+  going-open words s o g =
+      exact .is-open steps (s .marks) (ring words (s .head) (s .len)) past o (g .live) (subst (λ (n : ℕ). clock steps ≤ n) (g .due-is) (g .in-time))
 
   -- a row that is open has at most 64 waiting
   pub fits-room : (r : Row) → Fits c exact steps r → Open c steps → waiting c steps ≤ waitingLimit
   fits-room r f o =
       ⊎-elim
-      (λ (g : Going c exact steps (r .queue) (r .marks) (r .due) (r .broken)). ⊎-elim (λ e. rw e (g .room)) (λ e. rw (e .0) (omega arith)) (exact .waits steps (r .marks) (items (r .queue)) past (g .live)))
-      (λ b. absurd (broken-shut c (r .broken) valid (b .first) o))
+      (λ (g : Going c exact steps (r .times) (r .now)).
+      ⊎-elim (λ e. omega (arith, e, ring-length (r .times) (r .now .head) (r .now .len), g .room)) (λ e. omega (arith, e .0))
+      (exact .waits steps (r .now .marks) (itemsOf r) past (g .live)))
+      (λ b. absurd (broken-shut c (r .now .broken) valid (b .first) o))
       (f .state)
 
   -- ---- Steps that break a row
 
   -- the row that the machine makes of one that breaks
-  broken-fits : (s : Step) (queue : Queue) (marks : Marks) (until broken : ℕ) → length (queue .times) ≡ 64 → Open c steps → ¬ Open c (steps ++ (s ∷ []))
-      → Fits c exact (steps ++ (s ∷ [])) (brokenRow (rowWith c queue marks until broken) (length steps + 1))
+  broken-fits : (s : Step) (words : List ℕ) (was : State) → length words ≡ 64 → Open c steps → ¬ Open c (steps ++ (s ∷ []))
+      → Fits c exact (steps ++ (s ∷ [])) (brokenRow (rowFrom (ruleOf c) words was) (length steps + 1))
   unfolding brokenRow
-  broken-fits s queue marks until broken whole o shut =
+  broken-fits s words was whole o shut =
       record { rule-is = refl; whole = whole; state = inr (record { counted = omega arith; first = broken-now c steps s valid o shut }) }
 
   -- one that is broken stays so
-  broken-stays : (s : Step) (r : Row) → r .rule ≡ ruleOf c → length (r .queue .times) ≡ 64 → Broken c exact steps (r .broken) → Fits c exact (steps ++ (s ∷ [])) r
+  broken-stays : (s : Step) (r : Row) → r .rule ≡ ruleOf c → length (r .times) ≡ 64 → Broken c exact steps (r .now .broken)
+      → Fits c exact (steps ++ (s ∷ [])) r
   broken-stays s r rule whole b =
-      record { rule-is = rule; whole = whole; state = inr (record { counted = b .counted; first = broken-later c steps s (r .broken) (b .first) }) }
+      record {
+        rule-is = rule;
+        whole = whole;
+        state = inr (record { counted = b .counted; first = broken-later c steps s (r .now .broken) (b .first) });
+      }
 
   -- a step that records nothing of the row's kinds, at a clock that is not past the due time
-  going-on : (s : Step) (queue : Queue) (marks : Marks) (until : ℕ) → length (queue .times) ≡ 64 → Going c exact steps queue marks until 0
-      → SameTimes (kinds c) steps (steps ++ (s ∷ [])) → clock (steps ++ (s ∷ [])) ≤ until → (closed (steps ++ (s ∷ [])) ≡ true → Meets c (steps ++ (s ∷ [])))
-      → Fits c exact (steps ++ (s ∷ [])) (rowWith c queue marks until 0)
-  going-on s queue marks until whole g same in-time met =
+  going-on : (s : Step) (words : List ℕ) (was : State) → length words ≡ 64 → Going c exact steps words was
+      → SameTimes (kinds c) steps (steps ++ (s ∷ [])) → clock (steps ++ (s ∷ [])) ≤ was .due
+      → (closed (steps ++ (s ∷ [])) ≡ true → Meets c (steps ++ (s ∷ [])))
+      → Fits c exact (steps ++ (s ∷ [])) (rowFrom (ruleOf c) words was)
+  going-on s words was whole g same in-time met =
       record {
         rule-is = refl;
         whole = whole;
         state = inl (record {
-          unbroken = refl;
-          live = exact .same steps (steps ++ (s ∷ [])) marks (items queue) same (g .live);
+          unbroken = g .unbroken;
+          live = exact .same steps (steps ++ (s ∷ [])) (was .marks) (ring words (was .head) (was .len)) same (g .live);
           due-is = g .due-is;
+          kept-is = g .kept-is;
           in-time = in-time;
           room = g .room;
           met = met;
         });
       }
 
-  -- ---- Ticks
-
-  module _ (t : ℕ) (accepts : Accepts steps (tick t)) where
-    tick-going : (queue : Queue) (marks : Marks) (until : ℕ) → length (queue .times) ≡ 64 → Going c exact steps queue marks until 0
-        → Fits c exact (steps ++ (tick t ∷ [])) (cond (ltb until t) (brokenRow (rowWith c queue marks until 0) (length steps + 1)) (rowWith c queue marks until 0))
-    tick-going queue marks until whole g =
-        split (ltb until t) (λ x. Fits c exact (steps ++ (tick t ∷ [])) (cond x (brokenRow (rowWith c queue marks until 0) (length steps + 1)) (rowWith c queue marks until 0)))
-        (λ e. broken-fits (tick t) queue marks until 0 whole (going-open queue marks until 0 (accepts .0) g)
-        (exact .late steps marks (items queue) t past (g .live) (rw (← g .due-is) (ltb-true until t e)) (accepts .1)))
-        (λ e. going-on (tick t) queue marks until whole g (λ i h. sym (times-tick (at (kinds c) i) t steps)) (rw (clock-tick t steps) (ltb-false until t e))
-        (λ shut. both (sym shut ∙ closed-tick t steps ∙ accepts .0)))
-
-    pub fits-tick : (r : Row) → Fits c exact steps r → Fits c exact (steps ++ (tick t ∷ [])) (rowTick r t (length steps + 1))
-    unfolding rowTick
-    fits-tick r f =
-        by-state (λ r. Fits c exact (steps ++ (tick t ∷ [])) (rowTick r t (length steps + 1))) r f tick-going
-        (λ e b. rw e (broken-stays (tick t) r (f .rule-is) (f .whole) b))
+  -- a tick to a time past the due time
+  tick-late : (words : List ℕ) (was : State) (t : ℕ) → Going c exact steps words was → was .due < t → t ≤ lastTime → ¬ Open c (steps ++ (tick t ∷ []))
+  tick-late words was t g later small =
+      exact .late steps (was .marks) (ring words (was .head) (was .len)) t past (g .live) (subst (λ (n : ℕ). n < t) (g .due-is) later) small
 
   -- ---- Events
 
   module _ (k t : ℕ) (accepts : Accepts steps (event k t)) where
-    abbrev pub Holds : RowStep → Type 0
+    abbrev Holds : RowStep → Type 0
     Holds s = After c exact (steps ++ (event k t ∷ [])) (s .crowded) (s .row)
 
-    -- an event at a time past the due time: no continuation was left at that time already
-    event-late : (queue : Queue) (marks : Marks) (until : ℕ) → Going c exact steps queue marks until 0 → until < t → ¬ Open c (steps ++ (event k t ∷ []))
-    event-late queue marks until g later o =
-        exact .late steps marks (items queue) t past (g .live) (rw (← g .due-is) later) (accepts .2)
-        (open-at-tick c steps k t (accepts .0) (accepts .1) (accepts .3) o)
+    module _ (words : List ℕ) (was : State) (whole : length words ≡ 64) (g : Going c exact steps words was) where
+      abbrev row-was : Row
+      row-was = rowFrom (ruleOf c) words was
 
-    module _ (queue : Queue) (marks : Marks) (until : ℕ) (whole : length (queue .times) ≡ 64) (g : Going c exact steps queue marks until 0) (in-time : t ≤ until) where
+      -- at a time past the due time no continuation was left already
+      event-late : was .due < t → Fits c exact (steps ++ (event k t ∷ [])) (brokenRow row-was (length steps + 1))
+      event-late later =
+          broken-fits (event k t) words was whole (going-open words was (accepts .0) g)
+          (λ o. tick-late words was t g later (accepts .2) (open-at-tick c steps k t (accepts .0) (accepts .1) (accepts .3) o))
+
       -- an event of no kind of the row's
-      event-other : Each (λ j. ¬ (k ≡ j)) (kinds c) → Fits c exact (steps ++ (event k t ∷ [])) (rowWith c queue marks until 0)
-      event-other other =
-          going-on (event k t) queue marks until whole g (λ i h. sym (times-other (at (kinds c) i) k t steps (other i h))) (rw (clock-event k t steps) in-time)
+      event-other : t ≤ was .due → Each (λ j. ¬ (k ≡ j)) (kinds c) → Fits c exact (steps ++ (event k t ∷ [])) row-was
+      event-other in-time other =
+          going-on (event k t) words was whole g (λ i h. sym (times-other (at (kinds c) i) k t steps (other i h))) (rw (clock-event k t steps) in-time)
           (λ shut. both (sym shut ∙ closed-event k t steps ∙ accepts .0))
 
-      module _ (own : OfKind c k) (change : Change) (decided : decide (ruleOf c) marks (items queue) k t ≡ change) where
+      module _ (in-time : t ≤ was .due) (own : OfKind c k) (change : Change)
+          (decided : decide (ruleOf c) (was .marks) (ring words (was .head) (was .len)) k t ≡ change) where
         abbrev kept-times : List ℕ
-        kept-times = changed (change .dropped) (change .pushed) t (items queue)
+        kept-times = changed (change .dropped) (change .pushed) t (ring words (was .head) (was .len))
+
+        by-due : t ≤ due (ruleOf c) (was .marks) (ring words (was .head) (was .len))
+        by-due = subst (λ (n : ℕ). t ≤ n) (g .due-is) in-time
 
         -- a change that the row goes on with
-        live-after : change .breaks ≡ false → exact .Live (steps ++ (event k t ∷ [])) (change .marks) kept-times × (t ≤ due (ruleOf c) (change .marks) kept-times)
-        live-after goes = exact .goes-on steps marks (items queue) k t past (g .live) own accepts (rw (← g .due-is) in-time) change decided goes
+        live-after : change .breaks ≡ false
+            → exact .Live (steps ++ (event k t ∷ [])) (change .marks) kept-times × (t ≤ due (ruleOf c) (change .marks) kept-times)
+        live-after goes = exact .goes-on steps (was .marks) (ring words (was .head) (was .len)) k t past (g .live) own accepts by-due change decided goes
 
         open-after : change .breaks ≡ false → Open c (steps ++ (event k t ∷ []))
         open-after goes =
-            exact .is-open (steps ++ (event k t ∷ [])) (change .marks) kept-times (past-with (event k t) accepts) (closed-event k t steps ∙ accepts .0) (live-after goes .0)
-            (rw (clock-event k t steps) (live-after goes .1))
+            exact .is-open (steps ++ (event k t ∷ [])) (change .marks) kept-times (past-with (event k t) accepts) (closed-event k t steps ∙ accepts .0)
+            (live-after goes .0) (rw (clock-event k t steps) (live-after goes .1))
 
-        crowded-after : change .breaks ≡ false → waitingLimit < length kept-times → Open c (steps ++ (event k t ∷ [])) × (waitingLimit < waiting c (steps ++ (event k t ∷ [])))
-        crowded-after goes many =
-            (open-after goes, ⊎-elim (λ e. rw e many) (λ e. absurd (omega (arith, e .1, many))) (exact .waits (steps ++ (event k t ∷ [])) (change .marks) kept-times (past-with (event k t) accepts) (live-after goes .0)))
+        crowded-after : change .breaks ≡ false → waitingLimit < length kept-times
+            → Open c (steps ++ (event k t ∷ [])) × (waitingLimit < waiting c (steps ++ (event k t ∷ [])))
+        crowded-after goes many = (
+          open-after goes,
+          ⊎-elim (λ e. rw e many) (λ e. absurd (omega (arith, e .1, many)))
+              (exact .waits (steps ++ (event k t ∷ [])) (change .marks) kept-times (past-with (event k t) accepts) (live-after goes .0)),
+        )
 
-        applied-fits : change .breaks ≡ false → length kept-times ≤ waitingLimit → Fits c exact (steps ++ (event k t ∷ [])) (applied (rowWith c queue marks until 0) change t)
+        applied-fits : change .breaks ≡ false → length kept-times ≤ waitingLimit
+            → Fits c exact (steps ++ (event k t ∷ [])) (applied row-was change t)
         unfolding applied
         applied-fits goes few =
-            let now-holds : items (shifted (change .dropped) (change .pushed) t queue) ≡ kept-times = items-shifted queue whole (change .dropped) (change .pushed) t few in
+            let old = ringOf words (was .head) (was .len) in
+            let new = shifted (change .dropped) (change .pushed) t old in
+            let holds : items new ≡ kept-times = items-shifted old whole (change .dropped) (change .pushed) t few in
             record {
               rule-is = refl;
-              whole = times-shifted queue (change .dropped) (change .pushed) t ∙ whole;
+              whole = times-shifted old (change .dropped) (change .pushed) t ∙ whole;
               state = inl (record {
                 unbroken = refl;
-                live = rw now-holds (live-after goes .0);
+                live = rw holds (live-after goes .0);
                 due-is = refl;
-                in-time = rw (clock-event k t steps, now-holds) (live-after goes .1);
-                room = rw now-holds few;
+                kept-is = refl;
+                in-time = rw (clock-event k t steps, holds) (live-after goes .1);
+                room = omega (arith, ap length holds, ring-length (new .times) (new .head) (new .len), few);
                 met = λ shut. both (sym shut ∙ closed-event k t steps ∙ accepts .0);
               });
             }
 
-        changed-after : Holds (changedRow (rowWith c queue marks until 0) change t (length steps + 1))
+        changed-after : Holds (changedRow row-was change t (length steps + 1))
         unfolding changedRow
         changed-after =
-            split (change .breaks) (λ x. Holds (cond x breaking-row (cond (ltb waitingLimit (length kept-times)) crowded-row going-row)))
-            (λ e. broken-fits (event k t) queue marks until 0 whole (going-open queue marks until 0 (accepts .0) g)
-            (exact .breaks steps marks (items queue) k t past (g .live) own accepts (rw (← g .due-is) in-time) (rw decided e)))
-            (λ e. split (ltb waitingLimit (length kept-times)) (λ y. Holds (cond y crowded-row going-row))
+            split (change .breaks)
+            (λ x. Holds (cond x (stays (brokenRow row-was (length steps + 1)))
+            (cond (ltb waitingLimit (length kept-times)) (crowding row-was) (stays (applied row-was change t)))))
+            (λ e. broken-fits (event k t) words was whole (going-open words was (accepts .0) g)
+            (exact .breaks steps (was .marks) (ring words (was .head) (was .len)) k t past (g .live) own accepts by-due (rw decided e)))
+            (λ e. split (ltb waitingLimit (length kept-times)) (λ y. Holds (cond y (crowding row-was) (stays (applied row-was change t))))
             (λ f. crowded-after e (ltb-true waitingLimit (length kept-times) f))
             (λ f. applied-fits e (ltb-false waitingLimit (length kept-times) f)))
-          where
-            breaking-row : RowStep
-            breaking-row = stays (brokenRow (rowWith c queue marks until 0) (length steps + 1))
 
-            crowded-row : RowStep
-            crowded-row = record { crowded = true; row = rowWith c queue marks until 0 }
+      event-going : ltb 0 (was .broken) ≡ false → Holds (rowStep row-was (eventAt k t) (length steps + 1))
+      unfolding rowStep
+      event-going unbroken =
+          subst (λ (b : Bool). Holds (cond b (stays row-was) open-row)) (sym unbroken)
+          (split (ltb (was .due) t) (λ x. Holds (cond x (stays (brokenRow row-was number)) in-time-row)) (λ e. event-late (ltb-true (was .due) t e))
+          (λ e. split (concerns (ruleOf c) k) (λ y. Holds (cond y (changedRow row-was change t number) (stays row-was)))
+          (λ f. changed-after (ltb-false (was .due) t e) (concerns-own c k (accepts .1) f) change refl)
+          (λ f. event-other (ltb-false (was .due) t e) (concerns-other c k f))))
+        where
+          number : ℕ
+          number = length steps + 1
 
-            going-row : RowStep
-            going-row = stays (applied (rowWith c queue marks until 0) change t)
+          change : Change
+          change = decide (ruleOf c) (was .marks) (ring words (was .head) (was .len)) k t
 
-    event-going : (queue : Queue) (marks : Marks) (until : ℕ) → length (queue .times) ≡ 64 → Going c exact steps queue marks until 0
-        → Holds (rowEvent (rowWith c queue marks until 0) k t (length steps + 1))
-    unfolding rowEvent
-    event-going queue marks until whole g =
-        split (ltb until t) (λ x. Holds (cond x (stays (brokenRow r step)) (cond (concerns (ruleOf c) k) (changedRow r change t step) (stays r))))
-        (λ e. broken-fits (event k t) queue marks until 0 whole (going-open queue marks until 0 (accepts .0) g) (event-late queue marks until g (ltb-true until t e)))
-        (λ e. split (concerns (ruleOf c) k) (λ y. Holds (cond y (changedRow r change t step) (stays r)))
-        (λ f. changed-after queue marks until whole g (ltb-false until t e) (concerns-own c k (accepts .1) f) change refl)
-        (λ f. event-other queue marks until whole g (ltb-false until t e) (concerns-other c k f)))
+          in-time-row : RowStep
+          in-time-row = cond (concerns (ruleOf c) k) (changedRow row-was change t number) (stays row-was)
+
+          open-row : RowStep
+          open-row = cond (ltb (was .due) t) (stays (brokenRow row-was number)) in-time-row
+
+  -- ---- Ticks and the close
+
+  -- a step without an event leaves a row as it is, or breaks it
+  module _ (small : Each (λ j. j ≤ lastKind) (kinds c)) where
+    -- what is left of the machine's tests where no event is of one of the row's kinds
+    abbrev other-row : Row → ℕ → Bool → ℕ → RowStep
+    other-row r t closes number =
+        cond (ltb (r .now .due) t) (stays (brokenRow r number)) (cond (closes && eqb (r .now .kept) 0) (stays (brokenRow r number)) (stays r))
+
+    no-event : (words : List ℕ) (was : State) (t : ℕ) (closes : Bool) (number : ℕ) → ltb 0 (was .broken) ≡ false
+        → rowStep (rowFrom (ruleOf c) words was) (record { kind = noEvent; time = t; closes = closes }) number
+        ≡ other-row (rowFrom (ruleOf c) words was) t closes number
+    unfolding rowStep
+    no-event words was t closes number unbroken = rw (unbroken, concerns-none c small)
+
+    tick-going : (t : ℕ) (accepts : Accepts steps (tick t)) (words : List ℕ) (was : State) → length words ≡ 64 → Going c exact steps words was
+        → After c exact (steps ++ (tick t ∷ [])) (other-row (rowFrom (ruleOf c) words was) t false (length steps + 1) .crowded)
+        (other-row (rowFrom (ruleOf c) words was) t false (length steps + 1) .row)
+    tick-going t accepts words was whole g =
+        split (ltb (was .due) t) (λ x. Holds (cond x (stays (brokenRow row-was (length steps + 1))) (stays row-was)))
+        (λ e. broken-fits (tick t) words was whole (going-open words was (accepts .0) g) (tick-late words was t g (ltb-true (was .due) t e) (accepts .1)))
+        (λ e. going-on (tick t) words was whole g (λ i h. sym (times-tick (at (kinds c) i) t steps)) (rw (clock-tick t steps) (ltb-false (was .due) t e))
+        (λ shut. both (sym shut ∙ closed-tick t steps ∙ accepts .0)))
       where
-        r : Row
-        r = rowWith c queue marks until 0
+        row-was : Row
+        row-was = rowFrom (ruleOf c) words was
 
-        step : ℕ
-        step = length steps + 1
+        Holds : RowStep → Type 0
+        Holds s = After c exact (steps ++ (tick t ∷ [])) (s .crowded) (s .row)
 
-        change : Change
-        change = decide (ruleOf c) marks (items queue) k t
-
-    pub fits-event : (r : Row) → Fits c exact steps r → Holds (rowEvent r k t (length steps + 1))
-    unfolding rowEvent
-    fits-event r f =
-        by-state (λ r. Holds (rowEvent r k t (length steps + 1))) r f event-going
-        (λ e b. rw e (broken-stays (event k t) r (f .rule-is) (f .whole) b))
-
-  -- ---- Close
-
-  module _ (not-closed : closed steps ≡ false) where
     same-close : SameTimes (kinds c) steps (steps ++ (close ∷ []))
     same-close i h = sym (times-close (at (kinds c) i) steps)
 
@@ -289,34 +341,89 @@ module _ (c : Constraint) (exact : Exact c) (steps : List Step) (valid : Valid s
       where
         shorter : (j : ℕ) → times j (steps ++ (close ∷ []) ++ further) ≡ times j steps
         shorter j =
-            ap (λ f. times j (steps ++ (close ∷ []) ++ f)) (continues-closed (closed-close steps) follows) ∙ ap (times j) (append-nil (steps ++ (close ∷ []))) ∙ times-close j steps
+            ap (λ f. times j (steps ++ (close ∷ []) ++ f)) (continues-closed (closed-close steps) follows)
+            ∙ ap (times j) (append-nil (steps ++ (close ∷ []))) ∙ times-close j steps
 
-    close-going : (queue : Queue) (marks : Marks) (until : ℕ) → length (queue .times) ≡ 64 → Going c exact steps queue marks until 0
-        → Fits c exact (steps ++ (close ∷ [])) (rowClose (rowWith c queue marks until 0) (length steps + 1))
-    unfolding rowClose
-    close-going queue marks until whole g =
-        split (kept (ruleOf c) marks (items queue)) (λ x. Fits c exact (steps ++ (close ∷ [])) (cond x (rowWith c queue marks until 0) (brokenRow (rowWith c queue marks until 0) (length steps + 1))))
-        (λ e. going-on close queue marks until whole g same-close (rw (clock-close steps) (g .in-time))
-        (λ shut. meets-same c steps (steps ++ (close ∷ [])) same-close (exact .is-kept steps marks (items queue) past (g .live) e)))
-        (λ e. broken-fits close queue marks until 0 whole (going-open queue marks until 0 not-closed g) (close-shut (exact .not-kept steps marks (items queue) past (g .live) e)))
+    close-going : closed steps ≡ false → (words : List ℕ) (was : State) → length words ≡ 64 → Going c exact steps words was
+        → After c exact (steps ++ (close ∷ [])) (other-row (rowFrom (ruleOf c) words was) (clock steps) true (length steps + 1) .crowded)
+        (other-row (rowFrom (ruleOf c) words was) (clock steps) true (length steps + 1) .row)
+    close-going not-closed words was whole g =
+        subst (λ (b : Bool). Holds (cond b (stays (brokenRow row-was (length steps + 1))) closing-row)) (sym (le-ltb (was .due) (clock steps) (g .in-time)))
+        (split (eqb (was .kept) 0) (λ x. Holds (cond x (stays (brokenRow row-was (length steps + 1))) (stays row-was)))
+        (λ e. broken-fits close words was whole (going-open words was not-closed g)
+        (close-shut (exact .not-kept steps (was .marks) (ring words (was .head) (was .len)) past (g .live) (unmarked (eqb-true (was .kept) 0 e)))))
+        (λ e. going-on close words was whole g same-close (rw (clock-close steps) (g .in-time))
+        (λ shut. meets-same c steps (steps ++ (close ∷ [])) same-close
+        (exact .is-kept steps (was .marks) (ring words (was .head) (was .len)) past (g .live) (marked (eqb-false (was .kept) 0 e))))))
+      where
+        row-was : Row
+        row-was = rowFrom (ruleOf c) words was
 
-    pub fits-close : (r : Row) → Fits c exact steps r → Fits c exact (steps ++ (close ∷ [])) (rowClose r (length steps + 1))
-    unfolding rowClose
-    fits-close r f =
-        by-state (λ r. Fits c exact (steps ++ (close ∷ [])) (rowClose r (length steps + 1))) r f close-going
-        (λ e b. rw e (broken-stays close r (f .rule-is) (f .whole) b))
+        Holds : RowStep → Type 0
+        Holds s = After c exact (steps ++ (close ∷ [])) (s .crowded) (s .row)
+
+        closing-row : RowStep
+        closing-row = cond (eqb (was .kept) 0) (stays (brokenRow row-was (length steps + 1))) (stays row-was)
+
+        kept-now : Bool
+        kept-now = kept (ruleOf c) (was .marks) (ring words (was .head) (was .len))
+
+        mark-0 : (b : Bool) → mark b ≡ 0 → b ≡ false
+        mark-0 true e = absurd (omega arith)
+        mark-0 false e = refl
+
+        mark-1 : (b : Bool) → ¬ (mark b ≡ 0) → b ≡ true
+        mark-1 true e = refl
+        mark-1 false e = absurd (e refl)
+
+        unmarked : was .kept ≡ 0 → kept-now ≡ false
+        unmarked e = mark-0 kept-now (sym (g .kept-is) ∙ e)
+
+        marked : ¬ (was .kept ≡ 0) → kept-now ≡ true
+        marked e = mark-1 kept-now (λ z. e (g .kept-is ∙ z))
+
+    -- ---- any step
+
+    pub fits-step : (s : Step) → Accepts steps s → (r : Row) → Fits c exact steps r
+        → After c exact (steps ++ (s ∷ [])) (rowStep r (seen steps s) (length steps + 1) .crowded) (rowStep r (seen steps s) (length steps + 1) .row)
+    unfolding rowStep
+    fits-step s accepts r f =
+        by-state (λ r. Holds (rowStep r (seen steps s) (length steps + 1))) r f (by-step s accepts)
+        (λ e b. rw e (broken-stays s r (f .rule-is) (f .whole) b))
+      where
+        Holds : RowStep → Type 0
+        Holds x = After c exact (steps ++ (s ∷ [])) (x .crowded) (x .row)
+
+        by-step : (s : Step) → Accepts steps s → (words : List ℕ) (was : State) → length words ≡ 64 → ltb 0 (was .broken) ≡ false → Going c exact steps words was
+            → After c exact (steps ++ (s ∷ [])) (rowStep (rowFrom (ruleOf c) words was) (seen steps s) (length steps + 1) .crowded)
+            (rowStep (rowFrom (ruleOf c) words was) (seen steps s) (length steps + 1) .row)
+        by-step (event k t) a words was whole unbroken g = event-going k t a words was whole g unbroken
+        by-step (tick t) a words was whole unbroken g = rw (no-event words was t false (length steps + 1) unbroken) (tick-going t a words was whole g)
+        by-step close a words was whole unbroken g = rw (no-event words was (clock steps) true (length steps + 1) unbroken) (close-going a words was whole g)
+
+    -- the close crowds no row
+    pub close-calm : (r : Row) → Fits c exact steps r → (number : ℕ) → rowStep r (closeAt (clock steps)) number .crowded ≡ false
+    unfolding rowStep
+    close-calm r f number = with-rule c (λ r. rowStep r (closeAt (clock steps)) number .crowded ≡ false) r (f .rule-is) (calm (r .times) (r .now))
+      where
+        one-of : (b : Bool) (x y : RowStep) → x .crowded ≡ false → y .crowded ≡ false → cond b x y .crowded ≡ false
+        one-of true x y p q = p
+        one-of false x y p q = q
+
+        calm : (words : List ℕ) (was : State) → rowStep (rowFrom (ruleOf c) words was) (closeAt (clock steps)) number .crowded ≡ false
+        calm words was = rw (concerns-none c small) (one-of (ltb 0 (was .broken)) _ _ refl (one-of (ltb (was .due) (clock steps)) _ _ refl (one-of (eqb (was .kept) 0) _ _ refl refl)))
 
   -- ---- Verdict
-
-  going-reads : (queue : Queue) (marks : Marks) (until : ℕ) → length (queue .times) ≡ 64 → Going c exact steps queue marks until 0
-      → Reads c steps (rowVerdict (rowWith c queue marks until 0) (closed steps))
-  unfolding rowVerdict
-  going-reads queue marks until whole g =
-      split (closed steps) (λ x. Reads c steps (cond x Verdict.Kept Verdict.Open))
-      (λ e. reads-kept e (open-of-meets c steps (g .met e)))
-      (λ e. reads-open e (going-open queue marks until 0 e g))
 
   pub fits-reads : (r : Row) → Fits c exact steps r → Reads c steps (rowVerdict r (closed steps))
   unfolding rowVerdict
   fits-reads r f =
-      by-state (λ r. Reads c steps (rowVerdict r (closed steps))) r f going-reads (λ e b. rw e (reads-broken (r .broken) (b .first)))
+      by-state (λ r. Reads c steps (rowVerdict r (closed steps))) r f going-reads (λ e b. rw e (reads-broken (r .now .broken) (b .first)))
+    where
+      going-reads : (words : List ℕ) (was : State) → length words ≡ 64 → ltb 0 (was .broken) ≡ false → Going c exact steps words was
+          → Reads c steps (rowVerdict (rowFrom (ruleOf c) words was) (closed steps))
+      going-reads words was whole unbroken g =
+          subst (λ (b : Bool). Reads c steps (cond b (Verdict.Broken (was .broken)) (cond (closed steps) Verdict.Kept Verdict.Open))) (sym unbroken)
+          (split (closed steps) (λ x. Reads c steps (cond x Verdict.Kept Verdict.Open))
+          (λ e. reads-kept e (open-of-meets c steps (g .met e)))
+          (λ e. reads-open e (going-open words was e g)))

@@ -1,13 +1,13 @@
--- The machine of a row of any type: what an event, a tick and the close make of it.
+-- The machine of a row of any type: what a step makes of it.
 use Prim.Native.Nat.{ℕ}
-use mathlib.Core.Bool.{Bool, true, false, cond, _||_}
+use mathlib.Core.Bool.{Bool, true, false, cond, _&&_, _||_}
 use mathlib.Core.List.{List}
-use lib.ListN.{length}
+use lib.ListN.{length, replicate}
 use lib.Dec.{ltb, eqb}
 use Rattle.constraint.specs.Limits.{noLimit, waitingLimit}
 use Rattle.constraint.specs.declared.Constraint.{Constraint}
 use Rattle.constraint.specs.declared.Verdict.{Verdict}
-use Rattle.queue.specs.Ring.{items, changed, shifted, emptyQueue, emptied}
+use Rattle.queue.specs.Ring.{Ring, ringOf, ring, items, changed, shifted}
 use Rattle.row.specs.Row.{ruleOf, noMarks}
 use Rattle.row.specs.Delay.{decideDelay, dueDelay, keptDelay}
 use Rattle.row.specs.StrongDelay.{decideStrongDelay, dueStrongDelay, keptStrongDelay}
@@ -18,6 +18,8 @@ use Rattle.row.specs.StrongSynchronization.{decideStrongSynchronization,
 use Rattle.row.specs.declared.Rule.{Rule}
 use Rattle.row.specs.declared.Marks.{Marks}
 use Rattle.row.specs.declared.Change.{Change}
+use Rattle.row.specs.declared.State.{State}
+use Rattle.row.specs.declared.Occurrence.{Occurrence}
 use Rattle.row.specs.declared.Row.{Row}
 use Rattle.row.specs.declared.RowStep.{RowStep}
 
@@ -54,46 +56,86 @@ kept rule marks times =
 abbrev pub concerns : Rule → ℕ → Bool
 concerns rule kind = eqb kind (rule .first) || (eqb kind (rule .second) || (eqb kind (rule .third) || eqb kind (rule .fourth)))
 
--- a row of a constraint before any step
+-- a row of its rule, its times and what it keeps beside them
+abbrev pub rowFrom : Rule → List ℕ → State → Row
+rowFrom rule times now = record { rule = rule; times = times; now = now }
+
+-- the times that a row keeps, the oldest first
+abbrev pub itemsOf : Row → List ℕ
+itemsOf r = ring (r .times) (r .now .head) (r .now .len)
+
+-- 1 where something is so, else 0
+abbrev pub mark : Bool → ℕ
+mark so = cond so 1 0
+
+-- a row of a constraint before any step: it is kept if the recording is closed now
+abbrev pub freshState : State
+freshState = record { marks = noMarks; head = 0; len = 0; due = noLimit; kept = 1; broken = 0 }
+
 unfoldable pub rowOf : Constraint → Row
-rowOf c = record { rule = ruleOf c; queue = emptyQueue; marks = noMarks; due = noLimit; broken = 0 }
+rowOf c = rowFrom (ruleOf c) (replicate 64 0) freshState
 
 -- the row broken at a step: it keeps the step and holds nothing waiting
+abbrev pub brokenState : ℕ → State
+brokenState number = record { marks = noMarks; head = 0; len = 0; due = noLimit; kept = 0; broken = number }
+
 unfoldable pub brokenRow : Row → ℕ → Row
-brokenRow r step = record { rule = r .rule; queue = emptied (r .queue); marks = noMarks; due = noLimit; broken = step }
+brokenRow r number = rowFrom (r .rule) (r .times) (brokenState number)
+
+-- the row with a ring and marks, the due time and the mark for kept read off them
+abbrev pub goingRow : Rule → Marks → Ring → Row
+goingRow rule marks q =
+    rowFrom rule (q .times)
+    (record {
+      marks = marks;
+      head = q .head;
+      len = q .len;
+      due = due rule marks (items q);
+      kept = mark (kept rule marks (items q));
+      broken = 0;
+    })
 
 -- the row with a change at t
 unfoldable pub applied : Row → Change → ℕ → Row
 applied r change t =
-    let queue = shifted (change .dropped) (change .pushed) t (r .queue) in
-    record { rule = r .rule; queue = queue; marks = change .marks; due = due (r .rule) (change .marks) (items queue); broken = 0 }
+    goingRow (r .rule) (change .marks) (shifted (change .dropped) (change .pushed) t (ringOf (r .times) (r .now .head) (r .now .len)))
 
 abbrev pub stays : Row → RowStep
 stays r = record { crowded = false; row = r }
 
+abbrev pub crowding : Row → RowStep
+crowding r = record { crowded = true; row = r }
+
 -- a change that breaks the row, one that crowds it (it would go on with more than 64 waiting), or one that it goes on with
 unfoldable pub changedRow : Row → Change → ℕ → ℕ → RowStep
-changedRow r change t step =
-    cond (change .breaks) (stays (brokenRow r step))
-    (cond (ltb waitingLimit (length (changed (change .dropped) (change .pushed) t (items (r .queue))))) (record { crowded = true; row = r })
+changedRow r change t number =
+    cond (change .breaks) (stays (brokenRow r number))
+    (cond (ltb waitingLimit (length (changed (change .dropped) (change .pushed) t (itemsOf r)))) (crowding r)
     (stays (applied r change t)))
 
--- an event, which is the step of that number: is the row broken already, is the clock past its due time, is the event of one of its kinds?
-unfoldable pub rowEvent : Row → ℕ → ℕ → ℕ → RowStep
-rowEvent r kind t step =
-    cond (ltb 0 (r .broken)) (stays r)
-    (cond (ltb (r .due) t) (stays (brokenRow r step))
-    (cond (concerns (r .rule) kind) (changedRow r (decide (r .rule) (r .marks) (items (r .queue)) kind t) t step)
-    (stays r)))
+-- no event
+abbrev pub noEvent : ℕ
+noEvent = 65
 
--- a tick, the same for every type: past the due time it breaks
-unfoldable pub rowTick : Row → ℕ → ℕ → Row
-rowTick r t step = cond (ltb 0 (r .broken)) r (cond (ltb (r .due) t) (brokenRow r step) r)
+-- what a row sees of a step that moves the clock to t: an event of a kind, a tick, the close
+abbrev pub eventAt : ℕ → ℕ → Occurrence
+eventAt kind t = record { kind = kind; time = t; closes = false }
 
--- the close
-unfoldable pub rowClose : Row → ℕ → Row
-rowClose r step = cond (ltb 0 (r .broken)) r (cond (kept (r .rule) (r .marks) (items (r .queue))) r (brokenRow r step))
+abbrev pub tickAt : ℕ → Occurrence
+tickAt t = record { kind = noEvent; time = t; closes = false }
+
+abbrev pub closeAt : ℕ → Occurrence
+closeAt t = record { kind = noEvent; time = t; closes = true }
+
+-- a step, of that number: is the row broken already, is the clock past its due time, is the event of one of its kinds, is it closed before it is kept?
+unfoldable pub rowStep : Row → Occurrence → ℕ → RowStep
+rowStep r o number =
+    cond (ltb 0 (r .now .broken)) (stays r)
+    (cond (ltb (r .now .due) (o .time)) (stays (brokenRow r number))
+    (cond (concerns (r .rule) (o .kind)) (changedRow r (decide (r .rule) (r .now .marks) (itemsOf r) (o .kind) (o .time)) (o .time) number)
+    (cond (o .closes && eqb (r .now .kept) 0) (stays (brokenRow r number))
+    (stays r))))
 
 -- the row's verdict, the recording being closed or not
 unfoldable pub rowVerdict : Row → Bool → Verdict
-rowVerdict r closed = cond (ltb 0 (r .broken)) (Verdict.Broken (r .broken)) (cond closed Verdict.Kept Verdict.Open)
+rowVerdict r closed = cond (ltb 0 (r .now .broken)) (Verdict.Broken (r .now .broken)) (cond closed Verdict.Kept Verdict.Open)

@@ -2,16 +2,16 @@
 use constraint::Constraint;
 use constraint::NO_LIMIT;
 use constraint::WAITING_LIMIT;
-use queue::Queue;
 ghost use mathlib.Core.Path.{_≡_};
 ghost use mathlib.Core.List.{List};
 ghost use Prim.Native.Nat.{ℕ};
-ghost use lib.Dec.{ltb};
+ghost use mathlib.Core.Bool.{_&&_};
+ghost use lib.Dec.{ltb, eqb};
 ghost use lib.ListN.{length};
 ghost use Rattle.constraint.specs.Limits.{waitingLimit};
 ghost use Rattle.queue.specs.Ring.{ring, changed};
 ghost use Rattle.row.specs.Row.{noMarks};
-ghost use Rattle.row.specs.Machine.{decide, due, kept, concerns, rowOf, brokenRow, applied, stays, changedRow, rowEvent, rowTick, rowClose};
+ghost use Rattle.row.specs.Machine.{decide, due, kept, concerns, mark, rowFrom, rowOf, brokenState, applied, changedRow, rowStep};
 
 mod delay;
 mod numbers;
@@ -66,18 +66,36 @@ pub struct Change {
     pub marks: Marks,
 }
 
+// What a row keeps beside its rule and its times.
 #[repr(C)]
-pub struct Row {
-    pub rule: Rule,
-    pub queue: Queue,
+pub struct State {
     pub marks: Marks,
+    // where its times begin, and how many there are
+    pub head: usize,
+    pub len: usize,
     // the last clock at which the row is still open if none of its own events comes
     pub due: u64,
+    // 1: it is kept if the recording is closed now
+    pub kept: u64,
     // the step that broke it; 0: not broken
     pub broken: u64,
 }
 
-// A row after an event, and whether the event crowds it: then the step is refused, and the row is as it was.
+#[repr(C)]
+pub struct Row {
+    pub rule: Rule,
+    pub times: [u64; 64],
+    pub now: State,
+}
+
+// What a row sees of a step: the kind of the event (65: no event), the clock that the step leaves, and whether it closes the recording.
+pub struct Occurrence {
+    pub kind: u64,
+    pub time: u64,
+    pub closes: bool,
+}
+
+// A row after a step, and whether the step crowds it: then the step is refused, and the row is as it was.
 pub struct RowStep {
     pub crowded: bool,
     pub row: Row,
@@ -143,7 +161,7 @@ pub fn concerns(rule: Rule, kind: u64) -> bool
     kind == rule.first || (kind == rule.second || (kind == rule.third || kind == rule.fourth))
 }
 
-// Whether a queue of len times would hold more than 64 after a change.
+// Whether a ring of len times would hold more than 64 after a change.
 fn crowds(len: usize, dropped: usize, pushed: bool) -> bool
     ensures { λ r. ⌜ ((t : ℕ) (times : List ℕ) → length times ≡ len → r ≡ ltb waitingLimit (length (changed dropped pushed t times))) ⌝ }
 {
@@ -170,126 +188,149 @@ fn no_marks() -> Marks
     }
 }
 
+// 1 where something is so, else 0.
+fn mark(so: bool) -> u64
+    ensures { λ r. ⌜ r ≡ mark so ⌝ }
+{
+    if so { 1 } else { 0 }
+}
+
+// What a row that is broken at a step keeps: the step, and nothing waiting.
+fn broken_at(number: u64) -> State
+    ensures { λ r. ⌜ r ≡ brokenState number ⌝ }
+{
+    State {
+        marks: no_marks(),
+        head: 0,
+        len: 0,
+        due: NO_LIMIT,
+        kept: 0,
+        broken: number,
+    }
+}
+
+// What the row keeps after a change at t, its times being changed where they lie.
+fn apply(rule: Rule, old: State, times: &mut [u64; 64], change: Change, t: u64) -> State
+    ensures { λ r. ⌜ rowFrom rule (now (times .exit)) r ≡ applied (rowFrom rule (now (times .entry)) old) change t ⌝ }
+{
+    let ends = queue::shift(times, old.head, old.len, change.dropped, change.pushed, t);
+    let marks = change.marks;
+    let due = due(rule, marks, times, ends.head, ends.len);
+    let kept = mark(kept(rule, marks, ends.len));
+    State {
+        marks,
+        head: ends.head,
+        len: ends.len,
+        due,
+        kept,
+        broken: 0,
+    }
+}
+
+// What the row keeps after a change at t: broken, as it was where the change crowds it, or with the change.
+fn changed(
+    rule: Rule,
+    old: State,
+    times: &mut [u64; 64],
+    change: Change,
+    t: u64,
+    number: u64,
+) -> State
+    ensures { λ r. ⌜ rowFrom rule (now (times .exit)) r ≡ changedRow (rowFrom rule (now (times .entry)) old) change t number .row ⌝ }
+{
+    if change.breaks {
+        return broken_at(number);
+    }
+    if crowds(old.len, change.dropped, change.pushed) {
+        return old;
+    }
+    apply(rule, old, times, change, t)
+}
+
+// Whether the recording is closed before the row is kept.
+fn ends_unkept(closes: bool, kept: u64) -> bool
+    ensures { λ r. ⌜ r ≡ (closes && eqb kept 0) ⌝ }
+{
+    closes && kept == 0
+}
+
+// What the row keeps after what occurs, which is the step of that number; its times are changed where they lie.
+pub fn step(rule: Rule, old: State, times: &mut [u64; 64], o: Occurrence, number: u64) -> State
+    ensures { λ r. ⌜ rowFrom rule (now (times .exit)) r ≡ rowStep (rowFrom rule (now (times .entry)) old) o number .row ⌝ }
+{
+    if 0 < old.broken {
+        return old;
+    }
+    if old.due < o.time {
+        return broken_at(number);
+    }
+    if concerns(rule, o.kind) {
+        let new = decide(rule, old.marks, times, old.head, old.len, o.kind, o.time);
+        return changed(rule, old, times, new, o.time, number);
+    }
+    if ends_unkept(o.closes, old.kept) {
+        return broken_at(number);
+    }
+    old
+}
+
+// Whether what occurs would leave the row open with more than 64 waiting.
+pub fn crowded(rule: Rule, old: State, times: &[u64; 64], o: Occurrence) -> bool
+    ensures { λ r. ⌜ ((number : ℕ) → r ≡ rowStep (rowFrom rule (now (times .entry)) old) o number .crowded) ⌝ }
+{
+    if 0 < old.broken {
+        return false;
+    }
+    if old.due < o.time {
+        return false;
+    }
+    if !concerns(rule, o.kind) {
+        return false;
+    }
+    let new = decide(rule, old.marks, times, old.head, old.len, o.kind, o.time);
+    if new.breaks {
+        return false;
+    }
+    crowds(old.len, new.dropped, new.pushed)
+}
+
 impl Row {
     // The row of a constraint before any step.
     pub fn begin(c: Constraint) -> Self
         ensures { λ r. ⌜ r ≡ rowOf c ⌝ }
     {
+        let now = State {
+            marks: no_marks(),
+            head: 0,
+            len: 0,
+            due: NO_LIMIT,
+            kept: 1,
+            broken: 0,
+        };
         Row {
             rule: numbers::rule_of(c),
-            queue: Queue::new(),
-            marks: no_marks(),
-            due: NO_LIMIT,
-            broken: 0,
+            times: [0u64; 64],
+            now,
         }
     }
 
-    // The row after an event of a kind at t, which is the step of that number.
-    pub fn event(self, kind: u64, t: u64, step: u64) -> RowStep
-        ensures { λ r. ⌜ r ≡ rowEvent self kind t step ⌝ }
+    // The row after what occurs, which is the step of that number.
+    pub fn step(self, o: Occurrence, number: u64) -> RowStep
+        ensures { λ r. ⌜ r ≡ rowStep self o number ⌝ }
     {
-        if 0 < self.broken {
-            return self.stays();
-        }
-        if self.due < t {
-            return self.broken_at(step).stays();
-        }
-        if !concerns(self.rule, kind) {
-            return self.stays();
-        }
-        let queue = self.queue;
-        let change = decide(
-            self.rule,
-            self.marks,
-            &queue.times,
-            queue.head,
-            queue.len,
-            kind,
-            t,
-        );
-        self.changed(change, t, step)
-    }
-
-    // The row after a tick to t.
-    pub fn tick(self, t: u64, step: u64) -> Self
-        ensures { λ r. ⌜ r ≡ rowTick self t step ⌝ }
-    {
-        if 0 < self.broken {
-            return self;
-        }
-        if self.due < t {
-            return self.broken_at(step);
-        }
-        self
-    }
-
-    // The row after the close.
-    pub fn close(self, step: u64) -> Self
-        ensures { λ r. ⌜ r ≡ rowClose self step ⌝ }
-    {
-        if 0 < self.broken {
-            return self;
-        }
-        if kept(self.rule, self.marks, self.queue.len) {
-            return self;
-        }
-        self.broken_at(step)
-    }
-
-    // The row broken at a step: it keeps the step and holds nothing waiting.
-    fn broken_at(self, step: u64) -> Self
-        ensures { λ r. ⌜ r ≡ brokenRow self step ⌝ }
-    {
+        let mut times = self.times;
         let rule = self.rule;
-        Row {
-            rule,
-            queue: self.queue.emptied(),
-            marks: no_marks(),
-            due: NO_LIMIT,
-            broken: step,
-        }
-    }
-
-    // The row as a step leaves it that is not refused.
-    fn stays(self) -> RowStep
-        ensures { λ r. ⌜ r ≡ stays self ⌝ }
-    {
-        RowStep {
-            crowded: false,
-            row: self,
-        }
-    }
-
-    // The row after a change at t: broken, as it was where the change crowds it, or with the change.
-    fn changed(self, change: Change, t: u64, step: u64) -> RowStep
-        ensures { λ r. ⌜ r ≡ changedRow self change t step ⌝ }
-    {
-        if change.breaks {
-            return self.broken_at(step).stays();
-        }
-        if crowds(self.queue.len, change.dropped, change.pushed) {
+        let old = self.now;
+        if crowded(rule, old, &times, o) {
             return RowStep {
                 crowded: true,
                 row: self,
             };
         }
-        self.applied(change, t).stays()
-    }
-
-    // The row with a change at t.
-    fn applied(self, change: Change, t: u64) -> Self
-        ensures { λ r. ⌜ r ≡ applied self change t ⌝ }
-    {
-        let rule = self.rule;
-        let marks = change.marks;
-        let queue = self.queue.shifted(change.dropped, change.pushed, t);
-        let due = due(rule, marks, &queue.times, queue.head, queue.len);
-        Row {
-            rule,
-            queue,
-            marks,
-            due,
-            broken: 0,
+        let now = step(rule, old, &mut times, o, number);
+        RowStep {
+            crowded: false,
+            row: Row { rule, times, now },
         }
     }
 }

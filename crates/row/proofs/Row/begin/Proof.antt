@@ -6,7 +6,7 @@ use Rattle.row.proofs.Row.begin.Tie as tie
 
 returns : tie.Need-returns
 unfolding rowOf
-returns c = rw (c .no-marks .ensures, c .before .new .ensures, c .before .before .rule-of .ensures)
+returns c = rw (c .rule-of .ensures, c .before .no-marks .ensures)
 
 pub begin-spec : {M : Type 1} → statement M
-begin-spec = tie.close (tie.spec free free free returns)
+begin-spec = tie.close (tie.spec free free returns)

@@ -4,11 +4,11 @@ use native.Mathlib.Omega.{arith}
 use borrow.Author.Needs.{needs}
 use borrow.Author.Tests.{ltb-true}
 use Rattle.queue.specs.Ring.{shifted}
-use Rattle.queue.proofs.Queue.shifted.Statement.{statement}
-use Rattle.queue.proofs.Queue.shifted.Tie as tie
+use Rattle.queue.proofs.shift.Statement.{statement}
+use Rattle.queue.proofs.shift.Tie as tie
 
-add-head : tie.Need-add-head
-add-head c = search needs
+add-first : tie.Need-add-first
+add-first c = search needs
 
 add-at : tie.Need-add-at
 add-at c = search needs
@@ -16,14 +16,14 @@ add-at c = search needs
 add-at-2 : tie.Need-add-at-2
 add-at-2 c = search needs
 
-mul-self : tie.Need-mul-self
-mul-self c = search needs
+mul-times : tie.Need-mul-times
+mul-times c = search needs
 
-element-write-self : tie.Need-element-write-self
-element-write-self c = search needs
+element-write-times : tie.Need-element-write-times
+element-write-times c = search needs
 
-add-self : tie.Need-add-self
-add-self c = omega (arith, ltb-true)
+add-t17 : tie.Need-add-t17
+add-t17 c = omega (arith, ltb-true)
 
 returns : tie.Need-returns
 unfolding shifted
@@ -35,8 +35,5 @@ returns-2 c =
     rw (← c .before .minus .ensures)
     (⊎-elim (λ w. rw (w .0 .taken, w .1 .left)) (λ w. rw (w .left)) (c .if1 .came))
 
-pub shifted-spec : {M : Type 1} → statement M
-shifted-spec =
-    tie.close
-    (tie.spec
-    (λ c κs. tt) add-head add-at add-at-2 mul-self element-write-self add-self returns returns-2)
+pub shift-spec : {M : Type 1} → statement M
+shift-spec = tie.close (tie.spec (λ c κs. tt) add-first add-at add-at-2 mul-times element-write-times add-t17 returns returns-2)

@@ -4,11 +4,12 @@ use mathlib.Core.Path.{_≡_, refl, sym, ap, _∙_, subst}
 use mathlib.Core.Bool.{true}
 use mathlib.Core.List.{List, _++_, append-nil}
 use mathlib.Core.Logic.{inl, inr, _↔_}
-use Rattle.constraint.specs.Steps.{Step, event, tick, close, closed}
+use Rattle.constraint.specs.Steps.{Step, closed}
 use Rattle.constraint.specs.Meets.{Meets}
 use Rattle.constraint.specs.Continuation.{Open, BrokenAt, Reads, reads-open, reads-kept, reads-broken}
 use Rattle.constraint.specs.Questions.{Judged}
-use Rattle.constraint.specs.Run.{questions, Run, done, call}
+use Rattle.constraint.specs.Run.{stepFor, questions, Run, done, call}
+use Rattle.constraint.specs.declared.Call.{Call}
 use Rattle.constraint.specs.declared.Answer.{Answer}
 use Rattle.constraint.specs.declared.Answer.the-variants.{Taken, Refused}
 use Rattle.constraint.specs.declared.Constraint.{Constraint}
@@ -22,29 +23,29 @@ use Rattle.constraint.proofs.Judged.{never}
 -- ---- the steps that a list of calls accepts
 
 -- a step whose questions are all answered "yes"
-accepts-taken : (rows : List Constraint) (steps : List Step) (s : Step) → Judged (questions rows steps s) Taken → Accepts steps s
+accepts-taken : (rows : List Constraint) (steps : List Step) (s : Call) → Judged (questions rows steps s) Taken → Accepts steps (stepFor s)
 unfolding Judged questions
-accepts-taken rows steps (event k t) (inl (a, inl (b, inl (c, inl (d, later))))) = (a, b, c, d)
-accepts-taken rows steps (event k t) (inl (a, inl (b, inl (c, inr e)))) = never (cc (e .1))
-accepts-taken rows steps (event k t) (inl (a, inl (b, inr e))) = never (cc (e .1))
-accepts-taken rows steps (event k t) (inl (a, inr e)) = never (cc (e .1))
-accepts-taken rows steps (event k t) (inr e) = never (cc (e .1))
-accepts-taken rows steps (tick t) (inl (a, inl (b, inl (c, later)))) = (a, b, c)
-accepts-taken rows steps (tick t) (inl (a, inl (b, inr e))) = never (cc (e .1))
-accepts-taken rows steps (tick t) (inl (a, inr e)) = never (cc (e .1))
-accepts-taken rows steps (tick t) (inr e) = never (cc (e .1))
-accepts-taken rows steps close (inl (a, later)) = a
-accepts-taken rows steps close (inr e) = never (cc (e .1))
+accepts-taken rows steps (Call.Event k t) (inl (a, inl (b, inl (c, inl (d, later))))) = (a, b, c, d)
+accepts-taken rows steps (Call.Event k t) (inl (a, inl (b, inl (c, inr e)))) = never (cc (e .1))
+accepts-taken rows steps (Call.Event k t) (inl (a, inl (b, inr e))) = never (cc (e .1))
+accepts-taken rows steps (Call.Event k t) (inl (a, inr e)) = never (cc (e .1))
+accepts-taken rows steps (Call.Event k t) (inr e) = never (cc (e .1))
+accepts-taken rows steps (Call.Tick t) (inl (a, inl (b, inl (c, later)))) = (a, b, c)
+accepts-taken rows steps (Call.Tick t) (inl (a, inl (b, inr e))) = never (cc (e .1))
+accepts-taken rows steps (Call.Tick t) (inl (a, inr e)) = never (cc (e .1))
+accepts-taken rows steps (Call.Tick t) (inr e) = never (cc (e .1))
+accepts-taken rows steps Call.Close (inl (a, later)) = a
+accepts-taken rows steps Call.Close (inr e) = never (cc (e .1))
 
-pub run-valid : {rows : List Constraint} {steps calls end : List Step} {answers : List Answer} → Run rows steps calls answers end → Valid steps → Valid end
+pub run-valid : {rows : List Constraint} {steps end : List Step} {calls : List Call} {answers : List Answer} → Run rows steps calls answers end → Valid steps → Valid end
 run-valid done v = v
-run-valid {rows = rows} (call {steps = steps} s Taken judged rest) v = run-valid rest (valid-more s v (accepts-taken rows steps s judged))
+run-valid {rows = rows} (call {steps = steps} s Taken judged rest) v = run-valid rest (valid-more (stepFor s) v (accepts-taken rows steps s judged))
 run-valid (call s (Refused n) judged rest) v = run-valid rest v
 
 -- what a list of calls leaves broken stays broken, at the same step
-pub run-broken : (c : Constraint) (n : ℕ) {rows : List Constraint} {steps calls end : List Step} {answers : List Answer} → Run rows steps calls answers end → BrokenAt c steps n → BrokenAt c end n
+pub run-broken : (c : Constraint) (n : ℕ) {rows : List Constraint} {steps end : List Step} {calls : List Call} {answers : List Answer} → Run rows steps calls answers end → BrokenAt c steps n → BrokenAt c end n
 run-broken c n done b = b
-run-broken c n (call {steps = steps} s Taken judged rest) b = run-broken c n rest (broken-later c steps s n b)
+run-broken c n (call {steps = steps} s Taken judged rest) b = run-broken c n rest (broken-later c steps (stepFor s) n b)
 run-broken c n (call {steps = steps} s (Refused k) judged rest) b = run-broken c n rest b
 
 -- ---- what a row reads after them

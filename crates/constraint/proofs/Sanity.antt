@@ -11,6 +11,7 @@ use Rattle.constraint.specs.Meets.{Meets, MeetsDelay, MeetsStrongDelay, 
 use Rattle.constraint.specs.Continuation.{BrokenAt}
 use Rattle.constraint.specs.Questions.{Question, Judged}
 use Rattle.constraint.specs.Run.{questions, recorded, Run, done, call}
+use Rattle.constraint.specs.declared.Call.{Call}
 use Rattle.constraint.specs.declared.Answer.{Answer}
 use Rattle.constraint.specs.declared.Answer.the-variants.{Taken, Refused}
 use Rattle.constraint.specs.declared.Constraint.{Constraint}
@@ -21,9 +22,9 @@ use Rattle.constraint.proofs.Verdicts.{open-of-meets}
 -- ---- lists of calls
 
 -- a list of calls has at most one list of answers, and one list of accepted steps
-pub run-once : (rows : List Constraint) {steps calls end end′ : List Step} {xs ys : List Answer} → Run rows steps calls xs end → Run rows steps calls ys end′ → (xs ≡ ys) × (end ≡ end′)
+pub run-once : (rows : List Constraint) {steps end end′ : List Step} {calls : List Call} {xs ys : List Answer} → Run rows steps calls xs end → Run rows steps calls ys end′ → (xs ≡ ys) × (end ≡ end′)
 run-once rows done done = (refl, refl)
-run-once rows (call {steps = steps} {calls = calls} {end = e} {answers = xs} s a j r) (call {end = f} {answers = ys} _ b k q) =
+run-once rows (call {steps = steps} {end = e} {calls = calls} {answers = xs} s a j r) (call {end = f} {answers = ys} _ b k q) =
     let same : a ≡ b = judged-once (questions rows steps s) a b j k in
     let rest : (xs ≡ ys) × (e ≡ f) = run-once rows r (subst (λ x. Run rows (recorded steps s x) calls ys f) (sym same) q) in
     (ap₂ (λ (x : Answer) (l : List Answer). x ∷ l) same (rest .0), rest .1)
@@ -37,7 +38,7 @@ judged-some (q ∷ later) none =
     answered-no (λ asked. judged-some later (λ found. none (found .0, inl (asked, found .1))))
 
 -- a list of calls cannot fail to have answers
-pub run-some : (rows : List Constraint) (calls steps : List Step) → ¬ ¬ ((answers : List Answer) × (end : List Step) × Run rows steps calls answers end)
+pub run-some : (rows : List Constraint) (calls : List Call) (steps : List Step) → ¬ ¬ ((answers : List Answer) × (end : List Step) × Run rows steps calls answers end)
 run-some rows [] steps none = none ([], steps, done)
 run-some rows (s ∷ calls) steps none =
     judged-some (questions rows steps s) (λ found. run-some rows calls (recorded steps s (found .0))

@@ -6,6 +6,7 @@ use mathlib.Core.Option.{Option, none, some}
 use lib.ListN.{getElem?}
 use Rattle.constraint.specs.Steps.{Step}
 use Rattle.constraint.specs.Continuation.{Reads}
+use Rattle.constraint.specs.declared.Call.{Call}
 use Rattle.constraint.specs.declared.Answer.{Answer}
 use Rattle.constraint.specs.declared.Answer.the-variants.{Refused}
 use Rattle.constraint.specs.Accepted.{Accepted}
@@ -13,7 +14,7 @@ use Rattle.constraint.specs.Run.{Run}
 use Rattle.constraint.specs.declared.Constraint.{Constraint}
 use Rattle.constraint.specs.declared.Verdict.{Verdict}
 
--- what a step gives: the answer, and the monitor "that the last one returned or left"
+-- what a call gives: the answer, and the monitor "that the last one returned or left"
 pub record Stepped (Monitor : Type 0) : Type 0 where
   pub answer : Answer
   pub monitor : Monitor
@@ -29,21 +30,21 @@ pub data ReadsRow (rows : List Constraint) (steps : List Step) (i : ℕ) : Optio
   no-row : getElem? rows i ≡ none → ReadsRow rows steps i none
 
 -- "Each call gets the monitor that the last one returned or left"
-unfoldable pub play : {Monitor : Type 0} → (Monitor → Step → Stepped Monitor) → Monitor → List Step → Played Monitor
+unfoldable pub play : {Monitor : Type 0} → (Monitor → Call → Stepped Monitor) → Monitor → List Call → Played Monitor
 play step m [] = record { answers = []; monitor = m }
 play step m (s ∷ calls) =
     let later = play step (step m s .monitor) calls in
     record { answers = step m s .answer ∷ later .answers; monitor = later .monitor }
 
-module _ {Monitor : Type 0} (fresh : List Constraint → Monitor) (step : Monitor → Step → Stepped Monitor) (verdict : Monitor → ℕ → Option Verdict) where
+module _ {Monitor : Type 0} (fresh : List Constraint → Monitor) (step : Monitor → Call → Stepped Monitor) (verdict : Monitor → ℕ → Option Verdict) where
   pub record Promise : Type 0 where
     -- over an accepted table and after any list of calls the answers are those of the questions, and each row reads what the definitions say
-    pub exact : (rows : List Constraint) → Accepted rows → (calls : List Step)
+    pub exact : (rows : List Constraint) → Accepted rows → (calls : List Call)
         → (steps : List Step) × Run rows [] calls (play step (fresh rows) calls .answers) steps
         × ((i : ℕ) → ReadsRow rows steps i (verdict (play step (fresh rows) calls .monitor) i))
     -- "A refusal leaves monitor and buffers untouched"
-    pub untouched : (m : Monitor) (s : Step) (n : ℕ) → step m s .answer ≡ Refused n → step m s .monitor ≡ m
+    pub untouched : (m : Monitor) (s : Call) (n : ℕ) → step m s .answer ≡ Refused n → step m s .monitor ≡ m
     -- runs A and B: a row broken in A is broken in B too, at the same step, whatever further calls B has
-    pub final : (rows : List Constraint) → Accepted rows → (calls further : List Step) (i n : ℕ)
+    pub final : (rows : List Constraint) → Accepted rows → (calls further : List Call) (i n : ℕ)
         → verdict (play step (fresh rows) calls .monitor) i ≡ some (Verdict.Broken n)
         → verdict (play step (fresh rows) (calls ++ further) .monitor) i ≡ some (Verdict.Broken n)

@@ -6,17 +6,18 @@ use mathlib.Core.List.{List, [], _∷_, _++_}
 use mathlib.Core.Logic.{_⊎_}
 use lib.ListN.{length}
 use lib.Dec.{eqb}
-use Rattle.constraint.specs.Steps.{Step, event, tick, at}
+use Rattle.constraint.specs.Steps.{Step, at}
 use Rattle.constraint.specs.Questions.{Question, Judged}
+use Rattle.constraint.specs.declared.Call.{Call}
 use Rattle.constraint.specs.declared.Answer.the-variants.{Taken, Refused}
-use Rattle.constraint.specs.Run.{questions}
+use Rattle.constraint.specs.Run.{stepFor, questions}
 use Rattle.constraint.specs.Bytes.{numberAt}
 use Rattle.constraint.specs.Table.{lengthAt, bodyAt, WholeAt, VersionOne}
 use Rattle.constraint.specs.declared.Constraint.{Constraint}
 
 -- "Length 9 is an event (kind, time), length 8 a tick (time)."
-abbrev pub stepOf : List ℕ → Step
-stepOf body = cond (eqb (length body) 9) (event (at body 0) (numberAt 8 body 1)) (tick (numberAt 8 body 0))
+abbrev pub callOf : List ℕ → Call
+callOf body = cond (eqb (length body) 9) (Call.Event (at body 0) (numberAt 8 body 1)) (Call.Tick (numberAt 8 body 0))
 
 -- 14: "are both length bytes and the whole record there, its length 8 or 9?"
 abbrev pub RecordAt : List ℕ → ℕ → Type 0
@@ -24,7 +25,7 @@ RecordAt bytes place = WholeAt bytes place × ((lengthAt bytes place ≡ 8) ⊎ 
 
 -- 14, "Then the step's questions."
 unfoldable pub recordQuestions : List Constraint → List Step → List ℕ → ℕ → List Question
-recordQuestions rows steps bytes place = (14, RecordAt bytes place) ∷ questions rows steps (stepOf (bodyAt bytes place))
+recordQuestions rows steps bytes place = (14, RecordAt bytes place) ∷ questions rows steps (callOf (bodyAt bytes place))
 
 -- what reading gives: the steps accepted, or the refusal's number and place
 pub data RecordingRead : Type 0 where
@@ -37,7 +38,7 @@ pub data ReadsRecords (rows : List Constraint) (bytes : List ℕ) : List Step �
   record-refused : {before : List Step} {place : ℕ} (n : ℕ) → place < length bytes → Judged (recordQuestions rows before bytes place) (Refused n)
       → ReadsRecords rows bytes before place (recording-refused n place)
   record-taken : {before : List Step} {place : ℕ} {read : RecordingRead} → place < length bytes → Judged (recordQuestions rows before bytes place) Taken
-      → ReadsRecords rows bytes (before ++ (stepOf (bodyAt bytes place) ∷ [])) (place + 2 + lengthAt bytes place) read
+      → ReadsRecords rows bytes (before ++ (stepFor (callOf (bodyAt bytes place)) ∷ [])) (place + 2 + lengthAt bytes place) read
       → ReadsRecords rows bytes before place read
 
 -- 13: "first byte there, and 1?", then record by record

@@ -78,6 +78,13 @@ pub enum Constraint {
     },
 }
 
+// A call, with its arguments as given: an event of a kind at a time, a tick to a time, or the close.
+pub enum Call {
+    Event { kind: u8, time: u64 },
+    Tick { time: u64 },
+    Close,
+}
+
 // The answer to a call: taken, or refused with the number of the first question answered "no".
 pub enum Answer {
     Taken,

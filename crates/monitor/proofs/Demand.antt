@@ -18,6 +18,7 @@ use Rattle.constraint.specs.Accepted.{rowsQuestions, Accepted}
 use Rattle.constraint.specs.Run.{Run, done, call, recorded}
 use Rattle.constraint.specs.Promise.{ReadsRow, row, no-row, play, Promise}
 use Rattle.constraint.specs.declared.Answer.the-variants.{Taken, Refused}
+use Rattle.constraint.specs.declared.Call.{Call}
 use Rattle.constraint.specs.declared.Constraint.{Constraint}
 use Rattle.constraint.specs.declared.Verdict.{Verdict}
 use Rattle.constraint.proofs.History.{Valid, valid-none}
@@ -26,7 +27,7 @@ use Rattle.constraint.proofs.Judged.{never}
 use Rattle.constraint.proofs.Runs.{run-broken, reads-once}
 use Rattle.row.specs.Machine.{rowVerdict}
 use Rattle.row.proofs.Exact.{Sound, Exact}
-use Rattle.monitor.specs.Machine.{noRow, monitorOf, refuses, takes, crowds, takenEvent, takenTick, takenClose, stepOf, eventOf, tickOf, closeOf, verdictOf}
+use Rattle.monitor.specs.Machine.{noRow, monitorOf, refuses, takes, crowds, refusalBy, nextFor, takenCall, stepOf, verdictOf}
 use Rattle.monitor.specs.Contract.{step, after, Recorded, Steps, Reading}
 use Rattle.monitor.specs.declared.Monitor.{Monitor}
 use Rattle.monitor.specs.declared.Stepped.{Stepped}
@@ -47,19 +48,16 @@ untouched-or m n false u = u
 untouched-taken : (m after : Monitor) → Untouched m (takes after)
 untouched-taken m after = record { same = λ n e. never (cc) }
 
-step-untouched : (m : Monitor) (s : Step) → Untouched m (stepOf m s)
-unfolding eventOf tickOf closeOf
-step-untouched m (event k t) =
-    untouched-or m 8 (ltb 0 (m .closed)) (untouched-or m 9 (ltb lastKind k) (untouched-or m 10 (ltb lastTime t)
-    (untouched-or m 11 (ltb t (m .clock) || ltb t (getD (m .next) k 0)) (untouched-or m 12 (crowds m k t) (untouched-taken m (takenEvent m k t))))))
-step-untouched m (tick t) =
-    untouched-or m 8 (ltb 0 (m .closed)) (untouched-or m 10 (ltb lastTime t) (untouched-or m 11 (leb t (m .clock)) (untouched-taken m (takenTick m t))))
-step-untouched m close = untouched-or m 8 (ltb 0 (m .closed)) (untouched-taken m (takenClose m))
+step-untouched : (m : Monitor) (s : Call) → Untouched m (stepOf m s)
+unfolding stepOf
+step-untouched m s =
+    let number = refusalBy s (m .closed) (m .clock) (nextFor m s) in
+    untouched-or m number (ltb 0 number) (untouched-or m 12 (crowds m s) (untouched-taken m (takenCall m s)))
 
 -- ---- lists of calls
 
 -- calls in two parts
-play-append : (m : Monitor) (a b : List Step) → play step m (a ++ b) .monitor ≡ play step (play step m a .monitor) b .monitor
+play-append : (m : Monitor) (a b : List Call) → play step m (a ++ b) .monitor ≡ play step (play step m a .monitor) b .monitor
 unfolding play
 play-append m [] b = refl
 play-append m (s ∷ a) b = play-append (step m s .monitor) a b
@@ -123,7 +121,7 @@ module _ (engine : (c : Constraint) → Sound c → Exact c) where
       }
 
   -- after any list of calls the monitor follows the steps accepted, and the answers are those of the questions
-  pub play-follows : (rows : List Constraint) (steps : List Step) (m : Monitor) → Follows engine rows steps m → (calls : List Step)
+  pub play-follows : (rows : List Constraint) (steps : List Step) (m : Monitor) → Follows engine rows steps m → (calls : List Call)
       → (end : List Step) × Run rows steps calls (play step m calls .answers) end × Follows engine rows end (play step m calls .monitor)
   unfolding play
   play-follows rows steps m f [] = (steps, done, f)
@@ -142,7 +140,7 @@ module _ (engine : (c : Constraint) → Sound c → Exact c) where
       (row (found .0) (rowVerdict (getD (m .rows) i noRow) (closed steps)) (found .1) (fit-reads engine steps (f .valid) rows (m .rows) (f .fit) i (found .0) (found .1))))
       (λ h. rw (f .len-is, le-ltb i (length rows) (omega arith)) (no-row (has-none rows i (omega arith))))
 
-  final : (rows : List Constraint) → Accepted rows → (calls further : List Step) (i n : ℕ)
+  final : (rows : List Constraint) → Accepted rows → (calls further : List Call) (i n : ℕ)
       → verdictOf (play step (monitorOf rows) calls .monitor) i ≡ some (Verdict.Broken n) → verdictOf (play step (monitorOf rows) (calls ++ further) .monitor) i ≡ some (Verdict.Broken n)
   final rows accepted calls further i n broken =
       let m = monitorOf rows in
@@ -166,17 +164,17 @@ module _ (engine : (c : Constraint) → Sound c → Exact c) where
   -- ---- the contracts
 
   -- the monitor after a list of calls follows the steps that they have recorded
-  pub after-follows : (rows : List Constraint) (calls : List Step) → Accepted rows → (steps : List Step) × Recorded rows calls steps × Follows engine rows steps (after rows calls)
+  pub after-follows : (rows : List Constraint) (calls : List Call) → Accepted rows → (steps : List Step) × Recorded rows calls steps × Follows engine rows steps (after rows calls)
   unfolding after
   after-follows rows calls accepted =
       let a = play-follows rows [] (monitorOf rows) (start-follows rows accepted) calls in
       (a .0, (play step (monitorOf rows) calls .answers, a .1), a .2)
 
-  after-more : (rows : List Constraint) (calls : List Step) (s : Step) → stepOf (after rows calls) s .monitor ≡ after rows (calls ++ (s ∷ []))
+  after-more : (rows : List Constraint) (calls : List Call) (s : Call) → stepOf (after rows calls) s .monitor ≡ after rows (calls ++ (s ∷ []))
   unfolding after play
   after-more rows calls s = sym (play-append (monitorOf rows) calls (s ∷ []))
 
-  pub steps-keep : (m : Monitor) (s : Step) → Steps m s (stepOf m s)
+  pub steps-keep : (m : Monitor) (s : Call) → Steps m s (stepOf m s)
   steps-keep m s =
       record {
         equals = refl;

@@ -2,17 +2,18 @@
 use native.Mathlib.Omega.{arith}
 use mathlib.Core.Path.{_≡_, refl, sym, _∙_, subst}
 use mathlib.Core.Bool.{Bool, true, false}
-use mathlib.Core.List.{List, [], _∷_, _++_, append-nil, append-assoc}
+use mathlib.Core.List.{List, [], _∷_, _++_, map, append-nil, append-assoc}
 use mathlib.Core.Logic.{inl}
 use mathlib.Core.Option.{some}
 use Rattle.constraint.specs.Steps.{Step}
 use Rattle.constraint.specs.Continuation.{Reads}
 use Rattle.constraint.specs.Questions.{Judged}
 use Rattle.constraint.specs.Accepted.{kinds, KindsFit, InRange, LowerFirst, rowsQuestions, Accepted}
-use Rattle.constraint.specs.Run.{Run, done, call}
+use Rattle.constraint.specs.Run.{stepFor, Run, done, call}
 use Rattle.constraint.specs.Promise.{ReadsRow, row, play}
 use Rattle.constraint.specs.declared.Answer.{Answer}
 use Rattle.constraint.specs.declared.Answer.the-variants.{Taken, Refused}
+use Rattle.constraint.specs.declared.Call.{Call}
 use Rattle.constraint.specs.declared.Constraint.{Constraint}
 use Rattle.constraint.specs.declared.Constraint.the-variants.{Delay, StrongDelay, Repeat, Sporadic, Order, StrongSynchronization2}
 use Rattle.constraint.specs.declared.Verdict.{Verdict}
@@ -24,12 +25,12 @@ use Rattle.row.specs.Repeat.{decideRepeat, dueRepeat, keptRepeat}
 use Rattle.row.specs.Sporadic.{laterSporadic, decideSporadic, dueSporadic, keptSporadic}
 use Rattle.row.specs.Order.{decideOrder, dueOrder, keptOrder}
 use Rattle.row.specs.StrongSynchronization.{decideStrongSynchronization, dueStrongSynchronization, keptStrongSynchronization}
-use Rattle.row.specs.Machine.{rowOf, brokenRow, applied, changedRow, rowEvent, rowTick, rowClose, rowVerdict}
+use Rattle.row.specs.Machine.{rowOf, brokenRow, applied, changedRow, rowStep, rowVerdict}
 use Rattle.row.proofs.Exact.{Sound, Exact}
 use Rattle.queue.specs.Ring.{ring, shifted}
-use Rattle.monitor.specs.Machine.{monitorOf, mapFirst, anyFirst, takenEvent, takenTick, takenClose, eventOf, tickOf, closeOf, verdictOf}
+use Rattle.monitor.specs.Machine.{monitorOf, mapFirst, anyFirst, takenCall, stepOf, verdictOf}
 use Rattle.monitor.specs.Contract.{step, after, Recorded}
-use Rattle.monitor.specs.Examples.{Example, examples, AllRead}
+use Rattle.monitor.specs.Examples.{Example, examples, stepsOf, AllRead}
 use Rattle.monitor.proofs.Demand.{start-follows, play-follows, verdict-reads}
 
 -- ---- what the machine computes
@@ -43,15 +44,15 @@ allTaken (Refused n ∷ answers) = false
 -- the machine takes every step of the example, and reads its verdict
 Computed : Example → Type 0
 Computed e =
-    (allTaken (play step (monitorOf (e .constraint ∷ [])) (e .steps) .answers) ≡ true)
-    × (verdictOf (play step (monitorOf (e .constraint ∷ [])) (e .steps) .monitor) 0 ≡ some (e .verdict))
+    (allTaken (play step (monitorOf (e .constraint ∷ [])) (e .calls) .answers) ≡ true)
+    × (verdictOf (play step (monitorOf (e .constraint ∷ [])) (e .calls) .monitor) 0 ≡ some (e .verdict))
 
 AllComputed : List Example → Type 0
 AllComputed [] = Unit {0}
 AllComputed (e ∷ later) = Computed e × AllComputed later
 
 computed : AllComputed examples
-unfolding AllComputed Computed allTaken play monitorOf mapFirst anyFirst takenEvent takenTick takenClose eventOf tickOf closeOf verdictOf rowOf brokenRow applied changedRow rowEvent rowTick rowClose rowVerdict ring shifted answeredBy decideDelay dueDelay keptDelay sourceStrongDelay targetStrongDelay decideStrongDelay dueStrongDelay keptStrongDelay decideRepeat dueRepeat keptRepeat laterSporadic decideSporadic dueSporadic keptSporadic decideOrder dueOrder keptOrder decideStrongSynchronization dueStrongSynchronization keptStrongSynchronization
+unfolding AllComputed Computed allTaken play monitorOf mapFirst anyFirst takenCall stepOf verdictOf rowOf brokenRow applied changedRow rowStep rowVerdict ring shifted answeredBy decideDelay dueDelay keptDelay sourceStrongDelay targetStrongDelay decideStrongDelay dueStrongDelay keptStrongDelay decideRepeat dueRepeat keptRepeat laterSporadic decideSporadic dueSporadic keptSporadic decideOrder dueOrder keptOrder decideStrongSynchronization dueStrongSynchronization keptStrongSynchronization
 computed = (
   (refl, refl),
   ((refl, refl), ((refl, refl), ((refl, refl), ((refl, refl), ((refl, refl), ((refl, refl), ((refl, refl), ((refl, refl), ((refl, refl), ((refl, refl), ((refl, refl), ((refl, refl), ((refl, refl), ((refl, refl), ((refl, refl), ((refl, refl), ((refl, refl), ((refl, refl), tt)))))))))))))))))),
@@ -120,10 +121,11 @@ accepted =
 -- ---- so each reads by the definitions what the machine computes
 
 -- calls that are all taken are the steps accepted
-run-taken : {rows : List Constraint} {steps calls end : List Step} {answers : List Answer} → Run rows steps calls answers end → allTaken answers ≡ true → end ≡ steps ++ calls
+run-taken : {rows : List Constraint} {steps end : List Step} {calls : List Call} {answers : List Answer} → Run rows steps calls answers end → allTaken answers ≡ true
+    → end ≡ steps ++ map stepFor calls
 unfolding allTaken
 run-taken (done {steps = steps}) e = sym (append-nil steps)
-run-taken (call {steps = steps} {calls = calls} s Taken judged rest) e = run-taken rest e ∙ append-assoc steps (s ∷ []) calls
+run-taken (call {steps = steps} {calls = calls} s Taken judged rest) e = run-taken rest e ∙ append-assoc steps (stepFor s ∷ []) (map stepFor calls)
 run-taken (call s (Refused n) judged rest) e = never (cc)
 
 only-row : (c : Constraint) (steps : List Step) (v : Verdict) → ReadsRow (c ∷ []) steps 0 (some v) → Reads c steps v
@@ -131,16 +133,16 @@ only-row c steps v (row d w e r) = let same : d ≡ c = cc in subst (λ x. Reads
 
 module _ (engine : (c : Constraint) → Sound c → Exact c) where
   example-reads : (e : Example) → Accepted (e .constraint ∷ []) → Computed e
-      → Recorded (e .constraint ∷ []) (e .steps) (e .steps) × Reads (e .constraint) (e .steps) (e .verdict) × (verdictOf (after (e .constraint ∷ []) (e .steps)) 0 ≡ some (e .verdict))
+      → Recorded (e .constraint ∷ []) (e .calls) (stepsOf e) × Reads (e .constraint) (stepsOf e) (e .verdict) × (verdictOf (after (e .constraint ∷ []) (e .calls)) 0 ≡ some (e .verdict))
   unfolding Computed after
   example-reads e accepted computed =
       let c = e .constraint in
-      let a = play-follows engine (c ∷ []) [] (monitorOf (c ∷ [])) (start-follows engine (c ∷ []) accepted) (e .steps) in
-      let answers = play step (monitorOf (c ∷ [])) (e .steps) .answers in (
-        (answers, subst (λ steps. Run (c ∷ []) [] (e .steps) answers steps) (run-taken (a .1) (computed .0)) (a .1)),
-        only-row c (e .steps) (e .verdict)
+      let a = play-follows engine (c ∷ []) [] (monitorOf (c ∷ [])) (start-follows engine (c ∷ []) accepted) (e .calls) in
+      let answers = play step (monitorOf (c ∷ [])) (e .calls) .answers in (
+        (answers, subst (λ steps. Run (c ∷ []) [] (e .calls) answers steps) (run-taken (a .1) (computed .0)) (a .1)),
+        only-row c (stepsOf e) (e .verdict)
             (subst (λ steps. ReadsRow (c ∷ []) steps 0 (some (e .verdict))) (run-taken (a .1) (computed .0))
-            (subst (ReadsRow (c ∷ []) (a .0) 0) (computed .1) (verdict-reads engine (c ∷ []) (a .0) (play step (monitorOf (c ∷ [])) (e .steps) .monitor) (a .2) 0))),
+            (subst (ReadsRow (c ∷ []) (a .0) 0) (computed .1) (verdict-reads engine (c ∷ []) (a .0) (play step (monitorOf (c ∷ [])) (e .calls) .monitor) (a .2) 0))),
         computed .1,
       )
 

@@ -8,7 +8,8 @@ use mathlib.Core.List.{List, [], _∷_}
 use lib.ListN.{length, getD, set}
 use Rattle.constraint.proofs.Lists.{both, or-false}
 use Rattle.constraint.specs.Limits.{rowLimit}
-use Rattle.row.specs.Machine.{rowEvent}
+use Rattle.row.specs.Machine.{rowStep}
+use Rattle.row.specs.declared.Occurrence.{Occurrence}
 use Rattle.row.specs.declared.Row.{Row}
 use Rattle.row.specs.declared.RowStep.{RowStep}
 use Rattle.monitor.specs.Machine.{mapFirst, anyFirst}
@@ -96,15 +97,15 @@ module _ (f : Row → Row) (m : Monitor) (whole : length (m .rows) ≡ rowLimit)
   pub changed-all : n ≡ min (m .len) rowLimit → now ≡ withRows m (mapFirst (m .len) f (m .rows))
   changed-all e = changed ∙ ap (withRows m) (map-all f (m .rows) n (m .len) (omega arith))
 
--- ---- an event given to the first n rows of a monitor
+-- ---- a step given to the first n rows of a monitor
 
-module _ (kind t step : ℕ) where
-  -- a row after the event, and whether it crowds it
+module _ (o : Occurrence) (number : ℕ) where
+  -- a row after the step, and whether it crowds it
   abbrev moved : Row → Row
-  moved r = rowEvent r kind t step .row
+  moved r = rowStep r o number .row
 
   abbrev full : Row → Bool
-  full r = rowEvent r kind t step .crowded
+  full r = rowStep r o number .crowded
 
   -- it crowds none of them
   pub record Moved (m now : Monitor) (n : ℕ) : Type 0 where
@@ -117,20 +118,21 @@ module _ (kind t step : ℕ) where
 
   module _ (m : Monitor) (whole : length (m .rows) ≡ rowLimit) (now : Monitor) (n : ℕ) (so-far : Moved m now n) where
     -- the next row's mark
-    mark : (other : Row) (s : RowStep) → s ≡ rowEvent (getD (now .rows) n other) kind t step → full (getD (m .rows) n other) ≡ s .crowded
+    mark : (other : Row) (s : RowStep) → s ≡ rowStep (getD (now .rows) n other) o number → full (getD (m .rows) n other) ≡ s .crowded
     mark other s e = sym (ap (λ (x : RowStep). x .crowded) e ∙ ap full (not-changed moved m whole now n (so-far .changed) other))
 
     -- it crowds the next row
-    pub moved-full : (other : Row) (s : RowStep) → n < min (m .len) rowLimit → s ≡ rowEvent (getD (now .rows) n other) kind t step → s .crowded ≡ true
-        → RowsAfter m kind t step (record { crowded = true; monitor = now })
+    pub moved-full : (other : Row) (s : RowStep) → n < min (m .len) rowLimit → s ≡ rowStep (getD (now .rows) n other) o number → s .crowded ≡ true
+        → RowsAfter m o number (record { crowded = true; monitor = m })
     moved-full other s h e crowded =
         record {
           crowded-is = sym (any-found full (m .rows) (m .len) n other (omega arith) (omega arith) (mark other s e ∙ crowded));
           stepped = λ f. both f;
+          as-it-was = λ f. refl;
         }
 
     -- nor does it crowd the next row
-    pub moved-next : (other : Row) (s : RowStep) → n < min (m .len) rowLimit → s ≡ rowEvent (getD (now .rows) n other) kind t step → s .crowded ≡ false
+    pub moved-next : (other : Row) (s : RowStep) → n < min (m .len) rowLimit → s ≡ rowStep (getD (now .rows) n other) o number → s .crowded ≡ false
         → Moved m (withRows now (set (now .rows) n (s .row))) (n + 1)
     moved-next other s h e free =
         record {
@@ -139,9 +141,10 @@ module _ (kind t step : ℕ) where
         }
 
     -- nor any of them
-    pub moved-all : n ≡ min (m .len) rowLimit → RowsAfter m kind t step (record { crowded = false; monitor = now })
+    pub moved-all : n ≡ min (m .len) rowLimit → RowsAfter m o number (record { crowded = false; monitor = now })
     moved-all e =
         record {
           crowded-is = sym (sym (any-all full (m .rows) n (m .len) (omega arith)) ∙ so-far .none-full);
           stepped = λ f. changed-all moved m whole now n (so-far .changed) e;
+          as-it-was = λ f. both (sym f);
         }

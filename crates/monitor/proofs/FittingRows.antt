@@ -7,18 +7,20 @@ use mathlib.Core.List.{List, [], _∷_, _++_, map}
 use mathlib.Core.Logic.{⊎-elim}
 use mathlib.Core.Option.{some}
 use lib.ListN.{length, getD, getElem?}
-use Rattle.constraint.specs.Limits.{waitingLimit}
-use Rattle.constraint.specs.Steps.{Step, event, closed}
+use Rattle.constraint.specs.Limits.{lastKind, waitingLimit}
+use Rattle.constraint.specs.Steps.{Step, clock, closed}
 use Rattle.constraint.specs.Continuation.{Open, Reads}
 use Rattle.constraint.specs.Waiting.{waiting}
+use Rattle.constraint.specs.Accepted.{kinds, KindsFit}
 use Rattle.constraint.specs.Run.{Room}
 use Rattle.constraint.specs.declared.Constraint.{Constraint}
-use Rattle.constraint.proofs.Lists.{both, or-true, or-false}
+use Rattle.constraint.proofs.Lists.{both, or-true, or-false, Each}
 use Rattle.constraint.proofs.History.{Accepts, Valid}
-use Rattle.row.specs.Machine.{rowOf, rowEvent, rowVerdict}
+use Rattle.row.specs.Machine.{rowOf, closeAt, rowStep, rowVerdict}
 use Rattle.row.specs.declared.Row.{Row}
+use Rattle.row.specs.declared.RowStep.{RowStep}
 use Rattle.row.proofs.Exact.{Sound, Exact}
-use Rattle.row.proofs.Steps.{Fits, After, fits-start, fits-room, fits-event, fits-reads}
+use Rattle.row.proofs.Steps.{Fits, After, seen, fits-start, fits-room, fits-step, close-calm, fits-reads}
 use Rattle.monitor.specs.Machine.{mapFirst, anyFirst, noRow}
 
 -- each row of a table is sound
@@ -37,46 +39,57 @@ module _ (engine : (c : Constraint) → Sound c → Exact c) where
   fit-start [] rest sound = tt
   fit-start (c ∷ cs) rest sound = ((sound .0, fits-start c (engine c (sound .0))), fit-start cs rest (sound .1))
 
-  -- ---- a step that is the same for every row
+  -- ---- a step
 
-  module _ (steps later : List Step) (f : Row → Row) (keeps : (c : Constraint) (sound : Sound c) (r : Row) → Fits c (engine c sound) steps r → Fits c (engine c sound) later (f r)) where
-    pub fit-map : (cs : List Constraint) (rows : List Row) → FitRows steps cs rows → FitRows later cs (mapFirst (length cs) f rows)
-    unfolding mapFirst
-    fit-map [] rows fit = tt
-    fit-map (c ∷ cs) [] fit = fit
-    fit-map (c ∷ cs) (r ∷ rows) fit = ((fit .0 .0, keeps c (fit .0 .0) r (fit .0 .1)), fit-map cs rows (fit .1))
+  -- the kinds of a sound row
+  small-kinds : (c : Constraint) → Sound c → Each (λ j. j ≤ lastKind) (kinds c)
+  unfolding KindsFit
+  small-kinds c sound = sound .kinds-fit .0
 
-  -- ---- an event
+  module _ (steps : List Step) (valid : Valid steps) (s : Step) (number : ℕ) (counted : number ≡ length steps + 1) (accepts : Accepts steps s) where
+    abbrev moved : Row → RowStep
+    moved r = rowStep r (seen steps s) number
 
-  module _ (steps : List Step) (valid : Valid steps) (k t step : ℕ) (counted : step ≡ length steps + 1) (accepts : Accepts steps (event k t)) where
-    after-event : (c : Constraint) (sound : Sound c) (r : Row) → Fits c (engine c sound) steps r
-        → After c (engine c sound) (steps ++ (event k t ∷ [])) (rowEvent r k t step .crowded) (rowEvent r k t step .row)
-    after-event c sound r fit = rw counted (fits-event c (engine c sound) steps valid k t accepts r fit)
+    after-step : (c : Constraint) (sound : Sound c) (r : Row) → Fits c (engine c sound) steps r
+        → After c (engine c sound) (steps ++ (s ∷ [])) (moved r .crowded) (moved r .row)
+    after-step c sound r fit = rw counted (fits-step c (engine c sound) steps valid (small-kinds c sound) s accepts r fit)
 
     -- no row is crowded
-    pub fit-event : (cs : List Constraint) (rows : List Row) → FitRows steps cs rows → anyFirst (length cs) (λ r. rowEvent r k t step .crowded) rows ≡ false
-        → FitRows (steps ++ (event k t ∷ [])) cs (mapFirst (length cs) (λ r. rowEvent r k t step .row) rows)
+    pub fit-step : (cs : List Constraint) (rows : List Row) → FitRows steps cs rows → anyFirst (length cs) (λ r. moved r .crowded) rows ≡ false
+        → FitRows (steps ++ (s ∷ [])) cs (mapFirst (length cs) (λ r. moved r .row) rows)
     unfolding mapFirst anyFirst
-    fit-event [] rows fit free = tt
-    fit-event (c ∷ cs) [] fit free = fit
-    fit-event (c ∷ cs) (r ∷ rows) fit free =
-        let none-crowded = or-false (rowEvent r k t step .crowded) (anyFirst (length cs) (λ r. rowEvent r k t step .crowded) rows) free in (
-          (fit .0 .0, subst (λ b. After c (engine c (fit .0 .0)) (steps ++ (event k t ∷ [])) b (rowEvent r k t step .row)) (none-crowded .0) (after-event c (fit .0 .0) r (fit .0 .1))),
-          fit-event cs rows (fit .1) (none-crowded .1),
+    fit-step [] rows fit free = tt
+    fit-step (c ∷ cs) [] fit free = fit
+    fit-step (c ∷ cs) (r ∷ rows) fit free =
+        let none-crowded = or-false (moved r .crowded) (anyFirst (length cs) (λ r. moved r .crowded) rows) free in (
+          (
+            fit .0 .0,
+            subst (λ b. After c (engine c (fit .0 .0)) (steps ++ (s ∷ [])) b (moved r .row)) (none-crowded .0) (after-step c (fit .0 .0) r (fit .0 .1)),
+          ),
+          fit-step cs rows (fit .1) (none-crowded .1),
         )
 
     -- some row is crowded: it would be open with more than 64 waiting
-    pub fit-crowded : (cs : List Constraint) (rows : List Row) → FitRows steps cs rows → anyFirst (length cs) (λ r. rowEvent r k t step .crowded) rows ≡ true
-        → (i : ℕ) × (c : Constraint) × (getElem? cs i ≡ some c) × Open c (steps ++ (event k t ∷ [])) × (waitingLimit < waiting c (steps ++ (event k t ∷ [])))
+    pub fit-crowded : (cs : List Constraint) (rows : List Row) → FitRows steps cs rows → anyFirst (length cs) (λ r. moved r .crowded) rows ≡ true
+        → (i : ℕ) × (c : Constraint) × (getElem? cs i ≡ some c) × Open c (steps ++ (s ∷ [])) × (waitingLimit < waiting c (steps ++ (s ∷ [])))
     unfolding anyFirst
     fit-crowded [] rows fit crowded = both (sym crowded)
     fit-crowded (c ∷ cs) [] fit crowded = absurd fit
     fit-crowded (c ∷ cs) (r ∷ rows) fit crowded =
         ⊎-elim
-        (λ e. let full = subst (λ b. After c (engine c (fit .0 .0)) (steps ++ (event k t ∷ [])) b (rowEvent r k t step .row)) e (after-event c (fit .0 .0) r (fit .0 .1)) in
+        (λ e. let full = subst (λ b. After c (engine c (fit .0 .0)) (steps ++ (s ∷ [])) b (moved r .row)) e (after-step c (fit .0 .0) r (fit .0 .1)) in
         (0, c, refl, full .0, full .1))
         (λ e. let found = fit-crowded cs rows (fit .1) e in (suc (found .0), found .1, found .2, found .3, found .4))
-        (or-true (rowEvent r k t step .crowded) (anyFirst (length cs) (λ r. rowEvent r k t step .crowded) rows) crowded)
+        (or-true (moved r .crowded) (anyFirst (length cs) (λ r. moved r .crowded) rows) crowded)
+
+  -- the close crowds no row
+  pub fit-calm : (steps : List Step) → Valid steps → (number : ℕ) (cs : List Constraint) (rows : List Row) → FitRows steps cs rows
+      → anyFirst (length cs) (λ r. rowStep r (closeAt (clock steps)) number .crowded) rows ≡ false
+  unfolding anyFirst
+  fit-calm steps valid number [] rows fit = refl
+  fit-calm steps valid number (c ∷ cs) [] fit = refl
+  fit-calm steps valid number (c ∷ cs) (r ∷ rows) fit =
+      rw (close-calm c (engine c (fit .0 .0)) steps valid (small-kinds c (fit .0 .0)) r (fit .0 .1) number) (fit-calm steps valid number cs rows (fit .1))
 
   -- ---- what the rows hold and read
 

@@ -1,32 +1,37 @@
 -- The monitor follows the accepted steps: its clock, count, free times and rows are read off them after every call, and each call is answered as its questions say. By cases on the machine's tests, each of which is one question's.
-use Prim.Native.Nat.{ℕ, _+_, _≤_}
-use native.Mathlib.Decide.{ℕ-discrete}
+use Prim.Native.Nat.{ℕ, _+_, _≤_, _<_}
+use native.Mathlib.Decide.{ℕ-discrete, decLt}
 use native.Mathlib.Numerals.{add-one}
 use native.Mathlib.Omega.{arith}
 use mathlib.Core.Path.{_≡_, refl, sym, ap, _∙_, subst}
-use mathlib.Core.Bool.{true, false, cond, _||_}
+use mathlib.Core.Bool.{Bool, true, false, cond}
 use mathlib.Core.List.{List, [], _∷_, _++_}
 use mathlib.Core.Logic.{inl, inr, ⊎-elim, by-cases}
 use lib.ListN.{length, getD, set, length-append, length-set}
-use lib.Seq.{getD-set-same, getD-set-other}
+use lib.Seq.{getD-set-same, getD-set-other, set-out}
 use lib.Dec.{leb, ltb}
-use borrow.Author.Tests.{ltb-true, ltb-false, leb-true, leb-false}
+use borrow.Author.Tests.{ltb-true, ltb-false, leb-true, leb-false, le-ltb}
 use Rattle.constraint.specs.Limits.{lastKind, lastTime, rowLimit}
 use Rattle.constraint.specs.Steps.{Step, event, tick, close, times, clock, closed}
 use Rattle.constraint.specs.Continuation.{EventInOrder}
 use Rattle.constraint.specs.Questions.{Judged}
-use Rattle.constraint.specs.Run.{Room, questions, recorded}
+use Rattle.constraint.specs.Run.{stepFor, Room, questions, recorded}
+use Rattle.constraint.specs.declared.Answer.{Answer}
+use Rattle.constraint.specs.declared.Answer.the-variants.{Taken, Refused}
+use Rattle.constraint.specs.declared.Call.{Call}
 use Rattle.constraint.specs.declared.Constraint.{Constraint}
-use Rattle.constraint.proofs.Lists.{split, both, or-true, or-false}
+use Rattle.constraint.proofs.Lists.{split, both}
 use Rattle.constraint.proofs.History.{times-own, times-other, times-tick, times-close, clock-event, clock-tick, clock-close, closed-event, closed-tick, closed-close, Accepts, Valid, valid-more}
 use Rattle.constraint.proofs.Counting.{nextFree, next-above, next-least, next-snoc, count-fits}
-use Rattle.row.specs.Machine.{rowTick, rowClose}
+use Rattle.row.specs.Row.{plus}
+use Rattle.row.specs.Machine.{closeAt, rowStep}
 use Rattle.row.proofs.Exact.{Sound, Exact}
-use Rattle.row.proofs.Steps.{fits-tick, fits-close}
-use Rattle.monitor.specs.Machine.{refuses, takes, nextStep, takenEvent, takenTick, takenClose, crowds, eventOf, tickOf, closeOf, stepOf}
+use Rattle.row.proofs.Steps.{seen}
+use Rattle.monitor.specs.Machine.{anyFirst, refuses, takes, nextStep, placeFor, refusalBy, freeAfter, closedAfter, nextFor, occurrenceOf, takenCall, crowds, steppedBy, stepOf}
 use Rattle.monitor.specs.declared.Monitor.{Monitor}
 use Rattle.monitor.specs.declared.Stepped.{Stepped}
-use Rattle.monitor.proofs.FittingRows.{FitRows, fit-map, fit-event, fit-crowded, fit-room}
+use Rattle.monitor.proofs.Answers.{kind-place}
+use Rattle.monitor.proofs.FittingRows.{FitRows, fit-step, fit-crowded, fit-calm, fit-room}
 
 module _ (engine : (c : Constraint) → Sound c → Exact c) where
   pub record Follows (rows : List Constraint) (steps : List Step) (m : Monitor) : Type 0 where
@@ -48,9 +53,9 @@ module _ (engine : (c : Constraint) → Sound c → Exact c) where
     count-after : (s : Step) → nextStep m ≡ length (steps ++ (s ∷ []))
     count-after s = omega (arith, step-is, length-append steps (s ∷ []))
 
-    -- what a step gives: the answer that its questions give, and a monitor that follows the steps with it, if it is taken
-    abbrev pub Answered : Step → Stepped → Type 0
-    Answered s result = Judged (questions rows steps s) (result .answer) × Follows rows (recorded steps s (result .answer)) (result .monitor)
+    -- what a call gives: the answer that its questions give, and a monitor that follows the steps with it, if it is taken
+    abbrev pub Answered : Call → Stepped → Type 0
+    Answered call result = Judged (questions rows steps call) (result .answer) × Follows rows (recorded steps call (result .answer)) (result .monitor)
 
     -- ---- question 8
 
@@ -62,139 +67,151 @@ module _ (engine : (c : Constraint) → Sound c → Exact c) where
 
     -- ---- question 11
 
-    in-order : (k t : ℕ) → k ≤ lastKind → (ltb t (m .clock) || ltb t (getD (m .next) k 0)) ≡ false → EventInOrder steps k t
-    in-order k t kind e =
-        let late = or-false (ltb t (m .clock)) (ltb t (getD (m .next) k 0)) e in
-        let free : nextFree (times k steps) ≤ t = rw (← f .next-is k kind) (ltb-false t (getD (m .next) k 0) (late .1)) in
-        (rw (← f .clock-is) (ltb-false t (m .clock) (late .0)), λ i h. omega (arith, next-above (times k steps) i h))
+    in-order : (k t : ℕ) → k ≤ lastKind → ltb t (m .clock) ≡ false → ltb t (getD (m .next) k 0) ≡ false → EventInOrder steps k t
+    in-order k t kind late taken =
+        let free : nextFree (times k steps) ≤ t = rw (← f .next-is k kind) (ltb-false t (getD (m .next) k 0) taken) in
+        (rw (← f .clock-is) (ltb-false t (m .clock) late), λ i h. omega (arith, next-above (times k steps) i h))
 
-    out-of-order : (k t : ℕ) → k ≤ lastKind → (ltb t (m .clock) || ltb t (getD (m .next) k 0)) ≡ true → ¬ EventInOrder steps k t
-    out-of-order k t kind e order =
-        ⊎-elim (λ l. omega (arith, ltb-true t (m .clock) l, f .clock-is, order .0))
-        (λ l. omega (arith, ltb-true t (getD (m .next) k 0) l, f .next-is k kind, next-least (times k steps) t (order .1)))
-        (or-true (ltb t (m .clock)) (ltb t (getD (m .next) k 0)) e)
+    before-clock : (k t : ℕ) → ltb t (m .clock) ≡ true → ¬ EventInOrder steps k t
+    before-clock k t e order = omega (arith, ltb-true t (m .clock) e, f .clock-is, order .0)
 
-    -- ---- events
+    not-free : (k t : ℕ) → k ≤ lastKind → ltb t (getD (m .next) k 0) ≡ true → ¬ EventInOrder steps k t
+    not-free k t kind e order = omega (arith, ltb-true t (getD (m .next) k 0) e, f .next-is k kind, next-least (times k steps) t (order .1))
 
-    module _ (k t : ℕ) (accepts : Accepts steps (event k t)) where
-      next-after : (j : ℕ) → j ≤ lastKind → getD (set (m .next) k (t + 1)) j 0 ≡ nextFree (times j (steps ++ (event k t ∷ [])))
-      next-after j kind =
-          by-cases (ℕ-discrete j k)
-          (λ e. subst (λ i. getD (set (m .next) k (t + 1)) i 0 ≡ nextFree (times i (steps ++ (event k t ∷ [])))) (sym e)
-          (getD-set-same (m .next) k (t + 1) 0 (omega (arith, f .next-whole, accepts .1)) ∙ add-one t
-          ∙ sym (ap nextFree (times-own k t steps) ∙ next-snoc (times k steps) t (accepts .3 .1))))
-          (λ e. getD-set-other (m .next) k j (t + 1) 0 e ∙ f .next-is j kind ∙ sym (ap nextFree (times-other j k t steps (λ same. e (sym same)))))
+    -- ---- what a taken call leaves
 
-      event-followed : crowds m k t ≡ false → Follows rows (steps ++ (event k t ∷ [])) (takenEvent m k t)
-      unfolding takenEvent
-      event-followed free =
+    seen-is : (call : Call) → occurrenceOf m call ≡ seen steps (stepFor call)
+    seen-is (Call.Event k t) = refl
+    seen-is (Call.Tick t) = refl
+    seen-is Call.Close = ap closeAt (f .clock-is)
+
+    clock-after : (call : Call) → occurrenceOf m call .time ≡ clock (steps ++ (stepFor call ∷ []))
+    clock-after (Call.Event k t) = sym (clock-event k t steps)
+    clock-after (Call.Tick t) = sym (clock-tick t steps)
+    clock-after Call.Close = f .clock-is ∙ sym (clock-close steps)
+
+    closed-after : (call : Call) → ltb 0 (closedAfter call (m .closed)) ≡ closed (steps ++ (stepFor call ∷ []))
+    closed-after (Call.Event k t) = f .closed-is ∙ sym (closed-event k t steps)
+    closed-after (Call.Tick t) = f .closed-is ∙ sym (closed-tick t steps)
+    closed-after Call.Close = sym (closed-close steps)
+
+    -- a place that is stored as it was
+    next-same : (at j : ℕ) → getD (set (m .next) at (getD (m .next) at 0)) j 0 ≡ getD (m .next) j 0
+    next-same at j =
+        by-cases (ℕ-discrete j at)
+        (λ e. by-cases (decLt at 64)
+        (λ h. subst (λ i. getD (set (m .next) at (getD (m .next) at 0)) i 0 ≡ getD (m .next) i 0) (sym e)
+        (getD-set-same (m .next) at (getD (m .next) at 0) 0 (omega (arith, f .next-whole))))
+        (λ h. ap (λ (l : List ℕ). getD l j 0) (set-out (m .next) at (getD (m .next) at 0) (omega (arith, f .next-whole)))))
+        (λ e. getD-set-other (m .next) at j (getD (m .next) at 0) 0 e)
+
+    next-event : (k t : ℕ) → Accepts steps (event k t) → (j : ℕ) → j ≤ lastKind
+        → getD (set (m .next) (placeFor (Call.Event k t)) (plus t 1)) j 0 ≡ nextFree (times j (steps ++ (event k t ∷ [])))
+    next-event k t accepts j kind =
+        rw (kind-place k t (accepts .1))
+        (by-cases (ℕ-discrete j k)
+        (λ e. subst (λ i. getD (set (m .next) k (plus t 1)) i 0 ≡ nextFree (times i (steps ++ (event k t ∷ [])))) (sym e)
+        (getD-set-same (m .next) k (plus t 1) 0 (omega (arith, f .next-whole, accepts .1)) ∙ omega (arith, accepts .2)
+        ∙ sym (ap nextFree (times-own k t steps) ∙ next-snoc (times k steps) t (accepts .3 .1))))
+        (λ e. getD-set-other (m .next) k j (plus t 1) 0 e ∙ f .next-is j kind ∙ sym (ap nextFree (times-other j k t steps (λ same. e (sym same))))))
+
+    next-after : (call : Call) → Accepts steps (stepFor call) → (j : ℕ) → j ≤ lastKind
+        → getD (set (m .next) (placeFor call) (freeAfter call (nextFor m call))) j 0 ≡ nextFree (times j (steps ++ (stepFor call ∷ [])))
+    next-after (Call.Event k t) accepts j kind = next-event k t accepts j kind
+    next-after (Call.Tick t) accepts j kind = next-same 0 j ∙ f .next-is j kind ∙ sym (ap nextFree (times-tick j t steps))
+    next-after Call.Close accepts j kind = next-same 0 j ∙ f .next-is j kind ∙ sym (ap nextFree (times-close j steps))
+
+    module _ (call : Call) (accepts : Accepts steps (stepFor call)) where
+      -- what the rows see is what the definitions' step is
+      crowds-is : crowds m call ≡ anyFirst (length rows) (λ r. rowStep r (seen steps (stepFor call)) (nextStep m) .crowded) (m .rows)
+      crowds-is = rw (f .len-is, seen-is call)
+
+      followed : crowds m call ≡ false → Follows rows (steps ++ (stepFor call ∷ [])) (takenCall m call)
+      unfolding takenCall
+      followed free =
           record {
-            valid = valid-more (event k t) (f .valid) accepts;
-            clock-is = sym (clock-event k t steps);
-            count-is = count-after (event k t);
-            closed-is = f .closed-is ∙ sym (closed-event k t steps);
-            next-whole = length-set (m .next) k (t + 1) ∙ f .next-whole;
-            next-is = next-after;
+            valid = valid-more (stepFor call) (f .valid) accepts;
+            clock-is = clock-after call;
+            count-is = count-after (stepFor call);
+            closed-is = closed-after call;
+            next-whole = length-set (m .next) (placeFor call) (freeAfter call (nextFor m call)) ∙ f .next-whole;
+            next-is = next-after call accepts;
             len-is = f .len-is;
             few = f .few;
-            fit = rw (f .len-is) (fit-event engine steps (f .valid) k t (nextStep m) step-is accepts rows (m .rows) (f .fit) (rw (f .len-is) at free));
+            fit = rw (f .len-is, seen-is call)
+                (fit-step engine steps (f .valid) (stepFor call) (nextStep m) step-is accepts rows (m .rows) (f .fit) (sym crowds-is ∙ free));
           }
 
-      room-left : crowds m k t ≡ false → Room rows (steps ++ (event k t ∷ []))
+      room-left : crowds m call ≡ false → Room rows (steps ++ (stepFor call ∷ []))
       room-left free =
-          let after = event-followed free in
-          fit-room engine (steps ++ (event k t ∷ [])) (after .valid) rows (takenEvent m k t .rows) (after .fit)
+          let after = followed free in
+          fit-room engine (steps ++ (stepFor call ∷ [])) (after .valid) rows (takenCall m call .rows) (after .fit)
 
-      no-room : crowds m k t ≡ true → ¬ Room rows (steps ++ (event k t ∷ []))
+      no-room : crowds m call ≡ true → ¬ Room rows (steps ++ (stepFor call ∷ []))
       unfolding Room
       no-room crowded room =
-          let full = fit-crowded engine steps (f .valid) k t (nextStep m) step-is accepts rows (m .rows) (f .fit) (rw (f .len-is) at crowded) in
+          let full = fit-crowded engine steps (f .valid) (stepFor call) (nextStep m) step-is accepts rows (m .rows) (f .fit) (sym crowds-is ∙ crowded) in
           omega (arith, room (full .0) (full .1) (full .2) (full .3), full .4)
 
-    pub event-answered : (k t : ℕ) → Answered (event k t) (eventOf m k t)
-    unfolding eventOf Judged questions
+    -- ---- the answers
+
+    abbrev Left : Call → ℕ → Type 0
+    Left call number = Answered call (steppedBy m call number)
+
+    -- question 12, the others being answered "yes"
+    last-asked : (call : Call) → Accepts steps (stepFor call)
+        → ((a : Answer) → Judged ((12, Room rows (steps ++ (stepFor call ∷ []))) ∷ []) a → Judged (questions rows steps call) a) → Left call 0
+    unfolding Judged
+    last-asked call accepts others =
+        split (crowds m call) (λ x. Answered call (cond x (refuses 12 m) (takes (takenCall m call))))
+        (λ e. (others (Refused 12) (inr (no-room call accepts e, refl)), f))
+        (λ e. (others Taken (inl (room-left call accepts e, refl)), followed call accepts e))
+
+    event-answered : (k t : ℕ) → Left (Call.Event k t) (refusalBy (Call.Event k t) (m .closed) (m .clock) (nextFor m (Call.Event k t)))
+    unfolding Judged questions
     event-answered k t =
-        split (ltb 0 (m .closed)) (λ x. Answered (event k t) (cond x (refuses 8 m) rest8)) (λ e. (inr (is-closed e, refl), f)) (λ e8.
-        split (ltb lastKind k) (λ x. Answered (event k t) (cond x (refuses 9 m) rest9)) (λ e. (inl (not-closed e8, inr (λ h. omega (arith, ltb-true lastKind k e), refl)), f)) (λ e9.
-        split (ltb lastTime t) (λ x. Answered (event k t) (cond x (refuses 10 m) rest10))
+        let c = Call.Event k t in
+        let free = nextFor m c in
+        split (ltb 0 (m .closed)) (λ x. Left c (cond x 8 (cond (ltb lastKind k) 9 (cond (ltb lastTime t) 10 (cond (ltb t (m .clock)) 11 (cond (ltb t free) 11 0))))))
+        (λ e. (inr (is-closed e, refl), f)) (λ e8.
+        split (ltb lastKind k) (λ x. Left c (cond x 9 (cond (ltb lastTime t) 10 (cond (ltb t (m .clock)) 11 (cond (ltb t free) 11 0)))))
+        (λ e. (inl (not-closed e8, inr (λ h. omega (arith, ltb-true lastKind k e), refl)), f)) (λ e9.
+        split (ltb lastTime t) (λ x. Left c (cond x 10 (cond (ltb t (m .clock)) 11 (cond (ltb t free) 11 0))))
         (λ e. (inl (not-closed e8, inl (ltb-false lastKind k e9, inr (λ h. omega (arith, ltb-true lastTime t e), refl))), f)) (λ e10.
-        split (ltb t (m .clock) || ltb t (getD (m .next) k 0)) (λ x. Answered (event k t) (cond x (refuses 11 m) rest11))
-        (λ e. (inl (not-closed e8, inl (ltb-false lastKind k e9, inl (ltb-false lastTime t e10, inr (out-of-order k t (ltb-false lastKind k e9) e, refl)))), f)) (λ e11.
-        let accepts : Accepts steps (event k t) = (not-closed e8, ltb-false lastKind k e9, ltb-false lastTime t e10, in-order k t (ltb-false lastKind k e9) e11) in
-        split (crowds m k t) (λ x. Answered (event k t) (cond x (refuses 12 m) (takes (takenEvent m k t))))
-        (λ e. (inl (accepts .0, inl (accepts .1, inl (accepts .2, inl (accepts .3, inr (no-room k t accepts e, refl))))), f))
-        (λ e. (inl (accepts .0, inl (accepts .1, inl (accepts .2, inl (accepts .3, inl (room-left k t accepts e, refl))))), event-followed k t accepts e))))))
-      where
-        rest11 : Stepped
-        rest11 = cond (crowds m k t) (refuses 12 m) (takes (takenEvent m k t))
+        let kind = ltb-false lastKind k e9 in
+        let small = ltb-false lastTime t e10 in
+        let place : nextFor m c ≡ getD (m .next) k 0 = ap (λ (i : ℕ). getD (m .next) i 0) (kind-place k t kind) in
+        split (ltb t (m .clock)) (λ x. Left c (cond x 11 (cond (ltb t free) 11 0)))
+        (λ e. (inl (not-closed e8, inl (kind, inl (small, inr (before-clock k t e, refl)))), f)) (λ late.
+        split (ltb t free) (λ x. Left c (cond x 11 0))
+        (λ e. (inl (not-closed e8, inl (kind, inl (small, inr (not-free k t kind (sym (ap (ltb t) place) ∙ e), refl)))), f)) (λ taken.
+        let order = in-order k t kind late (sym (ap (ltb t) place) ∙ taken) in
+        last-asked c (not-closed e8, kind, small, order) (λ a j. inl (not-closed e8, inl (kind, inl (small, inl (order, j)))))
+        )))))
 
-        rest10 : Stepped
-        rest10 = cond (ltb t (m .clock) || ltb t (getD (m .next) k 0)) (refuses 11 m) rest11
-
-        rest9 : Stepped
-        rest9 = cond (ltb lastTime t) (refuses 10 m) rest10
-
-        rest8 : Stepped
-        rest8 = cond (ltb lastKind k) (refuses 9 m) rest9
-
-    -- ---- ticks
-
-    tick-followed : (t : ℕ) → Accepts steps (tick t) → Follows rows (steps ++ (tick t ∷ [])) (takenTick m t)
-    unfolding takenTick
-    tick-followed t accepts =
-        record {
-          valid = valid-more (tick t) (f .valid) accepts;
-          clock-is = sym (clock-tick t steps);
-          count-is = count-after (tick t);
-          closed-is = f .closed-is ∙ sym (closed-tick t steps);
-          next-whole = f .next-whole;
-          next-is = λ k kind. f .next-is k kind ∙ sym (ap nextFree (times-tick k t steps));
-          len-is = f .len-is;
-          few = f .few;
-          fit = rw (f .len-is, step-is) (fit-map engine steps (steps ++ (tick t ∷ [])) (λ r. rowTick r t (length steps + 1)) (λ c sound r. fits-tick c (engine c sound) steps (f .valid) t accepts r) rows (m .rows) (f .fit));
-        }
-
-    pub tick-answered : (t : ℕ) → Answered (tick t) (tickOf m t)
-    unfolding tickOf Judged questions
+    tick-answered : (t : ℕ) → Left (Call.Tick t) (refusalBy (Call.Tick t) (m .closed) (m .clock) (nextFor m (Call.Tick t)))
+    unfolding Judged questions
     tick-answered t =
-        split (ltb 0 (m .closed)) (λ x. Answered (tick t) (cond x (refuses 8 m) rest8)) (λ e. (inr (is-closed e, refl), f)) (λ e8.
-        split (ltb lastTime t) (λ x. Answered (tick t) (cond x (refuses 10 m) rest10)) (λ e. (inl (not-closed e8, inr (λ h. omega (arith, ltb-true lastTime t e), refl)), f)) (λ e10.
-        split (leb t (m .clock)) (λ x. Answered (tick t) (cond x (refuses 11 m) (takes (takenTick m t))))
-        (λ e. (inl (not-closed e8, inl (ltb-false lastTime t e10, inr (λ h. omega (arith, leb-true t (m .clock) e, f .clock-is), refl))), f))
-        (λ e. let accepts : Accepts steps (tick t) = (not-closed e8, ltb-false lastTime t e10, omega (arith, leb-false t (m .clock) e, f .clock-is)) in
-        let after : Follows rows (steps ++ (tick t ∷ [])) (takenTick m t) = tick-followed t accepts in
-        (inl (accepts .0, inl (accepts .1, inl (accepts .2, inl (fit-room engine (steps ++ (tick t ∷ [])) (after .valid) rows (takenTick m t .rows) (after .fit), refl)))), after))))
-      where
-        rest10 : Stepped
-        rest10 = cond (leb t (m .clock)) (refuses 11 m) (takes (takenTick m t))
+        let c = Call.Tick t in
+        split (ltb 0 (m .closed)) (λ x. Left c (cond x 8 (cond (ltb lastTime t) 10 (cond (leb t (m .clock)) 11 0)))) (λ e. (inr (is-closed e, refl), f)) (λ e8.
+        split (ltb lastTime t) (λ x. Left c (cond x 10 (cond (leb t (m .clock)) 11 0)))
+        (λ e. (inl (not-closed e8, inr (λ h. omega (arith, ltb-true lastTime t e), refl)), f)) (λ e10.
+        split (leb t (m .clock)) (λ x. Left c (cond x 11 0))
+        (λ e. (inl (not-closed e8, inl (ltb-false lastTime t e10, inr (λ h. omega (arith, leb-true t (m .clock) e, f .clock-is), refl))), f)) (λ e11.
+        let later : clock steps < t = omega (arith, leb-false t (m .clock) e11, f .clock-is) in
+        last-asked c (not-closed e8, ltb-false lastTime t e10, later) (λ a j. inl (not-closed e8, inl (ltb-false lastTime t e10, inl (later, j)))))))
 
-        rest8 : Stepped
-        rest8 = cond (ltb lastTime t) (refuses 10 m) rest10
-
-    -- ---- the close
-
-    close-followed : closed steps ≡ false → Follows rows (steps ++ (close ∷ [])) (takenClose m)
-    unfolding takenClose
-    close-followed accepts =
-        record {
-          valid = valid-more close (f .valid) accepts;
-          clock-is = f .clock-is ∙ sym (clock-close steps);
-          count-is = count-after close;
-          closed-is = sym (closed-close steps);
-          next-whole = f .next-whole;
-          next-is = λ k kind. f .next-is k kind ∙ sym (ap nextFree (times-close k steps));
-          len-is = f .len-is;
-          few = f .few;
-          fit = rw (f .len-is, step-is) (fit-map engine steps (steps ++ (close ∷ [])) (λ r. rowClose r (length steps + 1)) (λ c sound r. fits-close c (engine c sound) steps (f .valid) accepts r) rows (m .rows) (f .fit));
-        }
-
-    pub close-answered : Answered close (closeOf m)
-    unfolding closeOf Judged questions
+    -- the close has only question 8: it crowds no row
+    close-answered : Left Call.Close (refusalBy Call.Close (m .closed) (m .clock) (nextFor m Call.Close))
+    unfolding Judged questions
     close-answered =
-        split (ltb 0 (m .closed)) (λ x. Answered close (cond x (refuses 8 m) (takes (takenClose m)))) (λ e. (inr (is-closed e, refl), f))
-        (λ e. (inl (not-closed e, refl), close-followed (not-closed e)))
+        split (ltb 0 (m .closed)) (λ x. Left Call.Close (cond x 8 0)) (λ e. (inr (is-closed e, refl), f)) (λ e8.
+        let calm = crowds-is Call.Close (not-closed e8) ∙ fit-calm engine steps (f .valid) (nextStep m) rows (m .rows) (f .fit) in
+        subst (λ (b : Bool). Answered Call.Close (cond b (refuses 12 m) (takes (takenCall m Call.Close)))) (sym calm)
+        (inl (not-closed e8, refl), followed Call.Close (not-closed e8) calm))
 
-    pub step-answered : (s : Step) → Answered s (stepOf m s)
-    step-answered (event k t) = event-answered k t
-    step-answered (tick t) = tick-answered t
-    step-answered close = close-answered
+    pub step-answered : (call : Call) → Answered call (stepOf m call)
+    unfolding stepOf
+    step-answered (Call.Event k t) = event-answered k t
+    step-answered (Call.Tick t) = tick-answered t
+    step-answered Call.Close = close-answered

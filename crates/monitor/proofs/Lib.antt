@@ -4,6 +4,7 @@ pub mod Following
 pub mod Demand
 pub mod Examples
 pub mod Theorem
-pub mod First
+pub mod Answers
+mod First
 pub mod Filled
 pub mod RowVerdicts

@@ -48,18 +48,18 @@ module _ (m : Monitor) (full : length (m .rows) ≡ rowLimit) (i : ℕ) (other :
   of : ℕ → Verdict
   of broken = cond (ltb 0 broken) (Verdict.Broken broken) (cond (ltb 0 (m .closed)) Verdict.Kept Verdict.Open)
 
-  pub verdict-by-is : verdictIn (verdictBy i (m .len) (m .closed) (getD (m .rows) (placeOf i) other .broken)) ≡ verdictOf m i
+  pub verdict-by-is : verdictIn (verdictBy i (m .len) (m .closed) (getD (m .rows) (placeOf i) other .now .broken)) ≡ verdictOf m i
   unfolding verdictOf rowVerdict of
   verdict-by-is =
-      chosen (ltb i (m .len)) (ltb i rowLimit) (of (getD (m .rows) (placeOf i) other .broken)) (of (getD (m .rows) i noRow .broken))
-      (λ e. rw e (ap (λ (r : Row). of (r .broken)) (getD-within (m .rows) i other noRow (omega (arith, ltb-true i rowLimit e)))))
+      chosen (ltb i (m .len)) (ltb i rowLimit) (of (getD (m .rows) (placeOf i) other .now .broken)) (of (getD (m .rows) i noRow .now .broken))
+      (λ e. rw e (ap (λ (r : Row). of (r .now .broken)) (getD-within (m .rows) i other noRow (omega (arith, ltb-true i rowLimit e)))))
 
-  pub verdict-kept : (answer : RowVerdict) → answer ≡ verdictBy i (m .len) (m .closed) (getD (m .rows) (placeOf i) other .broken) → VerdictOf m i answer
+  pub verdict-kept : (answer : RowVerdict) → answer ≡ verdictBy i (m .len) (m .closed) (getD (m .rows) (placeOf i) other .now .broken) → VerdictOf m i answer
   unfolding of
   verdict-kept answer e =
       record {
         reads = reading-kept m i (ap verdictIn e ∙ verdict-by-is);
-        number = λ n f. refused (ltb i (m .len) && ltb i rowLimit) (of (getD (m .rows) (placeOf i) other .broken)) n (sym e ∙ f);
+        number = λ n f. refused (ltb i (m .len) && ltb i rowLimit) (of (getD (m .rows) (placeOf i) other .now .broken)) n (sym e ∙ f);
       }
 
 -- ---- the steps in the verdicts
@@ -76,20 +76,20 @@ step-in broken closed =
 -- the steps that broke the first n rows of a monitor, and zeros behind them
 pub record StepsUpTo (m : Monitor) (n : ℕ) (steps : List ℕ) : Type 0 where
   pub whole : length steps ≡ rowLimit
-  pub each : (i : ℕ) → i < rowLimit → getD steps i 0 ≡ cond (ltb i n) (getD (m .rows) i noRow .broken) 0
+  pub each : (i : ℕ) → i < rowLimit → getD steps i 0 ≡ cond (ltb i n) (getD (m .rows) i noRow .now .broken) 0
 
 pub steps-none : (m : Monitor) → StepsUpTo m 0 (replicate rowLimit 0)
 steps-none m = record { whole = refl; each = λ i h. rw (le-ltb i 0 (omega arith)) (getD-replicate rowLimit i 0 0 h) }
 
 module _ (m : Monitor) (full : length (m .rows) ≡ rowLimit) (n : ℕ) (steps : List ℕ) (so-far : StepsUpTo m n steps) where
-  pub steps-next : (other : Row) → n < rowLimit → StepsUpTo m (n + 1) (set steps n (getD (m .rows) n other .broken))
+  pub steps-next : (other : Row) → n < rowLimit → StepsUpTo m (n + 1) (set steps n (getD (m .rows) n other .now .broken))
   steps-next other small =
       record {
-        whole = length-set steps n (getD (m .rows) n other .broken) ∙ so-far .whole;
+        whole = length-set steps n (getD (m .rows) n other .now .broken) ∙ so-far .whole;
         each = λ i h.
             by-cases (ℕ-discrete i n)
-            (λ e. rw (e, lt-ltb n (n + 1) (omega arith)) (getD-set-same steps n (getD (m .rows) n other .broken) 0 (omega (arith, so-far .whole)) ∙ ap (λ (r : Row). r .broken) (getD-within (m .rows) n other noRow (omega arith))))
-            (λ e. getD-set-other steps n i (getD (m .rows) n other .broken) 0 e ∙ so-far .each i h ∙ ap (λ (b : Bool). cond b (getD (m .rows) i noRow .broken) 0) (ltb-same i n e));
+            (λ e. rw (e, lt-ltb n (n + 1) (omega arith)) (getD-set-same steps n (getD (m .rows) n other .now .broken) 0 (omega (arith, so-far .whole)) ∙ ap (λ (r : Row). r .now .broken) (getD-within (m .rows) n other noRow (omega arith))))
+            (λ e. getD-set-other steps n i (getD (m .rows) n other .now .broken) 0 e ∙ so-far .each i h ∙ ap (λ (b : Bool). cond b (getD (m .rows) i noRow .now .broken) 0) (ltb-same i n e));
       }
     where
       ltb-same : (i k : ℕ) → ¬ (i ≡ k) → ltb i k ≡ ltb i (k + 1)
@@ -101,6 +101,6 @@ module _ (m : Monitor) (full : length (m .rows) ≡ rowLimit) (n : ℕ) (steps :
       record {
         whole = so-far .whole;
         each = λ i h. so-far .each i h ∙ by-cases (decLt i n)
-            (λ l. rw (lt-ltb i n l, lt-ltb i (m .len) (omega arith), lt-ltb i rowLimit h) (sym (step-in (getD (m .rows) i noRow .broken) (ltb 0 (m .closed)))))
+            (λ l. rw (lt-ltb i n l, lt-ltb i (m .len) (omega arith), lt-ltb i rowLimit h) (sym (step-in (getD (m .rows) i noRow .now .broken) (ltb 0 (m .closed)))))
             (λ l. rw (le-ltb i n (omega arith), le-ltb i (m .len) (omega arith)));
       }

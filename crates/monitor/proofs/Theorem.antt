@@ -11,6 +11,7 @@ use Rattle.constraint.specs.Meets.{Meets}
 use Rattle.constraint.specs.Continuation.{Open, Reads}
 use Rattle.constraint.specs.Accepted.{Accepted}
 use Rattle.constraint.specs.Promise.{Promise, ReadsRow, row, no-row}
+use Rattle.constraint.specs.declared.Call.{Call}
 use Rattle.constraint.specs.declared.Constraint.{Constraint}
 use Rattle.constraint.specs.declared.Verdict.{Verdict}
 use Rattle.constraint.proofs.History.{valid-none}
@@ -35,7 +36,7 @@ pub examples-hold : AllRead examples
 examples-hold = examples-read engine
 
 -- what equals a step of the machine keeps the contract of a step
-pub step-kept : (m : Monitor) (s : Step) {result : Stepped} → result ≡ stepOf m s → Steps m s result
+pub step-kept : (m : Monitor) (s : Call) {result : Stepped} → result ≡ stepOf m s → Steps m s result
 step-kept m s e = subst (Steps m s) (sym e) (steps-keep engine m s)
 
 -- what equals a verdict of the machine keeps the contract of a verdict
@@ -44,7 +45,7 @@ reading-kept m i e = subst (Reading m i) (sym e) (reading-keeps engine m i)
 
 -- ---- in the buyer's words, after any list of calls over an accepted table
 
-module _ (rows : List Constraint) (calls steps : List Step) (accepted : Accepted rows) (recorded : Recorded rows calls steps) (i : ℕ) (c : Constraint) (there : getElem? rows i ≡ some c) where
+module _ (rows : List Constraint) (calls : List Call) (steps : List Step) (accepted : Accepted rows) (recorded : Recorded rows calls steps) (i : ℕ) (c : Constraint) (there : getElem? rows i ≡ some c) where
   -- the row has a verdict, and it reads that after the steps recorded
   row-reads : (v : Verdict) × (verdictOf (after rows calls) i ≡ some v) × Reads c steps v
   row-reads =

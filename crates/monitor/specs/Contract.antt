@@ -13,6 +13,7 @@ use Rattle.constraint.specs.Run.{questions, Run}
 use Rattle.constraint.specs.Promise.{ReadsRow, play}
 use Rattle.constraint.specs.declared.Answer.{Answer}
 use Rattle.constraint.specs.declared.Answer.the-variants.{Taken, Refused}
+use Rattle.constraint.specs.declared.Call.{Call}
 use Rattle.constraint.specs.declared.Constraint.{Constraint}
 use Rattle.constraint.specs.declared.Table.{Table}
 use Rattle.constraint.specs.declared.Verdict.{Verdict}
@@ -21,16 +22,16 @@ use Rattle.monitor.specs.declared.Monitor.{Monitor}
 use Rattle.monitor.specs.declared.RowVerdict.{RowVerdict}
 use Rattle.monitor.specs.declared.Stepped.{Stepped}
 
--- a step as demand 3 takes it
-abbrev pub step : Monitor → Step → Rattle.constraint.specs.Promise.Stepped Monitor
+-- a call as demand 3 takes it
+abbrev pub step : Monitor → Call → Rattle.constraint.specs.Promise.Stepped Monitor
 step m s = record { answer = stepOf m s .answer; monitor = stepOf m s .monitor }
 
 -- the monitor after a list of calls, from a fresh one over the rows: "Each call gets the monitor that the last one returned or left"
-unfoldable pub after : List Constraint → List Step → Monitor
+unfoldable pub after : List Constraint → List Call → Monitor
 after rows calls = play step (monitorOf rows) calls .monitor
 
 -- the list of calls has accepted these steps
-abbrev pub Recorded : List Constraint → List Step → List Step → Type 0
+abbrev pub Recorded : List Constraint → List Call → List Step → Type 0
 Recorded rows calls steps = (answers : List Answer) × Run rows [] calls answers steps
 
 -- a fresh monitor: questions 3 to 7, row by row; over an accepted table the monitor before any call, and on a refusal the one over no rows
@@ -39,16 +40,16 @@ pub record Freshly (table : Table) (answer : Answer) (m : Monitor) : Type 0 wher
   pub made : answer ≡ Taken → m ≡ after (rowsOf table) []
   pub refused : (n : ℕ) → answer ≡ Refused n → m ≡ after [] []
 
--- a step: the answer that its questions give over what the calls have recorded, and the monitor after the longer list of calls
-pub record Steps (m : Monitor) (s : Step) (result : Stepped) : Type 0 where
+-- a call: the answer that its questions give over what the calls have recorded, and the monitor after the longer list of calls
+pub record Steps (m : Monitor) (s : Call) (result : Stepped) : Type 0 where
   pub equals : result ≡ stepOf m s
-  pub means : (rows : List Constraint) (calls : List Step) → Accepted rows → m ≡ after rows calls
+  pub means : (rows : List Constraint) (calls : List Call) → Accepted rows → m ≡ after rows calls
       → ((steps : List Step) × Recorded rows calls steps × Judged (questions rows steps s) (result .answer)) × (result .monitor ≡ after rows (calls ++ (s ∷ [])))
 
 -- the verdict of a row number: what the row reads after what the calls have recorded, or none where there is no such row
 pub record Reading (m : Monitor) (i : ℕ) (verdict : Option Verdict) : Type 0 where
   pub equals : verdict ≡ verdictOf m i
-  pub means : (rows : List Constraint) (calls : List Step) → Accepted rows → m ≡ after rows calls
+  pub means : (rows : List Constraint) (calls : List Call) → Accepted rows → m ≡ after rows calls
       → (steps : List Step) × Recorded rows calls steps × ReadsRow rows steps i verdict
 
 -- the verdict in an answer: none in a refusal

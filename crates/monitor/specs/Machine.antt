@@ -6,13 +6,14 @@ use mathlib.Core.Option.{Option, none, some}
 use lib.ListN.{length, getD, set, replicate}
 use lib.Dec.{leb, ltb}
 use Rattle.constraint.specs.Limits.{lastKind, lastTime, rowLimit}
-use Rattle.constraint.specs.Steps.{Step, event, tick, close}
 use Rattle.constraint.specs.Rows.{filler}
 use Rattle.constraint.specs.declared.Answer.the-variants.{Taken, Refused}
+use Rattle.constraint.specs.declared.Call.{Call}
 use Rattle.constraint.specs.declared.Constraint.{Constraint}
 use Rattle.constraint.specs.declared.Verdict.{Verdict}
 use Rattle.row.specs.Row.{plus}
-use Rattle.row.specs.Machine.{rowOf, rowEvent, rowTick, rowClose, rowVerdict}
+use Rattle.row.specs.Machine.{rowOf, eventAt, tickAt, closeAt, rowStep, rowVerdict}
+use Rattle.row.specs.declared.Occurrence.{Occurrence}
 use Rattle.row.specs.declared.Row.{Row}
 use Rattle.monitor.specs.declared.Monitor.{Monitor}
 use Rattle.monitor.specs.declared.Stepped.{Stepped}
@@ -55,55 +56,68 @@ takes m = record { answer = Taken; monitor = m }
 abbrev pub nextStep : Monitor → ℕ
 nextStep m = plus (m .count) 1
 
-unfoldable pub takenEvent : Monitor → ℕ → ℕ → Monitor
-takenEvent m kind t =
+-- ---- what a call asks and does, on numbers
+
+-- the place of an event's kind among the first free times; 0 where there is no event, or no such kind
+abbrev pub placeFor : Call → ℕ
+placeFor (Call.Event kind t) = cond (ltb lastKind kind) 0 kind
+placeFor (Call.Tick t) = 0
+placeFor Call.Close = 0
+
+-- 8, 9, 10, 11 for an event; 8, 10, 11 for a tick; 8 for the close: the number of the first "no", or 0
+abbrev pub refusalBy : Call → ℕ → ℕ → ℕ → ℕ
+refusalBy (Call.Event kind t) closed clock next =
+    cond (ltb 0 closed) 8 (cond (ltb lastKind kind) 9 (cond (ltb lastTime t) 10 (cond (ltb t clock) 11 (cond (ltb t next) 11 0))))
+refusalBy (Call.Tick t) closed clock next = cond (ltb 0 closed) 8 (cond (ltb lastTime t) 10 (cond (leb t clock) 11 0))
+refusalBy Call.Close closed clock next = cond (ltb 0 closed) 8 0
+
+-- what the rows see of a call at a clock
+abbrev pub occurrenceBy : Call → ℕ → Occurrence
+occurrenceBy (Call.Event kind t) clock = eventAt kind t
+occurrenceBy (Call.Tick t) clock = tickAt t
+occurrenceBy Call.Close clock = closeAt clock
+
+-- the first free time of its kind after a call, and the mark of the close
+abbrev pub freeAfter : Call → ℕ → ℕ
+freeAfter (Call.Event kind t) next = plus t 1
+freeAfter (Call.Tick t) next = next
+freeAfter Call.Close next = next
+
+abbrev pub closedAfter : Call → ℕ → ℕ
+closedAfter (Call.Event kind t) closed = closed
+closedAfter (Call.Tick t) closed = closed
+closedAfter Call.Close closed = 1
+
+-- ---- a call
+
+abbrev pub nextFor : Monitor → Call → ℕ
+nextFor m call = getD (m .next) (placeFor call) 0
+
+abbrev pub occurrenceOf : Monitor → Call → Occurrence
+occurrenceOf m call = occurrenceBy call (m .clock)
+
+-- each row after the call, which is the next step
+unfoldable pub takenCall : Monitor → Call → Monitor
+takenCall m call =
     record {
-      rows = mapFirst (m .len) (λ r. rowEvent r kind t (nextStep m) .row) (m .rows);
-      next = set (m .next) kind (t + 1);
-      clock = t;
+      rows = mapFirst (m .len) (λ r. rowStep r (occurrenceOf m call) (nextStep m) .row) (m .rows);
+      next = set (m .next) (placeFor call) (freeAfter call (nextFor m call));
+      clock = occurrenceOf m call .time;
       count = nextStep m;
-      closed = m .closed;
+      closed = closedAfter call (m .closed);
       len = m .len;
     }
 
-unfoldable pub takenTick : Monitor → ℕ → Monitor
-takenTick m t =
-    record { rows = mapFirst (m .len) (λ r. rowTick r t (nextStep m)) (m .rows); next = m .next; clock = t; count = nextStep m; closed = m .closed; len = m .len }
+-- the call crowds one of the rows
+abbrev pub crowds : Monitor → Call → Bool
+crowds m call = anyFirst (m .len) (λ r. rowStep r (occurrenceOf m call) (nextStep m) .crowded) (m .rows)
 
-unfoldable pub takenClose : Monitor → Monitor
-takenClose m =
-    record { rows = mapFirst (m .len) (λ r. rowClose r (nextStep m)) (m .rows); next = m .next; clock = m .clock; count = nextStep m; closed = 1; len = m .len }
+-- the refusal by that number; or, for 0, 12, or the call is taken
+abbrev pub steppedBy : Monitor → Call → ℕ → Stepped
+steppedBy m call number = cond (ltb 0 number) (refuses number m) (cond (crowds m call) (refuses 12 m) (takes (takenCall m call)))
 
--- the event crowds one of the rows
-abbrev pub crowds : Monitor → ℕ → ℕ → Bool
-crowds m kind t = anyFirst (m .len) (λ r. rowEvent r kind t (nextStep m) .crowded) (m .rows)
-
--- an event: 8, 9, 10, 11, 12, or it is taken
-unfoldable pub eventOf : Monitor → ℕ → ℕ → Stepped
-eventOf m kind t =
-    cond (ltb 0 (m .closed)) (refuses 8 m)
-    (cond (ltb lastKind kind) (refuses 9 m)
-    (cond (ltb lastTime t) (refuses 10 m)
-    (cond (ltb t (m .clock) || ltb t (getD (m .next) kind 0)) (refuses 11 m)
-    (cond (crowds m kind t) (refuses 12 m)
-    (takes (takenEvent m kind t))))))
-
--- a tick: 8, 10, 11, or it is taken; it crowds no row
-unfoldable pub tickOf : Monitor → ℕ → Stepped
-tickOf m t =
-    cond (ltb 0 (m .closed)) (refuses 8 m)
-    (cond (ltb lastTime t) (refuses 10 m)
-    (cond (leb t (m .clock)) (refuses 11 m)
-    (takes (takenTick m t))))
-
--- the close: 8, or it is taken
-unfoldable pub closeOf : Monitor → Stepped
-closeOf m = cond (ltb 0 (m .closed)) (refuses 8 m) (takes (takenClose m))
-
-abbrev pub stepOf : Monitor → Step → Stepped
-stepOf m (event k t) = eventOf m k t
-stepOf m (tick t) = tickOf m t
-stepOf m close = closeOf m
+unfoldable pub stepOf : Monitor → Call → Stepped
+stepOf m call = steppedBy m call (refusalBy call (m .closed) (m .clock) (nextFor m call))
 
 -- the verdict of a row number, or none where there is no row of that number
 unfoldable pub verdictOf : Monitor → ℕ → Option Verdict

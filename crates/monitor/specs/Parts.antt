@@ -1,12 +1,13 @@
 -- What the monitor's own parts compute.
 use Prim.Native.Nat.{ℕ}
 use mathlib.Core.Path.{_≡_}
-use mathlib.Core.Bool.{false, cond, _&&_}
+use mathlib.Core.Bool.{true, false, cond, _&&_}
 use mathlib.Core.List.{List}
 use lib.Dec.{ltb}
 use Rattle.constraint.specs.Limits.{rowLimit}
 use Rattle.constraint.specs.declared.Verdict.{Verdict}
-use Rattle.row.specs.Machine.{rowEvent, rowTick, rowClose}
+use Rattle.row.specs.Machine.{rowStep}
+use Rattle.row.specs.declared.Occurrence.{Occurrence}
 use Rattle.row.specs.declared.Row.{Row}
 use Rattle.monitor.specs.Machine.{mapFirst, anyFirst}
 use Rattle.monitor.specs.declared.Monitor.{Monitor}
@@ -19,17 +20,11 @@ use Rattle.monitor.specs.declared.rows.RowsStepped.{RowsStepped}
 abbrev pub withRows : Monitor → List Row → Monitor
 withRows m rows = record { rows = rows; next = m .next; clock = m .clock; count = m .count; closed = m .closed; len = m .len }
 
--- an event, which is the step of that number: whether it crowds a row, and if it crowds none the monitor with each row after it
-pub record RowsAfter (m : Monitor) (kind t step : ℕ) (result : RowsStepped) : Type 0 where
-  pub crowded-is : result .crowded ≡ anyFirst (m .len) (λ r. rowEvent r kind t step .crowded) (m .rows)
-  pub stepped : result .crowded ≡ false → result .monitor ≡ withRows m (mapFirst (m .len) (λ r. rowEvent r kind t step .row) (m .rows))
-
--- each row after a tick, and after the close
-abbrev pub rowsTicked : Monitor → ℕ → ℕ → Monitor
-rowsTicked m t step = withRows m (mapFirst (m .len) (λ r. rowTick r t step) (m .rows))
-
-abbrev pub rowsClosed : Monitor → ℕ → Monitor
-rowsClosed m step = withRows m (mapFirst (m .len) (λ r. rowClose r step) (m .rows))
+-- what occurs, which is the step of that number: the monitor with each row after it, or as it was where that crowds a row
+pub record RowsAfter (m : Monitor) (o : Occurrence) (number : ℕ) (result : RowsStepped) : Type 0 where
+  pub crowded-is : result .crowded ≡ anyFirst (m .len) (λ r. rowStep r o number .crowded) (m .rows)
+  pub stepped : result .crowded ≡ false → result .monitor ≡ withRows m (mapFirst (m .len) (λ r. rowStep r o number .row) (m .rows))
+  pub as-it-was : result .crowded ≡ true → result .monitor ≡ m
 
 -- ---- a row's verdict by its numbers
 

@@ -1,15 +1,16 @@
 // The monitor: a table's rows, stepped by events, ticks and the close.
 use constraint::Answer;
-use constraint::LAST_KIND;
+use constraint::Call;
 use constraint::Table;
 use constraint::Verdict;
 use row::Row;
 use row::parts::plus;
 ghost use mathlib.Core.Path.{_≡_};
-ghost use Rattle.constraint.specs.Steps.{event, tick, close};
+ghost use Rattle.constraint.specs.declared.Call.{Call};
 ghost use Rattle.monitor.specs.Machine.{refuses, takes};
 ghost use Rattle.monitor.specs.Contract.{Freshly, Steps, VerdictOf, BrokenSteps};
 
+pub mod calls;
 mod rows;
 pub mod verdicts;
 
@@ -33,7 +34,7 @@ pub struct Fresh {
     pub monitor: Monitor,
 }
 
-// The answer to a step, and the monitor after it: on a refusal the monitor as it was.
+// The answer to a call, and the monitor after it: on a refusal the monitor as it was.
 pub struct Stepped {
     pub answer: Answer,
     pub monitor: Monitor,
@@ -69,70 +70,49 @@ impl Monitor {
         }
     }
 
-    // The monitor after an event of a kind at a time, or the refusal: questions 8 to 12.
-    pub fn event(self, kind: u8, time: u64) -> Stepped
-        ensures { λ r. ⌜ Steps self (event kind time) r ⌝ }
+    // The monitor after a call, or the refusal: questions 8 to 12.
+    pub fn step(self, call: Call) -> Stepped
+        ensures { λ r. ⌜ Steps self call r ⌝ }
     {
-        if 0 < self.closed {
-            return self.refused(8);
+        let at = calls::place(call);
+        let next = self.next[at];
+        let number = calls::refusal(call, self.closed, self.clock, next);
+        if 0 < number {
+            return self.refused(number);
         }
-        if LAST_KIND < kind {
-            return self.refused(9);
-        }
-        if Monitor::LAST_TIME < time {
-            return self.refused(10);
-        }
-        let at = kind as usize;
-        if time < self.clock {
-            return self.refused(11);
-        }
-        if time < self.next[at] {
-            return self.refused(11);
-        }
+        let o = calls::occurrence(call, self.clock);
         let step = plus(self.count, 1);
-        let stepped = rows::event(self, kind as u64, time, step);
+        let stepped = rows::step(self, o, step);
         if stepped.crowded {
             return self.refused(12);
         }
         let mut after = stepped.monitor;
-        after.next[at] = time + 1;
-        after.clock = time;
+        after.next[at] = calls::free(call, next);
+        after.clock = o.time;
         after.count = step;
+        after.closed = calls::closed(call, self.closed);
         after.taken()
     }
 
-    // The monitor after a tick to a time, or the refusal: questions 8, 10 and 11.
+    // The monitor after an event of a kind at a time, or the refusal.
+    pub fn event(self, kind: u8, time: u64) -> Stepped
+        ensures { λ r. ⌜ Steps self (Call.Event kind time) r ⌝ }
+    {
+        self.step(Call::Event { kind, time })
+    }
+
+    // The monitor after a tick to a time, or the refusal.
     pub fn tick(self, time: u64) -> Stepped
-        ensures { λ r. ⌜ Steps self (tick time) r ⌝ }
+        ensures { λ r. ⌜ Steps self (Call.Tick time) r ⌝ }
     {
-        if 0 < self.closed {
-            return self.refused(8);
-        }
-        if Monitor::LAST_TIME < time {
-            return self.refused(10);
-        }
-        if time <= self.clock {
-            return self.refused(11);
-        }
-        let step = plus(self.count, 1);
-        let mut after = rows::tick(self, time, step);
-        after.clock = time;
-        after.count = step;
-        after.taken()
+        self.step(Call::Tick { time })
     }
 
-    // The monitor after the close, or the refusal: question 8.
+    // The monitor after the close, or the refusal.
     pub fn close(self) -> Stepped
-        ensures { λ r. ⌜ Steps self close r ⌝ }
+        ensures { λ r. ⌜ Steps self Call.Close r ⌝ }
     {
-        if 0 < self.closed {
-            return self.refused(8);
-        }
-        let step = plus(self.count, 1);
-        let mut after = rows::close(self, step);
-        after.count = step;
-        after.closed = 1;
-        after.taken()
+        self.step(Call::Close)
     }
 
     // The verdict of a row, or the refusal: question 15.
@@ -141,7 +121,8 @@ impl Monitor {
     {
         let at = verdicts::place(row as u64);
         let found = self.rows[at];
-        verdicts::by(row as u64, self.len, self.closed, found.broken)
+        let now = found.now;
+        verdicts::by(row as u64, self.len, self.closed, now.broken)
     }
 
     // For each row the step that broke it; 0 where none did, and where there is no row.
@@ -153,7 +134,8 @@ impl Monitor {
         let mut i = 0;
         while i < len {
             let row = self.rows[i];
-            steps[i] = row.broken;
+            let now = row.now;
+            steps[i] = now.broken;
             i += 1;
         }
         steps

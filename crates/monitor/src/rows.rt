@@ -2,6 +2,7 @@
 use crate::Monitor;
 use constraint::Constraint;
 use constraint::Table;
+use row::Occurrence;
 use row::Row;
 ghost use mathlib.Core.Path.{_≡_};
 ghost use Prim.Native.Nat.{_≤_, min};
@@ -9,9 +10,9 @@ ghost use lib.ListN.{take};
 ghost use Rattle.constraint.specs.Limits.{rowLimit};
 ghost use Rattle.constraint.specs.Rows.{rowsOf};
 ghost use Rattle.monitor.specs.Machine.{monitorOf};
-ghost use Rattle.monitor.specs.Parts.{RowsAfter, rowsTicked, rowsClosed};
+ghost use Rattle.monitor.specs.Parts.{RowsAfter};
 
-// A monitor whose rows have taken an event, and whether it crowds one of them.
+// A monitor whose rows have taken a step, and whether it crowds one of them.
 pub struct RowsStepped {
     pub crowded: bool,
     pub monitor: Monitor,
@@ -54,55 +55,28 @@ pub(crate) fn over(table: Table, len: usize) -> Monitor
     }
 }
 
-// The monitor with each row after the event, which is the step of that number, or up to a row that it crowds.
-pub fn event(mut m: Monitor, kind: u64, time: u64, step: u64) -> RowsStepped
-    ensures { λ r. ⌜ RowsAfter m kind time step r ⌝ }
+// The monitor with each row after what occurs, which is the step of that number; as it was where that crowds one of them.
+pub fn step(m: Monitor, o: Occurrence, number: u64) -> RowsStepped
+    ensures { λ r. ⌜ RowsAfter m o number r ⌝ }
 {
     let len = held(m.len);
+    let mut after = m;
     let mut i = 0;
     while i < len {
-        let row = m.rows[i];
-        let stepped = row.event(kind, time, step);
+        let row = after.rows[i];
+        let stepped = row.step(o, number);
         if stepped.crowded {
             return RowsStepped {
                 crowded: true,
                 monitor: m,
             };
         }
-        let after = stepped.row;
-        m.rows[i] = after;
+        let next = stepped.row;
+        after.rows[i] = next;
         i += 1;
     }
     RowsStepped {
         crowded: false,
-        monitor: m,
+        monitor: after,
     }
-}
-
-// The monitor with each row after the tick.
-pub fn tick(mut m: Monitor, time: u64, step: u64) -> Monitor
-    ensures { λ r. ⌜ r ≡ rowsTicked m time step ⌝ }
-{
-    let len = held(m.len);
-    let mut i = 0;
-    while i < len {
-        let row = m.rows[i];
-        m.rows[i] = row.tick(time, step);
-        i += 1;
-    }
-    m
-}
-
-// The monitor with each row after the close.
-pub fn close(mut m: Monitor, step: u64) -> Monitor
-    ensures { λ r. ⌜ r ≡ rowsClosed m step ⌝ }
-{
-    let len = held(m.len);
-    let mut i = 0;
-    while i < len {
-        let row = m.rows[i];
-        m.rows[i] = row.close(step);
-        i += 1;
-    }
-    m
 }

@@ -6,17 +6,18 @@ use mathlib.Core.Logic.{inl, inr}
 use native.Mathlib.Omega.{arith}
 use lib.ListN.{length, take, drop, length-drop}
 use lib.Seq.{length-take-le, take-all, take-take, drop-drop, getD-take, getD-drop}
-use Rattle.constraint.specs.Steps.{Step, event, tick, at}
+use Rattle.constraint.specs.Steps.{Step, at}
 use Rattle.constraint.specs.Questions.{Judged}
 use Rattle.constraint.specs.Run.{questions}
 use Rattle.constraint.specs.Bytes.{numberAt}
 use Rattle.constraint.specs.Table.{lengthAt, bodyAt}
-use Rattle.constraint.specs.Recording.{stepOf, RecordAt, recordQuestions}
+use Rattle.constraint.specs.Recording.{callOf, RecordAt, recordQuestions}
+use Rattle.constraint.specs.declared.Call.{Call}
 use Rattle.constraint.specs.declared.Answer.{Answer}
 use Rattle.constraint.specs.declared.Answer.the-variants.{Refused}
 use Rattle.constraint.specs.declared.Constraint.{Constraint}
 use Rattle.constraint.proofs.Judged.{judged-yes, judged-no}
-use Rattle.recording.specs.Record.{StepAt, ReadsRecord}
+use Rattle.recording.specs.Record.{CallAt, ReadsRecord}
 use Rattle.recording.specs.declared.Record.{Record}
 use Rattle.recording.specs.declared.Record.the-variants.{Event, Tick, Refused as RecordRefused}
 
@@ -29,20 +30,20 @@ behind-kind : (body : List ℕ) → drop 1 (take 9 body) ≡ take 8 (drop 1 body
 behind-kind [] = refl
 behind-kind (kind ∷ body) = refl
 
-event-step : (bytes : List ℕ) → lengthAt bytes 0 ≡ 9 → 11 ≤ length bytes → stepOf (bodyAt bytes 0) ≡ event (at bytes 2) (numberAt 8 bytes 3)
+event-step : (bytes : List ℕ) → lengthAt bytes 0 ≡ 9 → 11 ≤ length bytes → callOf (bodyAt bytes 0) ≡ Call.Event (at bytes 2) (numberAt 8 bytes 3)
 event-step bytes nine long =
     rw (nine, body-length bytes 9 long, getD-take 9 (drop 2 bytes) 0 0 (omega arith), getD-drop 2 bytes 0 0, behind-kind (drop 2 bytes), drop-drop 1 2 bytes, take-take 8 8 (drop 3 bytes) (omega arith))
 
-pub event-read : (bytes : List ℕ) → lengthAt bytes 0 ≡ 9 → 11 ≤ length bytes → StepAt bytes 0 (event (at bytes 2) (numberAt 8 bytes 3)) 11
+pub event-read : (bytes : List ℕ) → lengthAt bytes 0 ≡ 9 → 11 ≤ length bytes → CallAt bytes 0 (Call.Event (at bytes 2) (numberAt 8 bytes 3)) 11
 event-read bytes nine long =
-    record { there = ((omega arith, omega arith), inr nine); step-read = event-step bytes nine long; size-read = omega arith }
+    record { there = ((omega arith, omega arith), inr nine); call-read = event-step bytes nine long; size-read = omega arith }
 
-tick-step : (bytes : List ℕ) → lengthAt bytes 0 ≡ 8 → 10 ≤ length bytes → stepOf (bodyAt bytes 0) ≡ tick (numberAt 8 bytes 2)
+tick-step : (bytes : List ℕ) → lengthAt bytes 0 ≡ 8 → 10 ≤ length bytes → callOf (bodyAt bytes 0) ≡ Call.Tick (numberAt 8 bytes 2)
 tick-step bytes eight long = rw (eight, body-length bytes 8 long, take-take 8 8 (drop 2 bytes) (omega arith))
 
-pub tick-read : (bytes : List ℕ) → lengthAt bytes 0 ≡ 8 → 10 ≤ length bytes → StepAt bytes 0 (tick (numberAt 8 bytes 2)) 10
+pub tick-read : (bytes : List ℕ) → lengthAt bytes 0 ≡ 8 → 10 ≤ length bytes → CallAt bytes 0 (Call.Tick (numberAt 8 bytes 2)) 10
 tick-read bytes eight long =
-    record { there = ((omega arith, omega arith), inl eight); step-read = tick-step bytes eight long; size-read = omega arith }
+    record { there = ((omega arith, omega arith), inl eight); call-read = tick-step bytes eight long; size-read = omega arith }
 
 -- From a record's own stretch to the whole recording
 
@@ -54,13 +55,13 @@ stretch-of-record : (bytes : List ℕ) (place : ℕ) → RecordAt bytes place �
 stretch-of-record bytes place there =
     ((omega (arith, length-drop place bytes), omega (arith, length-drop place bytes)), there .1)
 
-step-of-stretch : (bytes : List ℕ) (place : ℕ) (step : Step) (size : ℕ) → StepAt (drop place bytes) 0 step size → StepAt bytes place step size
-step-of-stretch bytes place step size read =
-    record { there = record-of-stretch bytes place (read .there); step-read = rw (← drop-drop 2 place bytes) (read .step-read); size-read = read .size-read }
+step-of-stretch : (bytes : List ℕ) (place : ℕ) (call : Call) (size : ℕ) → CallAt (drop place bytes) 0 call size → CallAt bytes place call size
+step-of-stretch bytes place call size read =
+    record { there = record-of-stretch bytes place (read .there); call-read = rw (← drop-drop 2 place bytes) (read .call-read); size-read = read .size-read }
 
 read-of-drop : (bytes : List ℕ) (place : ℕ) (r : Record) → ReadsRecord (drop place bytes) 0 r → ReadsRecord bytes place r
-read-of-drop bytes place (Event kind time size) read = step-of-stretch bytes place (event kind time) size read
-read-of-drop bytes place (Tick time size) read = step-of-stretch bytes place (tick time) size read
+read-of-drop bytes place (Event kind time size) read = step-of-stretch bytes place (Call.Event kind time) size read
+read-of-drop bytes place (Tick time size) read = step-of-stretch bytes place (Call.Tick time) size read
 read-of-drop bytes place (RecordRefused n) read = (λ there. read .0 (stretch-of-record bytes place there), read .1)
 
 -- what is read from the part that starts at the record's length field, `&bytes[place..]`, is read from the whole at that place
@@ -71,13 +72,13 @@ read-of-stretch bytes place r read =
 -- From a record to the answer to its questions
 
 -- question 14 is answered "yes", so the answer is that to the step's questions
-pub record-judged : (rows : List Constraint) (steps : List Step) (bytes : List ℕ) (place : ℕ) (step : Step) (size : ℕ) (a : Answer)
-    → StepAt bytes place step size → Judged (questions rows steps step) a → Judged (recordQuestions rows steps bytes place) a
+pub record-judged : (rows : List Constraint) (steps : List Step) (bytes : List ℕ) (place : ℕ) (call : Call) (size : ℕ) (a : Answer)
+    → CallAt bytes place call size → Judged (questions rows steps call) a → Judged (recordQuestions rows steps bytes place) a
 unfolding recordQuestions
-record-judged rows steps bytes place step size a read judged =
-    judged-yes 14 (RecordAt bytes place) (questions rows steps (stepOf (bodyAt bytes place))) a (read .there) (rw (read .step-read) judged)
+record-judged rows steps bytes place call size a read judged =
+    judged-yes 14 (RecordAt bytes place) (questions rows steps (callOf (bodyAt bytes place))) a (read .there) (rw (read .call-read) judged)
 
 pub record-refused : (rows : List Constraint) (steps : List Step) (bytes : List ℕ) (place : ℕ)
     → ¬ RecordAt bytes place → Judged (recordQuestions rows steps bytes place) (Refused 14)
 unfolding recordQuestions
-record-refused rows steps bytes place not-there = judged-no 14 (RecordAt bytes place) (questions rows steps (stepOf (bodyAt bytes place))) not-there
+record-refused rows steps bytes place not-there = judged-no 14 (RecordAt bytes place) (questions rows steps (callOf (bodyAt bytes place))) not-there

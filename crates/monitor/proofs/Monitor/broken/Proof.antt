@@ -44,7 +44,7 @@ loop-less c = omega arith
 
 loop-again : tie.Need-loop-again Inv-loop μ-loop
 loop-again c =
-    let at-loop = c .before .before in
+    let at-loop = c .before .before .before in
     let start = at-loop .before .before in
     (omega arith, steps-next (start .args .t1) (size start) (at-loop .loop .i) (at-loop .loop .steps) (at-loop .loop .inv .1) _ (omega (arith, at-loop .before .held .ensures)))
 

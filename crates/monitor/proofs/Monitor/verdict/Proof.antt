@@ -25,8 +25,8 @@ by-requires c κs = search needs
 
 returns : tie.Need-returns
 returns c =
-    let start = c .before .before .before in
-    verdict-kept (start .args .t1) (size start) (start .args .row) _ _ (rw (c .before .before .place .ensures) at (c .by .ensures))
+    let start = c .before .before .before .before in
+    verdict-kept (start .args .t1) (size start) (start .args .row) _ _ (rw (c .before .before .before .place .ensures) at (c .by .ensures))
 
 pub verdict-spec : {M : Type 1} → statement M
 verdict-spec = tie.close (tie.spec place-requires mul-found element-copy-out-found by-requires returns)

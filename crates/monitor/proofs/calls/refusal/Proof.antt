@@ -1,0 +1,45 @@
+-- Each call has its own questions.
+use borrow.Author.Needs.{needs}
+use Rattle.monitor.proofs.calls.refusal.Statement.{statement}
+use Rattle.monitor.proofs.calls.refusal.Tie as tie
+
+enum-known-call : tie.Need-enum-known-call
+enum-known-call c = search needs
+
+event-refusal-requires : tie.Need-event-refusal-requires
+event-refusal-requires c κs = search needs
+
+enum-known-call-2 : tie.Need-enum-known-call-2
+enum-known-call-2 c = search needs
+
+tick-refusal-requires : tie.Need-tick-refusal-requires
+tick-refusal-requires c κs = search needs
+
+enum-told : tie.Need-enum-told
+enum-told c = search needs
+
+close-refusal-requires : tie.Need-close-refusal-requires
+close-refusal-requires c κs = search needs
+
+returns : tie.Need-returns
+returns c = rw (c .before .before .call .given .1) (c .event-refusal .ensures)
+
+returns-2 : tie.Need-returns-2
+returns-2 c = rw (c .before .before .call2 .given .1) (c .tick-refusal .ensures (c .before .before .before .before .args .next))
+
+returns-3 : tie.Need-returns-3
+returns-3 c = rw (c .before .enum-told .given .1) (c .close-refusal .ensures (c .before .before .before .args .clock) (c .before .before .before .args .next))
+
+pub refusal-spec : {M : Type 1} → statement M
+refusal-spec =
+    tie.close
+    (tie.spec
+    enum-known-call
+    event-refusal-requires
+    enum-known-call-2
+    tick-refusal-requires
+    enum-told
+    close-refusal-requires
+    returns
+    returns-2
+    returns-3)

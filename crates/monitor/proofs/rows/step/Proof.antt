@@ -1,0 +1,90 @@
+-- The loop gives the step to one row after the other, as many as the monitor holds, and stops at the first that it crowds.
+use Prim.Native.Nat.{_≤_, _-_}
+use native.Mathlib.Omega.{arith}
+use borrow.Author.Needs.{needs}
+use mathlib.Core.Path.{_≡_, sym, _∙_}
+use lib.ListN.{length, length-map}
+use Rattle.monitor.proofs.First.{Moved, moved-none, moved-full, moved-next, moved-all}
+use Rattle.monitor.proofs.rows.step.Statement.{statement}
+use Rattle.monitor.proofs.rows.step.Tie as tie
+
+abbrev Inv-loop : tie.InvT-loop
+Inv-loop m o number len after₀ i₀ after i = (i ≤ len) × Moved o number m after i
+
+abbrev μ-loop : tie.MeasureT-loop
+μ-loop m o number len after₀ i₀ after i = len - i
+
+-- a monitor has 32 rows
+size : (c : tie.Start Inv-loop μ-loop) → length (c .args .m .rows) ≡ 32
+size c = sym (length-map (c .args .m .rows) _) ∙ c .good .0 .1 .1 .0 .1 .0 .1
+
+held-requires : tie.Need-held-requires Inv-loop μ-loop
+held-requires c κs = search needs
+
+loop-holds : tie.Need-loop-holds Inv-loop μ-loop
+loop-holds c = let args = c .before .args in (omega arith, moved-none (args .o) (args .number) (args .m))
+
+mul-row : tie.Need-mul-row Inv-loop μ-loop
+mul-row c = omega arith
+
+element-copy-out-row : tie.Need-element-copy-out-row Inv-loop μ-loop
+element-copy-out-row c = omega arith
+
+step-requires : tie.Need-step-requires Inv-loop μ-loop
+step-requires c κs = search needs
+
+returns : tie.Need-returns Inv-loop μ-loop
+returns c =
+    let at-loop = c .before .before .before .before in
+    let start = at-loop .before .before in
+    let args = start .args in
+    moved-full (args .o) (args .number) (args .m) (size start) (at-loop .loop .after) (at-loop .loop .i) (at-loop .loop .inv .1) _ _
+    (omega (arith, at-loop .before .held .ensures)) (c .before .step .ensures) (c .if1 .taken)
+
+mul-next : tie.Need-mul-next Inv-loop μ-loop
+mul-next c = omega arith
+
+element-set-from-next : tie.Need-element-set-from-next Inv-loop μ-loop
+element-set-from-next c = omega arith
+
+add-i : tie.Need-add-i Inv-loop μ-loop
+add-i c = omega arith
+
+loop-less : tie.Need-loop-less Inv-loop μ-loop
+loop-less c = omega arith
+
+loop-again : tie.Need-loop-again Inv-loop μ-loop
+loop-again c =
+    let at-loop = c .before .before .before .before .before in
+    let start = at-loop .before .before in
+    let args = start .args in (
+      omega arith,
+      moved-next (args .o) (args .number) (args .m) (size start) (at-loop .loop .after) (at-loop .loop .i) (at-loop .loop .inv .1) _ _
+          (omega (arith, at-loop .before .held .ensures)) (c .before .before .step .ensures) (c .before .if1 .left),
+    )
+
+returns-2 : tie.Need-returns-2 Inv-loop μ-loop
+returns-2 c =
+    let start = c .before .before .before in
+    let args = start .args in
+    moved-all (args .o) (args .number) (args .m) (size start) (c .before .loop .after) (c .before .loop .i) (c .before .loop .inv .1)
+    (omega (arith, c .before .before .held .ensures))
+
+pub step-spec : {M : Type 1} → statement M
+step-spec =
+    tie.close
+    (tie.spec
+    Inv-loop
+    μ-loop
+    held-requires
+    loop-holds
+    mul-row
+    element-copy-out-row
+    step-requires
+    returns
+    mul-next
+    element-set-from-next
+    add-i
+    loop-less
+    loop-again
+    returns-2)

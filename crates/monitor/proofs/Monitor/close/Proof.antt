@@ -3,7 +3,7 @@ use Rattle.monitor.proofs.Monitor.close.Statement.{statement}
 use Rattle.monitor.proofs.Monitor.close.Tie as tie
 
 step-requires : tie.Need-step-requires
-step-requires c κs = ?
+step-requires c κs = tt
 
 returns : tie.Need-returns
 returns c = c .step .ensures

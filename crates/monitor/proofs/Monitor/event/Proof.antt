@@ -3,7 +3,7 @@ use Rattle.monitor.proofs.Monitor.event.Statement.{statement}
 use Rattle.monitor.proofs.Monitor.event.Tie as tie
 
 step-requires : tie.Need-step-requires
-step-requires c κs = ?
+step-requires c κs = tt
 
 returns : tie.Need-returns
 returns c = c .step .ensures

@@ -106,7 +106,7 @@ static int first_broken(void)
     uint64_t row;
 
     for (row = 0; row < delkuthi_rows(&monitor); row++)
-        if (DELKUTHI_IS_BROKEN(delkuthi_verdict(&monitor, row)))
+        if (delkuthi_row_verdict(&monitor, row) == DELKUTHI_BROKEN)
             return (int)row;
     return -1;
 }
@@ -136,7 +136,7 @@ int bench(const uint8_t *table, size_t table_length)
     }
     if (row >= 0)
         printf("row %d broken at step %" PRIu64 "\n", row,
-               delkuthi_verdict(&monitor, (uint64_t)row));
+               delkuthi_row_step(&monitor, (uint64_t)row));
     else if (refused)
         printf("step refused with %d\n", refused);
     else
@@ -202,13 +202,16 @@ enum delkuthi_refusal {
 
     /* A recording (delkuthi_report). Mend the recording. */
     DELKUTHI_RECORDING_VERSION = 13, /* it does not begin with a byte 1 */
-    DELKUTHI_RECORD = 14             /* a record is not whole, or its length
+    DELKUTHI_RECORD = 14,            /* a record is not whole, or its length
                                         is neither 8 nor 9 */
 
+    /* A row's number (delkuthi_row_verdict). Rows are numbered from 0. */
+    DELKUTHI_NO_ROW = 15 /* the table has no row of that number */
+
     /*
-     * Three more have no call of this header that answers them: 15, no row of
-     * that number, is DELKUTHI_NO_ROW here; 16, a buffer that is too short, is
-     * the table writer's; 17, a file that is too large, is the program's.
+     * Two more have no call of this header that answers them: 16, a buffer
+     * that is too short, is the table writer's; 17, a file that is too large,
+     * is the program's.
      */
 };
 
@@ -263,16 +266,21 @@ uint8_t delkuthi_close(delkuthi_monitor *monitor);
  * Returns
  *   DELKUTHI_OPEN    it can still be met, and the recording is not closed
  *   DELKUTHI_KEPT    it is met, and the recording is closed
- *   DELKUTHI_NO_ROW  the table has no row of that number (refusal 15)
- *   any other        it is broken, and this is the number of the step that
- *                    broke it: DELKUTHI_IS_BROKEN
+ *   DELKUTHI_BROKEN  it cannot be met any more: delkuthi_row_step says since
+ *                    which step
+ *   DELKUTHI_NO_ROW  the table has no row of that number
  */
-uint64_t delkuthi_verdict(const delkuthi_monitor *monitor, uint64_t row);
+uint8_t delkuthi_row_verdict(const delkuthi_monitor *monitor, uint64_t row);
 
-#define DELKUTHI_OPEN   UINT64_C(0)
-#define DELKUTHI_KEPT   UINT64_MAX
-#define DELKUTHI_NO_ROW (UINT64_MAX - 1)
-#define DELKUTHI_IS_BROKEN(verdict) ((uint64_t)(verdict) - 1 < UINT64_MAX - 2)
+#define DELKUTHI_OPEN   0
+#define DELKUTHI_KEPT   1
+#define DELKUTHI_BROKEN 2
+
+/*
+ * Returns the number of the step that broke a row, the first step being 1; or
+ * 0 if the row is not broken, or there is no row of that number.
+ */
+uint64_t delkuthi_row_step(const delkuthi_monitor *monitor, uint64_t row);
 
 /* Returns the number of rows of the monitor's table, 0 to 32. */
 uint64_t delkuthi_rows(const delkuthi_monitor *monitor);

@@ -59,6 +59,7 @@ void start(void)
     (void)delkuthi_event(&monitor, 0, 0);
     (void)delkuthi_tick(&monitor, 0);
     (void)delkuthi_close(&monitor);
-    (void)delkuthi_verdict(&monitor, delkuthi_rows(&monitor));
+    (void)delkuthi_row_verdict(&monitor, delkuthi_rows(&monitor));
+    (void)delkuthi_row_step(&monitor, delkuthi_rows(&monitor));
     (void)delkuthi_report(bytes, sizeof bytes, bytes, sizeof bytes, report, sizeof report);
 }

@@ -19,7 +19,7 @@ static int first_broken(void)
     uint64_t row;
 
     for (row = 0; row < delkuthi_rows(&monitor); row++)
-        if (DELKUTHI_IS_BROKEN(delkuthi_verdict(&monitor, row)))
+        if (delkuthi_row_verdict(&monitor, row) == DELKUTHI_BROKEN)
             return (int)row;
     return -1;
 }
@@ -49,7 +49,7 @@ int bench(const uint8_t *table, size_t table_length)
     }
     if (row >= 0)
         printf("row %d broken at step %" PRIu64 "\n", row,
-               delkuthi_verdict(&monitor, (uint64_t)row));
+               delkuthi_row_step(&monitor, (uint64_t)row));
     else if (refused)
         printf("step refused with %d\n", refused);
     else

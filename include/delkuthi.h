@@ -112,13 +112,18 @@ static int first_broken(void)
 }
 
 // Says what has stopped the bench. 0: every row kept. 1: a row is broken.
-// 2: the table or a step was refused.
+// 2: the table or a step was refused. 3: the library is not this header's.
 int bench(const uint8_t *table, size_t table_length)
 {
-    uint64_t time, answer = delkuthi_fresh(&monitor, table, table_length);
+    uint64_t time, answer;
     uint8_t kind, refused = 0;
     int row = -1, what = 'e';
 
+    if (!DELKUTHI_MATCHES()) {
+        printf("the library is not this header's\n");
+        return 3;
+    }
+    answer = delkuthi_fresh(&monitor, table, table_length);
     if (answer != DELKUTHI_TAKEN) {
         printf("table refused with %d at byte %" PRIu64 "\n",
                DELKUTHI_NUMBER(answer), DELKUTHI_PLACE(answer));
@@ -155,6 +160,9 @@ int bench(const uint8_t *table, size_t table_length)
 extern "C" {
 #endif
 
+/* The version of this header, 0.2.0: major * 1000000 + minor * 1000 + patch. */
+#define DELKUTHI_VERSION UINT32_C(2000)
+
 #define DELKUTHI_LAST_TIME     UINT64_C(72057594037927935)
 #define DELKUTHI_LAST_KIND     63
 #define DELKUTHI_ROW_LIMIT     32
@@ -171,6 +179,21 @@ extern "C" {
 typedef struct delkuthi_monitor {
     uint64_t words[2788];
 } delkuthi_monitor;
+
+/* Returns the version of the library, which is that of its own header. */
+uint32_t delkuthi_version(void);
+
+/* Returns the bytes of a monitor, as the library has it. */
+uint64_t delkuthi_monitor_size(void);
+
+/*
+ * Is the library that was linked the one of this header? Ask it once, before
+ * the first call: another one may answer other numbers, or write past the end
+ * of a monitor.
+ */
+#define DELKUTHI_MATCHES() \
+    (delkuthi_version() == DELKUTHI_VERSION && \
+     delkuthi_monitor_size() == sizeof(delkuthi_monitor))
 
 /* The answer of a call that was taken. */
 #define DELKUTHI_TAKEN 0

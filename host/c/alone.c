@@ -55,6 +55,7 @@ void start(void)
     static delkuthi_monitor monitor;
     static uint8_t bytes[1], report[DELKUTHI_REPORT_LIMIT];
 
+    (void)DELKUTHI_MATCHES();
     (void)delkuthi_fresh(&monitor, bytes, sizeof bytes);
     (void)delkuthi_event(&monitor, 0, 0);
     (void)delkuthi_tick(&monitor, 0);

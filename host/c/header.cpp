@@ -12,7 +12,8 @@ int main()
 {
     static const uint8_t table[6] = {1, 0, 3, 6, 0, 1};
     static const uint8_t recording[1] = {1};
-    bool well = delkuthi_fresh(&bench.monitor, table, sizeof table) == DELKUTHI_TAKEN;
+    bool well = DELKUTHI_MATCHES();
+    well = well && delkuthi_fresh(&bench.monitor, table, sizeof table) == DELKUTHI_TAKEN;
     well = well && delkuthi_event(&bench.monitor, 1, 5) == DELKUTHI_TAKEN;
     well = well && delkuthi_tick(&bench.monitor, 6) == DELKUTHI_TAKEN;
     well = well && delkuthi_row_verdict(&bench.monitor, 0) == DELKUTHI_BROKEN;

@@ -18,6 +18,16 @@ use Rattle.monitor.specs.declared.Monitor.{Monitor}
 use Rattle.monitor.specs.declared.Stepped.{Stepped}
 use Rattle.delkuthi.specs.declared.lent.Numbered.{Numbered}
 
+-- ---- the library
+
+-- 0.2.0: major * 1,000,000 + minor * 1,000 + patch
+abbrev pub version : ℕ
+version = 0 * 1000000 + 2 * 1000 + 0
+
+-- the bytes of a monitor (`monitor-size`: of its type on the machine)
+abbrev pub monitorSize : ℕ
+monitorSize = 22304
+
 -- ---- fresh
 
 -- the number that answers and the monitor behind the reference then: 0, and the fresh monitor over the table's rows;

@@ -10,7 +10,28 @@ ghost use mathlib.Core.Path.{_≡_};
 ghost use Rattle.constraint.specs.Steps.{event, tick, close};
 ghost use Rattle.monitor.specs.Contract.{Steps, verdictIn, stepIn};
 ghost use Rattle.monitor.specs.Parts.{verdictBy};
-ghost use Rattle.delkuthi.specs.Lent.{Begins, numbered, steppedFrom, wordOf, WordOfVerdict, StepOfVerdict, NumberOfRows};
+ghost use Rattle.delkuthi.specs.Lent.{Begins, numbered, steppedFrom, wordOf, WordOfVerdict, StepOfVerdict, NumberOfRows, version, monitorSize};
+
+// The version of the library: 0.2.0 as major * 1,000,000 + minor * 1,000 + patch.
+pub const VERSION: u32 = 2000;
+// The bytes of a monitor.
+pub const MONITOR_SIZE: u64 = 22304;
+
+// The version of the library, for a host to compare with that of its header.
+#[no_mangle]
+pub extern "C" fn delkuthi_version() -> u32
+    ensures { λ r. ⌜ r ≡ version ⌝ }
+{
+    VERSION
+}
+
+// The bytes of a monitor, for a host to compare with the size that it lends.
+#[no_mangle]
+pub extern "C" fn delkuthi_monitor_size() -> u64
+    ensures { λ r. ⌜ r ≡ monitorSize ⌝ }
+{
+    MONITOR_SIZE
+}
 
 // The answer as a number, 0 where the table is accepted, and the monitor then.
 pub struct Begun {

@@ -45,6 +45,9 @@ impl Monitor {
     ///
     /// # Errors
     /// 1 to 7, with the place in the table.
+    ///
+    /// # Panics
+    /// If the archive that was linked is not this crate's: [`matches`](crate::matches).
     pub fn fresh(table: &[u8]) -> Result<Monitor, Refusal> {
         let mut monitor = Monitor::from_words([0; WORDS]);
         monitor.restart(table)?;
@@ -117,7 +120,11 @@ impl Monitor {
 
     /// A monitor from memory that was put aside. Any words are safe: each call on them still ends and touches nothing
     /// else. But on words that [`Monitor::words`] did not give, what a call answers means nothing.
+    ///
+    /// # Panics
+    /// If the archive that was linked is not this crate's: [`matches`](crate::matches).
     pub fn from_words(words: [u64; WORDS]) -> Monitor {
+        assert!(crate::matches(), "the archive libdelkuthi.a is not this crate's");
         Monitor { words }
     }
 }

@@ -18,8 +18,9 @@
  *     still meet its TADL2 definition, with the first step after which that
  *     was so. Else it reads open, or kept once the recording is closed.
  *   - A broken row stays broken, at the same step.
- * This is the theorem monitor-is-exact, checked by a machine, not by tests.
- * docs/DATASHEET.md has what it says, what it assumes, and what is not
+ * A machine has checked this, not tests: the first point is the contract of
+ * each call, the others are the theorem monitor-is-exact over all calls.
+ * docs/DATASHEET.md has what they say, what they assume, and what is not
  * promised.
  *
  *

@@ -27,10 +27,12 @@ mod ffi;
 mod monitor;
 mod refusal;
 mod report;
+mod version;
 
 pub use monitor::{Monitor, Verdict, WORDS};
 pub use refusal::Refusal;
 pub use report::{REPORT_LIMIT, report};
+pub use version::{VERSION, library_version, matches};
 
 /// The largest kind of event.
 pub const LAST_KIND: u8 = 63;

@@ -9,9 +9,10 @@ use mathlib.Core.Option.{Option, none, some}
 use lib.ListN.{length, getD, getElem?}
 use lib.Dec.{leb, ltb}
 use borrow.Author.Tests.{ltb-true}
-use Rattle.constraint.specs.Limits.{lastKind, lastTime, rowLimit}
-use Rattle.constraint.specs.Steps.{Step, event, tick, close}
+use Rattle.constraint.specs.Limits.{rowLimit}
+use Rattle.constraint.specs.Steps.{Step}
 use Rattle.constraint.specs.Promise.{ReadsRow, row, no-row}
+use Rattle.constraint.specs.declared.Call.{Call}
 use Rattle.constraint.specs.declared.Answer.the-variants.{Refused}
 use Rattle.constraint.specs.declared.Constraint.{Constraint}
 use Rattle.constraint.specs.declared.Verdict.{Verdict}
@@ -19,7 +20,7 @@ use Rattle.constraint.proofs.Judged.{never}
 use Rattle.constraint.proofs.Lists.{split}
 use Rattle.row.specs.Machine.{rowVerdict}
 use Rattle.row.proofs.Engine.{engine}
-use Rattle.monitor.specs.Machine.{noRow, refuses, crowds, stepOf, eventOf, tickOf, closeOf, verdictOf}
+use Rattle.monitor.specs.Machine.{noRow, refuses, takes, refusalBy, nextFor, crowds, takenCall, stepOf, verdictOf}
 use Rattle.monitor.specs.Contract.{Steps, verdictIn, stepIn}
 use Rattle.monitor.specs.Parts.{placeOf, verdictBy}
 use Rattle.delkuthi.specs.Lent.{
@@ -51,17 +52,24 @@ told-or : (m : Monitor) (n : ℕ) (test : Bool) {later : Stepped} → answerFrom
 told-or m n true e t = record { back = e }
 told-or m n false e t = t
 
-step-told : (m : Monitor) (s : Step) → Told (stepOf m s)
-unfolding eventOf tickOf closeOf
-step-told m (event k t) =
-    told-or m 8 (ltb 0 (m .closed)) refl (told-or m 9 (ltb lastKind k) refl (told-or m 10 (ltb lastTime t) refl
-    (told-or m 11 (ltb t (m .clock) || ltb t (getD (m .next) k 0)) refl (told-or m 12 (crowds m k t) refl (record { back = refl })))))
-step-told m (tick t) =
-    told-or m 8 (ltb 0 (m .closed)) refl (told-or m 10 (ltb lastTime t) refl (told-or m 11 (leb t (m .clock)) refl (record { back = refl })))
-step-told m close = told-or m 8 (ltb 0 (m .closed)) refl (record { back = refl })
+-- each number of a refusal but 12 is above 0
+refusal-told : (call : Call) (closed clock next : ℕ) → let n = refusalBy call closed clock next in 0 < n → answerFrom n ≡ Refused n
+refusal-told call closed clock next = of-number (refusalBy call closed clock next)
+  where
+    of-number : (n : ℕ) → 0 < n → answerFrom n ≡ Refused n
+    of-number zero h = absurd (omega arith)
+    of-number (suc n) h = refl
+
+step-told : (m : Monitor) (s : Call) → Told (stepOf m s)
+unfolding stepOf
+step-told m s =
+    let n = refusalBy s (m .closed) (m .clock) (nextFor m s) in
+    split (ltb 0 n) (λ x. Told (cond x (refuses n m) (cond (crowds m s) (refuses 12 m) (takes (takenCall m s)))))
+    (λ e. record { back = refusal-told s (m .closed) (m .clock) (nextFor m s) (ltb-true 0 n e) })
+    (λ e. told-or m 12 (crowds m s) refl (record { back = refl }))
 
 -- a step whose answer is a number keeps the contract of a step
-pub numbered-kept : (m : Monitor) (s : Step) (stepped : Stepped) (r : Numbered) → Steps m s stepped → r ≡ numbered stepped
+pub numbered-kept : (m : Monitor) (s : Call) (stepped : Stepped) (r : Numbered) → Steps m s stepped → r ≡ numbered stepped
     → Steps m s (steppedFrom (r .number) (r .monitor))
 numbered-kept m s stepped r steps e =
     steps-kept m s
@@ -104,12 +112,12 @@ number-kept number m i answer e =
 
 -- a number that is made of what the verdict is read off is the verdict's
 module _ (number : Option Verdict → ℕ) (m : Monitor) (i answer : ℕ) (full : length (m .rows) ≡ rowLimit)
-    (made : answer ≡ number (verdictIn (verdictBy i (m .len) (m .closed) (getD (m .rows) (placeOf i) noRow .broken)))) where
+    (made : answer ≡ number (verdictIn (verdictBy i (m .len) (m .closed) (getD (m .rows) (placeOf i) noRow .now .broken)))) where
   number-read : answer ≡ number (verdictOf m i)
   number-read = made ∙ ap number (verdict-by-is m full i noRow)
 
 pub word-kept : (m : Monitor) (i word : ℕ) → length (m .rows) ≡ rowLimit
-    → word ≡ wordOf (verdictIn (verdictBy i (m .len) (m .closed) (getD (m .rows) (placeOf i) noRow .broken))) → WordOfVerdict m i word
+    → word ≡ wordOf (verdictIn (verdictBy i (m .len) (m .closed) (getD (m .rows) (placeOf i) noRow .now .broken))) → WordOfVerdict m i word
 word-kept m i word full made =
     let e = number-read wordOf m i word full made in
     record {
@@ -135,13 +143,13 @@ step-agrees true broken closed =
 step-agrees false broken closed = (λ h. absurd (omega arith), λ h. absurd (omega arith))
 
 pub step-kept : (m : Monitor) (i step : ℕ) → length (m .rows) ≡ rowLimit
-    → step ≡ stepIn (verdictIn (verdictBy i (m .len) (m .closed) (getD (m .rows) (placeOf i) noRow .broken))) → StepOfVerdict m i step
+    → step ≡ stepIn (verdictIn (verdictBy i (m .len) (m .closed) (getD (m .rows) (placeOf i) noRow .now .broken))) → StepOfVerdict m i step
 unfolding verdictOf rowVerdict
 step-kept m i step full made =
     let e = number-read stepIn m i step full made in
     record {
       says = number-kept stepIn m i step e;
-      broken = rw e (step-agrees (ltb i (m .len) && ltb i rowLimit) (getD (m .rows) i noRow .broken) (ltb 0 (m .closed)));
+      broken = rw e (step-agrees (ltb i (m .len) && ltb i rowLimit) (getD (m .rows) i noRow .now .broken) (ltb 0 (m .closed)));
     }
 
 -- ---- rows

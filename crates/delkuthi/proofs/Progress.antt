@@ -8,15 +8,16 @@ use lib.ListN.{length}
 use lib.Dec.{eqb}
 use Rattle.constraint.specs.Steps.{Step, event, tick, close, at, closed}
 use Rattle.constraint.specs.Questions.{Judged}
-use Rattle.constraint.specs.Run.{questions}
+use Rattle.constraint.specs.Run.{stepFor, questions}
 use Rattle.constraint.specs.Bytes.{numberAt}
 use Rattle.constraint.specs.Table.{bodyAt}
-use Rattle.constraint.specs.Recording.{stepOf, RecordAt, RecordingRead, recording-of, recording-refused, ReadsRecords, no-more, record-refused, record-taken}
+use Rattle.constraint.specs.Recording.{callOf, RecordAt, RecordingRead, recording-of, recording-refused, ReadsRecords, no-more, record-refused, record-taken}
+use Rattle.constraint.specs.declared.Call.{Call}
 use Rattle.constraint.specs.declared.Answer.the-variants.{Taken, Refused}
 use Rattle.constraint.specs.declared.Constraint.{Constraint}
 use Rattle.constraint.proofs.History.{closed-event, closed-tick}
 use Rattle.constraint.proofs.Judged.{never, judged-yes, judged-once}
-use Rattle.recording.specs.Record.{StepAt}
+use Rattle.recording.specs.Record.{CallAt}
 use Rattle.recording.proofs.Records.{record-judged, record-refused as record-not-there}
 use Rattle.monitor.specs.Machine.{refuses}
 use Rattle.monitor.specs.Contract.{Steps}
@@ -29,12 +30,12 @@ use Rattle.delkuthi.proofs.Taking.{took-judged, took-more}
 -- One record
 
 -- a record that stands for a step, which the monitor was given
-pub step-takes : (m : Monitor) (bytes : List ℕ) (place : ℕ) (s : Step) (size : ℕ) (result : Stepped) → StepAt bytes place s size → Steps m s result
+pub step-takes : (m : Monitor) (bytes : List ℕ) (place : ℕ) (s : Call) (size : ℕ) (result : Stepped) → CallAt bytes place s size → Steps m s result
     → TakesRecord m bytes place (record { stepped = result; next = place + size })
 step-takes m bytes place s size result read kept =
     record {
       judged = λ rows steps took. record-judged rows steps bytes place s size (result .answer) read (took-judged rows steps m took s result kept);
-      taken = λ rows steps took e. rw (read .step-read) (took-more rows steps m took s result kept e);
+      taken = λ rows steps took e. rw (read .call-read) (took-more rows steps m took s result kept e);
       next-is = λ e. (omega (arith, read .size-read), omega (arith, read .size-read, read .there .0 .1));
     }
 
@@ -57,10 +58,10 @@ pub record TakenUpTo (rows : List Constraint) (bytes : List ℕ) (m : Monitor) (
   pub whole : (read : RecordingRead) → ReadsRecords rows bytes steps place read → ReadsRecords rows bytes [] 1 read
 
 -- no record is a close
-unclosed-more : (body : List ℕ) (steps : List Step) → closed steps ≡ false → closed (steps ++ (stepOf body ∷ [])) ≡ false
+unclosed-more : (body : List ℕ) (steps : List Step) → closed steps ≡ false → closed (steps ++ (stepFor (callOf body) ∷ [])) ≡ false
 unclosed-more body steps before = go (eqb (length body) 9)
   where
-    go : (b : Bool) → closed (steps ++ (cond b (event (at body 0) (numberAt 8 body 1)) (tick (numberAt 8 body 0)) ∷ [])) ≡ false
+    go : (b : Bool) → closed (steps ++ (stepFor (cond b (Call.Event (at body 0) (numberAt 8 body 1)) (Call.Tick (numberAt 8 body 0))) ∷ [])) ≡ false
     go true = closed-event (at body 0) (numberAt 8 body 1) steps ∙ before
     go false = closed-tick (numberAt 8 body 0) steps ∙ before
 
@@ -74,13 +75,13 @@ module _ (rows : List Constraint) (bytes : List ℕ) where
         → TakenUpTo rows bytes (result .stepped .monitor) (result .next)
     up-to-more result there takes e =
         record {
-          steps = before .steps ++ (stepOf (bodyAt bytes place) ∷ []);
+          steps = before .steps ++ (stepFor (callOf (bodyAt bytes place)) ∷ []);
           took = takes .taken rows (before .steps) (before .took) e;
           not-closed = unclosed-more (bodyAt bytes place) (before .steps) (before .not-closed);
           whole = λ read reads.
               before .whole read
               (record-taken there (subst (Judged _) e (takes .judged rows (before .steps) (before .took)))
-              (subst (λ (next : ℕ). ReadsRecords rows bytes (before .steps ++ (stepOf (bodyAt bytes place) ∷ [])) next read) (takes .next-is e .0) reads));
+              (subst (λ (next : ℕ). ReadsRecords rows bytes (before .steps ++ (stepFor (callOf (bodyAt bytes place)) ∷ [])) next read) (takes .next-is e .0) reads));
         }
 
     pub up-to-refused : (result : RecordTaken) (n : ℕ) → place < length bytes → TakesRecord m bytes place result → result .stepped .answer ≡ Refused n
@@ -89,10 +90,10 @@ module _ (rows : List Constraint) (bytes : List ℕ) where
         before .whole (recording-refused n place) (record-refused n there (subst (Judged _) e (takes .judged rows (before .steps) (before .took))))
 
     -- the close is taken
-    pub up-to-end : (result : Stepped) → length bytes ≤ place → Steps m close result
+    pub up-to-end : (result : Stepped) → length bytes ≤ place → Steps m Call.Close result
         → (steps : List Step) × ReadsRecords rows bytes [] 1 (recording-of steps) × Took rows (steps ++ (close ∷ [])) (result .monitor)
     unfolding questions Judged
     up-to-end result end kept =
-        let asked = took-judged rows (before .steps) m (before .took) close result kept in
-        let taken = judged-once (questions rows (before .steps) close) (result .answer) Taken asked (judged-yes 8 _ [] Taken (before .not-closed) refl) in
-        (before .steps, before .whole (recording-of (before .steps)) (no-more end), took-more rows (before .steps) m (before .took) close result kept taken)
+        let asked = took-judged rows (before .steps) m (before .took) Call.Close result kept in
+        let taken = judged-once (questions rows (before .steps) Call.Close) (result .answer) Taken asked (judged-yes 8 _ [] Taken (before .not-closed) refl) in
+        (before .steps, before .whole (recording-of (before .steps)) (no-more end), took-more rows (before .steps) m (before .took) Call.Close result kept taken)

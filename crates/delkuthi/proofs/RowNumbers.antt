@@ -139,7 +139,7 @@ abbrev Arg : Type 0
 Arg = RefT Monitor × (ℕ × Unit {0})
 
 module _ (width : Width) (callee : Name) where
-  -- let at = verdicts::place(row); let broken = m.rows[at].broken; callee(row, m.len, m.closed, broken)
+  -- let at = verdicts::place(row); let broken = m.rows[at].now.broken; callee(row, m.len, m.closed, broken)
   abbrev pub function : Fn
   function =
       record {
@@ -152,10 +152,10 @@ module _ (width : Width) (callee : Name) where
             ∷ local (tyInt w64) valueLocal ∷ local tyPtr valueLocal ∷ local tyPtr valueLocal ∷ local (tyInt w64) valueLocal ∷ [];
         body =
             seq (call #monitor·verdicts·place (copy (place 2 []) ∷ []) (place 3 []))
-            (seq (assign (place 5 []) (op2 (mul unsigned) (copy (place 3 [])) (int w64 680)))
+            (seq (assign (place 5 []) (op2 (mul unsigned) (copy (place 3 [])) (int w64 688)))
             (seq (assign (place 6 []) (addrOf (place 1 (deref T′.mir ∷ field 0 ∷ []))))
             (seq (assign (place 7 []) (op2 offset (copy (place 6 [])) (copy (place 5 []))))
-            (seq (assign (place 4 []) (rvOpd (copy (place 7 (deref S′.mir ∷ field 4 ∷ [])))))
+            (seq (assign (place 4 []) (rvOpd (copy (place 7 (deref S′.mir ∷ field 2 ∷ field 5 ∷ [])))))
             (seq (assign (place 5 []) (rvOpd (copy (place 1 (deref T′.mir ∷ field 5 ∷ [])))))
             (seq (assign (place 8 []) (rvOpd (copy (place 1 (deref T′.mir ∷ field 4 ∷ [])))))
             (seq (call callee (copy (place 2 []) ∷ copy (place 5 []) ∷ copy (place 8 []) ∷ copy (place 4 []) ∷ []) (place 0 []))
@@ -217,7 +217,7 @@ module _ {M : Type 1} (𝓤 : URA M) (H : Heap 𝓤) (A : Atoms 𝓤) where
 
 module _ (width : Width) (callee : Name) (number : ℕ → ℕ → ℕ → ℕ → ℕ) (Said : Monitor → ℕ → ℕ → Type 0)
     (said : (h : Monitor) (i r : ℕ) → length (h .rows) ≡ 32
-    → r ≡ number i (h .len) (h .closed) (getD (h .rows) (placeOf i) noRow .broken) → Said h i r) where
+    → r ≡ number i (h .len) (h .closed) (getD (h .rows) (placeOf i) noRow .now .broken) → Said h i r) where
   module _ {M : Type 1} (𝓤 : URA M) (H : Heap 𝓤) (A : Atoms 𝓤) (W : Given 𝓤 H A) (mem : Memory → SProp 𝓤) (run : Routine → Fun 𝓤) (κ : Lft)
       (q : Share) (b o : ℕ) (γ : GName) (h : Monitor) (i : ℕ) (i-fits : i < 2 ^ 64) where
     abbrev x : Arg
@@ -231,7 +231,7 @@ module _ (width : Width) (callee : Name) (number : ℕ → ℕ → ℕ → ℕ �
 
     -- the step that broke the row at a place
     abbrev step : ℕ → ℕ
-    step r = getD (h .rows) r noRow .broken
+    step r = getD (h .rows) r noRow .now .broken
 
     -- what is passed to the functions that are called
     abbrev to-place : Place 𝓤 H A mem run .Ghost
@@ -307,10 +307,10 @@ module _ (width : Width) (callee : Name) (number : ℕ → ℕ → ℕ → ℕ �
           assigns ! (addr ! (from ! (hop ! (look ! 21 refl) (fld ! refl (stop !))))) (from ! (stop !)) (init ! 11 refl (tt, tt)) $
           assigns ! (bin ! (load ! (from ! (stop !)) (look ! 11 refl)) (load ! (from ! (stop !)) (look ! 13 refl)) tt) (from ! (stop !))
           (init ! 9 refl (tt, tt)) $
-          assigns ! (of-opd ! (load ! (from ! (hop ! (look ! 9 refl) (fld ! refl (stop !))))
-          (look-in ! 0 (sub ! 4 refl (as-val ! (row-at h was r)
+          assigns ! (of-opd ! (load ! (from ! (hop ! (look ! 9 refl) (fld ! refl (fld ! refl (stop !)))))
+          (look-in ! 0 (sub ! 5 refl (sub ! 2 refl (as-val ! (row-at h was r)
           (elem ! (row-vals (h .rows)) r (row-val noRow) (subst (λ (n : ℕ). r < n) (sym (vals-32 h was)) (small r e)) (vals-32 h was)
-          (sub ! 0 refl (whole !)))))))) (from ! (stop !)) (init ! 15 refl (tt, record { fits = broken-fits was r (small r e) })) $
+          (sub ! 0 refl (whole !))))))))) (from ! (stop !)) (init ! 15 refl (tt, record { fits = broken-fits was r (small r e) })) $
           assigns ! (of-opd ! (load ! (from ! (hop ! (look ! 21 refl) (fld ! refl (stop !)))) (look-in ! 0 (sub ! 5 refl (whole !)))))
           (from ! (stop !)) (store ! 13 refl (tt, record { fits = len-fits was })) $
           assigns ! (of-opd ! (load ! (from ! (hop ! (look ! 21 refl) (fld ! refl (stop !)))) (look-in ! 0 (sub ! 4 refl (whole !)))))
@@ -347,7 +347,7 @@ module _ (width : Width) (callee : Name) (number : ℕ → ℕ → ℕ → ℕ �
           closed-fits was = LL.owed T.the-type T′.the-laws h _ was .1 .1 .1 .1 .0 .1
 
           broken-fits : Is T.the-row h (val h ∷ []) → (r : ℕ) → r < 32 → step r < 2 ^ 64
-          broken-fits was r l = LL.owed S.the-type S′.the-laws (getD (h .rows) r noRow) _ (row-is h was r l) .1 .1 .1 .1 .0 .1
+          broken-fits was r l = LL.owed S.the-type S′.the-laws (getD (h .rows) r noRow) _ (row-is h was r l) .1 .1 .0 .1 .1 .1 .1 .1 .1 .1 .0 .1
 
   module _ {M : Type 1} (𝓤 : URA M) (H : Heap 𝓤) (A : Atoms 𝓤) (W : Given 𝓤 H A) (mem : Memory → SProp 𝓤) (run : Routine → Fun 𝓤) where
     walks : (C : Calls 𝓤 H) (Λ : Loops 𝓤 H) → FmC 𝓤 H (W .laws) C → Triple 𝓤 (C #monitor·verdicts·place) (Place 𝓤 H A mem run) → Triple 𝓤 (C callee)

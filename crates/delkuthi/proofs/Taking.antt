@@ -7,10 +7,11 @@ use Rattle.constraint.specs.Steps.{Step}
 use Rattle.constraint.specs.Questions.{Judged}
 use Rattle.constraint.specs.Accepted.{rowsQuestions, Accepted}
 use Rattle.constraint.specs.Rows.{rowsOf}
-use Rattle.constraint.specs.Run.{questions, recorded, Run, done, call}
+use Rattle.constraint.specs.Run.{stepFor, questions, recorded, Run, done, call}
 use Rattle.constraint.specs.Promise.{ReadsRow, play}
 use Rattle.constraint.specs.declared.Answer.{Answer}
 use Rattle.constraint.specs.declared.Answer.the-variants.{Taken}
+use Rattle.constraint.specs.declared.Call.{Call}
 use Rattle.constraint.specs.declared.Constraint.{Constraint}
 use Rattle.constraint.specs.declared.Table.{Table}
 use Rattle.constraint.specs.declared.Verdict.{Verdict}
@@ -26,42 +27,44 @@ use Rattle.monitor.proofs.Demand.{start-follows, play-follows}
 use Rattle.delkuthi.specs.Taking.{Took}
 
 -- one call more, which is taken
-run-more : {rows : List Constraint} {steps calls end : List Step} {answers : List Answer} (s : Step) → Run rows steps calls answers end → Judged (questions rows end s) Taken
-    → Run rows steps (calls ++ (s ∷ [])) (answers ++ (Taken ∷ [])) (end ++ (s ∷ []))
+run-more : {rows : List Constraint} {steps end : List Step} {calls : List Call} {answers : List Answer} (s : Call) → Run rows steps calls answers end → Judged (questions rows end s) Taken
+    → Run rows steps (calls ++ (s ∷ [])) (answers ++ (Taken ∷ [])) (end ++ (stepFor s ∷ []))
 run-more s done judged = call s Taken judged done
 run-more s (call t a earlier rest) judged = call t a earlier (run-more s rest judged)
 
--- a fresh monitor over an accepted table has taken none
+-- a fresh monitor over an accepted table is the one before any call, and has taken none
+pub fresh-made : (table : Table) (answer : Answer) (m : Monitor) → Accepted (rowsOf table) → Freshly table answer m → m ≡ after (rowsOf table) []
+fresh-made table answer m accepted fresh = fresh .made (judged-once (rowsQuestions 0 (rowsOf table) []) answer Taken (fresh .judged) accepted)
+
 pub took-none : (table : Table) (answer : Answer) (m : Monitor) → Accepted (rowsOf table) → Freshly table answer m → Took (rowsOf table) [] m
-took-none table answer m accepted fresh =
-    let taken = judged-once (rowsQuestions 0 (rowsOf table) []) answer Taken (fresh .judged) accepted in
-    record { accepted = accepted; recorded = ([], done); made = fresh .made taken }
+took-none table answer m accepted fresh = record { accepted = accepted; calls = []; recorded = ([], done); made = fresh-made table answer m accepted fresh }
 
 module _ (rows : List Constraint) (steps : List Step) (m : Monitor) (took : Took rows steps m) where
   -- its records follow the steps
   pub took-follows : Follows engine rows steps m
   unfolding after
   took-follows =
-      let played = play-follows engine rows [] (monitorOf rows) (start-follows engine rows (took .accepted)) steps in
+      let played = play-follows engine rows [] (monitorOf rows) (start-follows engine rows (took .accepted)) (took .calls) in
       subst (λ (x : Monitor). Follows engine rows steps x) (sym (took .made))
-      (subst (λ (past : List Step). Follows engine rows past (play step (monitorOf rows) steps .monitor)) (run-once rows (played .1) (took .recorded .1) .1) (played .2))
+      (subst (λ (past : List Step). Follows engine rows past (play step (monitorOf rows) (took .calls) .monitor)) (run-once rows (played .1) (took .recorded .1) .1) (played .2))
 
   -- a row reads what the definitions say after the steps
   pub took-reads : (i : ℕ) (verdict : Option Verdict) → VerdictReading m i verdict → ReadsRow rows steps i verdict
   took-reads i verdict reading =
-      let means = reading .means rows steps (took .accepted) (took .made) in
+      let means = reading .means rows (took .calls) (took .accepted) (took .made) in
       subst (λ (past : List Step). ReadsRow rows past i verdict) (run-once rows (means .1 .1) (took .recorded .1) .1) (means .2)
 
-  module _ (s : Step) (result : Stepped) (kept : Steps m s result) where
+  module _ (s : Call) (result : Stepped) (kept : Steps m s result) where
     pub took-judged : Judged (questions rows steps s) (result .answer)
     took-judged =
-        let means = kept .means rows steps (took .accepted) (took .made) .0 in
+        let means = kept .means rows (took .calls) (took .accepted) (took .made) .0 in
         subst (λ (past : List Step). Judged (questions rows past s) (result .answer)) (run-once rows (means .1 .1) (took .recorded .1) .1) (means .2)
 
-    pub took-more : result .answer ≡ Taken → Took rows (steps ++ (s ∷ [])) (result .monitor)
+    pub took-more : result .answer ≡ Taken → Took rows (steps ++ (stepFor s ∷ [])) (result .monitor)
     took-more e =
         record {
           accepted = took .accepted;
+          calls = took .calls ++ (s ∷ []);
           recorded = (took .recorded .0 ++ (Taken ∷ []), run-more s (took .recorded .1) (subst (Judged (questions rows steps s)) e took-judged));
-          made = kept .means rows steps (took .accepted) (took .made) .1;
+          made = kept .means rows (took .calls) (took .accepted) (took .made) .1;
         }

@@ -9,6 +9,7 @@ use Rattle.constraint.specs.Accepted.{Accepted}
 use Rattle.constraint.specs.Promise.{ReadsRow}
 use Rattle.constraint.specs.declared.Answer.{Answer}
 use Rattle.constraint.specs.declared.Answer.the-variants.{Taken, Refused}
+use Rattle.constraint.specs.declared.Call.{Call}
 use Rattle.constraint.specs.declared.Constraint.{Constraint}
 use Rattle.constraint.specs.declared.Verdict.{Verdict}
 use Rattle.constraint.specs.Table.{ReadsTable, table-of, table-refused}
@@ -26,7 +27,7 @@ version = 0 * 1000000 + 2 * 1000 + 0
 
 -- the bytes of a monitor (`monitor-size`: of its type on the machine)
 abbrev pub monitorSize : ℕ
-monitorSize = 22304
+monitorSize = 22560
 
 -- ---- fresh
 
@@ -66,13 +67,13 @@ wordOf none = 15
 -- a number for what a row number reads: that of its verdict after what the calls have recorded
 pub record NumberOfVerdict (number : Option Verdict → ℕ) (m : Monitor) (i answer : ℕ) : Type 0 where
   pub equals : answer ≡ number (verdictOf m i)
-  pub means : (rows : List Constraint) (calls : List Step) → Accepted rows → m ≡ after rows calls
+  pub means : (rows : List Constraint) (calls : List Call) → Accepted rows → m ≡ after rows calls
       → (steps : List Step) × Recorded rows calls steps × (verdict : Option Verdict) × ReadsRow rows steps i verdict × (answer ≡ number verdict)
 
 -- the word: 15 exactly where the table has no row of that number
 pub record WordOfVerdict (m : Monitor) (i word : ℕ) : Type 0 where
   pub says : NumberOfVerdict wordOf m i word
-  pub no-row : (rows : List Constraint) (calls : List Step) → Accepted rows → m ≡ after rows calls
+  pub no-row : (rows : List Constraint) (calls : List Call) → Accepted rows → m ≡ after rows calls
       → (word ≡ 15 → length rows ≤ i) × (length rows ≤ i → word ≡ 15)
 
 -- the step that broke the row: 0 exactly where the word is not "broken"
@@ -85,4 +86,4 @@ pub record StepOfVerdict (m : Monitor) (i step : ℕ) : Type 0 where
 -- the number of rows
 pub record NumberOfRows (m : Monitor) (number : ℕ) : Type 0 where
   pub equals : number ≡ m .len
-  pub means : (rows : List Constraint) (calls : List Step) → Accepted rows → m ≡ after rows calls → number ≡ length rows
+  pub means : (rows : List Constraint) (calls : List Call) → Accepted rows → m ≡ after rows calls → number ≡ length rows

@@ -7,8 +7,10 @@ use Rattle.constraint.specs.Steps.{Step, close}
 use Rattle.constraint.specs.Questions.{Judged}
 use Rattle.constraint.specs.Accepted.{Accepted}
 use Rattle.constraint.specs.Table.{lengthAt, bodyAt}
-use Rattle.constraint.specs.Recording.{stepOf, recordQuestions, recording-of, recording-refused, ReadsRecording}
+use Rattle.constraint.specs.Recording.{callOf, recordQuestions, recording-of, recording-refused, ReadsRecording}
 use Rattle.constraint.specs.declared.Answer.the-variants.{Taken}
+use Rattle.constraint.specs.Run.{stepFor}
+use Rattle.constraint.specs.declared.Call.{Call}
 use Rattle.constraint.specs.declared.Constraint.{Constraint}
 use Rattle.monitor.specs.Contract.{after, Recorded}
 use Rattle.monitor.specs.declared.Monitor.{Monitor}
@@ -16,17 +18,18 @@ use Rattle.delkuthi.specs.declared.records.RecordTaken.{RecordTaken}
 use Rattle.delkuthi.specs.declared.records.RecordingTaken.{RecordingTaken}
 use Rattle.delkuthi.specs.declared.records.RecordingAnswer.{RecordingAnswer}
 
--- a monitor over an accepted table that has taken just these steps, none of them refused
+-- a monitor over an accepted table after calls that have recorded just these steps
 pub record Took (rows : List Constraint) (steps : List Step) (m : Monitor) : Type 0 where
   pub accepted : Accepted rows
-  pub recorded : Recorded rows steps steps
-  pub made : m ≡ after rows steps
+  pub calls : List Call
+  pub recorded : Recorded rows calls steps
+  pub made : m ≡ after rows calls
 
 -- the record at a place, put to a monitor: the answer is that to its questions; where it is taken, the monitor has taken its step too, and the next record stands behind it
 pub record TakesRecord (m : Monitor) (bytes : List ℕ) (place : ℕ) (result : RecordTaken) : Type 0 where
   pub judged : (rows : List Constraint) (steps : List Step) → Took rows steps m → Judged (recordQuestions rows steps bytes place) (result .stepped .answer)
   pub taken : (rows : List Constraint) (steps : List Step) → Took rows steps m → result .stepped .answer ≡ Taken
-      → Took rows (steps ++ (stepOf (bodyAt bytes place) ∷ [])) (result .stepped .monitor)
+      → Took rows (steps ++ (stepFor (callOf (bodyAt bytes place)) ∷ [])) (result .stepped .monitor)
   pub next-is : result .stepped .answer ≡ Taken → (result .next ≡ place + 2 + lengthAt bytes place) × (result .next ≤ length bytes)
 
 -- what each answer says of the recording and of the monitor beside it

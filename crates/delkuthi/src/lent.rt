@@ -7,7 +7,7 @@ use monitor::Stepped;
 use monitor::verdicts;
 use table::ReadAnswer;
 ghost use mathlib.Core.Path.{_≡_};
-ghost use Rattle.constraint.specs.Steps.{event, tick, close};
+ghost use Rattle.constraint.specs.declared.Call.{Call};
 ghost use Rattle.monitor.specs.Contract.{Steps, verdictIn, stepIn};
 ghost use Rattle.monitor.specs.Parts.{verdictBy};
 ghost use Rattle.delkuthi.specs.Lent.{Begins, numbered, steppedFrom, wordOf, WordOfVerdict, StepOfVerdict, NumberOfRows, version, monitorSize};
@@ -15,7 +15,7 @@ ghost use Rattle.delkuthi.specs.Lent.{Begins, numbered, steppedFrom, wor
 // The version of the library: 0.2.0 as major * 1,000,000 + minor * 1,000 + patch.
 pub const VERSION: u32 = 2000;
 // The bytes of a monitor.
-pub const MONITOR_SIZE: u64 = 22304;
+pub const MONITOR_SIZE: u64 = 22560;
 
 // The version of the library, for a host to compare with that of its header.
 #[no_mangle]
@@ -98,21 +98,21 @@ fn with_number(stepped: Stepped) -> Numbered
 
 // An event, by value.
 fn event(m: Monitor, kind: u8, time: u64) -> Numbered
-    ensures { λ r. ⌜ Steps m (event kind time) (steppedFrom (r .number) (r .monitor)) ⌝ }
+    ensures { λ r. ⌜ Steps m (Call.Event kind time) (steppedFrom (r .number) (r .monitor)) ⌝ }
 {
     with_number(m.event(kind, time))
 }
 
 // A tick, by value.
 fn tick(m: Monitor, time: u64) -> Numbered
-    ensures { λ r. ⌜ Steps m (tick time) (steppedFrom (r .number) (r .monitor)) ⌝ }
+    ensures { λ r. ⌜ Steps m (Call.Tick time) (steppedFrom (r .number) (r .monitor)) ⌝ }
 {
     with_number(m.tick(time))
 }
 
 // The close, by value.
 fn close(m: Monitor) -> Numbered
-    ensures { λ r. ⌜ Steps m close (steppedFrom (r .number) (r .monitor)) ⌝ }
+    ensures { λ r. ⌜ Steps m Call.Close (steppedFrom (r .number) (r .monitor)) ⌝ }
 {
     with_number(m.close())
 }
@@ -148,7 +148,7 @@ fn step_by(row: u64, len: usize, closed: u64, broken: u64) -> u64
 // An event of a kind at a time: 0 if it is taken, else the number of its refusal.
 #[no_mangle]
 pub extern "C" fn delkuthi_event(m: &mut Monitor, kind: u8, time: u64) -> u8
-    ensures { λ r. ⌜ Steps (now (m .entry)) (event kind time) (steppedFrom r (now (m .exit))) ⌝ }
+    ensures { λ r. ⌜ Steps (now (m .entry)) (Call.Event kind time) (steppedFrom r (now (m .exit))) ⌝ }
 {
     let s = event(*m, kind, time);
     let n = s.monitor;
@@ -159,7 +159,7 @@ pub extern "C" fn delkuthi_event(m: &mut Monitor, kind: u8, time: u64) -> u8
 // A tick to a time: 0 if it is taken, else the number of its refusal.
 #[no_mangle]
 pub extern "C" fn delkuthi_tick(m: &mut Monitor, time: u64) -> u8
-    ensures { λ r. ⌜ Steps (now (m .entry)) (tick time) (steppedFrom r (now (m .exit))) ⌝ }
+    ensures { λ r. ⌜ Steps (now (m .entry)) (Call.Tick time) (steppedFrom r (now (m .exit))) ⌝ }
 {
     let s = tick(*m, time);
     let n = s.monitor;
@@ -170,7 +170,7 @@ pub extern "C" fn delkuthi_tick(m: &mut Monitor, time: u64) -> u8
 // The close: 0 if it is taken, else the number of its refusal.
 #[no_mangle]
 pub extern "C" fn delkuthi_close(m: &mut Monitor) -> u8
-    ensures { λ r. ⌜ Steps (now (m .entry)) close (steppedFrom r (now (m .exit))) ⌝ }
+    ensures { λ r. ⌜ Steps (now (m .entry)) Call.Close (steppedFrom r (now (m .exit))) ⌝ }
 {
     let s = close(*m);
     let n = s.monitor;
@@ -184,7 +184,7 @@ pub extern "C" fn delkuthi_row_verdict(m: &Monitor, row: u64) -> u8
     ensures { λ r. ⌜ WordOfVerdict (now (m .entry)) row r ⌝ }
 {
     let at = verdicts::place(row);
-    let broken = m.rows[at].broken;
+    let broken = m.rows[at].now.broken;
     word_by(row, m.len, m.closed, broken)
 }
 
@@ -194,7 +194,7 @@ pub extern "C" fn delkuthi_row_step(m: &Monitor, row: u64) -> u64
     ensures { λ r. ⌜ StepOfVerdict (now (m .entry)) row r ⌝ }
 {
     let at = verdicts::place(row);
-    let broken = m.rows[at].broken;
+    let broken = m.rows[at].now.broken;
     step_by(row, m.len, m.closed, broken)
 }
 

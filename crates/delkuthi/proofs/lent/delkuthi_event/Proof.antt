@@ -37,7 +37,7 @@ use denote.Triple.Spec.{Meets, tripleOf}
 use denote.Triple.Table.{entered, cited}
 use denote.Triple.Walked.{says, Stays, stay-ref, stay-none, walkOf, AllGo, goes-none, goes-ref, Walks, ends-at, walked, walk-meets}
 use denote.Exit.{yes}
-use Rattle.constraint.specs.Steps.{event}
+use Rattle.constraint.specs.declared.Call.{Call}
 use Rattle.monitor.specs.Contract.{Steps}
 use Rattle.delkuthi.specs.Lent.{steppedFrom}
 use Rattle.monitor.specs.declared.Monitor.{Monitor}
@@ -70,8 +70,8 @@ module _ {M : Type 1} (𝓤 : URA M) (H : Heap 𝓤) (A : Atoms 𝓤) (mem : Mem
   Callee = tripleOf 𝓤 H A g.signature (g.spec 𝓤 H A mem run)
 
   -- what it says of its result
-  said-of : (h : Monitor) (k t : ℕ) (r : Numbered) → ent 𝓤 (ensured 𝓤 H A g.ended (g.clauses 𝓤 H A mem run) tt (h, (k, (t, tt))) tt r) (fact 𝓤 (Steps h (event k t) (steppedFrom (r .number) (r .monitor))))
-  said-of h k t r = exE 𝓤 _ (λ ws. snd∗ 𝓤 (sem 𝓤 H A (lasts g.ended tt (h, (k, (t, tt))) ws)) (fact 𝓤 (Steps h (event k t) (steppedFrom (r .number) (r .monitor)))))
+  said-of : (h : Monitor) (k t : ℕ) (r : Numbered) → ent 𝓤 (ensured 𝓤 H A g.ended (g.clauses 𝓤 H A mem run) tt (h, (k, (t, tt))) tt r) (fact 𝓤 (Steps h (Call.Event k t) (steppedFrom (r .number) (r .monitor))))
+  said-of h k t r = exE 𝓤 _ (λ ws. snd∗ 𝓤 (sem 𝓤 H A (lasts g.ended tt (h, (k, (t, tt))) ws)) (fact 𝓤 (Steps h (Call.Event k t) (steppedFrom (r .number) (r .monitor)))))
 
 module _ {M : Type 1} (𝓤 : URA M) (H : Heap 𝓤) (A : Atoms 𝓤) (W : Given 𝓤 H A) (at-mem : Memory → SProp 𝓤) (run : Routine → Fun 𝓤) (κ : Lft) (q : Share) (b o : ℕ) (γ : GName) (h : Monitor) (k t : ℕ) (k-fits : k < 2 ^ 8) (t-fits : t < 2 ^ 64) where
   abbrev x : Arg
@@ -91,7 +91,7 @@ module _ {M : Type 1} (𝓤 : URA M) (H : Heap 𝓤) (A : Atoms 𝓤) (W : Given
   goes-callee is =
       qed W [] ∵ nothing ! $ owned ! u64 (Is u64) (uint-makes 𝓤 H A W w64) t _ (refl, t-fits) $ fjoin ! $ owned ! u8 (Is u8) (uint-makes 𝓤 H A W w8) k _ (refl, k-fits) $ fjoin ! $ owned ! T.the-row (Is T.the-row) ((LL.makes T.the-type T′.the-plain) 𝓤 H A) h _ is $ fjoin ! $ nothing ! $ join ! $ frame ! $ done !
 
-  exits : (r : Numbered) → Steps h (event k t) (steppedFrom (r .number) (r .monitor)) → r .number < 2 ^ 8
+  exits : (r : Numbered) → Steps h (Call.Event k t) (steppedFrom (r .number) (r .monitor)) → r .number < 2 ^ 8
       → ent 𝓤 (⋆ 𝓤 H A (‵ (fobs γ (T.the-row .coded .code (r .monitor))) ∷ ‵ (fbor κ (Body (mem T.the-row) b o γ)) ∷ ‵ (flft κ q) ∷ [])) (Post (vint w8 (r .number)))
   exits r e fits =
       qed W (‵ (fobs γ (T.the-row .coded .code (r .monitor))) ∷ ‵ (fbor κ (Body (mem T.the-row) b o γ)) ∷ ‵ (flft κ q) ∷ []) ∵
@@ -115,7 +115,7 @@ module _ {M : Type 1} (𝓤 : URA M) (H : Heap 𝓤) (A : Atoms 𝓤) (W : Given
         use0 W (raw (Callee 𝓤 H A at-mem run .pre to-callee)) (goes-callee was) $
         calls-at ! fm (Callee 𝓤 H A at-mem run) known to-callee (and-then ! (load ! (from ! (stop !)) (look ! 7 refl)) (and-then ! (load ! (from ! (stop !)) (look ! 15 refl)) (and-then ! (load ! (from ! (stop !)) (look ! 13 refl)) (no-more !)))) (λ w.
         use1 W (later (some (λ (r : Numbered). (‵ ftrue ⊛ ‵ (S.the-row .own r (w ∷ []))) ⊛ raw (ensured 𝓤 H A g.ended (g.clauses 𝓤 H A at-mem run) tt (h, (k, (t, tt))) tt r)))) (id⊢ 𝓤 _) $ await ! tt $ pick ! (λ r.
-        split ! $ move ! (1 ∷ []) $ use1 W (raw (fact 𝓤 (Steps h (event k t) (steppedFrom (r .number) (r .monitor))))) (said-of 𝓤 H A at-mem run h k t r) $ heard ! (Steps h (event k t) (steppedFrom (r .number) (r .monitor))) (λ e. split ! $ drop ! $
+        split ! $ move ! (1 ∷ []) $ use1 W (raw (fact 𝓤 (Steps h (Call.Event k t) (steppedFrom (r .number) (r .monitor))))) (said-of 𝓤 H A at-mem run h k t r) $ heard ! (Steps h (Call.Event k t) (steppedFrom (r .number) (r .monitor))) (λ e. split ! $ drop ! $
         peeks ! S.the-row (Is S.the-row) (shows 𝓤 H A S.the-row) r (w ∷ []) (λ is. drop ! $
         land ! (from ! (stop !)) (init ! 10 refl (LL.lawful S.the-type S′.the-laws 𝓤 H A W .typed r _ is .0)) $
         rewrite ! 10 (λ (u : Val). ‵ (fat fullShare S′.mir l₄ 0 u)) (ap only (LL.tells S.the-type S′.the-laws r (w ∷ []) is)) refl $

@@ -1,6 +1,6 @@
 -- The step by value keeps its contract, and its number says its answer.
 use borrow.Author.Needs.{needs}
-use Rattle.constraint.specs.Steps.{event}
+use Rattle.constraint.specs.declared.Call.{Call}
 use Rattle.delkuthi.proofs.Numbers.{numbered-kept}
 use Rattle.delkuthi.proofs.lent.event.Statement.{statement}
 use Rattle.delkuthi.proofs.lent.event.Tie as tie
@@ -14,7 +14,7 @@ with-number-requires c κs = search needs
 returns : tie.Need-returns
 returns c =
     let args = c .before .before .args in
-    numbered-kept (args .m) (event (args .kind) (args .time)) (c .before .event .result) (c .with-number .result) (c .before .event .ensures) (c .with-number .ensures)
+    numbered-kept (args .m) (Call.Event (args .kind) (args .time)) (c .before .event .result) (c .with-number .result) (c .before .event .ensures) (c .with-number .ensures)
 
 pub event-spec : {M : Type 1} → statement M
 event-spec = tie.close (tie.spec event-requires with-number-requires returns)

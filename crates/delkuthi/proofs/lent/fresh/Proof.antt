@@ -8,7 +8,7 @@ use Rattle.constraint.specs.Table.{ReadsTable, table-of, table-refused}
 use Rattle.delkuthi.specs.Lent.{begun, refused}
 use Rattle.table.proofs.AcceptedRows.{read-accepted}
 use Rattle.delkuthi.proofs.Refusals.{refused-small}
-use Rattle.delkuthi.proofs.Taking.{took-none}
+use Rattle.delkuthi.proofs.Taking.{fresh-made}
 use Rattle.delkuthi.proofs.lent.fresh.Statement.{statement}
 use Rattle.delkuthi.proofs.lent.fresh.Tie as tie
 
@@ -48,7 +48,7 @@ returns c =
     let bytes = now (at-read .before .before .args .table) in
     let table = at-read .read .result .table in
     let read : ReadsTable bytes (table-of (rowsOf table)) = rw (told .enum-told .given .1) at (at-read .read .ensures .reads) in
-    rw (took-none table (at-fresh .fresh .result .answer) (at-fresh .fresh .result .monitor) (read-accepted bytes (rowsOf table) read) (at-fresh .fresh .ensures) .made) (begun (rowsOf table) read)
+    rw (fresh-made table (at-fresh .fresh .result .answer) (at-fresh .fresh .result .monitor) (read-accepted bytes (rowsOf table) read) (at-fresh .fresh .ensures)) (begun (rowsOf table) read)
 
 returns-2 : tie.Need-returns-2
 returns-2 c = refused _ _ (refusal (c .before)) (small (c .before) .0) (omega arith)

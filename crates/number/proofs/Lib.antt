@@ -1,3 +1,4 @@
--- Laws of numbers as bytes, and of bytes stored in a list.
+-- Laws of numbers as bytes, of shifts, and of bytes stored in a list.
 pub mod Numbers
+pub mod Shifts
 pub mod Stores

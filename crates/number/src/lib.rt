@@ -13,6 +13,13 @@ fn wide(byte: u8) -> u64
     byte as u64
 }
 
+// The lowest byte of a number.
+fn low_byte(x: u64) -> u8
+    ensures { λ r. ⌜ r ∷ [] ≡ bytesOf 1 x ⌝ }
+{
+    (x & 255) as u8
+}
+
 // The number in the `width` bytes from a place on: past the end, in those that are there.
 fn number_at(bytes: &[u8], place: usize, width: usize) -> u64
     requires { ⌜ width ≤ 8 ⌝ }
@@ -25,7 +32,7 @@ fn number_at(bytes: &[u8], place: usize, width: usize) -> u64
         if bytes.len() <= next {
             return value;
         }
-        value = value * 256 + wide(bytes[next]);
+        value = value << 8 | wide(bytes[next]);
         next += 1;
         left -= 1;
     }
@@ -81,27 +88,33 @@ pub fn put_byte(buffer: &mut [u8], place: usize, byte: u8)
     }
 }
 
+// Stores the `width` low bytes of a number in a buffer from a place on. What would go past its end is not stored.
+fn put_number(buffer: &mut [u8], place: usize, x: u64, width: usize)
+    requires { ⌜ width ≤ 8 ⌝ }
+    ensures { λ _. ⌜ now (buffer .exit) ≡ sets (now (buffer .entry)) place (bytesOf width x) ⌝ }
+{
+    let mut next = place;
+    let mut left = width;
+    while 0 < left {
+        if buffer.len() <= next {
+            return;
+        }
+        left -= 1;
+        buffer[next] = low_byte(x >> (8 * left));
+        next += 1;
+    }
+}
+
 // Stores the two low bytes of a number in a buffer from a place on.
 pub fn put_two(buffer: &mut [u8], place: usize, x: usize)
     ensures { λ _. ⌜ now (buffer .exit) ≡ sets (now (buffer .entry)) place (bytesOf 2 x) ⌝ }
 {
-    let bytes = [(x / 256 % 256) as u8, (x % 256) as u8];
-    put(buffer, place, &bytes);
+    put_number(buffer, place, x as u64, 2);
 }
 
 // Stores the eight bytes of a number in a buffer from a place on.
 pub fn put_eight(buffer: &mut [u8], place: usize, x: u64)
     ensures { λ _. ⌜ now (buffer .exit) ≡ sets (now (buffer .entry)) place (bytesOf 8 x) ⌝ }
 {
-    let bytes = [
-        (x / 72057594037927936 % 256) as u8,
-        (x / 281474976710656 % 256) as u8,
-        (x / 1099511627776 % 256) as u8,
-        (x / 4294967296 % 256) as u8,
-        (x / 16777216 % 256) as u8,
-        (x / 65536 % 256) as u8,
-        (x / 256 % 256) as u8,
-        (x % 256) as u8,
-    ];
-    put(buffer, place, &bytes);
+    put_number(buffer, place, x, 8);
 }

@@ -1,14 +1,17 @@
 -- The loop reads byte after byte: the number read, behind which the bytes left stand, is the whole.
 use native.Mathlib.Omega.{arith}
-use Prim.Native.Nat.{ℕ, _≤_, _<_}
-use mathlib.Core.Path.{_≡_, refl, sym, ap, _∙_}
+use Prim.Native.Nat.{ℕ, _+_, _-_, _≤_, _<_}
+use mathlib.Core.Path.{_≡_, refl, sym, ap, subst, _∙_}
 use Rattle.number.proofs.Numbers.{Room, room-first, room-now, room-next, number-more, number-end}
+use Rattle.number.proofs.Shifts.{shifted-up}
 use Rattle.constraint.specs.Bytes.{numberBehind, numberAt, bytesAt}
+use Rattle.constraint.specs.Steps.{at}
 use Rattle.number.proofs.number_at.Statement.{statement}
 use Rattle.number.proofs.number_at.Tie as tie
 
 abbrev Inv-loop : tie.InvT-loop
-Inv-loop bytes place width value₀ next₀ left₀ value next left = (left ≤ width) × Room value left × (numberBehind value (bytesAt left bytes next) ≡ numberAt width bytes place)
+Inv-loop bytes place width value₀ next₀ left₀ value next left =
+    (left ≤ width) × Room value left × (numberBehind value (bytesAt left bytes next) ≡ numberAt width bytes place)
 
 abbrev μ-loop : tie.MeasureT-loop
 μ-loop bytes place width value₀ next₀ left₀ value next left = left
@@ -22,20 +25,11 @@ returns c =
     let bytes = c .before .before .before .before .args .bytes .now in
     sym (number-end bytes (loop .value) (loop .next) (loop .left) (c .if1 .taken)) ∙ loop .inv .2
 
-mul-value : tie.Need-mul-value Inv-loop μ-loop
-mul-value c = let loop = c .before .before .loop in omega (arith, room-now (loop .value) (loop .left) (loop .inv .1) (omega arith))
-
 shared-slice-read-wide : tie.Need-shared-slice-read-wide Inv-loop μ-loop
 shared-slice-read-wide c = omega arith
 
 wide-requires : tie.Need-wide-requires Inv-loop μ-loop
 wide-requires c κs = tt
-
-add-value : tie.Need-add-value Inv-loop μ-loop
-add-value c =
-    let at-loop = c .before .before .before .before in
-    let loop = at-loop .loop in
-    omega (arith, room-now (loop .value) (loop .left) (loop .inv .1) (omega arith), c .before .shared-slice-known2 .given (loop .next))
 
 add-next : tie.Need-add-next Inv-loop μ-loop
 add-next c = omega arith
@@ -50,12 +44,18 @@ loop-again : tie.Need-loop-again Inv-loop μ-loop
 loop-again c =
     let at-loop = c .before .before .before .before in
     let loop = at-loop .loop in
-    let bytes = at-loop .before .before .args .bytes .now in
-    let byte : c .wide .result < 256 = omega (arith, c .before .shared-slice-known2 .given (loop .next)) in (
+    let args = at-loop .before .before .args in
+    let bytes = args .bytes .now in
+    let one = at bytes (loop .next) in
+    let byte : one < 256 = c .before .shared-slice-known2 .given (loop .next) .fits in
+    let behind = shifted-up (loop .value) one (room-now (loop .value) (loop .left) (loop .inv .1) (omega arith)) byte in
+    rw (c .wide .ensures)
+    (subst (λ (value : ℕ). Inv-loop bytes (args .place) (args .width) 0 0 0 value (loop .next + 1) (loop .left - 1))
+    (sym behind) (
       omega arith,
-      room-next (loop .value) (loop .left) (c .wide .result) (loop .inv .1) (omega arith) byte,
-      rw (c .wide .ensures) (sym (number-more bytes (loop .value) (loop .next) (loop .left) (omega arith) (omega arith)) ∙ loop .inv .2),
-    )
+      room-next (loop .value) (loop .left) one (loop .inv .1) (omega arith) byte,
+      sym (number-more bytes (loop .value) (loop .next) (loop .left) (omega arith) (omega arith)) ∙ loop .inv .2,
+    ))
 
 returns-2 : tie.Need-returns-2 Inv-loop μ-loop
 unfolding numberBehind
@@ -72,10 +72,8 @@ number-at-spec =
     μ-loop
     loop-holds
     returns
-    mul-value
     shared-slice-read-wide
     wide-requires
-    add-value
     add-next
     sub-left
     loop-less

@@ -1,0 +1,91 @@
+-- The loop stores byte after byte, each cut out by a shift: storing those left in what there is now gives the whole.
+use native.Mathlib.Omega.{arith}
+use Prim.Native.Nat.{ℕ, _≤_}
+use mathlib.Core.Path.{_≡_, refl, sym, ap, _∙_}
+use mathlib.Core.List.{List}
+use lib.ListN.{length, length-set}
+use lib.Seq.{sets}
+use Rattle.constraint.specs.Bytes.{bytesOf}
+use Rattle.number.proofs.Stores.{stores-past}
+use Rattle.number.proofs.Shifts.{stores-shifted}
+use Rattle.number.proofs.put_number.Statement.{statement}
+use Rattle.number.proofs.put_number.Tie as tie
+
+abbrev Inv-loop : tie.InvT-loop
+Inv-loop buffer₀ place x width next₀ left₀ buffer next left =
+    (left ≤ 8) × (length buffer ≡ length buffer₀) × (sets buffer next (bytesOf left x) ≡ sets buffer₀ place (bytesOf width x))
+
+abbrev μ-loop : tie.MeasureT-loop
+μ-loop buffer₀ place x width next₀ left₀ buffer next left = left
+
+loop-holds : tie.Need-loop-holds Inv-loop μ-loop
+loop-holds c = (c .before .pre, refl, refl)
+
+same-length : tie.Need-same-length Inv-loop μ-loop
+same-length c = c .before .before .loop .inv .1
+
+returns : tie.Need-returns Inv-loop μ-loop
+returns c =
+    let loop = c .before .before .loop in
+    sym (stores-past (loop .buffer) (loop .next) (bytesOf (loop .left) (c .before .before .before .before .args .x)) (c .if1 .taken)) ∙ loop .inv .2
+
+sub-left : tie.Need-sub-left Inv-loop μ-loop
+sub-left c = omega arith
+
+mul-low-byte : tie.Need-mul-low-byte Inv-loop μ-loop
+mul-low-byte c = omega arith
+
+shr-low-byte : tie.Need-shr-low-byte Inv-loop μ-loop
+shr-low-byte c = omega arith
+
+low-byte-requires : tie.Need-low-byte-requires Inv-loop μ-loop
+low-byte-requires c κs = tt
+
+slice-write-buffer : tie.Need-slice-write-buffer Inv-loop μ-loop
+slice-write-buffer c = omega arith
+
+add-next : tie.Need-add-next Inv-loop μ-loop
+add-next c = omega arith
+
+loop-less : tie.Need-loop-less Inv-loop μ-loop
+loop-less c = omega arith
+
+loop-again : tie.Need-loop-again Inv-loop μ-loop
+loop-again c =
+    let loop = c .before .before .before .loop in
+    let x = c .before .before .before .before .before .args .x in
+    let byte = c .low-byte .result in (
+      omega arith,
+      length-set (loop .buffer) (loop .next) byte ∙ loop .inv .1,
+      sym (stores-shifted (loop .buffer) (loop .next) (loop .left) x byte (omega arith) (c .low-byte .ensures)) ∙ loop .inv .2,
+    )
+
+same-length-2 : tie.Need-same-length-2 Inv-loop μ-loop
+same-length-2 c = c .before .loop .inv .1
+
+returns-2 : tie.Need-returns-2 Inv-loop μ-loop
+unfolding bytesOf
+returns-2 c =
+    let loop = c .before .loop in
+    let none : loop .left ≡ 0 = omega arith in
+    sym (ap (λ (left : ℕ). sets (loop .buffer) (loop .next) (bytesOf left (c .before .before .before .args .x))) none) ∙ loop .inv .2
+
+pub put-number-spec : {M : Type 1} → statement M
+put-number-spec =
+    tie.close
+    (tie.spec
+    Inv-loop
+    μ-loop
+    loop-holds
+    same-length
+    returns
+    sub-left
+    mul-low-byte
+    shr-low-byte
+    low-byte-requires
+    slice-write-buffer
+    add-next
+    loop-less
+    loop-again
+    same-length-2
+    returns-2)

@@ -48,8 +48,8 @@
  *     memory from the first call to the last. Calls on different monitors,
  *     and delkuthi_report, may run at the same time in different threads.
  *   - Every pattern of bits is safe: a call on memory that delkuthi_fresh
- *     never filled still ends and still touches nothing else. But what it
- *     answers then means nothing.
+ *     never filled still ends, as soon as on any other, and still touches
+ *     nothing else. But what it answers then means nothing.
  *
  *
  * LIMITS

@@ -42,7 +42,7 @@ pub tells-report : (table recording : List ℕ) (rows : List Constraint) (answer
 tells-report table recording rows Closed m text read (steps, reads, took) tells =
     let told = tells rows (steps ++ (close ∷ [])) took in
     record { bytes = closedText (length (steps ++ (close ∷ []))) (told .0); said = all-taken rows steps (told .0) read reads (told .1); holds = told .2 }
-tells-report table recording rows (Refused n place) m text read reads tells =
+tells-report table recording rows (Refused n place) m text read (steps, before, took, reads) tells =
     record { bytes = refusedText n place; said = no-recording rows n place read reads; holds = tells }
 
 -- a report has at most 1,024 bytes

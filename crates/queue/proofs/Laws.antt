@@ -47,6 +47,12 @@ ring-read l f n i h =
     let e : (f % 64 + i % 64) % 64 ≡ (f + i) % 64 = omega arith in
     rw (e, ring-at)
 
+-- after 64 it repeats itself
+pub ring-round : (l : List ℕ) (f i : ℕ) → timeAt l f i ≡ timeAt l f (i % 64)
+ring-round l f i =
+    let e : (f % 64 + i % 64) % 64 ≡ (f % 64 + i % 64 % 64) % 64 = omega arith in
+    rw e
+
 -- without its first d
 ring-drop : (l : List ℕ) (f n d : ℕ) → drop d (ring l f n) ≡ ring l (f + d) (n - d)
 unfolding ring

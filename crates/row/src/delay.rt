@@ -44,18 +44,18 @@ pub fn kept(len: usize) -> bool
     len == 0
 }
 
-// How many of the waiting sources a target at t answers, from the oldest on.
+// How many of the waiting sources a target at t answers, from the oldest on. The ring is over after 64: those behind are the same again.
 fn answered(lower: u64, t: u64, times: &[u64; 64], head: usize, len: usize) -> usize
     ensures { λ r. ⌜ r ≡ answeredBy lower t (ring (now (times .entry)) head len) ⌝ }
 {
     let mut n = 0;
-    while n < len {
+    while n < len && n < 64 {
         if !parts::reaches(time_at(times, head, n), lower, t) {
             return n;
         }
         n += 1;
     }
-    n
+    len
 }
 
 // Whether the last target answers a source at t.

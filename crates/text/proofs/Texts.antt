@@ -1,12 +1,12 @@
 -- Bytes put behind a text, one after the other: what it holds then is what it held and those bytes, as long as there is room.
-use Prim.Native.Nat.{ℕ, suc, _+_, _≤_, _<_}
+use Prim.Native.Nat.{ℕ, zero, suc, _+_, _≤_, _<_}
 use mathlib.Core.Path.{_≡_, refl, ap, _∙_}
 use mathlib.Core.List.{List, [], _∷_, _++_, append-assoc, append-nil}
 use native.Mathlib.Numerals.{add-one}
 use native.Mathlib.Omega.{arith}
 use borrow.Author.Tests.{lt-ltb, le-ltb}
-use lib.ListN.{length, getD, set, drop, length-append, length-set, length-replicate}
-use lib.Seq.{length-take-le, drop-cons, take-suc-set, sets}
+use lib.ListN.{length, getD, set, drop, replicate, length-append, length-set, length-replicate}
+use lib.Seq.{length-take-le, drop-cons, take-suc-set, sets, getD-set-other}
 use Rattle.text.specs.Content.{textLimit, emptyText, pushed, extended, Holds, Copied}
 use Rattle.number.proofs.Stores.{stores-front}
 use Rattle.text.specs.declared.Text.{Text}
@@ -41,9 +41,14 @@ extended-full (byte ∷ list) text full = rw (le-ltb (text .len) textLimit full)
 held-length : (text : Text) (list : List ℕ) → Holds text list → text .len ≡ length list
 held-length text list holds = rw (← holds .held, length-take-le (text .len) (text .bytes) (omega arith))
 
+zeros : (n i : ℕ) → getD {A = ℕ} (replicate n 0) i 0 ≡ 0
+zeros zero i = refl
+zeros (suc n) zero = refl
+zeros (suc n) (suc i) = zeros n i
+
 pub holds-nothing : Holds emptyText []
 unfolding emptyText
-holds-nothing = record { size = length-replicate {A = ℕ} textLimit 0; within = omega arith; held = refl }
+holds-nothing = record { size = length-replicate {A = ℕ} textLimit 0; within = omega arith; held = refl; rest = λ i h. zeros textLimit i }
 
 holds-pushed : (text : Text) (list : List ℕ) (byte : ℕ) → Holds text list → length list < textLimit → Holds (pushed byte text) (list ++ (byte ∷ []))
 holds-pushed text list byte holds room =
@@ -53,6 +58,7 @@ holds-pushed text list byte holds room =
       size = length-set (text .bytes) (text .len) byte ∙ holds .size;
       within = omega arith;
       held = rw (add-one (text .len), take-suc-set (text .bytes) (text .len) byte (omega arith), holds .held);
+      rest = λ i h. getD-set-other (text .bytes) (text .len) i byte 0 (λ e. omega arith) ∙ holds .rest i (omega arith);
     })
 
 pub holds-extended : (text : Text) (list more : List ℕ) → Holds text list → length list + length more ≤ textLimit → Holds (extended more text) (list ++ more)

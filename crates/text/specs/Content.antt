@@ -3,7 +3,7 @@ use Prim.Native.Nat.{ℕ, _+_, _≤_, _<_}
 use mathlib.Core.Path.{_≡_}
 use mathlib.Core.Bool.{cond}
 use mathlib.Core.List.{List, [], _∷_, _++_}
-use lib.ListN.{length, take, drop, set, replicate}
+use lib.ListN.{length, getD, take, drop, set, replicate}
 use lib.Dec.{ltb}
 use Rattle.constraint.specs.Report.{decimal}
 use Rattle.text.specs.declared.Digits.{Digits}
@@ -36,11 +36,12 @@ unfoldable pub extended : List ℕ → Text → Text
 extended [] text = text
 extended (byte ∷ list) text = extended list (pushed byte text)
 
--- the text holds just that list
+-- the text holds just that list, and zeros behind it, as a new text has
 pub record Holds (text : Text) (list : List ℕ) : Type 0 where
   pub size : length (text .bytes) ≡ textLimit
   pub within : text .len ≤ textLimit
   pub held : content text ≡ list
+  pub rest : (i : ℕ) → text .len ≤ i → getD (text .bytes) i 0 ≡ 0
 
 -- what copying a text to a lent buffer answers and leaves there: "the number of bytes written, or 0, with nothing written, if the buffer is too short"; "Bytes after those written stay"
 pub record Copied (text before : List ℕ) (answer : ℕ) (after : List ℕ) : Type 0 where

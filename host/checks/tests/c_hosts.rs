@@ -3,6 +3,7 @@
 use checks::hosts::{Host, Ran, c_host, c_host_alone, c_host_with_header, cpp_host, say};
 use checks::places::{Folder, example, example_bytes, root};
 use delkuthi::Monitor;
+use model::constraint::NO_LIMIT;
 use model::examples::{Example, RECORDING, REPORT, TABLE, examples};
 use model::random::Random;
 use model::random::recordings::{recording, refused_recording};
@@ -171,6 +172,35 @@ fn the_monitors_memory() {
         assert_eq!(host.run(&["300"]), Ran::new(0, &size));
         assert_eq!(host.run_in_valgrind(&["20"]), Ran::new(0, &size));
     }
+}
+
+/// A row of each type, and of each number of kinds, that stays open for a while.
+fn one_of_each() -> [Constraint; 9] {
+    let synchronization = |kinds: &[u8]| Constraint::StrongSynchronization { kinds: kinds.to_vec(), tolerance: 50 };
+    [
+        Constraint::Delay { source: 0, target: 1, lower: 2, upper: 30 },
+        Constraint::StrongDelay { source: 0, target: 1, lower: 2, upper: 30 },
+        Constraint::Repeat { event: 0, span: 3, lower: 0, upper: NO_LIMIT },
+        Constraint::Sporadic { event: 0, lower: 0, upper: NO_LIMIT, jitter: 3, minimum: 0 },
+        Constraint::Burst { event: 0, maximum: 9, length: 4, minimum: 0 },
+        Constraint::Order { source: 0, target: 1 },
+        synchronization(&[0, 1]),
+        synchronization(&[0, 1, 2]),
+        synchronization(&[0, 1, 2, 3]),
+    ]
+}
+
+/// Whatever a monitor's memory holds, every call ends soon: the host gives each a limit of processor time.
+#[test]
+fn every_call_ends_soon_on_forged_memory() {
+    let folder = Folder::new();
+    let rows = one_of_each();
+    let tables = rows.chunks(1).chain([&rows[..]]).enumerate();
+    let mut arguments = vec![PathBuf::from("300")];
+    arguments.extend(tables.map(|(i, rows)| folder.write(&format!("{i}.bin"), &table_bytes(rows))));
+    let ran = c_host("forged", "-O2").run(&arguments);
+    println!("{}", ran.printed);
+    assert!(ran.status == Some(0) && ran.printed.ends_with(" calls\n"), "{ran:?}");
 }
 
 /// The archive is the header's and the Rust crate's; with another header a host finds that it is not.

@@ -9,7 +9,7 @@ use Rattle.constraint.specs.Table.{VersionOne}
 use Rattle.constraint.specs.Recording.{version-refused, version-taken}
 use Rattle.constraint.specs.declared.Constraint.{Constraint}
 use Rattle.constraint.proofs.Judged.{passed, failed}
-use Rattle.delkuthi.specs.Taking.{Took}
+use Rattle.delkuthi.specs.Taking.{Took, at-version}
 use Rattle.delkuthi.proofs.Progress.{TakenUpTo, up-to-start, up-to-more, up-to-refused, up-to-end}
 use Rattle.delkuthi.proofs.records.take_recording.Statement.{statement}
 use Rattle.delkuthi.proofs.records.take_recording.Tie as tie
@@ -28,7 +28,9 @@ version-one-requires : tie.Need-version-one-requires Inv-loop μ-loop
 version-one-requires c κs = tt
 
 returns : tie.Need-returns Inv-loop μ-loop
-returns c = record { means = λ rows took. version-refused (failed (c .before .version-one .result) (c .before .version-one .ensures) (c .if1 .taken)) }
+returns c =
+    let refused = failed (c .before .version-one .result) (c .before .version-one .ensures) (c .if1 .taken) in
+    record { means = λ rows took. ([], at-version, took, version-refused refused) }
 
 loop-holds : tie.Need-loop-holds Inv-loop μ-loop
 loop-holds c =
@@ -68,9 +70,11 @@ returns-2 c =
     let bytes = now (at-loop .before .before .before .before .args .bytes) in
     record {
       means = λ rows took.
-          version-taken (version (at-loop .before))
-          (up-to-refused rows bytes (at-loop .loop .monitor) (at-loop .loop .place) (at-loop .loop .inv rows took) (at-record .take-record .result) _ (omega arith)
-          (at-record .take-record .ensures) (at-answer .answer .given .1));
+          let up-to = at-loop .loop .inv rows took in
+          let taken = at-record .take-record in
+          let refused = up-to-refused rows bytes (at-loop .loop .monitor) (at-loop .loop .place) up-to (taken .result) _ (omega arith)
+          (taken .ensures) (at-answer .answer .given .1) in
+          (up-to .steps, up-to .steps-before, up-to .took, version-taken (version (at-loop .before)) refused);
     }
 
 close-requires : tie.Need-close-requires Inv-loop μ-loop

@@ -1,0 +1,185 @@
+/*
+ * Every call ends soon, whatever the memory holds: forged ROUNDS TABLE..
+ *
+ * For each table it makes a monitor, steps it, and forges its memory: one word
+ * after the other is set to each of the worst numbers; every word is, and then
+ * one of them to a small number, as a type's is; and, in ROUNDS rounds, some
+ * words are, at random. On each such memory it makes every call. A call that
+ * takes more than LIMIT seconds of processor time, of which none takes a
+ * thousandth, ends the program: it says which call that was, and the exit
+ * status is 1. Prints how many calls it made.
+ */
+#define _XOPEN_SOURCE 600
+#include "delkuthi.h"
+#include "file.h"
+#include <signal.h>
+#include <stdio.h>
+#include <stdlib.h>
+#include <string.h>
+#include <sys/time.h>
+#include <unistd.h>
+
+#define LIMIT 5
+#define WORDS (sizeof(delkuthi_monitor) / sizeof(uint64_t))
+#define COUNT(list) (sizeof(list) / sizeof (list)[0])
+
+/* The words at either end among which the first row and the monitor's own are. */
+#define END 128
+
+static const uint64_t worst[] = {0, 1, 63, 64, 65, UINT64_C(1) << 32, DELKUTHI_LAST_TIME, DELKUTHI_LAST_TIME + 1,
+                                 UINT64_C(1) << 63, UINT64_MAX - 1, UINT64_MAX};
+static const uint64_t times[] = {21, DELKUTHI_LAST_TIME, UINT64_MAX};
+static const uint64_t rows[] = {0, 31, 32, UINT64_MAX};
+static const uint8_t kinds[] = {0, 1, 2, 64};
+
+static uint64_t state = 88172645463325252u;
+static unsigned long made;
+static const char *call;
+
+/* The next random number below a limit. */
+static uint64_t below(uint64_t limit)
+{
+    state ^= state << 13;
+    state ^= state >> 7;
+    state ^= state << 17;
+    return state % limit;
+}
+
+/* A call took too long. */
+static void too_long(int signal)
+{
+    static const char text[] = "a call did not end in time: ";
+
+    (void)signal;
+    (void)!write(2, text, sizeof text - 1);
+    (void)!write(2, call, strlen(call));
+    (void)!write(2, "\n", 1);
+    _exit(1);
+}
+
+/* The next call is this one; its time starts. */
+static void begins(const char *name)
+{
+    const struct itimerval limit = {{0, 0}, {LIMIT, 0}};
+
+    call = name;
+    made++;
+    if (setitimer(ITIMER_VIRTUAL, &limit, NULL) != 0)
+        exit(3);
+}
+
+/* Every call, each on a copy of the forged memory. */
+static void every_call(const delkuthi_monitor *forged)
+{
+    static delkuthi_monitor monitor;
+    size_t i, j;
+
+    for (i = 0; i < COUNT(times); i++) {
+        for (j = 0; j < COUNT(kinds); j++) {
+            monitor = *forged;
+            begins("delkuthi_event");
+            (void)delkuthi_event(&monitor, kinds[j], times[i]);
+        }
+        monitor = *forged;
+        begins("delkuthi_tick");
+        (void)delkuthi_tick(&monitor, times[i]);
+    }
+    monitor = *forged;
+    begins("delkuthi_close");
+    (void)delkuthi_close(&monitor);
+    for (i = 0; i < COUNT(rows); i++) {
+        begins("delkuthi_row_verdict");
+        (void)delkuthi_row_verdict(forged, rows[i]);
+        begins("delkuthi_row_step");
+        (void)delkuthi_row_step(forged, rows[i]);
+    }
+    begins("delkuthi_rows");
+    (void)delkuthi_rows(forged);
+}
+
+/* A monitor over a table that has taken some steps. */
+static int stepped(const struct file *table, delkuthi_monitor *monitor)
+{
+    uint64_t time;
+
+    if (delkuthi_fresh(monitor, table->bytes, table->length) != DELKUTHI_TAKEN)
+        return 0;
+    for (time = 0; time < 20; time++)
+        (void)delkuthi_event(monitor, (uint8_t)(time % 5 == 0 ? time % 4 : 0), time);
+    return 1;
+}
+
+/* One word after the other set to each of the worst numbers. */
+static void one_word(const delkuthi_monitor *good)
+{
+    delkuthi_monitor forged = *good;
+    size_t at, i;
+
+    for (at = 0; at < WORDS; at++) {
+        for (i = at < END || at >= WORDS - END ? 0 : COUNT(worst) - 1; i < COUNT(worst); i++) {
+            forged.words[at] = worst[i];
+            every_call(&forged);
+        }
+        forged.words[at] = good->words[at];
+    }
+}
+
+/* Every word set to one of the worst numbers, and then each word near an end to a small number. */
+static void every_word(void)
+{
+    static delkuthi_monitor forged;
+    size_t at, i;
+    uint64_t small;
+
+    for (i = 0; i < COUNT(worst); i++) {
+        for (at = 0; at < WORDS; at++)
+            forged.words[at] = worst[i];
+        every_call(&forged);
+        for (at = 0; at < WORDS; at = at + 1 == END ? WORDS - END : at + 1)
+            for (small = 0; small < 10; small++) {
+                forged.words[at] = small;
+                every_call(&forged);
+                forged.words[at] = worst[i];
+            }
+    }
+}
+
+/* Some words of a monitor set at random. */
+static void some_words(const delkuthi_monitor *good, long rounds)
+{
+    delkuthi_monitor forged;
+    uint64_t number;
+
+    while (rounds-- > 0) {
+        forged = *good;
+        for (number = 2 + below(20); number > 0; number--) {
+            uint64_t at = below(2 * END);
+
+            forged.words[at < END ? at : WORDS - 2 * END + at] = below(2) ? below(10) : worst[below(COUNT(worst))];
+        }
+        every_call(&forged);
+    }
+}
+
+int main(int argc, char **argv)
+{
+    static delkuthi_monitor good;
+    struct sigaction action;
+    struct file table;
+    int i;
+
+    memset(&action, 0, sizeof action);
+    action.sa_handler = too_long;
+    if (argc < 3 || sigaction(SIGVTALRM, &action, NULL) != 0)
+        return 3;
+    for (i = 2; i < argc; i++) {
+        if (!read_file(argv[i], &table) || !stepped(&table, &good))
+            return 3;
+        free_file(&table);
+        one_word(&good);
+        some_words(&good, atol(argv[1]));
+    }
+    every_word();
+    printf("%lu calls\n", made);
+    return 0;
+}

@@ -1,6 +1,7 @@
 //! What the tests share.
 
 pub mod beside;
+pub mod contract;
 pub mod hosts;
 pub mod places;
 pub mod program;

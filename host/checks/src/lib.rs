@@ -5,5 +5,6 @@ pub mod contract;
 pub mod hosts;
 pub mod places;
 pub mod program;
+pub mod release;
 pub mod reports;
 pub mod table_host;

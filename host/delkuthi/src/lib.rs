@@ -32,6 +32,8 @@ pub use monitor::{Monitor, Verdict, WORDS};
 pub use refusal::Refusal;
 pub use report::{REPORT_LIMIT, report};
 
+/// The version of this wrapper, which is the library's.
+pub const VERSION: &str = env!("CARGO_PKG_VERSION");
 /// The largest kind of event.
 pub const LAST_KIND: u8 = 63;
 /// The largest time, 2^56 − 1.

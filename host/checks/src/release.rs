@@ -1,9 +1,11 @@
 //! The product as a buyer has it: installed by `make install`, in a folder for one test.
 
 use crate::places::{Folder, archive_folder, root};
-use std::fs;
+use std::ffi::OsString;
+use std::os::unix::fs::symlink;
 use std::path::{Path, PathBuf};
 use std::process::{Command, Output};
+use std::{env, fs};
 
 /// `make` at the repository's root, with the archive that the tests have, and what it builds in a folder of its own.
 ///
@@ -100,4 +102,70 @@ impl Installed {
 /// If it is not there.
 pub fn version() -> String {
     fs::read_to_string(root().join("VERSION")).expect("VERSION").trim_end().to_string()
+}
+
+/// A Rust program of its own that depends on the crate `delkuthi` by its path, as a buyer's would.
+pub struct RustHost {
+    folder: Folder,
+}
+
+/// It reports on the two files that it is given.
+const RUST_HOST: &str = r#"
+fn main() {
+    let mut files = std::env::args().skip(1).map(|name| std::fs::read(name).expect("a file"));
+    let (table, recording) = (files.next().expect("a table"), files.next().expect("a recording"));
+    let mut report = [0; delkuthi::REPORT_LIMIT];
+    let length = delkuthi::report(&table, &recording, &mut report).expect("a report");
+    print!("{}", String::from_utf8_lossy(&report[..length]));
+}
+"#;
+
+impl Default for RustHost {
+    fn default() -> RustHost {
+        RustHost::new()
+    }
+}
+
+impl RustHost {
+    pub fn new() -> RustHost {
+        let folder = Folder::new();
+        let package =
+            "[package]\nname = \"buyer\"\nversion = \"0.0.0\"\nedition = \"2021\"\n\n[workspace]\n\n[dependencies]";
+        let crate_path = root().join("host/delkuthi");
+        let manifest = format!("{package}\ndelkuthi = {{ path = {:?} }}\n", crate_path.display().to_string());
+        folder.write("Cargo.toml", manifest.as_bytes());
+        fs::create_dir(folder.path().join("src")).expect("a folder");
+        folder.write("src/main.rs", RUST_HOST.as_bytes());
+        RustHost { folder }
+    }
+
+    /// `cargo run` without the Rattle kit, with `DELKUTHI_LIB` naming this folder, or not set.
+    pub fn run(&self, archive: Option<&Path>, words: &[PathBuf]) -> Output {
+        let without = Folder::new();
+        let mut cargo = Command::new(env!("CARGO"));
+        cargo.args(["run", "--quiet", "--offline", "--"]).args(words).current_dir(self.folder.path());
+        cargo.env("PATH", path_without("rt", &without)).env("CARGO_TARGET_DIR", self.folder.path().join("target"));
+        match archive {
+            Some(folder) => cargo.env("DELKUTHI_LIB", folder),
+            None => cargo.env_remove("DELKUTHI_LIB"),
+        };
+        cargo.output().expect("cargo can be run")
+    }
+}
+
+/// The `PATH`, where a folder that has the program is replaced by one with links to all else that it has.
+fn path_without(program: &str, folder: &Folder) -> OsString {
+    let without = |(number, path): (usize, PathBuf)| {
+        if !path.join(program).exists() {
+            return path;
+        }
+        let replaced = folder.path().join(number.to_string());
+        fs::create_dir(&replaced).expect("a folder");
+        for entry in fs::read_dir(&path).expect("a folder of the PATH").flatten().filter(|e| e.file_name() != program) {
+            symlink(entry.path(), replaced.join(entry.file_name())).expect("a link");
+        }
+        replaced
+    };
+    let path = env::var_os("PATH").expect("a PATH");
+    env::join_paths(env::split_paths(&path).enumerate().map(without)).expect("a PATH")
 }

@@ -2,7 +2,7 @@
 
 use checks::hosts::{Host, Ran, c_compiler, compile_with, cpp_compiler, found, ran, say};
 use checks::places::{Folder, example, example_bytes, root};
-use checks::release::{Installed, make, version};
+use checks::release::{Installed, RustHost, make, version};
 use std::ffi::OsString;
 use std::path::Path;
 use std::process::Command;
@@ -92,6 +92,32 @@ fn a_host_in_python() {
         python.arg(root().join("host/python/report.py"));
         python.arg(copy.lib().join("libdelkuthi.so")).arg(copy.include().join("delkuthi.h")).args(drive_files());
         assert_eq!(ran(python.output()), Ran::new(0, &drive()));
+    }
+}
+
+/// A host in Rust takes the archive of the copy; neither it nor the wrapper needs the Rattle kit then.
+#[test]
+fn a_host_in_rust() {
+    let copy = Installed::in_prefix();
+    let output = RustHost::new().run(Some(&copy.lib()), &drive_files());
+    assert_eq!(ran(Ok(output)), Ran::new(0, &drive()));
+}
+
+/// Where there is no archive, and no kit to make one, the build ends with a line that says what to do.
+#[test]
+fn a_host_in_rust_without_an_archive() {
+    let host = RustHost::new();
+    let nowhere = Folder::new();
+    let said = [
+        (Some(nowhere.path()), "DELKUTHI_LIB has to name the folder of libdelkuthi.a"),
+        (None, "set DELKUTHI_LIB to the folder of libdelkuthi.a"),
+    ];
+    for (archive, expected) in said {
+        let output = host.run(archive, &drive_files());
+        let told = String::from_utf8(output.stderr).expect("text");
+        let line = told.lines().find(|line| line.contains(expected));
+        assert!(!output.status.success() && line.is_some_and(|line| line.starts_with("error: ")), "{told}");
+        assert!(!told.contains("panicked"), "{told}");
     }
 }
 

@@ -18,8 +18,9 @@
  *     still meet its TADL2 definition, with the first step after which that
  *     was so. Else it reads open, or kept once the recording is closed.
  *   - A broken row stays broken, at the same step.
- * This is the theorem monitor-is-exact, checked by a machine, not by tests.
- * docs/DATASHEET.md has what it says, what it assumes, and what is not
+ * A machine has checked this, not tests: the first point is the contract of
+ * each call, the others are the theorem monitor-is-exact over all calls.
+ * docs/DATASHEET.md has what they say, what they assume, and what is not
  * promised.
  *
  *
@@ -106,19 +107,24 @@ static int first_broken(void)
     uint64_t row;
 
     for (row = 0; row < delkuthi_rows(&monitor); row++)
-        if (DELKUTHI_IS_BROKEN(delkuthi_verdict(&monitor, row)))
+        if (delkuthi_row_verdict(&monitor, row) == DELKUTHI_BROKEN)
             return (int)row;
     return -1;
 }
 
 // Says what has stopped the bench. 0: every row kept. 1: a row is broken.
-// 2: the table or a step was refused.
+// 2: the table or a step was refused. 3: the library is not this header's.
 int bench(const uint8_t *table, size_t table_length)
 {
-    uint64_t time, answer = delkuthi_fresh(&monitor, table, table_length);
+    uint64_t time, answer;
     uint8_t kind, refused = 0;
     int row = -1, what = 'e';
 
+    if (!DELKUTHI_MATCHES()) {
+        printf("the library is not this header's\n");
+        return 3;
+    }
+    answer = delkuthi_fresh(&monitor, table, table_length);
     if (answer != DELKUTHI_TAKEN) {
         printf("table refused with %d at byte %" PRIu64 "\n",
                DELKUTHI_NUMBER(answer), DELKUTHI_PLACE(answer));
@@ -136,7 +142,7 @@ int bench(const uint8_t *table, size_t table_length)
     }
     if (row >= 0)
         printf("row %d broken at step %" PRIu64 "\n", row,
-               delkuthi_verdict(&monitor, (uint64_t)row));
+               delkuthi_row_step(&monitor, (uint64_t)row));
     else if (refused)
         printf("step refused with %d\n", refused);
     else
@@ -155,6 +161,9 @@ int bench(const uint8_t *table, size_t table_length)
 extern "C" {
 #endif
 
+/* The version of this header, 0.2.0: major * 1000000 + minor * 1000 + patch. */
+#define DELKUTHI_VERSION UINT32_C(2000)
+
 #define DELKUTHI_LAST_TIME     UINT64_C(72057594037927935)
 #define DELKUTHI_LAST_KIND     63
 #define DELKUTHI_ROW_LIMIT     32
@@ -171,6 +180,21 @@ extern "C" {
 typedef struct delkuthi_monitor {
     uint64_t words[2788];
 } delkuthi_monitor;
+
+/* Returns the version of the library, which is that of its own header. */
+uint32_t delkuthi_version(void);
+
+/* Returns the bytes of a monitor, as the library has it. */
+uint64_t delkuthi_monitor_size(void);
+
+/*
+ * Is the library that was linked the one of this header? Ask it once, before
+ * the first call: another one may answer other numbers, or write past the end
+ * of a monitor.
+ */
+#define DELKUTHI_MATCHES() \
+    (delkuthi_version() == DELKUTHI_VERSION && \
+     delkuthi_monitor_size() == sizeof(delkuthi_monitor))
 
 /* The answer of a call that was taken. */
 #define DELKUTHI_TAKEN 0
@@ -202,13 +226,16 @@ enum delkuthi_refusal {
 
     /* A recording (delkuthi_report). Mend the recording. */
     DELKUTHI_RECORDING_VERSION = 13, /* it does not begin with a byte 1 */
-    DELKUTHI_RECORD = 14             /* a record is not whole, or its length
+    DELKUTHI_RECORD = 14,            /* a record is not whole, or its length
                                         is neither 8 nor 9 */
 
+    /* A row's number (delkuthi_row_verdict). Rows are numbered from 0. */
+    DELKUTHI_NO_ROW = 15 /* the table has no row of that number */
+
     /*
-     * Three more have no call of this header that answers them: 15, no row of
-     * that number, is DELKUTHI_NO_ROW here; 16, a buffer that is too short, is
-     * the table writer's; 17, a file that is too large, is the program's.
+     * Two more have no call of this header that answers them: 16, a buffer
+     * that is too short, is the table writer's; 17, a file that is too large,
+     * is the program's.
      */
 };
 
@@ -263,16 +290,21 @@ uint8_t delkuthi_close(delkuthi_monitor *monitor);
  * Returns
  *   DELKUTHI_OPEN    it can still be met, and the recording is not closed
  *   DELKUTHI_KEPT    it is met, and the recording is closed
- *   DELKUTHI_NO_ROW  the table has no row of that number (refusal 15)
- *   any other        it is broken, and this is the number of the step that
- *                    broke it: DELKUTHI_IS_BROKEN
+ *   DELKUTHI_BROKEN  it cannot be met any more: delkuthi_row_step says since
+ *                    which step
+ *   DELKUTHI_NO_ROW  the table has no row of that number
  */
-uint64_t delkuthi_verdict(const delkuthi_monitor *monitor, uint64_t row);
+uint8_t delkuthi_row_verdict(const delkuthi_monitor *monitor, uint64_t row);
 
-#define DELKUTHI_OPEN   UINT64_C(0)
-#define DELKUTHI_KEPT   UINT64_MAX
-#define DELKUTHI_NO_ROW (UINT64_MAX - 1)
-#define DELKUTHI_IS_BROKEN(verdict) ((uint64_t)(verdict) - 1 < UINT64_MAX - 2)
+#define DELKUTHI_OPEN   0
+#define DELKUTHI_KEPT   1
+#define DELKUTHI_BROKEN 2
+
+/*
+ * Returns the number of the step that broke a row, the first step being 1; or
+ * 0 if the row is not broken, or there is no row of that number.
+ */
+uint64_t delkuthi_row_step(const delkuthi_monitor *monitor, uint64_t row);
 
 /* Returns the number of rows of the monitor's table, 0 to 32. */
 uint64_t delkuthi_rows(const delkuthi_monitor *monitor);

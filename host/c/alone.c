@@ -55,10 +55,12 @@ void start(void)
     static delkuthi_monitor monitor;
     static uint8_t bytes[1], report[DELKUTHI_REPORT_LIMIT];
 
+    (void)DELKUTHI_MATCHES();
     (void)delkuthi_fresh(&monitor, bytes, sizeof bytes);
     (void)delkuthi_event(&monitor, 0, 0);
     (void)delkuthi_tick(&monitor, 0);
     (void)delkuthi_close(&monitor);
-    (void)delkuthi_verdict(&monitor, delkuthi_rows(&monitor));
+    (void)delkuthi_row_verdict(&monitor, delkuthi_rows(&monitor));
+    (void)delkuthi_row_step(&monitor, delkuthi_rows(&monitor));
     (void)delkuthi_report(bytes, sizeof bytes, bytes, sizeof bytes, report, sizeof report);
 }

@@ -19,19 +19,24 @@ static int first_broken(void)
     uint64_t row;
 
     for (row = 0; row < delkuthi_rows(&monitor); row++)
-        if (DELKUTHI_IS_BROKEN(delkuthi_verdict(&monitor, row)))
+        if (delkuthi_row_verdict(&monitor, row) == DELKUTHI_BROKEN)
             return (int)row;
     return -1;
 }
 
 // Says what has stopped the bench. 0: every row kept. 1: a row is broken.
-// 2: the table or a step was refused.
+// 2: the table or a step was refused. 3: the library is not this header's.
 int bench(const uint8_t *table, size_t table_length)
 {
-    uint64_t time, answer = delkuthi_fresh(&monitor, table, table_length);
+    uint64_t time, answer;
     uint8_t kind, refused = 0;
     int row = -1, what = 'e';
 
+    if (!DELKUTHI_MATCHES()) {
+        printf("the library is not this header's\n");
+        return 3;
+    }
+    answer = delkuthi_fresh(&monitor, table, table_length);
     if (answer != DELKUTHI_TAKEN) {
         printf("table refused with %d at byte %" PRIu64 "\n",
                DELKUTHI_NUMBER(answer), DELKUTHI_PLACE(answer));
@@ -49,7 +54,7 @@ int bench(const uint8_t *table, size_t table_length)
     }
     if (row >= 0)
         printf("row %d broken at step %" PRIu64 "\n", row,
-               delkuthi_verdict(&monitor, (uint64_t)row));
+               delkuthi_row_step(&monitor, (uint64_t)row));
     else if (refused)
         printf("step refused with %d\n", refused);
     else
@@ -96,7 +101,7 @@ int next_step(uint8_t *kind, uint64_t *time)
         return 't';
     }
     fprintf(stderr, "no record at byte %lu\n", (unsigned long)place);
-    exit(3);
+    exit(4);
 }
 
 int main(int argc, char **argv)
@@ -106,11 +111,11 @@ int main(int argc, char **argv)
 
     if (argc != 3 || !read_file(argv[1], &table) || !read_file(argv[2], &recording)) {
         fprintf(stderr, "usage: bench_loop TABLE RECORDING\n");
-        return 3;
+        return 4;
     }
     if (recording.length == 0 || recording.bytes[0] != 1) {
         fprintf(stderr, "not a recording of version 1\n");
-        return 3;
+        return 4;
     }
     result = bench(table.bytes, table.length);
     free_file(&table);

@@ -12,10 +12,12 @@ int main()
 {
     static const uint8_t table[6] = {1, 0, 3, 6, 0, 1};
     static const uint8_t recording[1] = {1};
-    bool well = delkuthi_fresh(&bench.monitor, table, sizeof table) == DELKUTHI_TAKEN;
+    bool well = DELKUTHI_MATCHES();
+    well = well && delkuthi_fresh(&bench.monitor, table, sizeof table) == DELKUTHI_TAKEN;
     well = well && delkuthi_event(&bench.monitor, 1, 5) == DELKUTHI_TAKEN;
     well = well && delkuthi_tick(&bench.monitor, 6) == DELKUTHI_TAKEN;
-    well = well && DELKUTHI_IS_BROKEN(delkuthi_verdict(&bench.monitor, 0));
+    well = well && delkuthi_row_verdict(&bench.monitor, 0) == DELKUTHI_BROKEN;
+    well = well && delkuthi_row_step(&bench.monitor, 0) == 2;
     well = well && delkuthi_close(&bench.monitor) == DELKUTHI_TAKEN;
     well = well && delkuthi_rows(&bench.monitor) == 1;
     well = well && delkuthi_report(table, 6, recording, 1, bench.report, sizeof bench.report) == 16;

@@ -57,8 +57,10 @@ static void calls(delkuthi_monitor *monitor)
 
         (void)delkuthi_event(monitor, (uint8_t)(number() % 72), time);
         (void)delkuthi_tick(monitor, time + 1);
-        (void)delkuthi_verdict(monitor, number() % 40);
-        (void)delkuthi_verdict(monitor, number());
+        (void)delkuthi_row_verdict(monitor, number() % 40);
+        (void)delkuthi_row_verdict(monitor, number());
+        (void)delkuthi_row_step(monitor, number() % 40);
+        (void)delkuthi_row_step(monitor, number());
         (void)delkuthi_rows(monitor);
         if (i % 8 == 7)
             (void)delkuthi_close(monitor);
@@ -71,9 +73,10 @@ static void calls(delkuthi_monitor *monitor)
 static int fresh(delkuthi_monitor *monitor)
 {
     return delkuthi_fresh(monitor, table, sizeof table) == DELKUTHI_TAKEN && delkuthi_rows(monitor) == 1
-        && delkuthi_verdict(monitor, 0) == DELKUTHI_OPEN && delkuthi_verdict(monitor, 1) == DELKUTHI_NO_ROW
+        && delkuthi_row_verdict(monitor, 0) == DELKUTHI_OPEN && delkuthi_row_verdict(monitor, 1) == DELKUTHI_NO_ROW
         && delkuthi_event(monitor, 0, 5) == DELKUTHI_TAKEN && delkuthi_close(monitor) == DELKUTHI_TAKEN
-        && delkuthi_verdict(monitor, 0) == 2 && delkuthi_close(monitor) == DELKUTHI_CLOSED;
+        && delkuthi_row_verdict(monitor, 0) == DELKUTHI_BROKEN && delkuthi_row_step(monitor, 0) == 2
+        && delkuthi_row_step(monitor, 1) == 0 && delkuthi_close(monitor) == DELKUTHI_CLOSED;
 }
 
 /* Calls on a monitor with a fence on both sides, which must stand. */

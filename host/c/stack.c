@@ -49,7 +49,8 @@ static void *tick(void *unused)
 
 static void *verdict(void *unused)
 {
-    (void)delkuthi_verdict(&monitor, delkuthi_rows(&monitor) - 1);
+    (void)delkuthi_row_verdict(&monitor, delkuthi_rows(&monitor) - 1);
+    (void)delkuthi_row_step(&monitor, delkuthi_rows(&monitor) - 1);
     return unused;
 }
 

@@ -7,3 +7,4 @@ pub mod Refusals
 mod Numbers
 mod Elem
 mod Walk
+mod RowNumbers

@@ -1,33 +1,44 @@
--- The numbers that the functions on a lent monitor answer with say what the machine answers: none of its refusals is 0, and no step that breaks a row has a number that says something else.
-use Prim.Native.Nat.{ℕ, _<_}
+-- The numbers that the functions on a lent monitor answer with say what the machine answers: none of its refusals is 0, and a row that is broken
+-- has a step that is not 0.
+use Prim.Native.Nat.{ℕ, zero, suc, _<_, _≤_}
 use native.Mathlib.Omega.{arith}
-use mathlib.Core.Path.{_≡_, refl, sym, ap, _∙_, subst}
+use mathlib.Core.Path.{_≡_, refl, ap, _∙_}
 use mathlib.Core.Bool.{Bool, true, false, cond, _&&_, _||_}
-use mathlib.Core.List.{List}
+use mathlib.Core.List.{List, [], _∷_}
 use mathlib.Core.Option.{Option, none, some}
-use lib.ListN.{getD}
+use lib.ListN.{length, getD, getElem?}
 use lib.Dec.{leb, ltb}
-use borrow.Author.Tests.{ltb-true, ne-eqb}
+use borrow.Author.Tests.{ltb-true}
 use Rattle.constraint.specs.Limits.{lastKind, lastTime, rowLimit}
 use Rattle.constraint.specs.Steps.{Step, event, tick, close}
-use Rattle.constraint.specs.Promise.{ReadsRow}
+use Rattle.constraint.specs.Promise.{ReadsRow, row, no-row}
 use Rattle.constraint.specs.declared.Answer.the-variants.{Refused}
 use Rattle.constraint.specs.declared.Constraint.{Constraint}
 use Rattle.constraint.specs.declared.Verdict.{Verdict}
-use Rattle.constraint.proofs.Counting.{count-fits}
-use Rattle.constraint.proofs.History.{Valid}
 use Rattle.constraint.proofs.Judged.{never}
 use Rattle.constraint.proofs.Lists.{split}
 use Rattle.row.specs.Machine.{rowVerdict}
 use Rattle.row.proofs.Engine.{engine}
 use Rattle.monitor.specs.Machine.{noRow, refuses, crowds, stepOf, eventOf, tickOf, closeOf, verdictOf}
-use Rattle.monitor.specs.Contract.{Steps}
-use Rattle.delkuthi.specs.Lent.{answerFrom, numberOf, numbered, steppedFrom, verdictFrom, verdictNumber, keptNumber, noRowNumber, NumberOfVerdict, NumberOfRows}
+use Rattle.monitor.specs.Contract.{Steps, verdictIn, stepIn}
+use Rattle.monitor.specs.Parts.{placeOf, verdictBy}
+use Rattle.delkuthi.specs.Lent.{
+  answerFrom,
+  numberOf,
+  numbered,
+  steppedFrom,
+  wordOf,
+  NumberOfVerdict,
+  WordOfVerdict,
+  StepOfVerdict,
+  NumberOfRows,
+}
 use Rattle.monitor.specs.declared.Monitor.{Monitor}
 use Rattle.monitor.specs.declared.Stepped.{Stepped}
 use Rattle.delkuthi.specs.declared.lent.Numbered.{Numbered}
-use Rattle.monitor.proofs.Demand.{broken-row, after-follows, verdict-reads}
-use Rattle.monitor.proofs.Theorem.{step-kept}
+use Rattle.monitor.proofs.Demand.{after-follows}
+use Rattle.monitor.proofs.RowVerdicts.{verdict-by-is}
+use Rattle.monitor.proofs.Theorem.{step-kept as steps-kept, reading-kept}
 
 -- ---- answers
 
@@ -50,49 +61,87 @@ step-told m (tick t) =
 step-told m close = told-or m 8 (ltb 0 (m .closed)) refl (record { back = refl })
 
 -- a step whose answer is a number keeps the contract of a step
-pub numbered-kept : (m : Monitor) (s : Step) (stepped : Stepped) (r : Numbered) → Steps m s stepped → r ≡ numbered stepped → Steps m s (steppedFrom (r .number) (r .monitor))
+pub numbered-kept : (m : Monitor) (s : Step) (stepped : Stepped) (r : Numbered) → Steps m s stepped → r ≡ numbered stepped
+    → Steps m s (steppedFrom (r .number) (r .monitor))
 numbered-kept m s stepped r steps e =
-    step-kept m s (ap (λ (x : Numbered). steppedFrom (x .number) (x .monitor)) (e ∙ ap numbered (steps .equals)) ∙ ap (λ a. record { answer = a; monitor = stepOf m s .monitor }) (step-told m s .back))
+    steps-kept m s
+    (ap (λ (x : Numbered). steppedFrom (x .number) (x .monitor)) (e ∙ ap numbered (steps .equals))
+    ∙ ap (λ a. record { answer = a; monitor = stepOf m s .monitor }) (step-told m s .back))
 
 -- ---- verdicts
 
--- the number of a verdict says the verdict
-verdict-told : (v : Option Verdict) → ((n : ℕ) → v ≡ some (Verdict.Broken n) → (0 < n) × (n < noRowNumber)) → verdictFrom (verdictNumber v) ≡ v
-verdict-told none small = refl
-verdict-told (some Verdict.Open) small = refl
-verdict-told (some Verdict.Kept) small = refl
-verdict-told (some (Verdict.Broken n)) small =
-    let h = small n refl in
-    rw (ne-eqb n 0 (λ e. omega arith), ne-eqb n keptNumber (λ e. omega arith), ne-eqb n noRowNumber (λ e. omega arith))
+-- the row at a number is within the table, and where there is none the number is past it
+within : (rows : List Constraint) (i : ℕ) (c : Constraint) → getElem? rows i ≡ some c → i < length rows
+within [] i c e = never (cc)
+within (r ∷ rows) zero c e = omega arith
+within (r ∷ rows) (suc i) c e = omega (arith, within rows i c e)
 
--- a step that breaks a row is not 0
-positive : (there : Bool) (broken : ℕ) (closed : Bool) (n : ℕ)
-    → cond there (some (cond (ltb 0 broken) (Verdict.Broken broken) (cond closed Verdict.Kept Verdict.Open))) none ≡ some (Verdict.Broken n) → 0 < n
-positive true broken closed n e =
-    split (ltb 0 broken) (λ b. some (cond b (Verdict.Broken broken) (cond closed Verdict.Kept Verdict.Open)) ≡ some (Verdict.Broken n) → 0 < n)
-    (λ h e. let same : broken ≡ n = cc in omega (arith, ltb-true 0 broken h)) (λ h. not-broken closed) e
-  where
-    not-broken : (b : Bool) → some (cond b Verdict.Kept Verdict.Open) ≡ some (Verdict.Broken n) → 0 < n
-    not-broken true e = never (cc)
-    not-broken false e = never (cc)
-positive false broken closed n e = never (cc)
+past : (rows : List Constraint) (i : ℕ) → getElem? rows i ≡ none → length rows ≤ i
+past [] i e = omega arith
+past (r ∷ rows) zero e = never (cc)
+past (r ∷ rows) (suc i) e = omega (arith, past rows i e)
 
--- and is less than the numbers that say something else
-small-step : (rows : List Constraint) (steps : List Step) (i n : ℕ) (v : Option Verdict) → Valid steps → ReadsRow rows steps i v → v ≡ some (Verdict.Broken n) → n < noRowNumber
-small-step rows steps i n v valid reads e =
-    omega (arith, broken-row rows steps i n (subst (ReadsRow rows steps i) e reads) .2 .counted, count-fits valid)
+-- no verdict has the word 15
+no-15 : (v : Verdict) → wordOf (some v) ≡ 15 → ⊥
+no-15 Verdict.Open e = omega arith
+no-15 Verdict.Kept e = omega arith
+no-15 (Verdict.Broken n) e = omega arith
 
-pub number-kept : (m : Monitor) (i number : ℕ) → number ≡ verdictNumber (verdictOf m i) → NumberOfVerdict m i number
-unfolding verdictOf rowVerdict
-number-kept m i number e =
+missing : (rows : List Constraint) (steps : List Step) (i : ℕ) (v : Option Verdict) → ReadsRow rows steps i v
+    → (wordOf v ≡ 15 → length rows ≤ i) × (length rows ≤ i → wordOf v ≡ 15)
+missing rows steps i v (row c w e reads) = (λ f. absurd (no-15 w f), λ h. absurd (omega (arith, within rows i c e)))
+missing rows steps i v (no-row e) = (λ f. past rows i e, λ h. refl)
+
+-- a number for the verdict of a row number keeps its contract
+number-kept : (number : Option Verdict → ℕ) (m : Monitor) (i answer : ℕ) → answer ≡ number (verdictOf m i) → NumberOfVerdict number m i answer
+number-kept number m i answer e =
     record {
       equals = e;
       means = λ rows calls accepted after-calls.
-          let a = after-follows engine rows calls accepted in
-          let reads : ReadsRow rows (a .0) i (verdictOf m i) = subst (λ (x : Monitor). ReadsRow rows (a .0) i (verdictOf x i)) (sym after-calls) (verdict-reads engine rows (a .0) _ (a .2) i) in
-          let told : verdictFrom number ≡ verdictOf m i =
-          ap verdictFrom e ∙ verdict-told (verdictOf m i) (λ n f. (positive (ltb i (m .len) && ltb i rowLimit) (getD (m .rows) i noRow .broken) (ltb 0 (m .closed)) n f, small-step rows (a .0) i n (verdictOf m i) (a .2 .valid) reads f)) in
-          (a .0, a .1, subst (ReadsRow rows (a .0) i) (sym told) reads);
+          let read = reading-kept m i refl .means rows calls accepted after-calls in
+          (read .0, read .1, verdictOf m i, read .2, e);
+    }
+
+-- a number that is made of what the verdict is read off is the verdict's
+module _ (number : Option Verdict → ℕ) (m : Monitor) (i answer : ℕ) (full : length (m .rows) ≡ rowLimit)
+    (made : answer ≡ number (verdictIn (verdictBy i (m .len) (m .closed) (getD (m .rows) (placeOf i) noRow .broken)))) where
+  number-read : answer ≡ number (verdictOf m i)
+  number-read = made ∙ ap number (verdict-by-is m full i noRow)
+
+pub word-kept : (m : Monitor) (i word : ℕ) → length (m .rows) ≡ rowLimit
+    → word ≡ wordOf (verdictIn (verdictBy i (m .len) (m .closed) (getD (m .rows) (placeOf i) noRow .broken))) → WordOfVerdict m i word
+word-kept m i word full made =
+    let e = number-read wordOf m i word full made in
+    record {
+      says = number-kept wordOf m i word e;
+      no-row = λ rows calls accepted after-calls.
+          let read = reading-kept m i refl .means rows calls accepted after-calls in
+          rw e (missing rows (read .0) i (verdictOf m i) (read .2));
+    }
+
+-- a verdict of the machine is broken exactly where its step is not 0
+abbrev Agree : Option Verdict → Type 0
+Agree v = (0 < stepIn v → wordOf v ≡ 2) × (wordOf v ≡ 2 → 0 < stepIn v)
+
+step-agrees : (there : Bool) (broken : ℕ) (closed : Bool)
+    → Agree (cond there (some (cond (ltb 0 broken) (Verdict.Broken broken) (cond closed Verdict.Kept Verdict.Open))) none)
+step-agrees true broken closed =
+    split (ltb 0 broken) (λ b. Agree (some (cond b (Verdict.Broken broken) (cond closed Verdict.Kept Verdict.Open))))
+    (λ h. (λ _. refl, λ _. ltb-true 0 broken h)) (λ h. not-broken closed)
+  where
+    not-broken : (b : Bool) → Agree (some (cond b Verdict.Kept Verdict.Open))
+    not-broken true = (λ h. absurd (omega arith), λ h. absurd (omega arith))
+    not-broken false = (λ h. absurd (omega arith), λ h. absurd (omega arith))
+step-agrees false broken closed = (λ h. absurd (omega arith), λ h. absurd (omega arith))
+
+pub step-kept : (m : Monitor) (i step : ℕ) → length (m .rows) ≡ rowLimit
+    → step ≡ stepIn (verdictIn (verdictBy i (m .len) (m .closed) (getD (m .rows) (placeOf i) noRow .broken))) → StepOfVerdict m i step
+unfolding verdictOf rowVerdict
+step-kept m i step full made =
+    let e = number-read stepIn m i step full made in
+    record {
+      says = number-kept stepIn m i step e;
+      broken = rw e (step-agrees (ltb i (m .len) && ltb i rowLimit) (getD (m .rows) i noRow .broken) (ltb 0 (m .closed)));
     }
 
 -- ---- rows

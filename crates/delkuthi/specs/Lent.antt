@@ -1,11 +1,9 @@
 -- The numbers that the functions on a lent monitor answer with, and what those functions promise.
-use Prim.Native.Nat.{ℕ, _+_, _*_, _<_, zero, suc, _-_, _^_}
+use Prim.Native.Nat.{ℕ, _+_, _*_, _<_, _≤_, zero, suc}
 use mathlib.Core.Path.{_≡_}
-use mathlib.Core.Bool.{cond}
 use mathlib.Core.List.{List, []}
 use mathlib.Core.Option.{Option, none, some}
 use lib.ListN.{length}
-use lib.Dec.{eqb}
 use Rattle.constraint.specs.Steps.{Step}
 use Rattle.constraint.specs.Accepted.{Accepted}
 use Rattle.constraint.specs.Promise.{ReadsRow}
@@ -15,15 +13,25 @@ use Rattle.constraint.specs.declared.Constraint.{Constraint}
 use Rattle.constraint.specs.declared.Verdict.{Verdict}
 use Rattle.constraint.specs.Table.{ReadsTable, table-of, table-refused}
 use Rattle.monitor.specs.Machine.{verdictOf}
-use Rattle.monitor.specs.Contract.{after, Recorded, verdictIn}
+use Rattle.monitor.specs.Contract.{after, Recorded, stepIn}
 use Rattle.monitor.specs.declared.Monitor.{Monitor}
-use Rattle.monitor.specs.declared.RowVerdict.{RowVerdict}
 use Rattle.monitor.specs.declared.Stepped.{Stepped}
 use Rattle.delkuthi.specs.declared.lent.Numbered.{Numbered}
 
+-- ---- the library
+
+-- 0.2.0: major * 1,000,000 + minor * 1,000 + patch
+abbrev pub version : ℕ
+version = 0 * 1000000 + 2 * 1000 + 0
+
+-- the bytes of a monitor (`monitor-size`: of its type on the machine)
+abbrev pub monitorSize : ℕ
+monitorSize = 22304
+
 -- ---- fresh
 
--- the number that answers and the monitor behind the reference then: 0, and the fresh monitor over the table's rows; or 256 times the place and the number of the refusal, and the monitor as it was
+-- the number that answers and the monitor behind the reference then: 0, and the fresh monitor over the table's rows;
+-- or 256 times the place and the number of the refusal, and the monitor as it was
 pub data Begins (bytes : List ℕ) (before : Monitor) : ℕ → Monitor → Type 0 where
   begun : (rows : List Constraint) → ReadsTable bytes (table-of rows) → Begins bytes before 0 (after rows [])
   refused : (n place : ℕ) → ReadsTable bytes (table-refused n place) → 0 < n → n < 256 → Begins bytes before (place * 256 + n) before
@@ -48,34 +56,29 @@ numbered stepped = record { number = numberOf (stepped .answer); monitor = stepp
 
 -- ---- verdicts
 
-abbrev pub keptNumber : ℕ
-keptNumber = 2 ^ 64 - 1
+-- the word for a verdict: 0 "open", 1 "kept", 2 "broken"; 15 where there is no row of that number
+abbrev pub wordOf : Option Verdict → ℕ
+wordOf (some Verdict.Open) = 0
+wordOf (some Verdict.Kept) = 1
+wordOf (some (Verdict.Broken n)) = 2
+wordOf none = 15
 
-abbrev pub noRowNumber : ℕ
-noRowNumber = 2 ^ 64 - 2
-
--- the verdict that a number says: 0 is "open", and any other number that is not one of those two is the step that broke the row
-abbrev pub verdictFrom : ℕ → Option Verdict
-verdictFrom n =
-    cond (eqb n 0) (some Verdict.Open)
-    (cond (eqb n keptNumber) (some Verdict.Kept)
-    (cond (eqb n noRowNumber) none
-    (some (Verdict.Broken n))))
-
-abbrev pub verdictNumber : Option Verdict → ℕ
-verdictNumber none = noRowNumber
-verdictNumber (some Verdict.Open) = 0
-verdictNumber (some Verdict.Kept) = keptNumber
-verdictNumber (some (Verdict.Broken n)) = n
-
-abbrev pub numberBy : RowVerdict → ℕ
-numberBy answer = verdictNumber (verdictIn answer)
-
--- the number for the verdict of a row number, and what it says after what the calls have recorded
-pub record NumberOfVerdict (m : Monitor) (i number : ℕ) : Type 0 where
-  pub equals : number ≡ verdictNumber (verdictOf m i)
+-- a number for what a row number reads: that of its verdict after what the calls have recorded
+pub record NumberOfVerdict (number : Option Verdict → ℕ) (m : Monitor) (i answer : ℕ) : Type 0 where
+  pub equals : answer ≡ number (verdictOf m i)
   pub means : (rows : List Constraint) (calls : List Step) → Accepted rows → m ≡ after rows calls
-      → (steps : List Step) × Recorded rows calls steps × ReadsRow rows steps i (verdictFrom number)
+      → (steps : List Step) × Recorded rows calls steps × (verdict : Option Verdict) × ReadsRow rows steps i verdict × (answer ≡ number verdict)
+
+-- the word: 15 exactly where the table has no row of that number
+pub record WordOfVerdict (m : Monitor) (i word : ℕ) : Type 0 where
+  pub says : NumberOfVerdict wordOf m i word
+  pub no-row : (rows : List Constraint) (calls : List Step) → Accepted rows → m ≡ after rows calls
+      → (word ≡ 15 → length rows ≤ i) × (length rows ≤ i → word ≡ 15)
+
+-- the step that broke the row: 0 exactly where the word is not "broken"
+pub record StepOfVerdict (m : Monitor) (i step : ℕ) : Type 0 where
+  pub says : NumberOfVerdict stepIn m i step
+  pub broken : (0 < step → wordOf (verdictOf m i) ≡ 2) × (wordOf (verdictOf m i) ≡ 2 → 0 < step)
 
 -- ---- rows
 

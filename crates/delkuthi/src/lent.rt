@@ -8,9 +8,30 @@ use monitor::verdicts;
 use table::ReadAnswer;
 ghost use mathlib.Core.Path.{_≡_};
 ghost use Rattle.constraint.specs.Steps.{event, tick, close};
-ghost use Rattle.monitor.specs.Contract.{Steps};
+ghost use Rattle.monitor.specs.Contract.{Steps, verdictIn, stepIn};
 ghost use Rattle.monitor.specs.Parts.{verdictBy};
-ghost use Rattle.delkuthi.specs.Lent.{Begins, numbered, steppedFrom, numberBy, NumberOfVerdict, NumberOfRows};
+ghost use Rattle.delkuthi.specs.Lent.{Begins, numbered, steppedFrom, wordOf, WordOfVerdict, StepOfVerdict, NumberOfRows, version, monitorSize};
+
+// The version of the library: 0.2.0 as major * 1,000,000 + minor * 1,000 + patch.
+pub const VERSION: u32 = 2000;
+// The bytes of a monitor.
+pub const MONITOR_SIZE: u64 = 22304;
+
+// The version of the library, for a host to compare with that of its header.
+#[no_mangle]
+pub extern "C" fn delkuthi_version() -> u32
+    ensures { λ r. ⌜ r ≡ version ⌝ }
+{
+    VERSION
+}
+
+// The bytes of a monitor, for a host to compare with the size that it lends.
+#[no_mangle]
+pub extern "C" fn delkuthi_monitor_size() -> u64
+    ensures { λ r. ⌜ r ≡ monitorSize ⌝ }
+{
+    MONITOR_SIZE
+}
 
 // The answer as a number, 0 where the table is accepted, and the monitor then.
 pub struct Begun {
@@ -48,10 +69,14 @@ pub extern "C" fn delkuthi_fresh(m: &mut Monitor, table: &[u8]) -> u64
     s.number
 }
 
-// The number for "kept", 2^64 - 1.
-pub const KEPT: u64 = 18446744073709551615;
-// The number for "there is no row of that number", 2^64 - 2.
-pub const NO_ROW: u64 = 18446744073709551614;
+// The word for each verdict, and the one for "there is no row of that number".
+pub const OPEN: u8 = 0;
+
+pub const KEPT: u8 = 1;
+
+pub const BROKEN: u8 = 2;
+
+pub const NO_ROW: u8 = 15;
 
 // The answer to a step as a number, 0 where it is taken, and the monitor after it.
 pub struct Numbered {
@@ -92,15 +117,29 @@ fn close(m: Monitor) -> Numbered
     with_number(m.close())
 }
 
-// The number for a row's verdict, by the numbers that it is read off.
-fn verdict(row: u64, len: usize, closed: u64, broken: u64) -> u64
-    ensures { λ r. ⌜ r ≡ numberBy (verdictBy row len closed broken) ⌝ }
+// The word for a row's verdict, by the numbers that the verdict is read off.
+fn word_by(row: u64, len: usize, closed: u64, broken: u64) -> u8
+    ensures { λ r. ⌜ r ≡ wordOf (verdictIn (verdictBy row len closed broken)) ⌝ }
 {
     match verdicts::by(row, len, closed, broken) {
         RowVerdict::Refused(_) => NO_ROW,
         RowVerdict::Reads(v) => match v {
-            Verdict::Open => 0,
+            Verdict::Open => OPEN,
             Verdict::Kept => KEPT,
+            Verdict::Broken(_) => BROKEN,
+        },
+    }
+}
+
+// The step that broke a row, by the numbers that its verdict is read off: 0 where none did.
+fn step_by(row: u64, len: usize, closed: u64, broken: u64) -> u64
+    ensures { λ r. ⌜ r ≡ stepIn (verdictIn (verdictBy row len closed broken)) ⌝ }
+{
+    match verdicts::by(row, len, closed, broken) {
+        RowVerdict::Refused(_) => 0,
+        RowVerdict::Reads(v) => match v {
+            Verdict::Open => 0,
+            Verdict::Kept => 0,
             Verdict::Broken(step) => step,
         },
     }
@@ -139,14 +178,24 @@ pub extern "C" fn delkuthi_close(m: &mut Monitor) -> u8
     s.number
 }
 
-// The verdict of a row: 0 for "open", KEPT, NO_ROW, or the step that broke it.
+// The word for what a row reads: OPEN, KEPT, BROKEN, or NO_ROW.
 #[no_mangle]
-pub extern "C" fn delkuthi_verdict(m: &Monitor, row: u64) -> u64
-    ensures { λ r. ⌜ NumberOfVerdict (now (m .entry)) row r ⌝ }
+pub extern "C" fn delkuthi_row_verdict(m: &Monitor, row: u64) -> u8
+    ensures { λ r. ⌜ WordOfVerdict (now (m .entry)) row r ⌝ }
 {
     let at = verdicts::place(row);
     let broken = m.rows[at].broken;
-    verdict(row, m.len, m.closed, broken)
+    word_by(row, m.len, m.closed, broken)
+}
+
+// The step that broke a row: 0 where none did, and where there is no row of that number.
+#[no_mangle]
+pub extern "C" fn delkuthi_row_step(m: &Monitor, row: u64) -> u64
+    ensures { λ r. ⌜ StepOfVerdict (now (m .entry)) row r ⌝ }
+{
+    let at = verdicts::place(row);
+    let broken = m.rows[at].broken;
+    step_by(row, m.len, m.closed, broken)
 }
 
 // The number of rows.

@@ -36,6 +36,17 @@ pub fn c_host(name: &str, level: &str) -> Host {
     compile(c_compiler().args([level, "-pthread"]), &[&file, "file.c"])
 }
 
+/// Compiles a C host of `host/c` with another text for the header, and links it with the archive.
+///
+/// # Panics
+/// With what the compiler says, if it does not compile.
+pub fn c_host_with_header(name: &str, header: &str) -> Host {
+    let folder = Folder::new();
+    folder.write("delkuthi.h", header.as_bytes());
+    let file = format!("{name}.c");
+    compile(c_compiler().arg("-I").arg(folder.path()), &[&file])
+}
+
 /// Compiles a C host of `host/c` without the C library.
 ///
 /// # Panics

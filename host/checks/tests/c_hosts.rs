@@ -1,6 +1,6 @@
 //! The header and the archive in C and C++: hosts compiled at -O0 and -O2, run, and run under valgrind.
 
-use checks::hosts::{Host, Ran, c_host, c_host_alone, cpp_host, say};
+use checks::hosts::{Host, Ran, c_host, c_host_alone, c_host_with_header, cpp_host, say};
 use checks::places::{Folder, example, example_bytes, root};
 use delkuthi::Monitor;
 use model::examples::{Example, RECORDING, REPORT, TABLE, examples};
@@ -171,6 +171,28 @@ fn the_monitors_memory() {
         assert_eq!(host.run(&["300"]), Ran::new(0, &size));
         assert_eq!(host.run_in_valgrind(&["20"]), Ran::new(0, &size));
     }
+}
+
+/// The archive is the header's and the Rust crate's; with another header a host finds that it is not.
+#[test]
+fn the_archive_and_the_header_match() {
+    let library = format!("library {} {}\n", delkuthi::library_version(), size_of::<Monitor>());
+    let of_header = |version: u32, size: usize| format!("{library}header {version} {size}\n");
+    let (version, size) = (delkuthi::VERSION, size_of::<Monitor>());
+    assert!(delkuthi::matches());
+    for level in LEVELS {
+        assert_eq!(c_host("version", level).run::<&str>(&[]), Ran::new(0, &of_header(version, size)));
+    }
+    let header = fs::read_to_string(root().join("include/delkuthi.h")).expect("the header");
+    let other = |one: &str, another: &str| {
+        assert_eq!(header.matches(one).count(), 1, "{one}");
+        c_host_with_header("version", &header.replace(one, another)).run::<&str>(&[])
+    };
+    let newer = other(&format!("UINT32_C({version})"), &format!("UINT32_C({})", version + 1));
+    assert_eq!(newer, Ran::new(1, &of_header(version + 1, size)));
+    let words = size / 8;
+    let longer = other(&format!("words[{words}]"), &format!("words[{}]", words + 1));
+    assert_eq!(longer, Ran::new(1, &of_header(version, size + 8)));
 }
 
 /// No call uses more of the stack than the header says.

@@ -6,11 +6,14 @@
 use crate::monitor::Monitor;
 
 unsafe extern "C" {
+    pub safe fn delkuthi_version() -> u32;
+    pub safe fn delkuthi_monitor_size() -> u64;
     pub fn delkuthi_fresh(monitor: &mut Monitor, table: *const u8, table_length: usize) -> u64;
     pub safe fn delkuthi_event(monitor: &mut Monitor, kind: u8, time: u64) -> u8;
     pub safe fn delkuthi_tick(monitor: &mut Monitor, time: u64) -> u8;
     pub safe fn delkuthi_close(monitor: &mut Monitor) -> u8;
-    pub safe fn delkuthi_verdict(monitor: &Monitor, row: u64) -> u64;
+    pub safe fn delkuthi_row_verdict(monitor: &Monitor, row: u64) -> u8;
+    pub safe fn delkuthi_row_step(monitor: &Monitor, row: u64) -> u64;
     pub safe fn delkuthi_rows(monitor: &Monitor) -> u64;
     pub fn delkuthi_report(
         table: *const u8,

@@ -34,10 +34,12 @@ mod ffi;
 mod monitor;
 mod refusal;
 mod report;
+mod version;
 
 pub use monitor::{Monitor, Verdict, WORDS};
 pub use refusal::Refusal;
 pub use report::{REPORT_LIMIT, report};
+pub use version::{VERSION, library_version, matches};
 
 /// The version of this wrapper, which is the library's.
 pub const VERSION: &str = env!("CARGO_PKG_VERSION");

@@ -7,6 +7,11 @@ use core::fmt;
 /// How many words of 64 bits a monitor takes.
 pub const WORDS: usize = 2788;
 
+/// The word for each verdict, as the library answers it; any other says that there is no such row.
+const OPEN: u8 = 0;
+const KEPT: u8 = 1;
+const BROKEN: u8 = 2;
+
 /// A monitor over a table: 22,304 bytes, with no pointer in them. A copy is a monitor of its own.
 #[derive(Clone, PartialEq, Eq)]
 #[repr(transparent)]
@@ -40,6 +45,9 @@ impl Monitor {
     ///
     /// # Errors
     /// 1 to 7, with the place in the table.
+    ///
+    /// # Panics
+    /// If the archive that was linked is not this crate's: [`matches`](crate::matches).
     pub fn fresh(table: &[u8]) -> Result<Monitor, Refusal> {
         let mut monitor = Monitor::from_words([0; WORDS]);
         monitor.restart(table)?;
@@ -86,13 +94,12 @@ impl Monitor {
     /// # Errors
     /// 15 no row of that number.
     pub fn verdict(&self, row: usize) -> Result<Verdict, Refusal> {
-        const KEPT: u64 = u64::MAX;
-        const NO_ROW: u64 = u64::MAX - 1;
-        match ffi::delkuthi_verdict(self, row as u64) {
-            0 => Ok(Verdict::Open),
+        let row = row as u64;
+        match ffi::delkuthi_row_verdict(self, row) {
+            OPEN => Ok(Verdict::Open),
             KEPT => Ok(Verdict::Kept),
-            NO_ROW => Err(Refusal::NO_ROW),
-            step => Ok(Verdict::Broken(step)),
+            BROKEN => Ok(Verdict::Broken(ffi::delkuthi_row_step(self, row))),
+            _ => Err(Refusal::NO_ROW),
         }
     }
 
@@ -113,7 +120,11 @@ impl Monitor {
 
     /// A monitor from memory that was put aside. Any words are safe: each call on them still ends and touches nothing
     /// else. But on words that [`Monitor::words`] did not give, what a call answers means nothing.
+    ///
+    /// # Panics
+    /// If the archive that was linked is not this crate's: [`matches`](crate::matches).
     pub fn from_words(words: [u64; WORDS]) -> Monitor {
+        assert!(crate::matches(), "the archive libdelkuthi.a is not this crate's");
         Monitor { words }
     }
 }

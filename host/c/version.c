@@ -1,0 +1,16 @@
+/*
+ * The library and the header: version
+ *
+ * Prints the version and the monitor's size as the library has them and as the
+ * header has them. The exit status is 1 where they differ.
+ */
+#include "delkuthi.h"
+#include <inttypes.h>
+#include <stdio.h>
+
+int main(void)
+{
+    printf("library %" PRIu32 " %" PRIu64 "\n", delkuthi_version(), delkuthi_monitor_size());
+    printf("header %" PRIu32 " %lu\n", DELKUTHI_VERSION, (unsigned long)sizeof(delkuthi_monitor));
+    return DELKUTHI_MATCHES() ? 0 : 1;
+}

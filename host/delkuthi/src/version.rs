@@ -1,0 +1,31 @@
+//! The version of this crate, and whether the archive that it is linked with is its own.
+
+use crate::ffi;
+use crate::monitor::Monitor;
+
+/// The version of this crate, of its header and of its archive: major × 1,000,000 + minor × 1,000 + patch.
+pub const VERSION: u32 = number(env!("CARGO_PKG_VERSION_MAJOR")) * 1_000_000
+    + number(env!("CARGO_PKG_VERSION_MINOR")) * 1_000
+    + number(env!("CARGO_PKG_VERSION_PATCH"));
+
+/// A number, from its decimal digits.
+const fn number(digits: &str) -> u32 {
+    let bytes = digits.as_bytes();
+    let (mut number, mut i) = (0, 0);
+    while i < bytes.len() {
+        number = number * 10 + (bytes[i] - b'0') as u32;
+        i += 1;
+    }
+    number
+}
+
+/// The version of the archive that was linked.
+pub fn library_version() -> u32 {
+    ffi::delkuthi_version()
+}
+
+/// Is the archive that was linked the one of this crate, by its version and by the size of a monitor? A [`Monitor`] is
+/// made only where it is.
+pub fn matches() -> bool {
+    ffi::delkuthi_version() == VERSION && ffi::delkuthi_monitor_size() == size_of::<Monitor>() as u64
+}

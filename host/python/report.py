@@ -1,13 +1,12 @@
-"""A host in Python: report.py LIBRARY HEADER TABLE RECORDING
+"""A host in Python: report.py LIBRARY TABLE RECORDING
 
 Loads the shared library, prints the report on a recording, and gives the same records to a monitor, one call after the
-other, to see that it says the same. The header tells how large a monitor is.
+other, to see that it says the same.
 """
 import ctypes
-import re
 import sys
 
-KEPT = 2**64 - 1
+KEPT = 1
 REPORT_LIMIT = 1024
 
 
@@ -20,9 +19,11 @@ def load(path):
         "delkuthi_event": (ctypes.c_uint8, [monitor, ctypes.c_uint8, number]),
         "delkuthi_tick": (ctypes.c_uint8, [monitor, number]),
         "delkuthi_close": (ctypes.c_uint8, [monitor]),
-        "delkuthi_verdict": (number, [monitor, number]),
+        "delkuthi_row_verdict": (ctypes.c_uint8, [monitor, number]),
+        "delkuthi_row_step": (number, [monitor, number]),
         "delkuthi_rows": (number, [monitor]),
         "delkuthi_report": (length, [data, length, data, length, data, length]),
+        "delkuthi_monitor_size": (number, []),
     }
     for name, (result, arguments) in calls.items():
         call = getattr(library, name)
@@ -47,9 +48,9 @@ def records(recording):
         place += 2 + size
 
 
-def step_by_step(library, words, table, recording):
+def step_by_step(library, table, recording):
     """The same report, made of single calls; none of them may be refused."""
-    monitor = (ctypes.c_uint64 * words)()
+    monitor = (ctypes.c_uint64 * (library.delkuthi_monitor_size() // 8))()
     answers = [library.delkuthi_fresh(monitor, table, len(table))]
     for kind, time in records(recording):
         if kind is None:
@@ -60,21 +61,19 @@ def step_by_step(library, words, table, recording):
     assert not any(answers), answers
     lines = [f"closed {len(answers) - 1}"]
     for row in range(library.delkuthi_rows(monitor)):
-        verdict = library.delkuthi_verdict(monitor, row)
-        lines.append(f"{row} kept" if verdict == KEPT else f"{row} broken {verdict}")
+        kept = library.delkuthi_row_verdict(monitor, row) == KEPT
+        lines.append(f"{row} kept" if kept else f"{row} broken {library.delkuthi_row_step(monitor, row)}")
     return "".join(line + "\n" for line in lines)
 
 
 def main():
     library = load(sys.argv[1])
-    with open(sys.argv[2], encoding="ascii") as header:
-        words = int(re.search(r"uint64_t words\[(\d+)\]", header.read()).group(1))
-    with open(sys.argv[3], "rb") as file:
+    with open(sys.argv[2], "rb") as file:
         table = file.read()
-    with open(sys.argv[4], "rb") as file:
+    with open(sys.argv[3], "rb") as file:
         recording = file.read()
     text = report(library, table, recording)
-    assert text == step_by_step(library, words, table, recording)
+    assert text == step_by_step(library, table, recording)
     print(text, end="")
 
 

@@ -2,6 +2,7 @@
 
 pub mod beside;
 pub mod contract;
+pub mod documents;
 pub mod hosts;
 pub mod places;
 pub mod program;

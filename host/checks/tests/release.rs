@@ -90,7 +90,7 @@ fn a_host_in_python() {
     for copy in copies() {
         let mut python = Command::new("python3");
         python.arg(root().join("host/python/report.py"));
-        python.arg(copy.lib().join("libdelkuthi.so")).arg(copy.include().join("delkuthi.h")).args(drive_files());
+        python.arg(copy.lib().join("libdelkuthi.so")).args(drive_files());
         assert_eq!(ran(python.output()), Ran::new(0, &drive()));
     }
 }

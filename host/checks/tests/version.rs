@@ -1,23 +1,9 @@
 //! One version: header, pkg-config file, Rust crate and list of changes have the one in the file `VERSION`.
 
-use checks::hosts::{Ran, c_compiler, compile_with, say};
-use checks::places::{Folder, archive_folder, root};
+use checks::hosts::c_host;
+use checks::places::root;
 use checks::release::{Installed, version};
 use std::fs;
-
-/// Prints the version that the header names, as one number.
-const HOST: &str = r#"
-#include "delkuthi.h"
-#include <stdio.h>
-
-int main(void)
-{
-#ifdef DELKUTHI_VERSION
-    printf("%lu\n", (unsigned long)(DELKUTHI_VERSION));
-#endif
-    return 0;
-}
-"#;
 
 /// The three numbers of the version.
 fn numbers() -> Vec<u64> {
@@ -32,26 +18,23 @@ fn three_numbers() {
     assert_eq!(text, format!("{}.{}.{}\n", numbers[0], numbers[1], numbers[2]));
 }
 
-#[test]
-fn the_rust_crate() {
-    assert_eq!(delkuthi::VERSION, version());
+/// The version as one number, as header, library and Rust crate have it.
+fn number() -> u32 {
+    let numbers = numbers();
+    (numbers[0] * 1_000_000 + numbers[1] * 1_000 + numbers[2]).try_into().expect("a version of three small numbers")
 }
 
 #[test]
+fn the_rust_crate_and_the_library() {
+    assert_eq!((delkuthi::VERSION, delkuthi::library_version()), (number(), number()));
+}
+
+/// The host prints the version twice: the library's and the header's.
+#[test]
 fn the_header() {
-    let folder = Folder::new();
-    let file = folder.write("version.c", HOST.as_bytes());
-    let archive = archive_folder().join("libdelkuthi.a");
-    let file = file.to_str().expect("a path of text");
-    let host = compile_with(&mut c_compiler(), &[file], &root().join("include"), &[archive.into()]);
-    let ran = host.run::<&str>(&[]);
-    if ran.printed.is_empty() {
-        say("include/delkuthi.h names no version: it was not compared");
-        return;
-    }
-    let numbers = numbers();
-    let number = numbers[0] * 1_000_000 + numbers[1] * 1_000 + numbers[2];
-    assert_eq!(ran, Ran::new(0, &format!("{number}\n")));
+    let ran = c_host("version", "-O2").run::<&str>(&[]);
+    let header = ran.printed.lines().find_map(|line| line.strip_prefix("header ")).expect("a version");
+    assert_eq!(header.split(' ').next(), Some(number().to_string().as_str()));
 }
 
 #[test]

@@ -41,8 +41,6 @@ pub use refusal::Refusal;
 pub use report::{REPORT_LIMIT, report};
 pub use version::{VERSION, library_version, matches};
 
-/// The version of this wrapper, which is the library's.
-pub const VERSION: &str = env!("CARGO_PKG_VERSION");
 /// The largest kind of event.
 pub const LAST_KIND: u8 = 63;
 /// The largest time, 2^56 − 1.

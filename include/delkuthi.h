@@ -3,8 +3,11 @@
  *
  * The monitor takes a table of timing constraints (its rows) and the stamped
  * events of a bench, and says for each row, while the recording runs, whether
- * it is open, kept, or broken, and at which step it broke. Link libdelkuthi.a;
- * of the C library it needs no more than memcpy, memmove, memset and memcmp.
+ * it is open, kept, or broken, and at which step it broke.
+ *
+ * It is for x86-64 Linux with glibc 2.34 or newer. Link libdelkuthi.a or
+ * libdelkuthi.so (pkg-config --cflags --libs delkuthi). Of the C library the
+ * archive needs no more than memcpy, memmove, memset and memcmp.
  *
  *
  * THE PROMISE
@@ -21,7 +24,8 @@
  * A machine has checked this, not tests: the first point is the contract of
  * each call, the others are the theorem monitor-is-exact over all calls.
  * docs/DATASHEET.md has what they say, what they assume, and what is not
- * promised.
+ * promised; docs/CONTRACT.md says all of it in words, in numbered clauses,
+ * with examples to check a verdict by hand.
  *
  *
  * STEPS
@@ -32,6 +36,18 @@
  * clock moved on to a time, without an event) or the close. Steps that are
  * taken are counted from 1, the close included; refused ones are not counted.
  *
+ * Two events of one kind never share a time: the second is refused with 11.
+ * Where a recorder's clock is too coarse to tell two events apart, take a finer
+ * unit: multiply the times of the table and all stamps by 1,000, say, and give
+ * the second event the next time. Where the second tells nothing new, leave it
+ * out. Events of different kinds may share a time, in whichever order they are
+ * given.
+ *
+ * A step that is refused has changed nothing, and the monitor goes on. So a
+ * host that meets a 12 (more than 64 would wait in a row) can give the step
+ * again once something was answered. A report ends at the first refusal, a 12
+ * as any other: it is then one line.
+ *
  *
  * MEMORY AND THREADS
  *
@@ -39,8 +55,9 @@
  * between calls: a monitor is its delkuthi_monitor and no more. It can be
  * copied as a struct, and the copy is a monitor of its own.
  *
- *   - No pointer may be NULL, not even where its length is 0: give the
- *     address of any byte then.
+ *   - No pointer may be NULL, not even where its length is 0. An empty table
+ *     or recording may well come as NULL, as data() of an empty vector does:
+ *     give the address of any byte then, and length 0.
  *   - A pointer is to as many bytes as its length says, and is aligned for
  *     its type. Of one call's arguments, memory that it writes does not
  *     overlap with the rest.
@@ -86,6 +103,41 @@
  * limit.
  *
  *
+ * WHAT EACH ROW ASKS
+ *
+ * Bounds include their ends. docs/CONTRACT.md has the corners and examples of
+ * each type, from clause 5.1 on.
+ *
+ *   1 Delay       For each source, at time s, a target comes at s + lower or
+ *                 later and at s + upper or earlier. One target may answer
+ *                 several sources, and further targets do no harm. A source
+ *                 that has no target breaks the row once the clock is past
+ *                 s + upper, and at the close.
+ *   2 StrongDelay The first target belongs to the first source, the second to
+ *                 the second, and so on, and each comes lower to upper after
+ *                 its source. A target too early, or one too many, breaks the
+ *                 row at once, a source without its target as in Delay.
+ *   3 Repeat      Of span + 1 events in a row the last comes lower to upper
+ *                 after the first. Silence breaks nothing.
+ *   4 Sporadic    Each event is 0 to jitter after a hidden point of its own.
+ *                 The points are at least 0, rise, and are lower to upper
+ *                 apart; the events are at least minimum apart. With lower =
+ *                 upper it is a periodic signal. Silence breaks nothing.
+ *   5 Burst       The event maximum places after another is at least length
+ *                 after it, so that shorter stretches have at most maximum
+ *                 events; neighbours are at least minimum apart. Silence
+ *                 breaks nothing.
+ *   6 Order       The first target belongs to the first source, the second to
+ *                 the second, and so on, and none is before its source. A
+ *                 source may wait for its target as long as it likes, until
+ *                 the close.
+ *   7 StrongSynchronization
+ *                 The first events of all the kinds are at most tolerance
+ *                 apart, and so are the second, the third, and so on. A group
+ *                 that lacks a kind breaks the row once the clock is past its
+ *                 first event + tolerance, and at the close.
+ *
+ *
  * A BENCH LOOP
  *
  * It holds one monitor, gives it every step as it comes, and stops at the first
@@ -114,7 +166,7 @@ static int first_broken(void)
 
 // Says what has stopped the bench. 0: every row kept. 1: a row is broken.
 // 2: the table or a step was refused. 3: the library is not this header's.
-int bench(const uint8_t *table, size_t table_length)
+static int bench(const uint8_t *table, size_t table_length)
 {
     uint64_t time, answer;
     uint8_t kind, refused = 0;
@@ -239,6 +291,51 @@ enum delkuthi_refusal {
      */
 };
 
+/* What a refusal's number says, in a line for whoever reads the bench's log. */
+static inline const char *delkuthi_refusal_text(uint8_t number)
+{
+    switch (number) {
+    case DELKUTHI_TAKEN:
+        return "taken";
+    case DELKUTHI_TABLE_VERSION:
+        return "the table does not begin with a version byte 1";
+    case DELKUTHI_ROW_CUT:
+        return "a length field or a row of the table is not whole";
+    case DELKUTHI_ROW_TOO_MANY:
+        return "the table has more than 32 rows";
+    case DELKUTHI_ROW_SHAPE:
+        return "a row has no known type or n, or the wrong length";
+    case DELKUTHI_ROW_KINDS:
+        return "a row has a kind above 63, or one kind twice";
+    case DELKUTHI_ROW_RANGE:
+        return "a row has a time, span or maximum out of range";
+    case DELKUTHI_ROW_BOUNDS:
+        return "a row has a lower that is more than its upper";
+    case DELKUTHI_CLOSED:
+        return "the recording is closed";
+    case DELKUTHI_KIND:
+        return "the kind is above 63";
+    case DELKUTHI_TIME_RANGE:
+        return "the time is above 2^56 - 1";
+    case DELKUTHI_TIME_ORDER:
+        return "the time is not in order";
+    case DELKUTHI_CROWDED:
+        return "more than 64 would wait in a row";
+    case DELKUTHI_RECORDING_VERSION:
+        return "the recording does not begin with a version byte 1";
+    case DELKUTHI_RECORD:
+        return "a record is not whole, or its length is neither 8 nor 9";
+    case DELKUTHI_NO_ROW:
+        return "there is no row of that number";
+    case 16:
+        return "the buffer is too short";
+    case 17:
+        return "a file is too large";
+    default:
+        return "a refusal without a text";
+    }
+}
+
 /*
  * Makes the memory a fresh monitor over a table: clock 0, no events, count 0,
  * not closed. Whatever the memory held before is gone. The table's bytes are
@@ -253,8 +350,12 @@ uint64_t delkuthi_fresh(delkuthi_monitor *monitor,
                         const uint8_t *table, size_t table_length);
 
 /* The number and the place in a refusal of delkuthi_fresh. */
+#ifdef __cplusplus
+#define DELKUTHI_NUMBER(answer) (static_cast<uint8_t>((answer) & 255))
+#else
 #define DELKUTHI_NUMBER(answer) ((uint8_t)((answer) & 255))
-#define DELKUTHI_PLACE(answer)  ((uint64_t)((answer) >> 8))
+#endif
+#define DELKUTHI_PLACE(answer) ((answer) >> 8)
 
 /*
  * Takes an event: its time is not before the clock and later than every

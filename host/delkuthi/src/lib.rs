@@ -37,7 +37,7 @@ mod report;
 mod version;
 
 pub use monitor::{Monitor, Verdict, WORDS};
-pub use refusal::Refusal;
+pub use refusal::{Refusal, refusal_text};
 pub use report::{REPORT_LIMIT, report};
 pub use version::{VERSION, library_version, matches};
 

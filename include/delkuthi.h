@@ -30,11 +30,11 @@
  *
  * STEPS
  *
- * A time is a whole number from 0 to DELKUTHI_LAST_TIME, in any unit that the
- * table and the events share. A kind of event is a number from 0 to
- * DELKUTHI_LAST_KIND. A step is an event (a kind and a time), a tick (the
- * clock moved on to a time, without an event) or the close. Steps that are
- * taken are counted from 1, the close included; refused ones are not counted.
+ * Times are whole numbers, 0 to DELKUTHI_LAST_TIME, in any unit that the table
+ * and the events share. Events come in kinds, numbered 0 to DELKUTHI_LAST_KIND.
+ * A step is an event (a kind and a time), a tick (the clock moved on to a time,
+ * without an event) or the close. The first step that is taken has number 1,
+ * and the close has a number too; a refused step has none.
  *
  * Two events of one kind never share a time: the second is refused with 11.
  * Where a recorder's clock is too coarse to tell two events apart, take a finer
@@ -86,9 +86,10 @@
  *
  * THE TABLE
  *
- * One byte 1, then the rows, numbered from 0. A row is a length of two bytes,
- * then that many bytes: the type and the fields. Kinds, n, span and maximum
- * take one byte, all other fields eight. Numbers are big-endian.
+ * One byte 1, then the rows; the first is row 0. Each row has a length field of
+ * two bytes and, as many bytes as it says, its type and its fields. Kinds, n,
+ * span and maximum take one byte, all other fields eight, the most significant
+ * byte first.
  *
  *   type                      fields                                   length
  *   1 Delay                   source, target, lower, upper                 19
@@ -99,8 +100,8 @@
  *   6 Order                   source, target                                3
  *   7 StrongSynchronization   n from 2 to 4, n kinds, tolerance        10 + n
  *
- * Span and maximum are 1 to 64. In types 3 and 4 an upper of 2^64 - 1 means no
- * limit.
+ * Spans and maxima go from 1 to 64. Where the upper of type 3 or 4 is 2^64 - 1,
+ * there is no upper limit.
  *
  *
  * WHAT EACH ROW ASKS
@@ -140,7 +141,7 @@
  *
  * A BENCH LOOP
  *
- * It holds one monitor, gives it every step as it comes, and stops at the first
+ * It has a monitor, gives it each step when it comes, and stops at the first
  * broken row. next_step is the bench's own; host/c/bench_loop.c has one that
  * reads a recording.
 
@@ -337,8 +338,8 @@ static inline const char *delkuthi_refusal_text(uint8_t number)
 }
 
 /*
- * Makes the memory a fresh monitor over a table: clock 0, no events, count 0,
- * not closed. Whatever the memory held before is gone. The table's bytes are
+ * Makes the memory a fresh monitor over a table, with its clock at 0 and nothing
+ * recorded. Whatever the memory held before is gone. The table's bytes are
  * not needed any more once the call has returned.
  *
  * Returns DELKUTHI_TAKEN, or a refusal of number 1 to 7: DELKUTHI_NUMBER of it
@@ -358,8 +359,8 @@ uint64_t delkuthi_fresh(delkuthi_monitor *monitor,
 #define DELKUTHI_PLACE(answer) ((answer) >> 8)
 
 /*
- * Takes an event: its time is not before the clock and later than every
- * earlier event of its kind. The clock moves to its time.
+ * Takes an event. Its time may be the clock's or later, and has to be later
+ * than those of all earlier events of its kind. The clock moves to its time.
  *
  * Returns DELKUTHI_TAKEN, or a refusal, which is one of DELKUTHI_CLOSED,
  * DELKUTHI_KIND, DELKUTHI_TIME_RANGE, DELKUTHI_TIME_ORDER and DELKUTHI_CROWDED
@@ -411,8 +412,8 @@ uint64_t delkuthi_row_step(const delkuthi_monitor *monitor, uint64_t row);
 uint64_t delkuthi_rows(const delkuthi_monitor *monitor);
 
 /*
- * Reports on a whole recording: reads the table, takes all records, closes,
- * and writes to the report, in ASCII, each line ended by byte 10,
+ * Reports on a whole recording: gives its records to a fresh monitor over the
+ * table, closes, and writes to the report, in ASCII, each line ended by byte 10,
  *
  *   closed N         N: the number of steps, the close included
  *   0 kept           then a line for each row: its number, and kept,
@@ -427,9 +428,9 @@ uint64_t delkuthi_rows(const delkuthi_monitor *monitor);
  * and a time (length 9, an event) or a time (length 8, a tick), big-endian.
  * A record's place is that of its length; the place of a version byte is 0.
  *
- * Returns the number of bytes written, at most DELKUTHI_REPORT_LIMIT; or 0,
- * with nothing written, if the report is longer than report_length. Bytes
- * after those written stay as they were; no byte 0 is put behind them.
+ * Returns how many bytes were written, at most DELKUTHI_REPORT_LIMIT. If the
+ * report is longer than report_length it returns 0, and the memory stays as it
+ * was. Bytes behind the report stay as they were; no byte 0 is put there.
  */
 size_t delkuthi_report(const uint8_t *table, size_t table_length,
                        const uint8_t *recording, size_t recording_length,

@@ -56,7 +56,7 @@ fn steps_of(recording: &[u8]) -> Vec<Step> {
     steps
 }
 
-/// The bench loop on examples of the paper.
+/// The bench loop on examples of the contract.
 fn play(examples: impl IntoIterator<Item = Example>, run: impl Fn(&[PathBuf; 2]) -> Ran) {
     for example in examples {
         let steps: Vec<Step> =

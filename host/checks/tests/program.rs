@@ -68,7 +68,7 @@ fn compare(table: &[u8], recording: &[u8], seen: &mut Seen) {
 }
 
 #[test]
-fn the_papers_file() {
+fn the_contracts_file() {
     assert_eq!(printed(Some(&TABLE), Some(&RECORDING)), REPORT);
 }
 
@@ -78,7 +78,7 @@ fn the_drive() {
     assert_eq!(report.into_bytes(), example_bytes("report.txt"));
 }
 
-/// "one that can't be opened counts as empty"
+/// A file that is not there is one of 0 bytes (§7.10).
 #[test]
 fn files_that_are_missing_or_empty() {
     for empty in [None, Some(&[][..])] {

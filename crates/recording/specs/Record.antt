@@ -13,7 +13,7 @@ pub record StepAt (bytes : List ℕ) (place : ℕ) (step : Step) (size : ℕ) : 
   pub step-read : stepOf (bodyAt bytes place) ≡ step
   pub size-read : size ≡ 2 + lengthAt bytes place
 
--- what each answer of the reader says of the record at a place: it is an event step, it is a tick step, or question 14 is answered "no"
+-- what each answer of the reader says of the record at a place: it is an event, it is a tick (§7.2), or 14 refuses it (§8.14)
 abbrev pub ReadsRecord : List ℕ → ℕ → Record → Type 0
 ReadsRecord bytes place (Record.Event kind time size) = StepAt bytes place (event kind time) size
 ReadsRecord bytes place (Record.Tick time size) = StepAt bytes place (tick time) size

@@ -45,8 +45,8 @@
  *
  * A step that is refused has changed nothing, and the monitor goes on. So a
  * host that meets a 12 (more than 64 would wait in a row) can give the step
- * again once something was answered. A report ends at the first refusal, a 12
- * as any other: it is then one line.
+ * again once something was answered, at a time that is in order then. A report
+ * ends at the first refusal, a 12 as any other: it is then one line.
  *
  *
  * MEMORY AND THREADS

@@ -3,8 +3,11 @@
  *
  * The monitor takes a table of timing constraints (its rows) and the stamped
  * events of a bench, and says for each row, while the recording runs, whether
- * it is open, kept, or broken, and at which step it broke. Link libdelkuthi.a;
- * of the C library it needs no more than memcpy, memmove, memset and memcmp.
+ * it is open, kept, or broken, and at which step it broke.
+ *
+ * It is for x86-64 Linux with glibc 2.34 or newer. Link libdelkuthi.a or
+ * libdelkuthi.so (pkg-config --cflags --libs delkuthi). Of the C library the
+ * archive needs no more than memcpy, memmove, memset and memcmp.
  *
  *
  * THE PROMISE
@@ -21,16 +24,29 @@
  * A machine has checked this, not tests: the first point is the contract of
  * each call, the others are the theorem monitor-is-exact over all calls.
  * docs/DATASHEET.md has what they say, what they assume, and what is not
- * promised.
+ * promised; docs/CONTRACT.md says all of it in words, in numbered clauses,
+ * with examples to check a verdict by hand.
  *
  *
  * STEPS
  *
- * A time is a whole number from 0 to DELKUTHI_LAST_TIME, in any unit that the
- * table and the events share. A kind of event is a number from 0 to
- * DELKUTHI_LAST_KIND. A step is an event (a kind and a time), a tick (the
- * clock moved on to a time, without an event) or the close. Steps that are
- * taken are counted from 1, the close included; refused ones are not counted.
+ * Times are whole numbers, 0 to DELKUTHI_LAST_TIME, in any unit that the table
+ * and the events share. Events come in kinds, numbered 0 to DELKUTHI_LAST_KIND.
+ * A step is an event (a kind and a time), a tick (the clock moved on to a time,
+ * without an event) or the close. The first step that is taken has number 1,
+ * and the close has a number too; a refused step has none.
+ *
+ * Two events of one kind never share a time: the second is refused with 11.
+ * Where a recorder's clock is too coarse to tell two events apart, take a finer
+ * unit: multiply the times of the table and all stamps by 1,000, say, and give
+ * the second event the next time. Where the second tells nothing new, leave it
+ * out. Events of different kinds may share a time, in whichever order they are
+ * given.
+ *
+ * A step that is refused has changed nothing, and the monitor goes on. So a
+ * host that meets a 12 (more than 64 would wait in a row) can give the step
+ * again once something was answered, at a time that is in order then. A report
+ * ends at the first refusal, a 12 as any other: it is then one line.
  *
  *
  * MEMORY AND THREADS
@@ -39,8 +55,9 @@
  * between calls: a monitor is its delkuthi_monitor and no more. It can be
  * copied as a struct, and the copy is a monitor of its own.
  *
- *   - No pointer may be NULL, not even where its length is 0: give the
- *     address of any byte then.
+ *   - No pointer may be NULL, not even where its length is 0. An empty table
+ *     or recording may well come as NULL, as data() of an empty vector does:
+ *     give the address of any byte then, and length 0.
  *   - A pointer is to as many bytes as its length says, and is aligned for
  *     its type. Of one call's arguments, memory that it writes does not
  *     overlap with the rest.
@@ -69,9 +86,10 @@
  *
  * THE TABLE
  *
- * One byte 1, then the rows, numbered from 0. A row is a length of two bytes,
- * then that many bytes: the type and the fields. Kinds, n, span and maximum
- * take one byte, all other fields eight. Numbers are big-endian.
+ * One byte 1, then the rows; the first is row 0. Each row has a length field of
+ * two bytes and, as many bytes as it says, its type and its fields. Kinds, n,
+ * span and maximum take one byte, all other fields eight, the most significant
+ * byte first.
  *
  *   type                      fields                                   length
  *   1 Delay                   source, target, lower, upper                 19
@@ -82,13 +100,48 @@
  *   6 Order                   source, target                                3
  *   7 StrongSynchronization   n from 2 to 4, n kinds, tolerance        10 + n
  *
- * Span and maximum are 1 to 64. In types 3 and 4 an upper of 2^64 - 1 means no
- * limit.
+ * Spans and maxima go from 1 to 64. Where the upper of type 3 or 4 is 2^64 - 1,
+ * there is no upper limit.
+ *
+ *
+ * WHAT EACH ROW ASKS
+ *
+ * Bounds include their ends. docs/CONTRACT.md has the corners and examples of
+ * each type, from clause 5.1 on.
+ *
+ *   1 Delay       For each source, at time s, a target comes at s + lower or
+ *                 later and at s + upper or earlier. One target may answer
+ *                 several sources, and further targets do no harm. A source
+ *                 that has no target breaks the row once the clock is past
+ *                 s + upper, and at the close.
+ *   2 StrongDelay The first target belongs to the first source, the second to
+ *                 the second, and so on, and each comes lower to upper after
+ *                 its source. A target too early, or one too many, breaks the
+ *                 row at once, a source without its target as in Delay.
+ *   3 Repeat      Of span + 1 events in a row the last comes lower to upper
+ *                 after the first. Silence breaks nothing.
+ *   4 Sporadic    Each event is 0 to jitter after a hidden point of its own.
+ *                 The points are at least 0, rise, and are lower to upper
+ *                 apart; the events are at least minimum apart. With lower =
+ *                 upper it is a periodic signal. Silence breaks nothing.
+ *   5 Burst       The event maximum places after another is at least length
+ *                 after it, so that shorter stretches have at most maximum
+ *                 events; neighbours are at least minimum apart. Silence
+ *                 breaks nothing.
+ *   6 Order       The first target belongs to the first source, the second to
+ *                 the second, and so on, and none is before its source. A
+ *                 source may wait for its target as long as it likes, until
+ *                 the close.
+ *   7 StrongSynchronization
+ *                 The first events of all the kinds are at most tolerance
+ *                 apart, and so are the second, the third, and so on. A group
+ *                 that lacks a kind breaks the row once the clock is past its
+ *                 first event + tolerance, and at the close.
  *
  *
  * A BENCH LOOP
  *
- * It holds one monitor, gives it every step as it comes, and stops at the first
+ * It has a monitor, gives it each step when it comes, and stops at the first
  * broken row. next_step is the bench's own; host/c/bench_loop.c has one that
  * reads a recording.
 
@@ -114,7 +167,7 @@ static int first_broken(void)
 
 // Says what has stopped the bench. 0: every row kept. 1: a row is broken.
 // 2: the table or a step was refused. 3: the library is not this header's.
-int bench(const uint8_t *table, size_t table_length)
+static int bench(const uint8_t *table, size_t table_length)
 {
     uint64_t time, answer;
     uint8_t kind, refused = 0;
@@ -239,9 +292,54 @@ enum delkuthi_refusal {
      */
 };
 
+/* What a refusal's number says, in a line for whoever reads the bench's log. */
+static inline const char *delkuthi_refusal_text(uint8_t number)
+{
+    switch (number) {
+    case DELKUTHI_TAKEN:
+        return "taken";
+    case DELKUTHI_TABLE_VERSION:
+        return "the table does not begin with a version byte 1";
+    case DELKUTHI_ROW_CUT:
+        return "a length field or a row of the table is not whole";
+    case DELKUTHI_ROW_TOO_MANY:
+        return "the table has more than 32 rows";
+    case DELKUTHI_ROW_SHAPE:
+        return "a row has no known type or n, or the wrong length";
+    case DELKUTHI_ROW_KINDS:
+        return "a row has a kind above 63, or one kind twice";
+    case DELKUTHI_ROW_RANGE:
+        return "a row has a time, span or maximum out of range";
+    case DELKUTHI_ROW_BOUNDS:
+        return "a row has a lower that is more than its upper";
+    case DELKUTHI_CLOSED:
+        return "the recording is closed";
+    case DELKUTHI_KIND:
+        return "the kind is above 63";
+    case DELKUTHI_TIME_RANGE:
+        return "the time is above 2^56 - 1";
+    case DELKUTHI_TIME_ORDER:
+        return "the time is not in order";
+    case DELKUTHI_CROWDED:
+        return "more than 64 would wait in a row";
+    case DELKUTHI_RECORDING_VERSION:
+        return "the recording does not begin with a version byte 1";
+    case DELKUTHI_RECORD:
+        return "a record is not whole, or its length is neither 8 nor 9";
+    case DELKUTHI_NO_ROW:
+        return "there is no row of that number";
+    case 16:
+        return "the buffer is too short";
+    case 17:
+        return "a file is too large";
+    default:
+        return "a refusal without a text";
+    }
+}
+
 /*
- * Makes the memory a fresh monitor over a table: clock 0, no events, count 0,
- * not closed. Whatever the memory held before is gone. The table's bytes are
+ * Makes the memory a fresh monitor over a table, with its clock at 0 and nothing
+ * recorded. Whatever the memory held before is gone. The table's bytes are
  * not needed any more once the call has returned.
  *
  * Returns DELKUTHI_TAKEN, or a refusal of number 1 to 7: DELKUTHI_NUMBER of it
@@ -253,12 +351,16 @@ uint64_t delkuthi_fresh(delkuthi_monitor *monitor,
                         const uint8_t *table, size_t table_length);
 
 /* The number and the place in a refusal of delkuthi_fresh. */
+#ifdef __cplusplus
+#define DELKUTHI_NUMBER(answer) (static_cast<uint8_t>((answer) & 255))
+#else
 #define DELKUTHI_NUMBER(answer) ((uint8_t)((answer) & 255))
-#define DELKUTHI_PLACE(answer)  ((uint64_t)((answer) >> 8))
+#endif
+#define DELKUTHI_PLACE(answer) ((answer) >> 8)
 
 /*
- * Takes an event: its time is not before the clock and later than every
- * earlier event of its kind. The clock moves to its time.
+ * Takes an event. Its time may be the clock's or later, and has to be later
+ * than those of all earlier events of its kind. The clock moves to its time.
  *
  * Returns DELKUTHI_TAKEN, or a refusal, which is one of DELKUTHI_CLOSED,
  * DELKUTHI_KIND, DELKUTHI_TIME_RANGE, DELKUTHI_TIME_ORDER and DELKUTHI_CROWDED
@@ -310,8 +412,8 @@ uint64_t delkuthi_row_step(const delkuthi_monitor *monitor, uint64_t row);
 uint64_t delkuthi_rows(const delkuthi_monitor *monitor);
 
 /*
- * Reports on a whole recording: reads the table, takes all records, closes,
- * and writes to the report, in ASCII, each line ended by byte 10,
+ * Reports on a whole recording: gives its records to a fresh monitor over the
+ * table, closes, and writes to the report, in ASCII, each line ended by byte 10,
  *
  *   closed N         N: the number of steps, the close included
  *   0 kept           then a line for each row: its number, and kept,
@@ -326,9 +428,9 @@ uint64_t delkuthi_rows(const delkuthi_monitor *monitor);
  * and a time (length 9, an event) or a time (length 8, a tick), big-endian.
  * A record's place is that of its length; the place of a version byte is 0.
  *
- * Returns the number of bytes written, at most DELKUTHI_REPORT_LIMIT; or 0,
- * with nothing written, if the report is longer than report_length. Bytes
- * after those written stay as they were; no byte 0 is put behind them.
+ * Returns how many bytes were written, at most DELKUTHI_REPORT_LIMIT. If the
+ * report is longer than report_length it returns 0, and the memory stays as it
+ * was. Bytes behind the report stay as they were; no byte 0 is put there.
  */
 size_t delkuthi_report(const uint8_t *table, size_t table_length,
                        const uint8_t *recording, size_t recording_length,

@@ -26,7 +26,7 @@ static int first_broken(void)
 
 // Says what has stopped the bench. 0: every row kept. 1: a row is broken.
 // 2: the table or a step was refused. 3: the library is not this header's.
-int bench(const uint8_t *table, size_t table_length)
+static int bench(const uint8_t *table, size_t table_length)
 {
     uint64_t time, answer;
     uint8_t kind, refused = 0;

@@ -1,5 +1,6 @@
-// The header in C++: a monitor as a member, and every call.
+// The header in C++: a monitor as a member, every call and every macro.
 #include "delkuthi.h"
+#include <cstring>
 
 struct Bench {
     delkuthi_monitor monitor;
@@ -13,7 +14,13 @@ int main()
     static const uint8_t table[6] = {1, 0, 3, 6, 0, 1};
     static const uint8_t recording[1] = {1};
     bool well = DELKUTHI_MATCHES();
+    const uint64_t answer = delkuthi_fresh(&bench.monitor, table, 5);
+    well = well && DELKUTHI_NUMBER(answer) == DELKUTHI_ROW_CUT && DELKUTHI_PLACE(answer) == 1;
+    well = well && std::strcmp(delkuthi_refusal_text(DELKUTHI_CLOSED), "the recording is closed") == 0;
     well = well && delkuthi_fresh(&bench.monitor, table, sizeof table) == DELKUTHI_TAKEN;
+    well = well && delkuthi_event(&bench.monitor, 1, DELKUTHI_LAST_TIME + 1) == DELKUTHI_TIME_RANGE;
+    well = well && delkuthi_row_verdict(&bench.monitor, DELKUTHI_ROW_LIMIT) == DELKUTHI_NO_ROW;
+    well = well && delkuthi_row_verdict(&bench.monitor, 0) == DELKUTHI_OPEN;
     well = well && delkuthi_event(&bench.monitor, 1, 5) == DELKUTHI_TAKEN;
     well = well && delkuthi_tick(&bench.monitor, 6) == DELKUTHI_TAKEN;
     well = well && delkuthi_row_verdict(&bench.monitor, 0) == DELKUTHI_BROKEN;

@@ -3,13 +3,13 @@
 use std::env;
 use std::fs;
 use std::path::{Path, PathBuf};
-use std::process::Command;
+use std::process::{Command, exit};
 
 /// Has cargo link the archive of a proved library, and gives the folder that it is in.
 ///
 /// The archive is the one in the folder that the environment variable `DELKUTHI_LIB` names, or else it is built from
 /// `crates/`. It is copied to the build's own folder, so that the build still has it when `target/` at the
-/// repository's root is removed.
+/// repository's root is removed. Where there is no archive the build ends, with a line that says what to do.
 pub fn link(name: &str) -> PathBuf {
     let file = format!("lib{name}.a");
     println!("cargo::rerun-if-env-changed=DELKUTHI_LIB");
@@ -18,7 +18,9 @@ pub fn link(name: &str) -> PathBuf {
         None => built(name).join(&file),
     };
     let folder = PathBuf::from(env::var_os("OUT_DIR").expect("cargo sets OUT_DIR"));
-    fs::copy(&archive, folder.join(&file)).unwrap_or_else(|error| panic!("no archive {}: {error}", archive.display()));
+    if let Err(error) = fs::copy(&archive, folder.join(&file)) {
+        give_up(&format!("there is no {} ({error}): DELKUTHI_LIB has to name the folder of {file}", archive.display()));
+    }
     println!("cargo::rustc-link-search=native={}", folder.display());
     println!("cargo::rustc-link-lib=static={name}");
     folder
@@ -29,10 +31,20 @@ fn built(name: &str) -> PathBuf {
     let root = Path::new(env!("CARGO_MANIFEST_DIR")).join("../..");
     changing(&root.join("crates.txt"));
     changing(&root.join("crates"));
-    let status = Command::new("rt").args(["staticlib", name]).current_dir(&root).status();
-    let status = status.unwrap_or_else(|error| panic!("rt, of the Rattle kit, must be in the PATH: {error}"));
-    assert!(status.success(), "rt staticlib {name} failed: {status}");
-    root.join("target/staticlib")
+    match Command::new("rt").args(["staticlib", name]).current_dir(&root).status() {
+        Ok(status) if status.success() => root.join("target/staticlib"),
+        Ok(status) => give_up(&format!("rt staticlib {name} failed ({status}): what it says stands above")),
+        Err(error) => give_up(&format!(
+            "rt, of the Rattle kit, cannot be run ({error}): set DELKUTHI_LIB to the folder of lib{name}.a, \
+             or put rt in the PATH to have it proved and built"
+        )),
+    }
+}
+
+/// Ends the build with a line for whoever started it.
+fn give_up(text: &str) -> ! {
+    println!("cargo::error={text}");
+    exit(1)
 }
 
 /// The path, with which cargo runs the build script again if something changes there.

@@ -1,4 +1,6 @@
--- Questions 3 to 7, row by row (paper 01, "Questions in order"), as fresh and the table writer put them: "4 without the length". Every `Constraint` has a type from 1 to 7 and an n from 2 to 4, so its answer to 4 is yes.
+-- Questions 3 to 7, row by row, as fresh and the table writer put them (§9.7). The answer to 4 without the length is always "yes" here:
+-- every `Constraint` has a type from 1 to 7 and an n from 2 to 4.
+-- every `Constraint` has a type from 1 to 7 and an n from 2 to 4.
 use Prim.Native.Nat.{ℕ, _+_, _≤_, _<_}
 use mathlib.Core.Path.{_≡_}
 use mathlib.Core.List.{List, [], _∷_, _++_}
@@ -23,15 +25,15 @@ kinds (StrongSynchronization2 a b tolerance) = a ∷ b ∷ []
 kinds (StrongSynchronization3 a b c tolerance) = a ∷ b ∷ c ∷ []
 kinds (StrongSynchronization4 a b c d tolerance) = a ∷ b ∷ c ∷ d ∷ []
 
--- 5: "Are the kinds at most 63 and all different?"
+-- §8.5: no kind is above 63, and no two are the same
 unfoldable pub KindsFit : List ℕ → Type 0
 KindsFit ks = ((i : ℕ) → i < length ks → at ks i ≤ lastKind) × ((i j : ℕ) → i < j → j < length ks → ¬ (at ks i ≡ at ks j))
 
--- an upper in range, or the mark for no limit
+-- §4.7: an upper in range, or the mark for no limit
 abbrev pub UpperInRange : ℕ → Type 0
 UpperInRange upper = (upper ≤ lastTime) ⊎ (upper ≡ noLimit)
 
--- 6: "Are times, span and maximum in range?"
+-- §8.6: times, span and maximum are in their ranges
 unfoldable pub InRange : Constraint → Type 0
 InRange (Delay source target lower upper) = (lower ≤ lastTime) × (upper ≤ lastTime)
 InRange (StrongDelay source target lower upper) = (lower ≤ lastTime) × (upper ≤ lastTime)
@@ -43,7 +45,7 @@ InRange (StrongSynchronization2 a b tolerance) = tolerance ≤ lastTime
 InRange (StrongSynchronization3 a b c tolerance) = tolerance ≤ lastTime
 InRange (StrongSynchronization4 a b c d tolerance) = tolerance ≤ lastTime
 
--- 7: "Is lower ≤ upper where both stand?"
+-- §8.7: lower is at most upper
 unfoldable pub LowerFirst : Constraint → Type 0
 LowerFirst (Delay source target lower upper) = lower ≤ upper
 LowerFirst (StrongDelay source target lower upper) = lower ≤ upper
@@ -59,11 +61,11 @@ LowerFirst (StrongSynchronization4 a b c d tolerance) = Unit {0}
 abbrev pub rowQuestions : Constraint → List Question
 rowQuestions c = (5, KindsFit (kinds c)) ∷ (6, InRange c) ∷ (7, LowerFirst c) ∷ []
 
--- "row by row": 3, "Are there at most 32 rows so far?", with i rows before, then the row's own; and the questions that come after the rows
+-- §9.7: 3 with i rows before (§8.3), then the row's own questions, row after row; and the questions that come after the rows
 unfoldable pub rowsQuestions : ℕ → List Constraint → List Question → List Question
 rowsQuestions i [] after = after
 rowsQuestions i (c ∷ rows) after = (3, i < rowLimit) ∷ rowQuestions c ++ rowsQuestions (i + 1) rows after
 
--- a table that is accepted: every question answered "yes"
+-- §3.2: a table that is accepted, every question answered "yes"
 abbrev pub Accepted : List Constraint → Type 0
 Accepted rows = Judged (rowsQuestions 0 rows []) Taken

@@ -1,4 +1,4 @@
--- Numbers as bytes: "Numbers are big-endian." (paper 01, "The table").
+-- Numbers as bytes (§4.1).
 use Prim.Native.Nat.{ℕ, zero, suc, _+_, _*_, _/_, _%_, _^_, _<_}
 use mathlib.Core.List.{List, [], _∷_}
 use lib.ListN.{length, take, drop}

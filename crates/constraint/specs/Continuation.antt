@@ -1,4 +1,4 @@
--- What may still come, and what a row reads (paper 01, "A continuation is" and "A row is open while").
+-- What may still come (§2.3), and what a row reads (§2.4 to §2.6).
 use Prim.Native.Nat.{ℕ, _≤_, _<_}
 use mathlib.Core.Path.{_≡_}
 use mathlib.Core.Bool.{true, false}
@@ -10,27 +10,27 @@ use Rattle.constraint.specs.Meets.{Meets}
 use Rattle.constraint.specs.declared.Constraint.{Constraint}
 use Rattle.constraint.specs.declared.Verdict.{Verdict}
 
--- "not before the clock and later than every earlier event of that kind"
+-- §1.3: the time is the clock's or later, and later than those of all earlier events of the kind
 abbrev pub EventInOrder : List Step → ℕ → ℕ → Type 0
 EventInOrder steps k t = (clock steps ≤ t) × ((i : ℕ) → i < length (times k steps) → at (times k steps) i < t)
 
--- "a finite list of further events, possibly empty, at or after the clock, none earlier than the one before it, strictly rising within each kind, the recorded events of that kind counted in, with no largest time. After the close only the empty one is left." (Continuation is paper 01's term)
+-- §2.3: further events that could be taken one after the other, with no largest time; after the close none
 pub data Continues : List Step → List Step → Type 0 where
   stop : {steps : List Step} → Continues steps []
   more : {steps further : List Step} (k t : ℕ) → closed steps ≡ false → k ≤ lastKind → EventInOrder steps k t
       → Continues (steps ++ (event k t ∷ [])) further → Continues steps (event k t ∷ further)
 
--- "A row is open while some continuation makes its definition true of all events together."
+-- §2.4: some continuation is left with which all events together do what the row asks
 abbrev pub Open : Constraint → List Step → Type 0
 Open c steps = (further : List Step) × Continues steps further × Meets c (steps ++ further)
 
--- "It is broken from the first step after which none does." Steps are counted from 1: `take n steps` are the first n
+-- §2.5: no such continuation is left after n steps, and after fewer there was one. `take n steps` are the first n
 pub record BrokenAt (c : Constraint) (steps : List Step) (n : ℕ) : Type 0 where
   pub counted : n ≤ length steps
   pub before : (k : ℕ) → k < n → Open c (take k steps)
   pub after : ¬ Open c (take n steps)
 
--- what a row reads after the steps; "At the close a row not broken is kept."
+-- §2.4, §2.5, §2.6: what a row reads after the steps
 pub data Reads (c : Constraint) (steps : List Step) : Verdict → Type 0 where
   reads-open : closed steps ≡ false → Open c steps → Reads c steps Verdict.Open
   reads-kept : closed steps ≡ true → Open c steps → Reads c steps Verdict.Kept

@@ -1,31 +1,31 @@
--- The limits of paper 01, one name each. The code's constants have the same names in capitals.
+-- The limits, one name each. The code's constants have the same names in capitals.
 use Prim.Native.Nat.{ℕ, _^_, _-_}
 
--- "A kind of event is a number from 0 to 63."
+-- §1.2: the last kind
 abbrev pub lastKind : ℕ
 lastKind = 63
 
--- "A time is a whole number from 0 to 2^56 − 1."
+-- §1.1: the last time
 abbrev pub lastTime : ℕ
 lastTime = 2 ^ 56 - 1
 
--- "In types 3 and 4 an upper of 2^64 − 1 means no limit"
+-- §4.7: the mark for no upper limit
 abbrev pub noLimit : ℕ
 noLimit = 2 ^ 64 - 1
 
--- "then 0 to 32 rows"
+-- §4.2: how many rows a table has at most
 abbrev pub rowLimit : ℕ
 rowLimit = 32
 
--- "Span and maximum are 1 to 64."
+-- §4.6: how large spans and maxima are at most
 abbrev pub spanLimit : ℕ
 spanLimit = 64
 
--- "A row keeps at most 64."
+-- §6.5: how many wait in a row at most
 abbrev pub waitingLimit : ℕ
 waitingLimit = 64
 
--- "does the table file have at most 2,048 bytes and the recording at most 61,440?"
+-- §8.17: how many bytes the program's files have at most
 abbrev pub tableSizeLimit : ℕ
 tableSizeLimit = 2048
 

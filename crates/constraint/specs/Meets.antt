@@ -1,4 +1,4 @@
--- What each row says of all events together (paper 01, "What each row says").
+-- What each row asks of all events together (§2.2, §5.1 to §5.7).
 use Prim.Native.Nat.{ℕ, _+_, _≤_, _<_}
 use mathlib.Core.Path.{_≡_}
 use mathlib.Core.List.{List, [], _∷_}
@@ -9,33 +9,33 @@ use Rattle.constraint.specs.Steps.{Step, at, times}
 use Rattle.constraint.specs.declared.Constraint.{Constraint}
 use Rattle.constraint.specs.declared.Constraint.the-variants.{Delay, StrongDelay, Repeat, Sporadic, Burst, Order, StrongSynchronization2, StrongSynchronization3, StrongSynchronization4}
 
--- y is lower to upper after x
+-- y is lower to upper after x, both ends included
 abbrev pub Between : ℕ → ℕ → ℕ → ℕ → Type 0
 Between lower upper x y = (x + lower ≤ y) × (y ≤ x + upper)
 
--- the same, where the upper may be the mark for no limit
+-- the same, where the upper may be the mark for no limit (§4.7)
 abbrev pub Apart : ℕ → ℕ → ℕ → ℕ → Type 0
 Apart lower upper x y = (x + lower ≤ y) × ((upper ≡ noLimit) ⊎ (y ≤ x + upper))
 
--- 1. "each source event at s has a target event t with lower ≤ t − s ≤ upper"
+-- §5.1: each source has a target lower to upper after it
 unfoldable pub MeetsDelay : ℕ → ℕ → List ℕ → List ℕ → Type 0
 MeetsDelay lower upper sources targets =
     (i : ℕ) → i < length sources → (j : ℕ) × (j < length targets) × Between lower upper (at sources i) (at targets j)
 
--- 2. "there are as many targets as sources, and the i-th target is lower to upper after the i-th source"
+-- §5.2: sources and targets are equal in number, and each target is lower to upper after the source of its place
 unfoldable pub MeetsStrongDelay : ℕ → ℕ → List ℕ → List ℕ → Type 0
 MeetsStrongDelay lower upper sources targets =
     (length targets ≡ length sources) × ((i : ℕ) → i < length sources → Between lower upper (at sources i) (at targets i))
 
--- 3. "of any span + 1 consecutive events, last minus first is from lower to upper"
+-- §5.3: an event and the one span places after it are lower to upper apart
 unfoldable pub MeetsRepeat : ℕ → ℕ → ℕ → List ℕ → Type 0
 MeetsRepeat span lower upper events = (i : ℕ) → i + span < length events → Apart lower upper (at events i) (at events (i + span))
 
--- "neighbouring events at least minimum" apart
+-- neighbours are at least minimum apart
 abbrev pub AtLeastApart : ℕ → List ℕ → Type 0
 AtLeastApart minimum events = MeetsRepeat 1 minimum noLimit events
 
--- 4. "hidden points, strictly rising whole numbers not below 0, one for each event. The i-th event is 0 to jitter after the i-th point. Neighbouring points are lower to upper apart"
+-- §5.4: a point for each event, at most jitter before it; the points rise, and neighbours among them are lower to upper apart
 pub record HiddenPoints (lower upper jitter : ℕ) (events points : List ℕ) : Type 0 where
   pub one-each : length points ≡ length events
   pub near : (i : ℕ) → i < length events → Between 0 jitter (at points i) (at events i)
@@ -46,22 +46,22 @@ unfoldable pub MeetsSporadic : ℕ → ℕ → ℕ → ℕ → List ℕ → Type
 MeetsSporadic lower upper jitter minimum events =
     ((points : List ℕ) × HiddenPoints lower upper jitter events points) × AtLeastApart minimum events
 
--- 5. "Repeat with span = maximum, lower = length, no upper; and neighbouring events at least minimum apart"
+-- §5.5: events maximum places apart are at least len apart, and neighbours at least minimum
 unfoldable pub MeetsBurst : ℕ → ℕ → ℕ → List ℕ → Type 0
 MeetsBurst maximum len minimum events = MeetsRepeat maximum len noLimit events × AtLeastApart minimum events
 
--- 6. "there are as many targets as sources, and the i-th source is not later than the i-th target"
+-- §5.6: sources and targets are equal in number, and no source is after the target of its place
 unfoldable pub MeetsOrder : List ℕ → List ℕ → Type 0
 MeetsOrder sources targets = (length targets ≡ length sources) × ((i : ℕ) → i < length sources → at sources i ≤ at targets i)
 
--- 7. "all n kinds have equally many events, and the i-th events of all kinds lie within tolerance of one another"
+-- §5.7: any two of the kinds have equally many events, and those of one place are at most tolerance apart
 unfoldable pub MeetsStrongSynchronization : List ℕ → ℕ → List Step → Type 0
 MeetsStrongSynchronization kinds tolerance steps =
     (j k : ℕ) → j < length kinds → k < length kinds →
     (length (times (at kinds j) steps) ≡ length (times (at kinds k) steps))
     × ((i : ℕ) → i < length (times (at kinds j) steps) → at (times (at kinds j) steps) i ≤ at (times (at kinds k) steps) i + tolerance)
 
--- the row's definition, true of all events together
+-- what a row asks of all events together (§2.2)
 unfoldable pub Meets : Constraint → List Step → Type 0
 Meets (Delay source target lower upper) steps = MeetsDelay lower upper (times source steps) (times target steps)
 Meets (StrongDelay source target lower upper) steps = MeetsStrongDelay lower upper (times source steps) (times target steps)

@@ -1,4 +1,4 @@
--- Demand 3 as one claim about a monitor's functions: over every table, every list of calls, and every row.
+-- §3.6 to §3.8 as one claim about a monitor's functions: over every table, every list of calls, and every row.
 use Prim.Native.Nat.{ℕ}
 use mathlib.Core.Path.{_≡_}
 use mathlib.Core.List.{List, [], _∷_, _++_}
@@ -24,12 +24,12 @@ pub record Played (Monitor : Type 0) : Type 0 where
   pub answers : List Answer
   pub monitor : Monitor
 
--- the verdict of a row number: what the row reads, or none where there is no row of that number (15)
+-- the verdict of a row number: what the row reads, or none where there is no row of that number (§8.15)
 pub data ReadsRow (rows : List Constraint) (steps : List Step) (i : ℕ) : Option Verdict → Type 0 where
   row : (c : Constraint) (v : Verdict) → getElem? rows i ≡ some c → Reads c steps v → ReadsRow rows steps i (some v)
   no-row : getElem? rows i ≡ none → ReadsRow rows steps i none
 
--- "Each call gets the monitor that the last one returned or left"
+-- §3.4: each call finds the monitor as the call before has left it
 unfoldable pub play : {Monitor : Type 0} → (Monitor → Call → Stepped Monitor) → Monitor → List Call → Played Monitor
 play step m [] = record { answers = []; monitor = m }
 play step m (s ∷ calls) =
@@ -38,13 +38,14 @@ play step m (s ∷ calls) =
 
 module _ {Monitor : Type 0} (fresh : List Constraint → Monitor) (step : Monitor → Call → Stepped Monitor) (verdict : Monitor → ℕ → Option Verdict) where
   pub record Promise : Type 0 where
-    -- over an accepted table and after any list of calls the answers are those of the questions, and each row reads what the definitions say
+    -- §3.6: over an accepted table and after any list of calls the answers are those of the questions, and each row reads what the
+    -- definitions say
     pub exact : (rows : List Constraint) → Accepted rows → (calls : List Call)
         → (steps : List Step) × Run rows [] calls (play step (fresh rows) calls .answers) steps
         × ((i : ℕ) → ReadsRow rows steps i (verdict (play step (fresh rows) calls .monitor) i))
-    -- "A refusal leaves monitor and buffers untouched"
+    -- §3.8, §9.2: a refusal leaves the monitor as it was
     pub untouched : (m : Monitor) (s : Call) (n : ℕ) → step m s .answer ≡ Refused n → step m s .monitor ≡ m
-    -- runs A and B: a row broken in A is broken in B too, at the same step, whatever further calls B has
+    -- §3.7: a row that is broken after some calls is broken after further ones too, at the same step
     pub final : (rows : List Constraint) → Accepted rows → (calls further : List Call) (i n : ℕ)
         → verdict (play step (fresh rows) calls .monitor) i ≡ some (Verdict.Broken n)
         → verdict (play step (fresh rows) (calls ++ further) .monitor) i ≡ some (Verdict.Broken n)

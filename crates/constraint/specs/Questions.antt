@@ -1,4 +1,4 @@
--- How questions are put (paper 01, "Questions in order").
+-- How questions are put (§9.1).
 use Prim.Native.Nat.{ℕ}
 use mathlib.Core.Path.{_≡_}
 use mathlib.Core.Bool.{Bool, true, false}
@@ -11,7 +11,7 @@ use Rattle.constraint.specs.declared.Answer.the-variants.{Taken, Refused
 abbrev pub Question : Type 1
 Question = ℕ × Type 0
 
--- "The first 'no' gives the number.": the answer to a call is `Refused` with that number, and `Taken` where every question is answered "yes"
+-- §9.1: the first question answered "no" refuses the call with its number; it is taken where all are answered "yes"
 unfoldable pub Judged : List Question → Answer → Type 0
 Judged [] a = a ≡ Taken
 Judged (q ∷ later) a = (q .1 × Judged later a) ⊎ (¬ q .1 × (a ≡ Refused (q .0)))

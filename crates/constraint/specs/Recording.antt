@@ -1,4 +1,4 @@
--- The recording's format: bytes to accepted steps, or a refusal with its number and place (paper 01, "Recording and report" and the recording's questions).
+-- The recording's format: bytes to accepted steps, or a refusal with its number and place (§7.1, §7.2, §9.4).
 use Prim.Native.Nat.{ℕ, _+_, _≤_, _<_}
 use mathlib.Core.Path.{_≡_}
 use mathlib.Core.Bool.{cond}
@@ -15,24 +15,24 @@ use Rattle.constraint.specs.Bytes.{numberAt}
 use Rattle.constraint.specs.Table.{lengthAt, bodyAt, WholeAt, VersionOne}
 use Rattle.constraint.specs.declared.Constraint.{Constraint}
 
--- "Length 9 is an event (kind, time), length 8 a tick (time)."
+-- §7.2: an event of nine bytes, a tick of eight
 abbrev pub callOf : List ℕ → Call
 callOf body = cond (eqb (length body) 9) (Call.Event (at body 0) (numberAt 8 body 1)) (Call.Tick (numberAt 8 body 0))
 
--- 14: "are both length bytes and the whole record there, its length 8 or 9?"
+-- §8.14: length field and record are whole, and the length is 8 or 9
 abbrev pub RecordAt : List ℕ → ℕ → Type 0
 RecordAt bytes place = WholeAt bytes place × ((lengthAt bytes place ≡ 8) ⊎ (lengthAt bytes place ≡ 9))
 
--- 14, "Then the step's questions."
+-- §9.4: 14, then the questions of its step
 unfoldable pub recordQuestions : List Constraint → List Step → List ℕ → ℕ → List Question
 recordQuestions rows steps bytes place = (14, RecordAt bytes place) ∷ questions rows steps (callOf (bodyAt bytes place))
 
--- what reading gives: the steps accepted, or the refusal's number and place
+-- what reading gives: the steps accepted, or the refusal's number and place (§7.6)
 pub data RecordingRead : Type 0 where
   recording-of : List Step → RecordingRead
   recording-refused : ℕ → ℕ → RecordingRead
 
--- "Then record by record": from a place on, over the steps accepted before
+-- §9.4: record by record, from a place on, over the steps accepted before
 pub data ReadsRecords (rows : List Constraint) (bytes : List ℕ) : List Step → ℕ → RecordingRead → Type 0 where
   no-more : {before : List Step} {place : ℕ} → length bytes ≤ place → ReadsRecords rows bytes before place (recording-of before)
   record-refused : {before : List Step} {place : ℕ} (n : ℕ) → place < length bytes → Judged (recordQuestions rows before bytes place) (Refused n)
@@ -41,7 +41,7 @@ pub data ReadsRecords (rows : List Constraint) (bytes : List ℕ) : List Step �
       → ReadsRecords rows bytes (before ++ (stepFor (callOf (bodyAt bytes place)) ∷ [])) (place + 2 + lengthAt bytes place) read
       → ReadsRecords rows bytes before place read
 
--- 13: "first byte there, and 1?", then record by record
+-- §9.4: 13 (§8.13), then record by record
 pub data ReadsRecording (rows : List Constraint) (bytes : List ℕ) : RecordingRead → Type 0 where
   version-refused : ¬ VersionOne bytes → ReadsRecording rows bytes (recording-refused 13 0)
   version-taken : {read : RecordingRead} → VersionOne bytes → ReadsRecords rows bytes [] 1 read → ReadsRecording rows bytes read

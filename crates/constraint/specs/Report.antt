@@ -1,4 +1,4 @@
--- The report's bytes (paper 01, "The report call takes").
+-- The report's bytes (§7.3 to §7.8), and what the program prints (§7.10).
 use Prim.Native.Nat.{ℕ, zero, suc, _+_, _/_, _%_, _≤_, _<_}
 use mathlib.Core.Bool.{cond}
 use mathlib.Core.List.{List, [], _∷_, _++_}
@@ -18,11 +18,11 @@ unfoldable pub digits : ℕ → ℕ → List ℕ
 digits zero x = []
 digits (suc n) x = cond (ltb x 10) [] (digits n (x / 10)) ++ ((48 + x % 10) ∷ [])
 
--- "numbers are decimal without leading zeros": in ASCII. Every number of a report is below 10 ^ 20
+-- §7.7: in ASCII, with no zero in front. Every number of a report is below 10 ^ 20
 abbrev pub decimal : ℕ → List ℕ
 decimal x = digits 20 x
 
--- "One blank stands between the parts of a line." "Lines end in byte 10"
+-- §7.7: what stands between the parts of a line, and at its end
 abbrev pub blank : ℕ
 blank = 32
 
@@ -42,22 +42,22 @@ brokenWord = 98 ∷ 114 ∷ 111 ∷ 107 ∷ 101 ∷ 110 ∷ []
 abbrev pub refusedWord : List ℕ
 refusedWord = 114 ∷ 101 ∷ 102 ∷ 117 ∷ 115 ∷ 101 ∷ 100 ∷ []
 
--- "kept", or "broken" and the step; at the close no row is open
+-- §7.4: kept, or broken and the step; at the close no row is open
 abbrev pub verdictText : Verdict → List ℕ
 verdictText Open = []
 verdictText Kept = keptWord
 verdictText (Broken n) = brokenWord ++ blank ∷ decimal n
 
--- "one line per row: row number, 'kept', or 'broken' and the step"
+-- §7.4: a line for each row, its number and its verdict
 unfoldable pub rowLines : ℕ → List Verdict → List ℕ
 rowLines i [] = []
 rowLines i (v ∷ verdicts) = decimal i ++ blank ∷ verdictText v ++ lineEnd ∷ rowLines (i + 1) verdicts
 
--- "'closed N' (N steps), then one line per row"
+-- §7.4: the number of steps, then the rows' lines
 abbrev pub closedText : ℕ → List Verdict → List ℕ
 closedText count verdicts = closedWord ++ blank ∷ decimal count ++ lineEnd ∷ rowLines 0 verdicts
 
--- "On a refusal it writes only 'refused N P': the number, and the place P"
+-- §7.5: the refusal's number and its place
 abbrev pub refusedText : ℕ → ℕ → List ℕ
 refusedText n place = refusedWord ++ blank ∷ decimal n ++ blank ∷ decimal place ++ lineEnd ∷ []
 
@@ -67,7 +67,7 @@ pub data EachReads (after : List Step) : List Constraint → List Verdict → Ty
   row-reads : {c : Constraint} {rows : List Constraint} {v : Verdict} {verdicts : List Verdict} → Reads c after v → EachReads after rows verdicts
       → EachReads after (c ∷ rows) (v ∷ verdicts)
 
--- "It reads the table, takes all records, closes, and writes": the report's text
+-- §7.3, §9.10: the report's text
 pub data ReportOf (table recording : List ℕ) : List ℕ → Type 0 where
   no-table : (n place : ℕ) → ReadsTable table (table-refused n place) → ReportOf table recording (refusedText n place)
   no-recording : (rows : List Constraint) (n place : ℕ) → ReadsTable table (table-of rows)
@@ -76,12 +76,12 @@ pub data ReportOf (table recording : List ℕ) : List ℕ → Type 0 where
       → ReadsRecording rows recording (recording-of accepted) → EachReads (accepted ++ (close ∷ [])) rows verdicts
       → ReportOf table recording (closedText (length (accepted ++ (close ∷ []))) verdicts)
 
--- "answers the number of bytes written, or 0, with nothing written, if the buffer is too short"; "Bytes after those written stay"
+-- §7.8: the answer, and what is then in the buffer
 pub data Reports (table recording before : List ℕ) : ℕ → List ℕ → Type 0 where
   written : (text : List ℕ) → ReportOf table recording text → length text ≤ length before → Reports table recording before (length text) (text ++ drop (length text) before)
   too-short : (text : List ℕ) → ReportOf table recording text → length before < length text → Reports table recording before 0 before
 
--- what the program prints; 17, place 0: "does the table file have at most 2,048 bytes and the recording at most 61,440?"
+-- §7.10, §9.9: what the program prints; 17 (§8.17) with the place 0
 pub data Prints (table recording : List ℕ) : List ℕ → Type 0 where
   too-large : ¬ ((length table ≤ tableSizeLimit) × (length recording ≤ recordingSizeLimit)) → Prints table recording (refusedText 17 0)
   fits : {text : List ℕ} → length table ≤ tableSizeLimit → length recording ≤ recordingSizeLimit → ReportOf table recording text → Prints table recording text

@@ -1,11 +1,11 @@
--- Steps, and what a list of accepted steps has recorded (paper 01, "Time, events, steps").
+-- Steps, and what a list of accepted steps has recorded (§1.3 to §1.7).
 use Prim.Native.Nat.{ℕ}
 use mathlib.Core.Bool.{Bool, true, false}
 use mathlib.Core.List.{List, [], _∷_}
 use lib.ListN.{getD}
 use lib.Dec.{eqb}
 
--- "An event step carries a kind and a time", "A tick step carries a time", "The close ends the recording." "0@10" is `event 0 10`; step, tick and close are paper 01's terms
+-- §1.3, §1.4, §1.5: an event of a kind at a time, a tick to a time, the close. `event 0 10` is 0@10
 pub data Step : Type 0 where
   event : ℕ → ℕ → Step
   tick : ℕ → Step
@@ -19,25 +19,25 @@ abbrev pub timeIf : Bool → ℕ → List ℕ → List ℕ
 timeIf true t ts = t ∷ ts
 timeIf false t ts = ts
 
--- the times of the events of one kind, in the order recorded
+-- §2.1: the times of the events of one kind, in the order recorded
 unfoldable pub times : ℕ → List Step → List ℕ
 times k [] = []
 times k (event j t ∷ steps) = timeIf (eqb j k) t (times k steps)
 times k (tick t ∷ steps) = times k steps
 times k (close ∷ steps) = times k steps
 
--- the clock after the steps, from the clock before them: an event "moves the clock to its time", a tick "moves the clock there"
+-- the clock after the steps, from the clock before them: §1.3 and §1.4 say where an event and a tick move it, §1.5 that the close does not
 unfoldable pub clockFrom : ℕ → List Step → ℕ
 clockFrom now [] = now
 clockFrom now (event k t ∷ steps) = clockFrom t steps
 clockFrom now (tick t ∷ steps) = clockFrom t steps
 clockFrom now (close ∷ steps) = clockFrom now steps
 
--- "A fresh monitor has clock 0."
+-- §1.6: from a clock of 0 on
 abbrev pub clock : List Step → ℕ
 clock steps = clockFrom 0 steps
 
--- "a close ends the recording"
+-- §1.5: there was a close
 unfoldable pub closed : List Step → Bool
 closed [] = false
 closed (event k t ∷ steps) = closed steps

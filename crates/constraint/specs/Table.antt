@@ -1,4 +1,4 @@
--- The table's format: rows to bytes, and bytes to rows or a refusal with its number and place (paper 01, "The table" and the table's questions).
+-- The table's format: rows to bytes (§4.1 to §4.8), and bytes to rows or a refusal with its number and place (§9.3).
 use Prim.Native.Nat.{ℕ, _+_, _≤_, _<_}
 use mathlib.Core.Path.{_≡_}
 use mathlib.Core.Bool.{cond}
@@ -15,12 +15,12 @@ use Rattle.constraint.specs.Bytes.{bytesOf, bytesAt, numberAt}
 use Rattle.constraint.specs.declared.Constraint.{Constraint}
 use Rattle.constraint.specs.declared.Constraint.the-variants.{Delay, StrongDelay, Repeat, Sporadic, Burst, Order, StrongSynchronization2, StrongSynchronization3, StrongSynchronization4}
 
--- "Kinds, n, spans and maxima take one byte; every other field is a time of eight bytes."
+-- §4.4: a field of one byte, or a time of eight
 pub data Field : Type 0 where
   byte : ℕ → Field
   time : ℕ → Field
 
--- the column "Type" of the paper's list
+-- §4.5: the number of the type
 abbrev pub typeOf : Constraint → ℕ
 typeOf (Delay source target lower upper) = 1
 typeOf (StrongDelay source target lower upper) = 2
@@ -32,7 +32,7 @@ typeOf (StrongSynchronization2 a b tolerance) = 7
 typeOf (StrongSynchronization3 a b c tolerance) = 7
 typeOf (StrongSynchronization4 a b c d tolerance) = 7
 
--- the column "Fields"
+-- §4.5: the fields, in their order
 abbrev pub fieldsOf : Constraint → List Field
 fieldsOf (Delay source target lower upper) = byte source ∷ byte target ∷ time lower ∷ time upper ∷ []
 fieldsOf (StrongDelay source target lower upper) = byte source ∷ byte target ∷ time lower ∷ time upper ∷ []
@@ -44,7 +44,7 @@ fieldsOf (StrongSynchronization2 a b tolerance) = byte 2 ∷ byte a ∷ byte b �
 fieldsOf (StrongSynchronization3 a b c tolerance) = byte 3 ∷ byte a ∷ byte b ∷ byte c ∷ time tolerance ∷ []
 fieldsOf (StrongSynchronization4 a b c d tolerance) = byte 4 ∷ byte a ∷ byte b ∷ byte c ∷ byte d ∷ time tolerance ∷ []
 
--- "Two rows are the same if type and fields are."
+-- §4.8: the same type and the same fields
 abbrev pub Same : Constraint → Constraint → Type 0
 Same c d = (typeOf c ≡ typeOf d) × (fieldsOf c ≡ fieldsOf d)
 
@@ -58,11 +58,11 @@ unfoldable pub fieldsBytes : List Field → List ℕ
 fieldsBytes [] = []
 fieldsBytes (f ∷ fields) = fieldBytes f ++ fieldsBytes fields
 
--- "one type byte and the fields"
+-- §4.3: the type, then the fields
 unfoldable pub rowBody : Constraint → List ℕ
 rowBody c = typeOf c ∷ fieldsBytes (fieldsOf c)
 
--- "A row is a 2-byte length, then that many bytes"
+-- §4.3: the length field, and as many bytes as it says
 unfoldable pub rowBytes : Constraint → List ℕ
 rowBytes c = bytesOf 2 (length (rowBody c)) ++ rowBody c
 
@@ -70,29 +70,29 @@ unfoldable pub rowsBytes : List Constraint → List ℕ
 rowsBytes [] = []
 rowsBytes (c ∷ rows) = rowBytes c ++ rowsBytes rows
 
--- "The file is one version byte 1, then 0 to 32 rows."
+-- §4.2: the version byte, then the rows
 unfoldable pub tableBytes : List Constraint → List ℕ
 tableBytes rows = 1 ∷ rowsBytes rows
 
--- the writer's questions: "3 to 7 to their rows first, row by row", then "is the buffer long enough? 16"
+-- §9.7, §9.8: the writer's questions, 3 to 7 of each row and then 16
 abbrev pub writerQuestions : List Constraint → List ℕ → List Question
 writerQuestions rows buffer = rowsQuestions 0 rows ((16, length (tableBytes rows) ≤ length buffer) ∷ [])
 
--- what writing leaves in a lent buffer: the table, and "Bytes after those written stay"; on a refusal the buffer as it was
+-- §9.8, §9.2: what writing leaves in a lent buffer: the table and what stood behind it; on a refusal the buffer as it was
 abbrev pub writtenTo : List ℕ → List Constraint → Answer → List ℕ
 writtenTo buffer rows Taken = tableBytes rows ++ drop (length (tableBytes rows)) buffer
 writtenTo buffer rows (Refused n) = buffer
 
 -- Bytes to rows
 
--- "The length expected for each type stands in one constant list.", by the type byte; to a StrongSynchronization's its n is added
+-- §4.5: the lengths, by the type byte; to a StrongSynchronization's its n is added
 abbrev pub lengths : List ℕ
 lengths = 0 ∷ 19 ∷ 19 ∷ 19 ∷ 34 ∷ 19 ∷ 3 ∷ 10 ∷ []
 
 abbrev pub lengthOf : List ℕ → ℕ
 lengthOf body = at lengths (at body 0) + cond (eqb (at body 0) 7) (at body 1) 0
 
--- 4: "Is the type 1 to 7, n in range, the length right? 4, also where type byte or n is missing."
+-- §8.4: the type is known, the n too, and the length is the type's
 pub record ShapeFits (body : List ℕ) : Type 0 where
   pub type-there : 0 < length body
   pub type-known : (1 ≤ at body 0) × (at body 0 ≤ 7)
@@ -128,16 +128,16 @@ lengthAt bytes place = numberAt 2 bytes place
 abbrev pub bodyAt : List ℕ → ℕ → List ℕ
 bodyAt bytes place = bytesAt (lengthAt bytes place) bytes (place + 2)
 
--- "are both length bytes and the whole row there?"; of a recording, the whole record
+-- §8.2: length field and row are whole; of a recording, the record (§8.14)
 abbrev pub WholeAt : List ℕ → ℕ → Type 0
 WholeAt bytes place = (place + 2 ≤ length bytes) × (place + 2 + lengthAt bytes place ≤ length bytes)
 
--- 2 to 7, of the row at a place, with i rows before it
+-- §9.3: 2 to 7, of the row at a place, with i rows before it
 unfoldable pub placeQuestions : List ℕ → ℕ → ℕ → List Question
 placeQuestions bytes i place =
     (2, WholeAt bytes place) ∷ (3, i < rowLimit) ∷ (4, ShapeFits (bodyAt bytes place)) ∷ rowQuestions (constraintOf (bodyAt bytes place))
 
--- what reading gives: the rows, or the refusal's number and its place, "the byte offset of the length field concerned (0 for a version byte)"
+-- what reading gives: the rows, or the refusal's number and its place (§7.6)
 pub data TableRead : Type 0 where
   table-of : List Constraint → TableRead
   table-refused : ℕ → ℕ → TableRead
@@ -146,7 +146,7 @@ abbrev pub rowThen : Constraint → TableRead → TableRead
 rowThen c (table-of later) = table-of (c ∷ later)
 rowThen c (table-refused n place) = table-refused n place
 
--- "Then row by row": the rows from a place on, with i rows before
+-- §9.3: row by row, the rows from a place on, with i rows before
 pub data ReadsRows (bytes : List ℕ) : ℕ → ℕ → TableRead → Type 0 where
   no-more : {i place : ℕ} → length bytes ≤ place → ReadsRows bytes i place (table-of [])
   row-refused : {i place : ℕ} (n : ℕ) → place < length bytes → Judged (placeQuestions bytes i place) (Refused n)
@@ -155,11 +155,11 @@ pub data ReadsRows (bytes : List ℕ) : ℕ → ℕ → TableRead → Type 0 whe
       → ReadsRows bytes (i + 1) (place + 2 + lengthAt bytes place) later
       → ReadsRows bytes i place (rowThen (constraintOf (bodyAt bytes place)) later)
 
--- "is the first byte there, and 1?"
+-- §8.1, §8.13: the first byte is there, and is 1
 abbrev pub VersionOne : List ℕ → Type 0
 VersionOne bytes = (0 < length bytes) × (at bytes 0 ≡ 1)
 
--- 1, then row by row
+-- §9.3: 1, then row by row
 pub data ReadsTable (bytes : List ℕ) : TableRead → Type 0 where
   version-refused : ¬ VersionOne bytes → ReadsTable bytes (table-refused 1 0)
   version-taken : {read : TableRead} → VersionOne bytes → ReadsRows bytes 0 1 read → ReadsTable bytes read

@@ -1,4 +1,4 @@
--- How many wait in a row (paper 01, "What waits in an open row"; waiting is the paper's term).
+-- How many wait in a row (§6.1 to §6.4).
 use Prim.Native.Nat.{ℕ, _+_, _-_, max, min}
 use mathlib.Core.Bool.{Bool, true, false, not, _&&_, _||_}
 use mathlib.Core.List.{List, [], _∷_, map}
@@ -8,7 +8,7 @@ use Rattle.constraint.specs.Steps.{Step, times}
 use Rattle.constraint.specs.declared.Constraint.{Constraint}
 use Rattle.constraint.specs.declared.Constraint.the-variants.{Delay, StrongDelay, Repeat, Sporadic, Burst, Order, StrongSynchronization2, StrongSynchronization3, StrongSynchronization4}
 
--- some target lies in the interval of the source at s
+-- some target is lower to upper after the source at s
 unfoldable pub answered : ℕ → ℕ → ℕ → List ℕ → Bool
 answered lower upper s [] = false
 answered lower upper s (t ∷ ts) = (leb (s + lower) t && leb t (s + upper)) || answered lower upper s ts
@@ -17,7 +17,7 @@ abbrev pub oneIf : Bool → ℕ
 oneIf true = 1
 oneIf false = 0
 
--- "in type 1 the sources with no target yet in their interval"
+-- §6.1: the sources that have no target in their interval so far
 unfoldable pub unanswered : ℕ → ℕ → List ℕ → List ℕ → ℕ
 unanswered lower upper [] targets = 0
 unanswered lower upper (s ∷ ss) targets = oneIf (not (answered lower upper s targets)) + unanswered lower upper ss targets
@@ -31,13 +31,13 @@ least [] = 0
 least (x ∷ []) = x
 least (x ∷ (y ∷ ys)) = min x (least (y ∷ ys))
 
--- "in type 7 the groups begun and not complete": as many are begun as the kind with the most events has, and complete as the kind with the fewest has
+-- §6.3: as many groups are begun as the kind with the most events has, and as many complete as the kind with the fewest has
 unfoldable pub begunIncomplete : List ℕ → List Step → ℕ
 begunIncomplete kinds steps =
     let counts : List ℕ = map (λ k. length (times k steps)) kinds in
     largest counts - least counts
 
--- "in type 2 the sources beyond the number of targets"; "In other types nothing waits."
+-- §6.1, §6.2, §6.3, and §6.4 for the types in which nothing waits
 unfoldable pub waiting : Constraint → List Step → ℕ
 waiting (Delay source target lower upper) steps = unanswered lower upper (times source steps) (times target steps)
 waiting (StrongDelay source target lower upper) steps = length (times source steps) - length (times target steps)

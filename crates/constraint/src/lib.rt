@@ -1,5 +1,5 @@
 // What the whole monitor speaks of: a row's constraint, the limits, the answer to a call, and the verdict of a row.
-// The definitions of paper 01 stand in specs/.
+// The contract's definitions stand in specs/.
 ghost use mathlib.Core.Path.{_≡_};
 ghost use mathlib.Core.List.{[], _∷_};
 ghost use Prim.Native.Nat.{_≤_};

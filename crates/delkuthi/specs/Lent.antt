@@ -31,7 +31,8 @@ monitorSize = 22560
 
 -- ---- fresh
 
--- the number that answers and the monitor behind the reference then: 0, and the fresh monitor over the table's rows;
+-- §11.5: the number that answers and the monitor behind the reference then: 0, and the fresh monitor over the table's rows; or 256 times
+-- the place and the number of the refusal, and the monitor as it was
 -- or 256 times the place and the number of the refusal, and the monitor as it was
 pub data Begins (bytes : List ℕ) (before : Monitor) : ℕ → Monitor → Type 0 where
   begun : (rows : List Constraint) → ReadsTable bytes (table-of rows) → Begins bytes before 0 (after rows [])
@@ -57,7 +58,7 @@ numbered stepped = record { number = numberOf (stepped .answer); monitor = stepp
 
 -- ---- verdicts
 
--- the word for a verdict: 0 "open", 1 "kept", 2 "broken"; 15 where there is no row of that number
+-- §11.5: the word for a verdict: 0 open, 1 kept, 2 broken; 15 where there is no row of that number
 abbrev pub wordOf : Option Verdict → ℕ
 wordOf (some Verdict.Open) = 0
 wordOf (some Verdict.Kept) = 1
@@ -76,7 +77,7 @@ pub record WordOfVerdict (m : Monitor) (i word : ℕ) : Type 0 where
   pub no-row : (rows : List Constraint) (calls : List Call) → Accepted rows → m ≡ after rows calls
       → (word ≡ 15 → length rows ≤ i) × (length rows ≤ i → word ≡ 15)
 
--- the step that broke the row: 0 exactly where the word is not "broken"
+-- §11.5: the step that broke the row: 0 exactly where the word is not that for broken
 pub record StepOfVerdict (m : Monitor) (i step : ℕ) : Type 0 where
   pub says : NumberOfVerdict stepIn m i step
   pub broken : (0 < step → wordOf (verdictOf m i) ≡ 2) × (wordOf (verdictOf m i) ≡ 2 → 0 < step)

@@ -1,4 +1,5 @@
--- Demand 3: a fresh monitor follows the empty list of steps, and each call leaves it following the steps accepted so far, so after any list of calls its rows read what the definitions say.
+-- §3.6: a fresh monitor follows the empty list of steps, and each call leaves it following the steps accepted so far, so after any list of
+-- calls its rows read what the definitions say.
 use Prim.Native.Nat.{ℕ, zero, suc, _+_, _-_, _≤_, _<_}
 use native.Mathlib.Decide.{decLt}
 use native.Mathlib.Omega.{arith}

@@ -1,4 +1,5 @@
--- Examples 1 to 12 of paper 01 read as the paper says: the machine computes each verdict, with every step taken, and demand 3 says that this is the definition's.
+-- The contract's examples 1 to 12 read as it says: the machine computes each verdict, with every step taken, and §3.6 makes it the
+-- definition's.
 use native.Mathlib.Omega.{arith}
 use mathlib.Core.Path.{_≡_, refl, sym, _∙_, subst}
 use mathlib.Core.Bool.{Bool, true, false}

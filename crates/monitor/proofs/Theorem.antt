@@ -1,4 +1,4 @@
--- Demand 3 for all seven row types: the promise over the machine, with the engine of every type put in.
+-- §3.6 to §3.8 for all seven row types: the promise over the machine, with the engine of every type put in.
 use Prim.Native.Nat.{ℕ}
 use mathlib.Core.Path.{_≡_, refl, sym, subst}
 use mathlib.Core.Bool.{true}
@@ -31,7 +31,7 @@ use Rattle.monitor.proofs.Examples.{examples-read}
 pub monitor-is-exact : Promise monitorOf step verdictOf
 monitor-is-exact = promise engine
 
--- examples 1 to 12 of paper 01
+-- §10.1 to §10.12
 pub examples-hold : AllRead examples
 examples-hold = examples-read engine
 

@@ -26,7 +26,7 @@ use Rattle.monitor.specs.declared.Stepped.{Stepped}
 abbrev pub step : Monitor → Call → Rattle.constraint.specs.Promise.Stepped Monitor
 step m s = record { answer = stepOf m s .answer; monitor = stepOf m s .monitor }
 
--- the monitor after a list of calls, from a fresh one over the rows: "Each call gets the monitor that the last one returned or left"
+-- §3.4: the monitor after a list of calls, from a fresh one over the rows
 unfoldable pub after : List Constraint → List Call → Monitor
 after rows calls = play step (monitorOf rows) calls .monitor
 
@@ -34,7 +34,7 @@ after rows calls = play step (monitorOf rows) calls .monitor
 abbrev pub Recorded : List Constraint → List Call → List Step → Type 0
 Recorded rows calls steps = (answers : List Answer) × Run rows [] calls answers steps
 
--- a fresh monitor: questions 3 to 7, row by row; over an accepted table the monitor before any call, and on a refusal the one over no rows
+-- §9.7: a fresh monitor, its rows asked 3 to 7; over an accepted table the monitor before any call, and on a refusal the one over no rows
 pub record Freshly (table : Table) (answer : Answer) (m : Monitor) : Type 0 where
   pub judged : Judged (rowsQuestions 0 (rowsOf table) []) answer
   pub made : answer ≡ Taken → m ≡ after (rowsOf table) []
@@ -46,7 +46,7 @@ pub record Steps (m : Monitor) (s : Call) (result : Stepped) : Type 0 where
   pub means : (rows : List Constraint) (calls : List Call) → Accepted rows → m ≡ after rows calls
       → ((steps : List Step) × Recorded rows calls steps × Judged (questions rows steps s) (result .answer)) × (result .monitor ≡ after rows (calls ++ (s ∷ [])))
 
--- the verdict of a row number: what the row reads after what the calls have recorded, or none where there is no such row
+-- §3.6: the verdict of a row number: what the row reads after what the calls have recorded, or none where there is no such row
 pub record Reading (m : Monitor) (i : ℕ) (verdict : Option Verdict) : Type 0 where
   pub equals : verdict ≡ verdictOf m i
   pub means : (rows : List Constraint) (calls : List Call) → Accepted rows → m ≡ after rows calls
@@ -57,7 +57,7 @@ abbrev pub verdictIn : RowVerdict → Option Verdict
 verdictIn (RowVerdict.Reads v) = some v
 verdictIn (RowVerdict.Refused n) = none
 
--- "Verdict: is there a row of that number? 15."
+-- §9.6: a row that is not there is refused with 15
 pub record VerdictOf (m : Monitor) (i : ℕ) (answer : RowVerdict) : Type 0 where
   pub reads : Reading m i (verdictIn answer)
   pub number : (n : ℕ) → answer ≡ RowVerdict.Refused n → n ≡ 15

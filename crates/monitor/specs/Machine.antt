@@ -22,7 +22,7 @@ use Rattle.monitor.specs.declared.Stepped.{Stepped}
 abbrev pub noRow : Row
 noRow = rowOf filler
 
--- "A fresh monitor has clock 0": over the rows, no events, count 0, not closed
+-- §1.6: over the rows, the clock at 0, no events, count 0, not closed
 unfoldable pub monitorOf : List Constraint → Monitor
 monitorOf rows =
     record {

@@ -32,7 +32,7 @@ pub record RowsAfter (m : Monitor) (o : Occurrence) (number : ℕ) (result : Row
 abbrev pub placeOf : ℕ → ℕ
 placeOf i = cond (ltb i rowLimit) i 0
 
--- row i of len rows, closed or not, broken at a step or (0) not broken: "is there a row of that number? 15"
+-- row i of len rows, closed or not, broken at a step or (0) not broken; 15 where there is no row i (§8.15)
 abbrev pub verdictBy : ℕ → ℕ → ℕ → ℕ → RowVerdict
 verdictBy i len closed broken =
     cond (ltb i len && ltb i rowLimit)

@@ -13,7 +13,7 @@ pub record CallAt (bytes : List ℕ) (place : ℕ) (call : Call) (size : ℕ) : 
   pub call-read : callOf (bodyAt bytes place) ≡ call
   pub size-read : size ≡ 2 + lengthAt bytes place
 
--- what each answer of the reader says of the record at a place: it is an event, it is a tick, or question 14 is answered "no"
+-- what each answer of the reader says of the record at a place: it is an event, it is a tick (§7.2), or 14 refuses it (§8.14)
 abbrev pub ReadsRecord : List ℕ → ℕ → Record → Type 0
 ReadsRecord bytes place (Record.Event kind time size) = CallAt bytes place (Call.Event kind time) size
 ReadsRecord bytes place (Record.Tick time size) = CallAt bytes place (Call.Tick time) size

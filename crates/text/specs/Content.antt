@@ -43,7 +43,7 @@ pub record Holds (text : Text) (list : List ℕ) : Type 0 where
   pub held : content text ≡ list
   pub rest : (i : ℕ) → text .len ≤ i → getD (text .bytes) i 0 ≡ 0
 
--- what copying a text to a lent buffer answers and leaves there: "the number of bytes written, or 0, with nothing written, if the buffer is too short"; "Bytes after those written stay"
+-- §7.8: what copying a text to a lent buffer answers and leaves there
 pub record Copied (text before : List ℕ) (answer : ℕ) (after : List ℕ) : Type 0 where
   pub fits : length text ≤ length before → (answer ≡ length text) × (after ≡ text ++ drop (length text) before)
   pub too-short : length before < length text → (answer ≡ 0) × (after ≡ before)

@@ -4,10 +4,10 @@ use mathlib.Core.List.{List, [], _∷_, _++_}
 use Rattle.constraint.specs.Report.{decimal, blank, lineEnd, closedWord, verdictText}
 use Rattle.constraint.specs.declared.Verdict.{Verdict}
 
--- "closed N" (N steps)
+-- §7.4: the number of steps
 abbrev pub closedLine : ℕ → List ℕ
 closedLine count = closedWord ++ blank ∷ decimal count ++ lineEnd ∷ []
 
--- a row's line: "row number, 'kept', or 'broken' and the step"
+-- §7.4: a row's line, its number and its verdict
 abbrev pub rowLine : ℕ → Verdict → List ℕ
 rowLine i verdict = decimal i ++ blank ∷ verdictText verdict ++ lineEnd ∷ []

@@ -1,7 +1,7 @@
 //! Hosts in C: compiled, linked with the archive, and run.
 
 use crate::places::{Folder, archive_folder, root};
-use std::ffi::OsStr;
+use std::ffi::{OsStr, OsString};
 use std::io::Write;
 use std::path::{Path, PathBuf};
 use std::process::{Command, Output};
@@ -56,7 +56,8 @@ pub fn c_host_alone(name: &str) -> Host {
     compile(c_compiler().args(["-ffreestanding", "-nostdlib", "-Wl,-e,start"]), &[&file])
 }
 
-fn c_compiler() -> Command {
+/// The C compiler, for C99.
+pub fn c_compiler() -> Command {
     let mut compiler = Command::new(env::var_os("CC").unwrap_or_else(|| "cc".into()));
     compiler.arg("-std=c99");
     compiler
@@ -64,22 +65,37 @@ fn c_compiler() -> Command {
 
 /// Compiles a C++ host of `host/c`, or gives none where there is no C++ compiler.
 pub fn cpp_host(file: &str) -> Option<Host> {
-    let compiler = env::var_os("CXX").unwrap_or_else(|| "c++".into());
-    found(&compiler).then(|| compile(Command::new(compiler).arg("-std=c++11"), &[file]))
+    cpp_compiler().map(|mut compiler| compile(&mut compiler, &[file]))
+}
+
+/// The C++ compiler, for C++11, if there is one.
+pub fn cpp_compiler() -> Option<Command> {
+    let name = env::var_os("CXX").unwrap_or_else(|| "c++".into());
+    let mut compiler = Command::new(&name);
+    compiler.arg("-std=c++11");
+    found(&name).then_some(compiler)
 }
 
 /// Compiles files of `host/c` and links them with the archive.
 fn compile(compiler: &mut Command, files: &[&str]) -> Host {
+    compile_with(compiler, files, &root().join("include"), &[archive_folder().join("libdelkuthi.a").into()])
+}
+
+/// Compiles files of `host/c` with the header in a folder, and links them as these words to the linker say.
+///
+/// # Panics
+/// With what the compiler or linker says, if it does not compile.
+pub fn compile_with(compiler: &mut Command, files: &[&str], include: &Path, link: &[OsString]) -> Host {
     let folder = Folder::new();
     let program = folder.path().join("host");
     let sources = root().join("host/c");
     let output = compiler
         .args(["-Wall", "-Wextra", "-Werror", "-pedantic", "-g", "-I"])
-        .arg(root().join("include"))
+        .arg(include)
         .arg("-o")
         .arg(&program)
         .args(files.iter().map(|file| sources.join(file)))
-        .arg(archive_folder().join("libdelkuthi.a"))
+        .args(link)
         .output()
         .expect("the C compiler can be run");
     assert!(output.status.success(), "{files:?}: {}", String::from_utf8_lossy(&output.stderr));
@@ -105,7 +121,10 @@ impl Host {
 }
 
 /// What a process did; what it says in errors is told if the test fails.
-fn ran(output: std::io::Result<Output>) -> Ran {
+///
+/// # Panics
+/// If it could not be started, or printed something that is no text.
+pub fn ran(output: std::io::Result<Output>) -> Ran {
     let output = output.expect("the program can be run");
     if !output.stderr.is_empty() {
         println!("{}", String::from_utf8_lossy(&output.stderr));

@@ -1,8 +1,11 @@
 //! What the tests share.
 
 pub mod beside;
+pub mod contract;
+pub mod documents;
 pub mod hosts;
 pub mod places;
 pub mod program;
+pub mod release;
 pub mod reports;
 pub mod table_host;

@@ -1,6 +1,7 @@
-//! The small program, run in a folder of its own.
+//! The small programs, run in a folder of their own: the proved one, and the one with an exit status.
 
 use crate::places::{Folder, root};
+use crate::release::make;
 use std::path::{Path, PathBuf};
 use std::process::Command;
 use std::sync::OnceLock;
@@ -27,19 +28,54 @@ fn built() -> PathBuf {
     root().join("target/bin/delkuthi_cli")
 }
 
-/// What the program prints where these files are, or where one is missing.
+/// The program with an exit status, `delkuthi`, built by `make`.
 ///
 /// # Panics
-/// If the program does not end well, says something on standard error, or changes a file.
-pub fn printed(table: Option<&[u8]>, recording: Option<&[u8]>) -> String {
+/// If it cannot be built.
+pub fn with_status() -> &'static Path {
+    static PROGRAM: OnceLock<PathBuf> = OnceLock::new();
+    PROGRAM.get_or_init(|| {
+        let build = Path::new(env!("OUT_DIR")).join("program");
+        let output = make(&build, &["program"]);
+        assert!(output.status.success(), "make program: {}", String::from_utf8_lossy(&output.stderr));
+        build.join("delkuthi")
+    })
+}
+
+/// The exit status that goes with a report: 0 every row is kept, 1 one is broken, 2 something is refused.
+pub fn status_of(report: &str) -> i32 {
+    match (report.starts_with("refused "), report.contains(" broken ")) {
+        (true, _) => 2,
+        (false, true) => 1,
+        (false, false) => 0,
+    }
+}
+
+/// A folder with these files, or without one that is missing.
+pub fn files(table: Option<&[u8]>, recording: Option<&[u8]>) -> Folder {
     let folder = Folder::new();
     let files = [("table.bin", table), ("recording.bin", recording)];
     files.iter().for_each(|(name, bytes)| bytes.iter().for_each(|bytes| drop(folder.write(name, bytes))));
-    let output = Command::new(program()).current_dir(folder.path()).output().expect("the program can be run");
-    assert!(output.status.success(), "{}", output.status);
-    assert_eq!(String::from_utf8_lossy(&output.stderr), "");
-    for (name, bytes) in files {
-        assert_eq!(fs::read(folder.path().join(name)).ok().as_deref(), bytes, "{name}");
-    }
-    String::from_utf8(output.stdout).expect("ASCII")
+    folder
+}
+
+/// What both programs print where these files are, or where one is missing. The proved one ends with status 0, the
+/// other with the status that goes with the report.
+///
+/// # Panics
+/// If they do not, if one says something on standard error or changes a file, or if they do not print the same.
+pub fn printed(table: Option<&[u8]>, recording: Option<&[u8]>) -> String {
+    let folder = files(table, recording);
+    let run = |program: &Path| {
+        let output = Command::new(program).current_dir(folder.path()).output().expect("the program can be run");
+        assert_eq!(String::from_utf8_lossy(&output.stderr), "");
+        for (name, bytes) in [("table.bin", table), ("recording.bin", recording)] {
+            assert_eq!(fs::read(folder.path().join(name)).ok().as_deref(), bytes, "{name}");
+        }
+        (output.status.code(), String::from_utf8(output.stdout).expect("ASCII"))
+    };
+    let (status, text) = run(program());
+    assert_eq!(status, Some(0));
+    assert_eq!(run(with_status()), (Some(status_of(&text)), text.clone()));
+    text
 }

@@ -1,7 +1,7 @@
 //! The header and the archive in C and C++: hosts compiled at -O0 and -O2, run, and run under valgrind.
 
-use checks::hosts::{Host, Ran, c_host, c_host_alone, c_host_with_header, cpp_host, say};
-use checks::places::{Folder, example, example_bytes, root};
+use checks::hosts::{Host, Ran, c_host, c_host_alone, c_host_with_header, compile_with, cpp_host, found, say};
+use checks::places::{Folder, archive_folder, example, example_bytes, root};
 use delkuthi::Monitor;
 use model::constraint::NO_LIMIT;
 use model::examples::{Example, RECORDING, REPORT, TABLE, examples};
@@ -11,6 +11,7 @@ use model::random::tables::{any_table, damaged_table, table};
 use model::{Constraint, Step, Verdict, read_table, recording_bytes, report_text, table_bytes};
 use std::fs;
 use std::path::PathBuf;
+use std::process::Command;
 
 const LEVELS: [&str; 2] = ["-O0", "-O2"];
 
@@ -56,7 +57,7 @@ fn steps_of(recording: &[u8]) -> Vec<Step> {
     steps
 }
 
-/// The bench loop on examples of the paper.
+/// The bench loop on examples of the contract.
 fn play(examples: impl IntoIterator<Item = Example>, run: impl Fn(&[PathBuf; 2]) -> Ran) {
     for example in examples {
         let steps: Vec<Step> =
@@ -266,4 +267,42 @@ fn loop_and_report_agree() {
             (Some(step), _) => assert!(looped.printed.ends_with(&format!(" broken at step {step}\n"))),
         }
     }
+}
+
+/// Warnings that careful hosts switch on; each is an error here.
+const C_WARNINGS: [&str; 6] =
+    ["-Wmissing-prototypes", "-Wstrict-prototypes", "-Wconversion", "-Wsign-conversion", "-Wshadow", "-Wundef"];
+const CPP_WARNINGS: [&str; 5] = ["-Wold-style-cast", "-Wconversion", "-Wsign-conversion", "-Wshadow", "-Wundef"];
+
+/// Compiles a host with a compiler of this name and its strict warnings, if there is such a compiler.
+fn strict(compiler: &str, standard: &str, warnings: &[&str], files: &[&str]) -> Option<Host> {
+    let link = archive_folder().join("libdelkuthi.a");
+    let mut command = Command::new(compiler);
+    command.arg(standard).args(warnings);
+    found(compiler).then(|| compile_with(&mut command, files, &root().join("include"), &[link.into()]))
+}
+
+/// Header and hosts compile without a warning, by every compiler that is there.
+#[test]
+fn strict_compilers_do_not_complain() {
+    let c: Vec<Host> = ["cc", "gcc", "clang"]
+        .into_iter()
+        .flat_map(|compiler| [["refusals.c", "file.c"], ["bench_loop.c", "file.c"]].map(|files| (compiler, files)))
+        .filter_map(|(compiler, files)| strict(compiler, "-std=c99", &C_WARNINGS, &files))
+        .collect();
+    assert!(!c.is_empty(), "no C compiler");
+    let cpp = ["c++", "g++", "clang++"];
+    let cpp: Vec<Host> =
+        cpp.iter().filter_map(|name| strict(name, "-std=c++11", &CPP_WARNINGS, &["header.cpp"])).collect();
+    assert!(!cpp.is_empty(), "no C++ compiler");
+    assert!(cpp.iter().all(|host| host.run::<&str>(&[]) == Ran::new(0, "")));
+}
+
+/// The header has a text for every refusal, and it is the Rust crate's.
+#[test]
+fn what_a_refusal_says() {
+    let texts: String = (0..=255).map(|number| format!("{}\n", delkuthi::refusal_text(number))).collect();
+    assert_eq!(c_host("refusals", "-O2").run::<&str>(&[]), Ran::new(0, &texts));
+    let without = delkuthi::refusal_text(255);
+    assert!((1..=17).all(|number| delkuthi::refusal_text(number) != without));
 }

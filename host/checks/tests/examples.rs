@@ -1,4 +1,4 @@
-//! The paper's examples through the exports: each verdict after each step, each break at the very step.
+//! The contract's examples through the exports: each verdict after each step, each break at the very step.
 
 use checks::beside::{fresh, take, verdict};
 use model::Verdict;

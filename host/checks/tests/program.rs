@@ -1,7 +1,7 @@
-//! The small program on files, beside what the model says it prints.
+//! The small programs on files, beside what the model says they print, and how the one with an exit status ends.
 
-use checks::places::example_bytes;
-use checks::program::printed;
+use checks::places::{Folder, example_bytes};
+use checks::program::{files, printed, program, with_status};
 use checks::reports::refusal;
 use model::examples::{RECORDING, REPORT, TABLE};
 use model::notation::{delay, order};
@@ -10,8 +10,55 @@ use model::random::recordings::{damaged_recording, recording};
 use model::random::seen::Seen;
 use model::random::tables::{any_table, damaged_table};
 use model::{Step, program_output, recording_bytes, table_bytes};
+use std::fs::File;
+use std::process::{Command, Stdio};
 
-/// The program prints what the model says; counts the refusal.
+/// How the program with an exit status ends in a folder, and what it says on standard error.
+fn ends(folder: &Folder, output: Stdio) -> (Option<i32>, String) {
+    let child = Command::new(with_status()).current_dir(folder.path()).stdout(output).stderr(Stdio::piped()).spawn();
+    let ended = child.expect("the program can be run").wait_with_output().expect("it ends");
+    (ended.status.code(), String::from_utf8(ended.stderr).expect("text"))
+}
+
+const NOT_WRITTEN: &str = "delkuthi: the report could not be written\n";
+
+#[test]
+fn the_four_exit_statuses() {
+    let kept = files(Some(&table_bytes(&[order()])), Some(&recording_bytes(&[])));
+    let broken = files(Some(&TABLE), Some(&RECORDING));
+    let refused = files(Some(&TABLE), None);
+    for (folder, status) in [(&kept, 0), (&broken, 1), (&refused, 2)] {
+        assert_eq!(ends(folder, Stdio::null()), (Some(status), String::new()));
+        let full = File::options().write(true).open("/dev/full").expect("/dev/full");
+        assert_eq!(ends(folder, full.into()), (Some(3), NOT_WRITTEN.to_string()));
+    }
+}
+
+/// An output that is closed, and a pipe that nobody reads, are outputs that cannot be written.
+#[test]
+fn an_output_that_is_closed() {
+    let folder = files(Some(&TABLE), Some(&RECORDING));
+    let mut shell = Command::new("sh");
+    shell.args(["-c", "exec \"$0\" >&-"]).arg(with_status()).current_dir(folder.path());
+    let closed = shell.output().expect("sh can be run");
+    assert_eq!((closed.status.code(), closed.stderr), (Some(3), NOT_WRITTEN.into()));
+    let (reader, writer) = std::io::pipe().expect("a pipe");
+    drop(reader);
+    assert_eq!(ends(&folder, writer.into()), (Some(3), NOT_WRITTEN.to_string()));
+}
+
+/// A folder in place of a file is opened and cannot be read: it counts as empty, in both programs.
+#[test]
+fn a_folder_in_place_of_a_file() {
+    let folder = files(None, Some(&RECORDING));
+    std::fs::create_dir(folder.path().join("table.bin")).expect("a folder");
+    for program in [program(), with_status()] {
+        let output = Command::new(program).current_dir(folder.path()).output().expect("the program can be run");
+        assert_eq!(String::from_utf8_lossy(&output.stdout), "refused 1 0\n");
+    }
+}
+
+/// The programs print what the model says; counts the refusal.
 fn compare(table: &[u8], recording: &[u8], seen: &mut Seen) {
     let text = printed(Some(table), Some(recording));
     assert_eq!(text, program_output(table, recording), "{} and {} bytes", table.len(), recording.len());
@@ -21,7 +68,7 @@ fn compare(table: &[u8], recording: &[u8], seen: &mut Seen) {
 }
 
 #[test]
-fn the_papers_file() {
+fn the_contracts_file() {
     assert_eq!(printed(Some(&TABLE), Some(&RECORDING)), REPORT);
 }
 
@@ -31,7 +78,7 @@ fn the_drive() {
     assert_eq!(report.into_bytes(), example_bytes("report.txt"));
 }
 
-/// "one that can't be opened counts as empty"
+/// A file that is not there is one of 0 bytes (§7.10).
 #[test]
 fn files_that_are_missing_or_empty() {
     for empty in [None, Some(&[][..])] {

@@ -17,7 +17,7 @@ fn text(table: &[u8], recording: &[u8]) -> String {
 }
 
 #[test]
-fn the_papers_file() {
+fn the_contracts_file() {
     assert_eq!(text(&TABLE, &RECORDING), REPORT);
     compare(&TABLE, &RECORDING, &mut Seen::default());
 }

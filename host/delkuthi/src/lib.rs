@@ -19,6 +19,13 @@
 //! ```
 //!
 //! The wrapper needs no operating system, no heap and no other crate.
+//!
+//! # Where the archive comes from
+//!
+//! The build links `libdelkuthi.a`. It takes the one in the folder that the environment variable `DELKUTHI_LIB` names, as
+//! `DELKUTHI_LIB=/usr/local/lib cargo build` after `make install`; no proof tool is needed then. Without that variable
+//! the build proves and builds the archive from the crates of the repository, which needs `rt` of the Rattle kit in the
+//! `PATH`. Where there is neither, the build ends and says so.
 
 #![no_std]
 #![warn(missing_docs)]
@@ -30,7 +37,7 @@ mod report;
 mod version;
 
 pub use monitor::{Monitor, Verdict, WORDS};
-pub use refusal::Refusal;
+pub use refusal::{Refusal, refusal_text};
 pub use report::{REPORT_LIMIT, report};
 pub use version::{VERSION, library_version, matches};
 

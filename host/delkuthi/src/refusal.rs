@@ -35,26 +35,32 @@ impl Refusal {
 
     /// What the number means, in a line.
     pub fn text(&self) -> &'static str {
-        match self.number {
-            1 => "the table does not begin with a version byte 1",
-            2 => "a length field or a row of the table is not whole",
-            3 => "the table has more than 32 rows",
-            4 => "a row has no known type, an n out of range, or the wrong length",
-            5 => "a row has a kind above 63, or one kind twice",
-            6 => "a row has a time, span or maximum out of range",
-            7 => "a row has a lower that is more than its upper",
-            8 => "the recording is closed",
-            9 => "the kind is above 63",
-            10 => "the time is above 2^56 - 1",
-            11 => "the time is not in order",
-            12 => "more than 64 would wait in a row",
-            13 => "the recording does not begin with a version byte 1",
-            14 => "a record is not whole, or its length is neither 8 nor 9",
-            15 => "there is no row of that number",
-            16 => "the buffer is too short",
-            17 => "a file is too large",
-            _ => "a refusal without a text",
-        }
+        refusal_text(self.number)
+    }
+}
+
+/// What a refusal's number means, in a line, as `delkuthi_refusal_text` of the header says it. 0 is no refusal.
+pub const fn refusal_text(number: u8) -> &'static str {
+    match number {
+        0 => "taken",
+        1 => "the table does not begin with a version byte 1",
+        2 => "a length field or a row of the table is not whole",
+        3 => "the table has more than 32 rows",
+        4 => "a row has no known type or n, or the wrong length",
+        5 => "a row has a kind above 63, or one kind twice",
+        6 => "a row has a time, span or maximum out of range",
+        7 => "a row has a lower that is more than its upper",
+        8 => "the recording is closed",
+        9 => "the kind is above 63",
+        10 => "the time is above 2^56 - 1",
+        11 => "the time is not in order",
+        12 => "more than 64 would wait in a row",
+        13 => "the recording does not begin with a version byte 1",
+        14 => "a record is not whole, or its length is neither 8 nor 9",
+        15 => "there is no row of that number",
+        16 => "the buffer is too short",
+        17 => "a file is too large",
+        _ => "a refusal without a text",
     }
 }
 

@@ -1,21 +1,21 @@
-//! The rows of a table and the paper's limits ("Time, events, steps" and "The table").
+//! The rows of a table (§4.5) and the limits.
 
-/// "A kind of event is a number from 0 to 63."
+/// The last kind (§1.2).
 pub const LAST_KIND: u8 = 63;
-/// "A time is a whole number from 0 to 2^56 − 1."
+/// The last time (§1.1).
 pub const LAST_TIME: u64 = (1 << 56) - 1;
-/// "In types 3 and 4 an upper of 2^64 − 1 means no limit; no other field has that mark."
+/// The mark for no upper limit, in Repeat and Sporadic (§4.7).
 pub const NO_LIMIT: u64 = u64::MAX;
-/// "then 0 to 32 rows"
+/// How many rows a table has at most (§4.2).
 pub const ROW_LIMIT: usize = 32;
-/// "Span and maximum are 1 to 64."
+/// How large spans and maxima are at most (§4.6).
 pub const SPAN_LIMIT: u8 = 64;
-/// "A row keeps at most 64."
+/// How many wait in a row at most (§6.5).
 pub const WAITING_LIMIT: usize = 64;
 
 /// A row of a table: its type and fields. Any values can stand in the fields; the questions say which are accepted.
 ///
-/// "Two rows are the same if type and fields are."
+/// Rows with the same type and fields are the same (§4.8).
 #[derive(Clone, Debug, PartialEq, Eq)]
 pub enum Constraint {
     /// Type 1.
@@ -30,12 +30,12 @@ pub enum Constraint {
     Burst { event: u8, maximum: u8, length: u64, minimum: u64 },
     /// Type 6.
     Order { source: u8, target: u8 },
-    /// Type 7: "n from 2 to 4, n kinds, tolerance". The n is the number of kinds.
+    /// Type 7. The n is the number of kinds.
     StrongSynchronization { kinds: Vec<u8>, tolerance: u64 },
 }
 
 impl Constraint {
-    /// The column "Type" of the paper's list.
+    /// The number of its type (§4.5).
     pub fn type_byte(&self) -> u8 {
         match self {
             Constraint::Delay { .. } => 1,

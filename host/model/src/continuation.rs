@@ -1,4 +1,4 @@
-//! What may still come ("A continuation is").
+//! What may still come (§2.3).
 
 use crate::constraint::LAST_KIND;
 use crate::steps::{Events, History, Step};
@@ -10,9 +10,7 @@ pub struct Event {
     pub time: u64,
 }
 
-/// "a finite list of further events, possibly empty, at or after the clock, none earlier than the one before it,
-/// strictly rising within each kind, the recorded events of that kind counted in, with no largest time. After the
-/// close only the empty one is left."
+/// Could these further events be taken next, one after the other? After the close only an empty list is a continuation.
 pub fn is_continuation(recorded: &History, further: &[Event]) -> bool {
     let mut after = recorded.clone();
     further.iter().all(|&Event { kind, time }| {
@@ -24,7 +22,7 @@ pub fn is_continuation(recorded: &History, further: &[Event]) -> bool {
     })
 }
 
-/// The recorded events and those of a continuation: "all events together".
+/// The recorded events and those of a continuation, together.
 pub struct Together<'a> {
     recorded: &'a History,
     /// The whole lists of the kinds that have further events.
@@ -38,7 +36,7 @@ impl<'a> Together<'a> {
         together
     }
 
-    /// The first time that a further event of this kind can have: "at or after the clock", "strictly rising".
+    /// The first time that a further event of this kind can have: the clock's, or the one after its kind's last.
     pub fn first_free(&self, kind: u8) -> u64 {
         let after_last = self.times(kind).last().map_or(0, |last| last + 1);
         after_last.max(self.recorded.clock())

@@ -1,13 +1,13 @@
-//! The paper's examples 1 to 12 and its file ("Examples", "Recording and report"), for every monitor to be held to.
+//! Examples 1 to 12 of the contract (§10.1 to §10.12) and its file (§7.11), for every monitor to be held to.
 
 use crate::constraint::Constraint;
 use crate::monitor::Verdict;
 use crate::notation::{delay, order, repeat, sporadic, strong_delay, synchronization};
 use crate::steps::Step;
 
-/// The paper's table: Delay 0→1, 2 to 3.
+/// The table of the file: Delay 0→1, 2 to 3.
 pub const TABLE: [u8; 22] = [1, 0, 0x13, 1, 0, 1, 0, 0, 0, 0, 0, 0, 0, 2, 0, 0, 0, 0, 0, 0, 0, 3];
-/// The paper's recording: 0@10, tick 14.
+/// Its recording: 0@10, tick 14.
 pub const RECORDING: [u8; 22] = [1, 0, 9, 0, 0, 0, 0, 0, 0, 0, 0, 0x0A, 0, 8, 0, 0, 0, 0, 0, 0, 0, 0x0E];
 /// What is printed for them.
 pub const REPORT: &str = "closed 3\n0 broken 2\n";
@@ -15,7 +15,7 @@ pub const REPORT: &str = "closed 3\n0 broken 2\n";
 /// One list of an example: the row, and each step with the verdict after it.
 #[derive(Clone, Debug)]
 pub struct Example {
-    /// The paper's number.
+    /// Its number.
     pub number: u8,
     pub row: Constraint,
     pub steps: Vec<(Step, Verdict)>,

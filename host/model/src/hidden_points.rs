@@ -1,4 +1,4 @@
-//! The hidden points of a Sporadic row ("What each row says", 4).
+//! The hidden points of a Sporadic row (§5.4).
 
 use crate::constraint::NO_LIMIT;
 use crate::meets::{apart, between};
@@ -12,8 +12,8 @@ pub struct Spacing {
 }
 
 impl Spacing {
-    /// "hidden points, strictly rising whole numbers not below 0, one for each event. The i-th event is 0 to jitter
-    /// after the i-th point. Neighbouring points are lower to upper apart"
+    /// Are these hidden points for the events: one for each, rising, lower to upper apart, each at most jitter before its
+    /// event and not after it?
     pub fn are_hidden_points(&self, points: &[u64], events: &[u64]) -> bool {
         let neighbours = |pair: &[u64]| pair[0] < pair[1] && apart(self.lower, self.upper, pair[0], pair[1]);
         points.len() == events.len()

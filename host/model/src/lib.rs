@@ -1,5 +1,5 @@
-//! Paper 01's definitions in plain Rust, written from its sentences: a model for the proved monitor to be executed
-//! beside. It keeps the list of accepted steps and works every answer out from that list, the slow and obvious way.
+//! The contract's definitions in plain Rust, written from its words (`docs/CONTRACT.md`): a model for the proved monitor
+//! to be executed beside. It keeps the list of accepted steps and works every answer out from that list, the slow and obvious way.
 //!
 //! ```
 //! use model::{Constraint, Monitor, Verdict};

@@ -1,4 +1,4 @@
-//! What each row says of all events together ("What each row says").
+//! What each row asks of all events together (§5.1 to §5.7).
 
 use crate::constraint::{Constraint, NO_LIMIT};
 use crate::hidden_points::Spacing;
@@ -26,17 +26,17 @@ pub fn meets(constraint: &Constraint, events: &impl Events) -> bool {
     }
 }
 
-/// "lower ≤ t − s ≤ upper"
+/// Is t lower to upper after s?
 pub fn between(lower: u64, upper: u64, s: u64, t: u64) -> bool {
     s <= t && lower <= t - s && t - s <= upper
 }
 
-/// The same, where "an upper of 2^64 − 1 means no limit".
+/// The same, where the upper may be the mark for no limit (§4.7).
 pub fn apart(lower: u64, upper: u64, s: u64, t: u64) -> bool {
     s <= t && lower <= t - s && (upper == NO_LIMIT || t - s <= upper)
 }
 
-/// The sources with no target in their interval, "lower ≤ t − s ≤ upper".
+/// The sources with no target in their interval.
 ///
 /// Both lists rise. So targets too early for one source are too early for all later ones, and of those not too early
 /// the first is in the interval if any is.
@@ -48,39 +48,39 @@ pub fn without_target(lower: u64, upper: u64, sources: &[u64], targets: &[u64]) 
     })
 }
 
-/// 1. "each source event at s has a target event t with lower ≤ t − s ≤ upper. Further targets are allowed."
+/// Delay (§5.1): each source has a target in its interval.
 fn delay(lower: u64, upper: u64, sources: &[u64], targets: &[u64]) -> bool {
     without_target(lower, upper, sources, targets).next().is_none()
 }
 
-/// 2. "there are as many targets as sources, and the i-th target is lower to upper after the i-th source."
+/// StrongDelay (§5.2): sources and targets pair up, each target lower to upper after its source.
 fn strong_delay(lower: u64, upper: u64, sources: &[u64], targets: &[u64]) -> bool {
     let right = |(&source, &target): (&u64, &u64)| between(lower, upper, source, target);
     targets.len() == sources.len() && sources.iter().zip(targets).all(right)
 }
 
-/// 3. "of any span + 1 consecutive events, last minus first is from lower to upper."
+/// Repeat (§5.3): events span places apart are lower to upper apart.
 fn repeat(span: u8, lower: u64, upper: u64, events: &[u64]) -> bool {
     let span = usize::from(span);
     events.windows(span + 1).all(|consecutive| apart(lower, upper, consecutive[0], consecutive[span]))
 }
 
-/// "neighbouring events at least minimum apart"
+/// Are neighbours at least minimum apart?
 fn at_least_apart(minimum: u64, events: &[u64]) -> bool {
     events.windows(2).all(|pair| apart(minimum, NO_LIMIT, pair[0], pair[1]))
 }
 
-/// 5. "Repeat with span = maximum, lower = length, no upper; and neighbouring events at least minimum apart."
+/// Burst (§5.5): a Repeat without an upper limit, and a least distance.
 fn burst(maximum: u8, length: u64, minimum: u64, events: &[u64]) -> bool {
     repeat(maximum, length, NO_LIMIT, events) && at_least_apart(minimum, events)
 }
 
-/// 6. "there are as many targets as sources, and the i-th source is not later than the i-th target."
+/// Order (§5.6): sources and targets pair up, and no target is before its source.
 fn order(sources: &[u64], targets: &[u64]) -> bool {
     targets.len() == sources.len() && sources.iter().zip(targets).all(|(source, target)| source <= target)
 }
 
-/// 7. "all n kinds have equally many events, and the i-th events of all kinds lie within tolerance of one another."
+/// StrongSynchronization (§5.7): the kinds' events form whole groups, none wider than tolerance.
 fn strong_synchronization(tolerance: u64, lists: &[&[u64]]) -> bool {
     let together = |one: &[u64], other: &[u64]| {
         one.len() == other.len() && one.iter().zip(other).all(|(x, y)| x.abs_diff(*y) <= tolerance)

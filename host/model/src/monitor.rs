@@ -1,4 +1,4 @@
-//! The monitor as the paper defines it: a table, and the list of accepted steps.
+//! The monitor as the contract defines it: a table, and the list of accepted steps.
 
 use crate::constraint::{Constraint, WAITING_LIMIT};
 use crate::open::open;
@@ -12,7 +12,7 @@ use std::fmt;
 pub enum Verdict {
     Open,
     Kept,
-    /// Broken, with "the count right after the first step that broke it".
+    /// Broken, with the number of the first step after which no continuation was left (§2.5).
     Broken(u64),
 }
 
@@ -39,8 +39,7 @@ pub struct Monitor {
 }
 
 impl Monitor {
-    /// "It starts from a fresh monitor over an accepted table: clock 0, no events, count 0, not closed." Refused as
-    /// questions 3 to 7 say.
+    /// A fresh monitor over a table that is accepted (§1.6, §3.2), or the refusal that questions 3 to 7 give.
     pub fn fresh(rows: &[Constraint]) -> Result<Monitor, u8> {
         rows_questions(rows)?;
         let (rows, broken) = (rows.to_vec(), vec![None; rows.len()]);
@@ -59,7 +58,7 @@ impl Monitor {
         self.step(Step::Close)
     }
 
-    /// Takes a step, or refuses it as questions 8 to 12 say: "events, clock and count stay."
+    /// Takes a step, or refuses it as questions 8 to 12 say; then nothing is recorded (§3.3).
     pub fn step(&mut self, step: Step) -> Answer {
         let (after, open) = self.judge(step)?;
         for (broken, open) in self.broken.iter_mut().zip(open) {
@@ -90,12 +89,12 @@ impl Monitor {
         Ok((after, open))
     }
 
-    /// 12: "Would each row still open after the step have at most 64 waiting?"
+    /// Question 12 (§8.12).
     fn has_room(&self, open: &[bool], after: &History) -> bool {
         self.rows.iter().zip(open).all(|(row, open)| !open || waiting(row, after) <= WAITING_LIMIT)
     }
 
-    /// What the row of this number reads; "is there a row of that number? 15". "At the close a row not broken is kept."
+    /// What the row of this number reads (§2.4 to §2.6), or 15 if there is none (§8.15).
     pub fn verdict(&self, row: usize) -> Result<Verdict, u8> {
         ask(15, row < self.rows.len())?;
         Ok(match self.broken[row] {
@@ -110,7 +109,7 @@ impl Monitor {
         (0..self.rows.len()).map(|row| self.verdict(row).expect("a row of that number")).collect()
     }
 
-    /// How many wait in the row of this number: "A broken row holds nothing waiting."
+    /// How many wait in the row of this number; none in a broken one (§6.4).
     pub fn waiting(&self, row: usize) -> Result<usize, u8> {
         ask(15, row < self.rows.len())?;
         Ok(if self.broken[row].is_some() { 0 } else { waiting(&self.rows[row], &self.recorded) })

@@ -1,10 +1,9 @@
-//! The paper's notation for tests: "0@10, tick 13, close", and rows whose kinds are the examples': "source or event is
-//! kind 0, target kind 1".
+//! A notation for tests: "0@10, tick 13, close", and rows whose source or event is of kind 0 and whose target of kind 1.
 
 use crate::constraint::Constraint;
 use crate::steps::Step;
 
-/// The steps of a list in the paper's notation.
+/// The steps of a list in this notation.
 ///
 /// # Panics
 /// Where a part is no step.

@@ -1,4 +1,4 @@
-//! "A row is open while some continuation makes its definition true of all events together."
+//! When a row is open (§2.4): some continuation is left with which all events together do what it asks.
 //!
 //! [`open`] tries one continuation, the earliest that the row can use, against the definition. So where it says yes,
 //! it has shown the continuation. Where it says no, none does: each row type's comment below gives the reason, and
@@ -18,7 +18,7 @@ pub fn open(constraint: &Constraint, recorded: &History) -> bool {
 
 /// The earliest continuation that the row can use: if any continuation meets the row, this one does.
 ///
-/// - "After the close only the empty one is left."
+/// - After the close it is the empty one (§2.3).
 /// - Repeat, Sporadic and Burst speak of each event together with earlier ones only. What is true with a continuation
 ///   is true without it, so the empty one will do.
 /// - Delay needs a target for each source that has none, and a continuation's own sources only ask for more.

@@ -1,4 +1,4 @@
-//! The questions put to rows and steps ("Questions in order").
+//! The questions put to rows and steps (§8.3 to §8.11), in their order (§9.5, §9.7).
 
 use crate::constraint::{Constraint, LAST_KIND, LAST_TIME, NO_LIMIT, ROW_LIMIT, SPAN_LIMIT};
 use crate::steps::{History, Step};
@@ -6,20 +6,19 @@ use crate::steps::{History, Step};
 /// The answer to a call: taken, or refused with the number of the first question answered "no".
 pub type Answer = Result<(), u8>;
 
-/// A refusal of bytes: the number, "and the place P, the byte offset of the length field concerned (0 for a version
-/// byte)".
+/// A refusal of bytes: its number and its place (§7.6).
 #[derive(Clone, Copy, Debug, PartialEq, Eq)]
 pub struct Refusal {
     pub number: u8,
     pub place: usize,
 }
 
-/// Puts one question: a "no" gives its number. With `?` behind each, "The first 'no' gives the number."
+/// Puts one question: a "no" gives its number. With `?` behind each, the first "no" decides (§9.1).
 pub fn ask(number: u8, yes: bool) -> Answer {
     if yes { Ok(()) } else { Err(number) }
 }
 
-/// "Fresh and the table writer put questions 3 to 7 to their rows first, row by row, 4 without the length."
+/// Questions 3 to 7, row by row, as fresh and the table writer put them (§9.7).
 pub fn rows_questions(rows: &[Constraint]) -> Answer {
     for (before, row) in rows.iter().enumerate() {
         ask(3, before < ROW_LIMIT)?;
@@ -29,7 +28,7 @@ pub fn rows_questions(rows: &[Constraint]) -> Answer {
     Ok(())
 }
 
-/// 4 without the length: "Is the type 1 to 7, n in range". The type of a [`Constraint`] is.
+/// Question 4 without the length. The type of a [`Constraint`] is known.
 fn number_of_kinds_in_range(row: &Constraint) -> bool {
     match row {
         Constraint::StrongSynchronization { kinds, .. } => (2..=4).contains(&kinds.len()),
@@ -44,13 +43,13 @@ pub fn fields_questions(row: &Constraint) -> Answer {
     ask(7, lower_first(row))
 }
 
-/// 5: "Are the kinds at most 63 and all different?"
+/// Question 5 (§8.5).
 fn kinds_fit(kinds: &[u8]) -> bool {
     let first_of_its_kind = |(i, kind): (usize, &u8)| !kinds[..i].contains(kind);
     kinds.iter().all(|&kind| kind <= LAST_KIND) && kinds.iter().enumerate().all(first_of_its_kind)
 }
 
-/// 6: "Are times, span and maximum in range?"
+/// Question 6 (§8.6).
 fn in_range(row: &Constraint) -> bool {
     let time = |field: &u64| *field <= LAST_TIME;
     let upper_or_mark = |field: &u64| time(field) || *field == NO_LIMIT;
@@ -69,7 +68,7 @@ fn in_range(row: &Constraint) -> bool {
     }
 }
 
-/// 7: "Is lower ≤ upper where both stand?"
+/// Question 7 (§8.7).
 fn lower_first(row: &Constraint) -> bool {
     match row {
         Constraint::Delay { lower, upper, .. }
@@ -80,8 +79,7 @@ fn lower_first(row: &Constraint) -> bool {
     }
 }
 
-/// 8 to 11, of a step over what is recorded: "not yet closed? 8. Kind at most 63? 9. Time in range? 10. Time in order?
-/// 11. [..] The close has only question 8."
+/// Questions 8 to 11 of a step, over what is recorded (§9.5).
 pub fn step_questions(recorded: &History, step: Step) -> Answer {
     ask(8, !recorded.closed())?;
     match step {

@@ -1,26 +1,25 @@
-//! The recording's bytes ("Recording and report" and the recording's questions).
+//! The recording's bytes (§7.1, §7.2) and the recording's questions (§9.4).
 
 use crate::monitor::Monitor;
 use crate::questions::{Refusal, ask};
 use crate::steps::Step;
 use crate::table::{body_at_start, time_at, with_length};
 
-/// Gives every record of the recording to a fresh monitor: "first byte there, and 1? 13. Then record by record".
+/// Gives every record of the recording to a fresh monitor: question 13 first, then record by record (§9.4).
 pub fn read_recording(mut monitor: Monitor, bytes: &[u8]) -> Result<Monitor, Refusal> {
     ask(13, bytes.first() == Some(&1)).map_err(|number| Refusal { number, place: 0 })?;
     let mut place = 1;
     while place < bytes.len() {
         let refused = |number| Refusal { number, place };
         let (step, size) = read_record(&bytes[place..]).map_err(refused)?;
-        // "Then the step's questions."
+        // after 14 the questions of its step
         monitor.step(step).map_err(refused)?;
         place += size;
     }
     Ok(monitor)
 }
 
-/// Reads the record at the start of the bytes; gives its step and the number of bytes it takes. "are both length bytes
-/// and the whole record there, its length 8 or 9? 14." "Length 9 is an event (kind, time), length 8 a tick (time)."
+/// Reads the record at the start of the bytes; gives its step and the number of bytes it takes (§7.2), or 14 (§8.14).
 pub fn read_record(bytes: &[u8]) -> Result<(Step, usize), u8> {
     match body_at_start(bytes) {
         Some(body) if body.len() == 9 => Ok((Step::Event { kind: body[0], time: time_at(body, 1) }, 11)),
@@ -29,8 +28,7 @@ pub fn read_record(bytes: &[u8]) -> Result<(Step, usize), u8> {
     }
 }
 
-/// "A recording is one version byte 1, then records: a 2-byte length and that many bytes." The bytes for any events and
-/// ticks, no question put. A close has no record.
+/// The recording (§7.1) of any events and ticks, no question put. A close has no record.
 pub fn recording_bytes(steps: &[Step]) -> Vec<u8> {
     std::iter::once(1).chain(steps.iter().flat_map(record_bytes)).collect()
 }

@@ -1,17 +1,16 @@
-//! The report and what the program prints ("The report call takes").
+//! The report and what the program prints (§7.3 to §7.10).
 
 use crate::monitor::Monitor;
 use crate::questions::{Refusal, ask};
 use crate::recording::read_recording;
 use crate::table::read_table;
 
-/// "does the table file have at most 2,048 bytes"
+/// How many bytes the program's table has at most (§8.17).
 pub const TABLE_SIZE_LIMIT: usize = 2_048;
-/// "and the recording at most 61,440?"
+/// How many bytes the program's recording has at most (§8.17).
 pub const RECORDING_SIZE_LIMIT: usize = 61_440;
 
-/// Writes the report and "answers the number of bytes written, or 0, with nothing written, if the buffer is too
-/// short." "Bytes after those written stay, in the report too."
+/// Writes the report to the front of a buffer and answers its length, or 0 if the buffer cannot hold it (§7.8).
 pub fn report(table: &[u8], recording: &[u8], buffer: &mut [u8]) -> usize {
     let text = report_text(table, recording).into_bytes();
     match buffer.get_mut(..text.len()) {
@@ -23,13 +22,12 @@ pub fn report(table: &[u8], recording: &[u8], buffer: &mut [u8]) -> usize {
     }
 }
 
-/// The report's text: "It reads the table, takes all records, closes, and writes". "On a refusal it writes only
-/// 'refused N P'".
+/// The report's text: what the rows read at the close (§7.4), or the refusal (§7.5).
 pub fn report_text(table: &[u8], recording: &[u8]) -> String {
     closed_monitor(table, recording).map_or_else(|refusal| refused_text(&refusal), |monitor| closed_text(&monitor))
 }
 
-/// What the program prints for two files: a report, or the refusal "17, place 0" of a file that is too large.
+/// What the program prints for two files: a report, or the refusal of a file that is too large (§9.9).
 pub fn program_output(table: &[u8], recording: &[u8]) -> String {
     let fit = table.len() <= TABLE_SIZE_LIMIT && recording.len() <= RECORDING_SIZE_LIMIT;
     match ask(17, fit) {
@@ -47,14 +45,14 @@ fn closed_monitor(table: &[u8], recording: &[u8]) -> Result<Monitor, Refusal> {
     Ok(monitor)
 }
 
-/// "'closed N' (N steps), then one line per row: row number, 'kept', or 'broken' and the step."
+/// The count of the steps, and a line for each row (§7.4).
 fn closed_text(monitor: &Monitor) -> String {
     let line = |(row, verdict)| format!("{row} {verdict}\n");
     let lines: String = monitor.verdicts().iter().enumerate().map(line).collect();
     format!("closed {}\n{lines}", monitor.recorded().count())
 }
 
-/// "'refused N P': the number, and the place P"
+/// The refusal's number and place (§7.5).
 fn refused_text(refusal: &Refusal) -> String {
     format!("refused {} {}\n", refusal.number, refusal.place)
 }

@@ -1,4 +1,4 @@
-//! "Open" straight from its definition, by trying every continuation up to a last time. For small numbers only.
+//! Open, straight from its definition (§2.4), by trying every continuation up to a last time. For small numbers only.
 
 use crate::constraint::Constraint;
 use crate::continuation::{Event, Together};

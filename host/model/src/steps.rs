@@ -1,4 +1,4 @@
-//! Steps, and what a list of accepted steps has recorded ("Time, events, steps").
+//! Steps, and what a list of accepted steps has recorded (§1.3 to §1.7).
 
 use crate::constraint::LAST_KIND;
 use std::fmt;
@@ -6,14 +6,14 @@ use std::str::FromStr;
 
 /// A step, or a call that asks for one: any kind and time can stand in it, the questions say which is accepted.
 ///
-/// It is written and read in the paper's notation: "0@10", "tick 13", "close".
+/// It is written and read as in the contract: "0@10", "tick 13", "close".
 #[derive(Clone, Copy, Debug, PartialEq, Eq)]
 pub enum Step {
-    /// "An event step carries a kind and a time".
+    /// An event (§1.3).
     Event { kind: u8, time: u64 },
-    /// "A tick step carries a time later than the clock and moves the clock there."
+    /// A tick (§1.4).
     Tick { time: u64 },
-    /// "The close ends the recording."
+    /// The close (§1.5).
     Close,
 }
 
@@ -60,7 +60,7 @@ pub struct History {
 }
 
 impl Default for History {
-    /// "clock 0, no events, count 0, not closed"
+    /// What a fresh monitor has recorded (§1.6).
     fn default() -> History {
         History { times: vec![Vec::new(); usize::from(LAST_KIND) + 1], clock: 0, count: 0, closed: false }
     }
@@ -74,8 +74,7 @@ impl History {
         history
     }
 
-    /// Adds an accepted step: "the count rises by one. An event is added and the clock goes to its time; a tick moves
-    /// the clock; a close ends the recording."
+    /// Adds an accepted step: one more is counted, an event is put to its kind's, and the clock goes to the step's time.
     pub fn record(&mut self, step: Step) {
         self.count += 1;
         match step {
@@ -99,7 +98,7 @@ impl History {
         self.clock
     }
 
-    /// "Steps, the close included, are counted from 1. Refused steps are not counted."
+    /// How many steps were accepted, with the close (§1.7).
     pub fn count(&self) -> u64 {
         self.count
     }
@@ -108,7 +107,7 @@ impl History {
         self.closed
     }
 
-    /// "not before the clock and later than every earlier event of that kind"
+    /// Is an event of this kind and time in order (§1.3)?
     pub fn event_in_order(&self, kind: u8, time: u64) -> bool {
         time >= self.clock && self.times(kind).iter().all(|&earlier| time > earlier)
     }

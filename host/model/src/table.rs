@@ -1,18 +1,18 @@
-//! The table's bytes ("The table" and the table's questions).
+//! The table's bytes (§4.1 to §4.7) and the table's questions (§9.3).
 
 use crate::constraint::{Constraint, ROW_LIMIT};
 use crate::questions::{Refusal, ask, fields_questions, rows_questions};
 
-/// "The length expected for each type stands in one constant list." By the type byte; to type 7 its n is added.
+/// The length of each type (§4.5), by the type byte; to type 7 its n is added.
 const LENGTHS: [usize; 8] = [0, 19, 19, 19, 34, 19, 3, 10];
 
-/// A field: "Kinds, n, spans and maxima take one byte; every other field is a time of eight bytes."
+/// A field, of one byte or of eight (§4.4).
 enum Field {
     Byte(u8),
     Time(u64),
 }
 
-/// The column "Fields" of the paper's list.
+/// The fields of a row, in their order (§4.5).
 fn fields(row: &Constraint) -> Vec<Field> {
     use Field::{Byte, Time};
     match row {
@@ -47,7 +47,7 @@ pub(crate) fn time_fields(row: &Constraint) -> Vec<u64> {
     fields(row).into_iter().filter_map(time).collect()
 }
 
-/// "A row is a 2-byte length, then that many bytes: one type byte and the fields." Whatever stands in the fields.
+/// A row's bytes (§4.3), whatever stands in the fields.
 fn row_bytes(row: &Constraint) -> Vec<u8> {
     let mut body = vec![row.type_byte()];
     for field in fields(row) {
@@ -59,19 +59,19 @@ fn row_bytes(row: &Constraint) -> Vec<u8> {
     with_length(&body)
 }
 
-/// A 2-byte length, then that many bytes. "Numbers are big-endian."
+/// A length field of two bytes, the most significant first (§4.1), and these bytes behind it.
 pub(crate) fn with_length(body: &[u8]) -> Vec<u8> {
     let length = u16::try_from(body.len()).expect("a length of two bytes");
     [&length.to_be_bytes(), body].concat()
 }
 
-/// "The file is one version byte 1, then 0 to 32 rows." The bytes for any rows, no question put.
+/// The table (§4.2) of any rows, no question put.
 pub fn table_bytes(rows: &[Constraint]) -> Vec<u8> {
     std::iter::once(1).chain(rows.iter().flat_map(row_bytes)).collect()
 }
 
-/// Writes the table and answers the number of bytes written, or the number of the refusal: questions 3 to 7, then "is
-/// the buffer long enough? 16. Bytes after those written stay".
+/// Writes the table and answers the number of bytes written, or the number of the refusal: questions 3 to 7, then 16
+/// (§9.7, §9.8).
 pub fn write_table(rows: &[Constraint], buffer: &mut [u8]) -> Result<usize, u8> {
     rows_questions(rows)?;
     let bytes = table_bytes(rows);
@@ -80,7 +80,7 @@ pub fn write_table(rows: &[Constraint], buffer: &mut [u8]) -> Result<usize, u8> 
     Ok(bytes.len())
 }
 
-/// Reads a table: "is the first byte there, and 1? 1. Then row by row".
+/// Reads a table: question 1 first, then row by row (§9.3).
 pub fn read_table(bytes: &[u8]) -> Result<Vec<Constraint>, Refusal> {
     ask(1, bytes.first() == Some(&1)).map_err(|number| Refusal { number, place: 0 })?;
     let mut rows = Vec::new();
@@ -96,10 +96,10 @@ pub fn read_table(bytes: &[u8]) -> Result<Vec<Constraint>, Refusal> {
 /// Reads the row at the start of the bytes, with so many rows before it; gives it and the number of bytes it takes.
 fn read_row(bytes: &[u8], before: usize) -> Result<(Constraint, usize), u8> {
     let body = body_at_start(bytes);
-    // "are both length bytes and the whole row there? 2."
+    // §8.2
     ask(2, body.is_some())?;
     let body = body.unwrap_or(&[]);
-    // "Are there at most 32 rows so far? 3."
+    // §8.3
     ask(3, before < ROW_LIMIT)?;
     ask(4, shape_fits(body))?;
     let row = constraint_of(body);
@@ -107,13 +107,13 @@ fn read_row(bytes: &[u8], before: usize) -> Result<(Constraint, usize), u8> {
     Ok((row, 2 + body.len()))
 }
 
-/// The bytes behind the length field at the start, as many as it says, if "both length bytes" and all these are there.
+/// The bytes behind the length field at the start, as many as it says, if the field and all of these are there.
 pub(crate) fn body_at_start(bytes: &[u8]) -> Option<&[u8]> {
     let (length, rest) = bytes.split_first_chunk::<2>()?;
     rest.get(..usize::from(u16::from_be_bytes(*length)))
 }
 
-/// 4: "Is the type 1 to 7, n in range, the length right? 4, also where type byte or n is missing."
+/// Question 4 (§8.4).
 fn shape_fits(body: &[u8]) -> bool {
     match body {
         [7, n, ..] => (2..=4).contains(n) && body.len() == LENGTHS[7] + usize::from(*n),

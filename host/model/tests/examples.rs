@@ -1,4 +1,4 @@
-//! The paper's examples, with the verdict after each step: from the model, and for 1 to 12 by search too.
+//! The contract's examples, with the verdict after each step: from the model, and for 1 to 12 by search too.
 
 mod common;
 
@@ -7,8 +7,7 @@ use model::examples::examples;
 use model::search::open_by_search;
 use model::{Constraint, History, Step, Verdict};
 
-/// What the row reads by the definitions alone: "It is broken from the first step after which none does. At the close
-/// a row not broken is kept."
+/// What the row reads by the definitions alone (§2.4 to §2.6).
 fn by_search(row: &Constraint, steps: &[Step]) -> Verdict {
     let not_open = |count: &usize| !open_by_search(row, &History::of(&steps[..*count]));
     match (1..=steps.len()).find(not_open) {

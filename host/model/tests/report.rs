@@ -9,7 +9,7 @@ use model::report::{RECORDING_SIZE_LIMIT, TABLE_SIZE_LIMIT};
 use model::{LAST_TIME, Step, program_output, read_recording, recording_bytes, report, report_text, table_bytes};
 
 #[test]
-fn the_papers_files() {
+fn the_contracts_file() {
     assert_eq!(table_bytes(&[delay(2, 3)]), TABLE);
     assert_eq!(recording_bytes(&steps("0@10, tick 14")), RECORDING);
     assert_eq!(report_text(&TABLE, &RECORDING), REPORT);

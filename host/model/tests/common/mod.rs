@@ -1,4 +1,4 @@
-//! What the tests share: the paper's notation, and monitors in it.
+//! What the tests share: the contract's notation, and monitors in it.
 #![allow(dead_code, unused_imports)]
 
 pub use model::notation::{burst, delay, order, repeat, sporadic, steps, strong_delay, synchronization};

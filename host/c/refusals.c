@@ -1,0 +1,37 @@
+/*
+ * What every number of a refusal says: refusals
+ *
+ * A line for each number from 0 to 255. Before that it has every macro of the
+ * header stand where a host would have it, so that a compiler can complain.
+ */
+#include "delkuthi.h"
+#include <stdio.h>
+
+static delkuthi_monitor monitor;
+
+/* Every macro in use. Returns whether all is as the header says. */
+static int macros(void)
+{
+    static const uint8_t table[6] = {1, 0, 3, 6, 0, 1};
+    uint64_t answer = delkuthi_fresh(&monitor, table, 5);
+    uint8_t number = DELKUTHI_NUMBER(answer);
+    uint64_t place = DELKUTHI_PLACE(answer);
+
+    return DELKUTHI_MATCHES() && number == DELKUTHI_ROW_CUT && place == 1
+        && delkuthi_fresh(&monitor, table, sizeof table) == DELKUTHI_TAKEN
+        && delkuthi_event(&monitor, DELKUTHI_LAST_KIND + 1, 0) == DELKUTHI_KIND
+        && delkuthi_tick(&monitor, DELKUTHI_LAST_TIME + 1) == DELKUTHI_TIME_RANGE
+        && delkuthi_row_verdict(&monitor, 0) == DELKUTHI_OPEN
+        && delkuthi_row_verdict(&monitor, DELKUTHI_ROW_LIMIT) == DELKUTHI_NO_ROW
+        && delkuthi_close(&monitor) == DELKUTHI_TAKEN
+        && delkuthi_row_verdict(&monitor, 0) == DELKUTHI_KEPT;
+}
+
+int main(void)
+{
+    unsigned number;
+
+    for (number = 0; number < 256; number++)
+        printf("%s\n", delkuthi_refusal_text((uint8_t)number));
+    return macros() ? 0 : 1;
+}

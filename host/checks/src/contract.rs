@@ -1,0 +1,165 @@
+//! `docs/CONTRACT.md` as data: its clauses, and its examples to be executed.
+
+use crate::places::root;
+use model::{Constraint, NO_LIMIT, Step};
+use std::collections::HashMap;
+use std::fs;
+
+/// The text of the contract.
+///
+/// # Panics
+/// If it is not there.
+pub fn text() -> String {
+    fs::read_to_string(root().join("docs/CONTRACT.md")).expect("docs/CONTRACT.md")
+}
+
+/// A clause: its number, and whether it promises something (a bold number) or explains (one in italics).
+#[derive(Clone, Debug, PartialEq, Eq)]
+pub struct Clause {
+    pub number: String,
+    pub promises: bool,
+}
+
+/// The clauses of the contract, in its order.
+pub fn clauses(text: &str) -> Vec<Clause> {
+    let clause = |line: &str| {
+        let promises = line.starts_with("**");
+        let mark = if promises { "**" } else { "*" };
+        let number = line.strip_prefix(mark)?.split_once(mark)?.0;
+        is_clause(number).then(|| Clause { number: number.to_string(), promises })
+    };
+    text.lines().filter_map(clause).collect()
+}
+
+/// Has it the form of a clause's number: "3.6", "5.4.1"?
+pub fn is_clause(word: &str) -> bool {
+    let parts: Vec<&str> = word.split('.').collect();
+    let digits = |part: &&str| !part.is_empty() && part.bytes().all(|byte| byte.is_ascii_digit());
+    (2..=3).contains(&parts.len()) && parts.iter().all(digits)
+}
+
+/// The lines of each fenced block of a sort, as ```` ```example ````.
+pub fn blocks<'a>(text: &'a str, sort: &str) -> Vec<Vec<&'a str>> {
+    let fence = format!("```{sort}");
+    let mut blocks = Vec::new();
+    let mut lines = text.lines();
+    while lines.any(|line| line == fence) {
+        blocks.push(lines.by_ref().take_while(|line| *line != "```").collect());
+    }
+    blocks
+}
+
+/// A recording of an example: each step, and what the contract says after it, word for word.
+pub type Recording = Vec<(Step, Option<String>)>;
+
+/// An example: the rows of its table, and recordings for a fresh monitor each.
+pub struct Example {
+    pub rows: Vec<Constraint>,
+    pub recordings: Vec<Recording>,
+}
+
+/// The contract's examples.
+pub fn examples(text: &str) -> Vec<Example> {
+    blocks(text, "example").iter().map(|lines| example(lines)).collect()
+}
+
+fn example(lines: &[&str]) -> Example {
+    let rows: Vec<Constraint> = lines.iter().map_while(|line| row(line)).collect();
+    let recordings: Vec<Recording> = lines[rows.len()..].iter().map(|line| recording(line)).collect();
+    assert!(!rows.is_empty() && !recordings.is_empty(), "no example: {lines:?}");
+    Example { rows, recordings }
+}
+
+/// The row that a line names, if it begins with the name of a type.
+fn row(line: &str) -> Option<Constraint> {
+    let (name, rest) = line.split_once(' ').filter(|(name, _)| name.starts_with(char::is_uppercase))?;
+    if name == "StrongSynchronization" {
+        return Some(synchronization(rest));
+    }
+    let words: Vec<&str> = rest.split(' ').collect();
+    let fields: HashMap<&str, u64> = words.chunks(2).map(|pair| (pair[0], number(pair[1]))).collect();
+    let time = |name: &str| *fields.get(name).unwrap_or_else(|| panic!("no {name} in {line}"));
+    let byte = |name: &str| u8::try_from(time(name)).unwrap_or_else(|_| panic!("{name} in {line}"));
+    let kinds = || (byte("source"), byte("target"));
+    let bounds = || (time("lower"), time("upper"));
+    Some(match name {
+        "Delay" => {
+            let ((source, target), (lower, upper)) = (kinds(), bounds());
+            Constraint::Delay { source, target, lower, upper }
+        }
+        "StrongDelay" => {
+            let ((source, target), (lower, upper)) = (kinds(), bounds());
+            Constraint::StrongDelay { source, target, lower, upper }
+        }
+        "Repeat" => {
+            let (lower, upper) = bounds();
+            Constraint::Repeat { event: byte("event"), span: byte("span"), lower, upper }
+        }
+        "Sporadic" => {
+            let (lower, upper) = bounds();
+            let (jitter, minimum) = (time("jitter"), time("minimum"));
+            Constraint::Sporadic { event: byte("event"), lower, upper, jitter, minimum }
+        }
+        "Burst" => {
+            let (length, minimum) = (time("length"), time("minimum"));
+            Constraint::Burst { event: byte("event"), maximum: byte("maximum"), length, minimum }
+        }
+        "Order" => Constraint::Order { source: byte("source"), target: byte("target") },
+        _ => panic!("no type: {line}"),
+    })
+}
+
+/// "kinds 0 1 2 tolerance 5".
+fn synchronization(text: &str) -> Constraint {
+    let (kinds, tolerance) = text.split_once(" tolerance ").expect("a tolerance");
+    let kinds = kinds.strip_prefix("kinds ").expect("kinds");
+    let kinds = kinds.split(' ').map(|kind| kind.parse().expect("a kind")).collect();
+    Constraint::StrongSynchronization { kinds, tolerance: number(tolerance) }
+}
+
+fn number(word: &str) -> u64 {
+    if word == "none" { NO_LIMIT } else { word.parse().unwrap_or_else(|_| panic!("no number: {word}")) }
+}
+
+/// "0@10, tick 13: open, 1@20..22".
+fn recording(line: &str) -> Recording {
+    let mut steps = Recording::new();
+    for part in line.split(", ") {
+        let (step, said) = match part.split_once(": ") {
+            Some((step, said)) => (step, Some(said.to_string())),
+            None => (part, None),
+        };
+        for step in in_full(step) {
+            steps.push((step.parse().unwrap_or_else(|error| panic!("{error} in {line}")), None));
+        }
+        steps.last_mut().expect("a step").1 = said;
+    }
+    steps
+}
+
+/// "0@10..12" in full: "0@10", "0@11", "0@12".
+fn in_full(step: &str) -> Vec<String> {
+    match step.split_once("..") {
+        None => vec![step.to_string()],
+        Some((first, last)) => {
+            let (kind, first) = first.split_once('@').expect("an event");
+            (number(first)..=number(last)).map(|time| format!("{kind}@{time}")).collect()
+        }
+    }
+}
+
+/// The files of the contract: a table, a recording, and the report on them.
+pub fn files(text: &str) -> Vec<(Vec<u8>, Vec<u8>, String)> {
+    let file = |lines: Vec<&str>| {
+        let report = lines[2..].iter().map(|line| format!("{line}\n")).collect();
+        (bytes(lines[0], "table"), bytes(lines[1], "recording"), report)
+    };
+    blocks(text, "file").into_iter().map(file).collect()
+}
+
+/// "table 01 0003": the bytes in hexadecimal after a name.
+fn bytes(line: &str, name: &str) -> Vec<u8> {
+    let digits: String = line.strip_prefix(name).expect("a file's name").split_whitespace().collect();
+    let byte = |place: usize| u8::from_str_radix(&digits[place..place + 2], 16).expect("a byte in hexadecimal");
+    (0..digits.len()).step_by(2).map(byte).collect()
+}

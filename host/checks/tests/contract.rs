@@ -1,0 +1,69 @@
+//! The contract in words, `docs/CONTRACT.md`: every example in it is what library and model do.
+
+use checks::beside::{fresh, take, verdict};
+use checks::contract::{Example, clauses, examples, files, text};
+use checks::reports::report_in;
+use model::{Constraint, report_text};
+use std::collections::HashSet;
+
+/// What the rows read, as the contract writes it.
+fn read(verdicts: impl Iterator<Item = model::Verdict>) -> String {
+    verdicts.map(|verdict| verdict.to_string()).collect::<Vec<String>>().join("/")
+}
+
+/// Every recording of an example, by library and model; each says what the contract says, where it says something.
+fn play(Example { rows, recordings }: &Example) -> usize {
+    let mut said = 0;
+    for recording in recordings {
+        let mut model = model::Monitor::fresh(rows).expect("an accepted table");
+        let mut library = fresh(rows);
+        for (step, expected) in recording {
+            let answer = model.step(*step);
+            assert_eq!(take(&mut library, *step), answer, "{rows:?}: {step}");
+            let modelled = read(model.verdicts().into_iter());
+            let proved = read((0..rows.len()).map(|row| verdict(&library, row).expect("a row")));
+            assert_eq!(proved, modelled, "{rows:?}: {step}");
+            let told = answer.map_or_else(|number| format!("refused {number}"), |()| proved);
+            assert_eq!(expected.as_ref().unwrap_or(&told), &told, "{rows:?}: {step}");
+            assert!(
+                answer.is_ok() || expected.is_some(),
+                "a refusal that the contract does not show: {rows:?}: {step}"
+            );
+            said += usize::from(expected.is_some());
+        }
+    }
+    said
+}
+
+#[test]
+fn the_examples_are_so() {
+    let examples = examples(&text());
+    let said: usize = examples.iter().map(play).sum();
+    assert!(examples.len() >= 40 && said >= 80, "{} examples with {said} verdicts", examples.len());
+    let types: HashSet<u8> = examples.iter().flat_map(|example| &example.rows).map(Constraint::type_byte).collect();
+    assert_eq!(types.len(), 7);
+}
+
+#[test]
+fn the_files_are_so() {
+    let files = files(&text());
+    assert!(files.len() >= 4);
+    for (table, recording, report) in files {
+        assert_eq!(report_text(&table, &recording), report);
+        let written = report_in(&table, &recording, delkuthi::REPORT_LIMIT).expect("a report");
+        assert_eq!(String::from_utf8(written).expect("ASCII"), report);
+    }
+}
+
+/// Each number stands once, and no section leaves one out: what is given up keeps its number.
+#[test]
+fn the_clauses_are_numbered_without_a_gap() {
+    let clauses = clauses(&text());
+    let numbers: HashSet<&str> = clauses.iter().map(|clause| clause.number.as_str()).collect();
+    assert_eq!(numbers.len(), clauses.len(), "a clause's number stands twice");
+    for number in &numbers {
+        let (section, last) = number.rsplit_once('.').expect("a clause's number");
+        let before: u32 = last.parse::<u32>().expect("a number") - 1;
+        assert!(before == 0 || numbers.contains(format!("{section}.{before}").as_str()), "none before {number}");
+    }
+}

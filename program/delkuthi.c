@@ -1,0 +1,74 @@
+/*
+ * The program: delkuthi
+ *
+ * Reads table.bin and recording.bin in the folder where it is run, and prints
+ * the report on them. A file that cannot be opened is taken as one of 0 bytes.
+ * The exit status says what the report says:
+ *   0  every row is kept
+ *   1  a row is broken
+ *   2  something is refused
+ *   3  the report could not be written
+ */
+#define _POSIX_C_SOURCE 200809L
+#include "delkuthi.h"
+#include <signal.h>
+#include <stdio.h>
+#include <string.h>
+
+#define TABLE_SIZE_LIMIT     2048
+#define RECORDING_SIZE_LIMIT 61440
+#define TOO_LARGE            "refused 17 0\n"
+
+/* One byte more than a file may have, so that a larger one is seen to be. */
+static uint8_t table[TABLE_SIZE_LIMIT + 1];
+static uint8_t recording[RECORDING_SIZE_LIMIT + 1];
+static uint8_t report[DELKUTHI_REPORT_LIMIT + 1];
+
+/* Reads a file as far as there is room. Returns the number of bytes. */
+static size_t load(const char *name, uint8_t *bytes, size_t room)
+{
+    FILE *file = fopen(name, "rb");
+    size_t length;
+
+    if (file == NULL)
+        return 0;
+    length = fread(bytes, 1, room, file);
+    fclose(file);
+    return length;
+}
+
+/* Makes the report, with a byte 0 behind it. */
+static void make_report(size_t table_length, size_t recording_length)
+{
+    size_t written;
+
+    if (table_length > TABLE_SIZE_LIMIT || recording_length > RECORDING_SIZE_LIMIT) {
+        memcpy(report, TOO_LARGE, sizeof TOO_LARGE);
+        return;
+    }
+    written = delkuthi_report(table, table_length, recording, recording_length, report, DELKUTHI_REPORT_LIMIT);
+    report[written] = 0;
+}
+
+/* The exit status that goes with the report. */
+static int status_of(const char *text)
+{
+    if (strncmp(text, "refused", strlen("refused")) == 0)
+        return 2;
+    return strstr(text, "broken") != NULL ? 1 : 0;
+}
+
+int main(void)
+{
+    const char *text = (const char *)report;
+    size_t table_length = load("table.bin", table, sizeof table);
+
+    /* A reader that has gone away is an output that cannot be written. */
+    signal(SIGPIPE, SIG_IGN);
+    make_report(table_length, load("recording.bin", recording, sizeof recording));
+    if (fputs(text, stdout) == EOF || fclose(stdout) != 0) {
+        fputs("delkuthi: the report could not be written\n", stderr);
+        return 3;
+    }
+    return status_of(text);
+}

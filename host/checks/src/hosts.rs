@@ -1,11 +1,10 @@
 //! Hosts in C: compiled, linked with the archive, and run.
 
 use crate::places::{Folder, archive_folder, root};
+use std::env;
 use std::ffi::OsStr;
-use std::io::Write;
-use std::path::{Path, PathBuf};
+use std::path::PathBuf;
 use std::process::{Command, Output};
-use std::{env, fs};
 
 /// A compiled host.
 pub struct Host {
@@ -62,10 +61,12 @@ fn c_compiler() -> Command {
     compiler
 }
 
-/// Compiles a C++ host of `host/c`, or gives none where there is no C++ compiler.
-pub fn cpp_host(file: &str) -> Option<Host> {
-    let compiler = env::var_os("CXX").unwrap_or_else(|| "c++".into());
-    found(&compiler).then(|| compile(Command::new(compiler).arg("-std=c++11"), &[file]))
+/// Compiles a C++ host of `host/c`.
+///
+/// # Panics
+/// With what the compiler says, if it does not compile.
+pub fn cpp_host(file: &str) -> Host {
+    compile(Command::new(env::var_os("CXX").unwrap_or_else(|| "c++".into())).arg("-std=c++11"), &[file])
 }
 
 /// Compiles files of `host/c` and links them with the archive.
@@ -81,7 +82,7 @@ fn compile(compiler: &mut Command, files: &[&str]) -> Host {
         .args(files.iter().map(|file| sources.join(file)))
         .arg(archive_folder().join("libdelkuthi.a"))
         .output()
-        .expect("the C compiler can be run");
+        .unwrap_or_else(|error| panic!("{compiler:?}: {error}: .ci/install installs what the tests need"));
     assert!(output.status.success(), "{files:?}: {}", String::from_utf8_lossy(&output.stderr));
     Host { program, _folder: folder }
 }
@@ -92,15 +93,14 @@ impl Host {
         ran(Command::new(&self.program).args(arguments).output())
     }
 
-    /// Runs the host under valgrind, whose every complaint is an exit status of 99. Where there is no valgrind the test
-    /// says so, and the host runs without it.
+    /// Runs the host under valgrind, whose every complaint is an exit status of 99.
+    ///
+    /// # Panics
+    /// If there is no valgrind.
     pub fn run_in_valgrind<A: AsRef<OsStr>>(&self, arguments: &[A]) -> Ran {
-        if !found("valgrind") {
-            say("valgrind is not installed: a host in C ran without it");
-            return self.run(arguments);
-        }
         let checked = ["--quiet", "--error-exitcode=99", "--leak-check=full"];
-        ran(Command::new("valgrind").args(checked).arg(&self.program).args(arguments).output())
+        let output = Command::new("valgrind").args(checked).arg(&self.program).args(arguments).output();
+        ran(output.inspect_err(|error| panic!("valgrind: {error}: .ci/install installs what the tests need")))
     }
 }
 
@@ -111,16 +111,4 @@ fn ran(output: std::io::Result<Output>) -> Ran {
         println!("{}", String::from_utf8_lossy(&output.stderr));
     }
     Ran { status: output.status.code(), printed: String::from_utf8(output.stdout).expect("ASCII") }
-}
-
-/// Is there a program of this name, or at this path?
-pub fn found(name: impl AsRef<OsStr>) -> bool {
-    let file = Path::new(name.as_ref());
-    let in_folder = |folder: PathBuf| fs::metadata(folder.join(file)).is_ok_and(|data| data.is_file());
-    file.is_file() || env::var_os("PATH").is_some_and(|path| env::split_paths(&path).any(in_folder))
-}
-
-/// Says something in the test's output, also where the test passes.
-pub fn say(text: &str) {
-    let _ = writeln!(std::io::stderr(), "{text}");
 }

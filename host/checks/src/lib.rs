@@ -5,4 +5,5 @@ pub mod hosts;
 pub mod places;
 pub mod program;
 pub mod reports;
+pub mod sources;
 pub mod table_host;

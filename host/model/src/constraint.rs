@@ -13,6 +13,9 @@ pub const SPAN_LIMIT: u8 = 64;
 /// "A row keeps at most 64."
 pub const WAITING_LIMIT: usize = 64;
 
+/// The types of rows are 1 to this.
+pub const LAST_TYPE: u8 = 7;
+
 /// A row of a table: its type and fields. Any values can stand in the fields; the questions say which are accepted.
 ///
 /// "Two rows are the same if type and fields are."

@@ -63,17 +63,20 @@ pub fn c_compiler() -> Command {
     compiler
 }
 
-/// Compiles a C++ host of `host/c`, or gives none where there is no C++ compiler.
-pub fn cpp_host(file: &str) -> Option<Host> {
-    cpp_compiler().map(|mut compiler| compile(&mut compiler, &[file]))
+/// Compiles a C++ host of `host/c`.
+///
+/// # Panics
+/// With what the compiler says, if it does not compile.
+pub fn cpp_host(file: &str) -> Host {
+    compile(&mut cpp_compiler(), &[file])
 }
 
-/// The C++ compiler, for C++11, if there is one.
-pub fn cpp_compiler() -> Option<Command> {
-    let name = env::var_os("CXX").unwrap_or_else(|| "c++".into());
-    let mut compiler = Command::new(&name);
+/// The C++ compiler, for C++11.
+#[must_use]
+pub fn cpp_compiler() -> Command {
+    let mut compiler = Command::new(env::var_os("CXX").unwrap_or_else(|| "c++".into()));
     compiler.arg("-std=c++11");
-    found(&name).then_some(compiler)
+    compiler
 }
 
 /// Compiles files of `host/c` and links them with the archive.
@@ -97,7 +100,7 @@ pub fn compile_with(compiler: &mut Command, files: &[&str], include: &Path, link
         .args(files.iter().map(|file| sources.join(file)))
         .args(link)
         .output()
-        .expect("the C compiler can be run");
+        .unwrap_or_else(|error| panic!("{compiler:?}: {error}: .ci/install installs what the tests need"));
     assert!(output.status.success(), "{files:?}: {}", String::from_utf8_lossy(&output.stderr));
     Host { program, _folder: folder }
 }
@@ -108,15 +111,14 @@ impl Host {
         ran(Command::new(&self.program).args(arguments).output())
     }
 
-    /// Runs the host under valgrind, whose every complaint is an exit status of 99. Where there is no valgrind the test
-    /// says so, and the host runs without it.
+    /// Runs the host under valgrind, whose every complaint is an exit status of 99.
+    ///
+    /// # Panics
+    /// If there is no valgrind.
     pub fn run_in_valgrind<A: AsRef<OsStr>>(&self, arguments: &[A]) -> Ran {
-        if !found("valgrind") {
-            say("valgrind is not installed: a host in C ran without it");
-            return self.run(arguments);
-        }
         let checked = ["--quiet", "--error-exitcode=99", "--leak-check=full"];
-        ran(Command::new("valgrind").args(checked).arg(&self.program).args(arguments).output())
+        let output = Command::new("valgrind").args(checked).arg(&self.program).args(arguments).output();
+        ran(output.inspect_err(|error| panic!("valgrind: {error}: .ci/install installs what the tests need")))
     }
 }
 

@@ -8,4 +8,5 @@ pub mod places;
 pub mod program;
 pub mod release;
 pub mod reports;
+pub mod sources;
 pub mod table_host;

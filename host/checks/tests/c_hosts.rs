@@ -1,6 +1,6 @@
 //! The header and the archive in C and C++: hosts compiled at -O0 and -O2, run, and run under valgrind.
 
-use checks::hosts::{Host, Ran, c_host, c_host_alone, c_host_with_header, compile_with, cpp_host, found, say};
+use checks::hosts::{Host, Ran, c_host, c_host_alone, c_host_with_header, compile_with, cpp_host, found};
 use checks::places::{Folder, archive_folder, example, example_bytes, root};
 use delkuthi::Monitor;
 use model::constraint::NO_LIMIT;
@@ -244,10 +244,7 @@ fn the_archive_without_a_c_library() {
 
 #[test]
 fn the_header_in_cpp() {
-    match cpp_host("header.cpp") {
-        Some(host) => assert_eq!(host.run_in_valgrind::<&str>(&[]), Ran::new(0, "")),
-        None => say("there is no C++ compiler: the header was not compiled as C++"),
-    }
+    assert_eq!(cpp_host("header.cpp").run_in_valgrind::<&str>(&[]), Ran::new(0, ""));
 }
 
 /// A longer drive than the examples', in both directions of the interface: the loop and the report agree.

@@ -77,7 +77,7 @@ fn a_host_in_c() {
 fn a_host_in_cpp() {
     for copy in copies() {
         for link in [shared(&copy), archive(&copy)] {
-            let mut compiler = cpp_compiler().expect("a C++ compiler (c++, or what CXX names) must be there");
+            let mut compiler = cpp_compiler();
             let host: Host = compile_with(&mut compiler, &["header.cpp"], &copy.include(), &link);
             assert_eq!(host.run::<&str>(&[]), Ran::new(0, ""));
         }

@@ -13,6 +13,9 @@ pub const SPAN_LIMIT: u8 = 64;
 /// How many wait in a row at most (§6.5).
 pub const WAITING_LIMIT: usize = 64;
 
+/// The types of rows are 1 to this.
+pub const LAST_TYPE: u8 = 7;
+
 /// A row of a table: its type and fields. Any values can stand in the fields; the questions say which are accepted.
 ///
 /// Rows with the same type and fields are the same (§4.8).

@@ -1,21 +1,22 @@
 //! What a random test has come across, so that a test which never saw a case fails.
 
-use crate::constraint::Constraint;
+use crate::constraint::{Constraint, LAST_TYPE};
 use crate::monitor::Verdict;
+use std::collections::BTreeMap;
 use std::ops::RangeInclusive;
 
 /// How often each refusal number, and each verdict of each row type, was seen.
 #[derive(Clone, Debug, Default, PartialEq, Eq)]
 pub struct Seen {
-    refusals: [u64; 18],
+    refusals: BTreeMap<u8, u64>,
     /// By type byte: open, kept, broken.
-    verdicts: [[u64; 3]; 8],
+    verdicts: BTreeMap<u8, [u64; 3]>,
 }
 
 impl Seen {
     /// Counts a refusal number.
     pub fn refusal(&mut self, number: u8) {
-        self.refusals[usize::from(number)] += 1;
+        *self.refusals.entry(number).or_default() += 1;
     }
 
     /// Counts the refusal in an answer, if it is one, and hands the answer on.
@@ -30,12 +31,12 @@ impl Seen {
             Verdict::Kept => 1,
             Verdict::Broken(_) => 2,
         };
-        self.verdicts[usize::from(row.type_byte())][column] += 1;
+        self.verdicts.entry(row.type_byte()).or_default()[column] += 1;
     }
 
     /// How often this refusal number was seen.
     pub fn refusals(&self, number: u8) -> u64 {
-        self.refusals[usize::from(number)]
+        self.refusals.get(&number).copied().unwrap_or_default()
     }
 
     /// Fails the test if one of these refusal numbers was not seen.
@@ -52,7 +53,7 @@ impl Seen {
     /// # Panics
     /// With the counts by type.
     pub fn demand_verdicts(&self) {
-        let all = self.verdicts[1..].iter().flatten().all(|count| *count > 0);
-        assert!(all, "open, kept, broken by type: {:?}", &self.verdicts[1..]);
+        let seen = |kind| self.verdicts.get(&kind).is_some_and(|counts| counts.iter().all(|count| *count > 0));
+        assert!((1..=LAST_TYPE).all(seen), "open, kept, broken by type: {:?}", self.verdicts);
     }
 }

@@ -1,0 +1,195 @@
+//! The numbers of the header, of the Rust crate and of the model are those of the proved crates.
+
+use checks::sources::{Header, constant, definition, definitions, number, number_between, text};
+use std::collections::{BTreeMap, BTreeSet};
+
+const CONSTRAINT: &str = "crates/constraint/src/lib.rt";
+const LIMITS: &str = "crates/constraint/specs/Limits.antt";
+const LENT: &str = "crates/delkuthi/src/lent.rt";
+const LENT_DEFINED: &str = "crates/delkuthi/specs/Lent.antt";
+
+/// Numbers by their names.
+fn by_name<const N: usize>(numbers: [(&str, u64); N]) -> BTreeMap<String, u64> {
+    numbers.into_iter().map(|(name, number)| (name.to_string(), number)).collect()
+}
+
+/// What each `#define` of the header stands for, by the code of the crates.
+fn by_code() -> BTreeMap<String, u64> {
+    by_name([
+        ("VERSION", constant(LENT, "VERSION")),
+        ("LAST_TIME", constant(CONSTRAINT, "LAST_TIME")),
+        ("LAST_KIND", constant(CONSTRAINT, "LAST_KIND")),
+        ("ROW_LIMIT", constant(CONSTRAINT, "ROW_LIMIT")),
+        ("WAITING_LIMIT", constant(CONSTRAINT, "WAITING_LIMIT")),
+        ("OPEN", constant(LENT, "OPEN")),
+        ("KEPT", constant(LENT, "KEPT")),
+        ("BROKEN", constant(LENT, "BROKEN")),
+    ])
+}
+
+/// The same by their definitions; the crates' code has no constant for the last two.
+fn by_definitions() -> BTreeMap<String, u64> {
+    by_name([
+        ("VERSION", definition(LENT_DEFINED, "version")),
+        ("LAST_TIME", definition(LIMITS, "lastTime")),
+        ("LAST_KIND", definition(LIMITS, "lastKind")),
+        ("ROW_LIMIT", definition(LIMITS, "rowLimit")),
+        ("WAITING_LIMIT", definition(LIMITS, "waitingLimit")),
+        ("OPEN", definition(LENT_DEFINED, "wordOf (some Verdict.Open)")),
+        ("KEPT", definition(LENT_DEFINED, "wordOf (some Verdict.Kept)")),
+        ("BROKEN", definition(LENT_DEFINED, "wordOf (some (Verdict.Broken n))")),
+        ("TAKEN", definition(LENT_DEFINED, "numberOf Taken")),
+        ("REPORT_LIMIT", definition("crates/text/proofs/Reports.antt", "reportLimit")),
+    ])
+}
+
+/// The refusals of the header, by the questions that give them.
+fn refusals() -> BTreeMap<String, u64> {
+    let all = definitions();
+    let question = |asked: &str| number_between(&all, "(", &format!(", {asked}"));
+    by_name([
+        ("TABLE_VERSION", number_between(&all, "(table-refused ", " 0)")),
+        ("ROW_CUT", question("WholeAt ")),
+        ("ROW_TOO_MANY", question("i < rowLimit)")),
+        ("ROW_SHAPE", question("ShapeFits ")),
+        ("ROW_KINDS", question("KindsFit ")),
+        ("ROW_RANGE", question("InRange ")),
+        ("ROW_BOUNDS", question("LowerFirst ")),
+        ("CLOSED", question("closed steps ")),
+        ("KIND", question("k ≤ lastKind)")),
+        ("TIME_RANGE", question("t ≤ lastTime)")),
+        ("TIME_ORDER", question("EventInOrder ")),
+        ("CROWDED", question("Room ")),
+        ("RECORDING_VERSION", number_between(&all, "(recording-refused ", " 0)")),
+        ("RECORD", question("RecordAt ")),
+        ("NO_ROW", number_between(&all, "(RowVerdict.Refused ", ")")),
+    ])
+}
+
+/// The refusals that no call of the header answers with.
+fn refusals_of_others() -> [u64; 2] {
+    let all = definitions();
+    [number_between(&all, "(", ", length (tableBytes "), number_between(&all, "(refusedText ", " 0)")]
+}
+
+/// Of two lists of numbers by name: those that both have are the same.
+fn agree(one: &BTreeMap<String, u64>, other: &BTreeMap<String, u64>) {
+    for (name, number) in one {
+        assert!(other.get(name).is_none_or(|another| another == number), "{name}: {number} and {:?}", other.get(name));
+    }
+}
+
+#[test]
+fn every_number_of_the_header_is_the_crates() {
+    let (header, code, defined) = (Header::read(), by_code(), by_definitions());
+    agree(&code, &defined);
+    agree(&header.defined, &code);
+    agree(&header.defined, &defined);
+    // How much of the stack a call uses is measured: the test of the stack compares it with these two.
+    let measured = ["REPORT_STACK", "MONITOR_STACK"].map(String::from);
+    let known: BTreeSet<String> = defined.keys().cloned().chain(measured).collect();
+    assert_eq!(header.defined.into_keys().collect::<BTreeSet<String>>(), known);
+}
+
+#[test]
+fn every_limit_of_the_manual_is_the_headers() {
+    let header = Header::read();
+    assert_eq!(header.limits.len(), 7, "{:?}", header.limits);
+    for (name, limit) in &header.limits {
+        assert_eq!(header.defined.get(name), Some(limit), "{name}");
+    }
+}
+
+#[test]
+fn every_refusal_of_the_header_is_a_question_of_the_definitions() {
+    let header = Header::read();
+    assert_eq!(header.refusals, refusals());
+    assert_eq!(header.refusals["NO_ROW"], constant(LENT, "NO_ROW"));
+    assert_eq!(header.refusals["NO_ROW"], definition(LENT_DEFINED, "wordOf none"));
+    // No verdict has the number of a refusal, and no two refusals the same.
+    let words = ["OPEN", "KEPT", "BROKEN"].map(|name| header.defined[name]);
+    assert!(words.iter().all(|word| *word != header.refusals["NO_ROW"]));
+    assert_eq!(header.refusals.values().collect::<BTreeSet<_>>().len(), header.refusals.len());
+}
+
+#[test]
+fn the_refusals_of_the_crate_and_of_the_readme_are_all_there() {
+    let all: BTreeSet<u64> = refusals().into_values().chain(refusals_of_others()).collect();
+    let of_crate = text("host/delkuthi/src/refusal.rs");
+    let texts = of_crate
+        .lines()
+        .filter_map(|line| line.trim().split_once(" => \"")?.0.parse().ok())
+        .filter(|number| *number != 0);
+    assert_eq!(texts.collect::<BTreeSet<u64>>(), all);
+    let readme = text("README.md");
+    let readme = readme.split("\n## ").find(|part| part.starts_with("The refusals")).expect("the refusals");
+    let rows = readme.lines().filter_map(|line| line.strip_prefix("| ")?.split_once(" |")?.0.parse().ok());
+    assert_eq!(rows.collect::<BTreeSet<u64>>(), all);
+    let no_row = number_between(&of_crate, "const NO_ROW: Refusal = Refusal { number: ", ",");
+    assert_eq!(no_row, refusals()["NO_ROW"]);
+}
+
+#[test]
+fn the_rust_crates_numbers_are_the_headers() {
+    let header = Header::read();
+    let word = |name| constant("host/delkuthi/src/monitor.rs", name);
+    let of_crate = by_name([
+        ("VERSION", delkuthi::VERSION.into()),
+        ("LAST_TIME", delkuthi::LAST_TIME),
+        ("LAST_KIND", delkuthi::LAST_KIND.into()),
+        ("ROW_LIMIT", delkuthi::ROW_LIMIT as u64),
+        ("WAITING_LIMIT", delkuthi::WAITING_LIMIT as u64),
+        ("REPORT_LIMIT", delkuthi::REPORT_LIMIT as u64),
+        ("OPEN", word("OPEN")),
+        ("KEPT", word("KEPT")),
+        ("BROKEN", word("BROKEN")),
+    ]);
+    for (name, number) in of_crate {
+        assert_eq!(header.defined.get(&name), Some(&number), "{name}");
+    }
+}
+
+#[test]
+fn the_models_numbers_are_the_crates() {
+    use model::constraint::{LAST_KIND, LAST_TIME, NO_LIMIT, ROW_LIMIT, SPAN_LIMIT, WAITING_LIMIT};
+    use model::report::{RECORDING_SIZE_LIMIT, TABLE_SIZE_LIMIT};
+    const PROGRAM: &str = "crates/delkuthi/src/lib.rt";
+    let limits = [
+        (LAST_KIND.into(), CONSTRAINT, "LAST_KIND", "lastKind"),
+        (LAST_TIME, CONSTRAINT, "LAST_TIME", "lastTime"),
+        (NO_LIMIT, CONSTRAINT, "NO_LIMIT", "noLimit"),
+        (ROW_LIMIT as u64, CONSTRAINT, "ROW_LIMIT", "rowLimit"),
+        (SPAN_LIMIT.into(), CONSTRAINT, "SPAN_LIMIT", "spanLimit"),
+        (WAITING_LIMIT as u64, CONSTRAINT, "WAITING_LIMIT", "waitingLimit"),
+        (TABLE_SIZE_LIMIT as u64, PROGRAM, "TABLE_SIZE_LIMIT", "tableSizeLimit"),
+        (RECORDING_SIZE_LIMIT as u64, PROGRAM, "RECORDING_SIZE_LIMIT", "recordingSizeLimit"),
+    ];
+    for (number, file, in_code, defined) in limits {
+        assert_eq!((number, number), (constant(file, in_code), definition(LIMITS, defined)), "{defined}");
+    }
+}
+
+#[test]
+fn the_size_of_a_monitor_is_the_same_everywhere() {
+    let size = size_of::<delkuthi::Monitor>() as u64;
+    assert_eq!(size, constant(LENT, "MONITOR_SIZE"));
+    assert_eq!(size, definition(LENT_DEFINED, "monitorSize"));
+    assert_eq!(size, 8 * constant("host/delkuthi/src/monitor.rs", "WORDS"));
+    let header = Header::read();
+    assert_eq!(size, 8 * number_between(&header.text, "uint64_t words[", "]"));
+    let written = format!("{},{:03} bytes", size / 1000, size % 1000);
+    for (name, file) in [("header", header.text), ("README", text("README.md"))] {
+        assert!(file.contains(&written), "the {name} says {written}");
+    }
+    assert!(text("host/delkuthi/src/monitor.rs").contains(&written));
+}
+
+#[test]
+fn expressions_of_numbers() {
+    let expected = [("63", 63), ("2 ^ 56 - 1", (1 << 56) - 1), ("UINT64_C(1024)", 1024), ("1,024", 1024)];
+    for (expression, value) in expected {
+        assert_eq!(number(expression), value, "{expression}");
+    }
+    assert_eq!(number("0 * 1000000 + 2 * 1000 + 0"), 2000);
+    assert_eq!(number("2^64 - 1"), u64::MAX);
+}

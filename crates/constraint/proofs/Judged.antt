@@ -15,6 +15,10 @@ use Rattle.constraint.specs.declared.Answer.the-variants.{Taken, Refused
 pub never : {A : Type 0} → _≡_ {A = ℕ} 0 1 → A
 never e = absurd (omega arith)
 
+-- what a callee asks that requires nothing
+pub free : {A K : Type 0} → A → K → Unit {0}
+free c κs = tt
+
 -- Tests
 
 -- a test says "yes"

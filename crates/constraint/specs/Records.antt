@@ -4,10 +4,9 @@ use mathlib.Core.Path.{_≡_}
 use mathlib.Core.Bool.{cond}
 use mathlib.Core.List.{List, [], _∷_, _++_}
 use mathlib.Core.Logic.{_≢_}
-use lib.ListN.{set, drop}
+use lib.ListN.{length, set, take, drop}
 use lib.Dec.{eqb}
 use Rattle.constraint.specs.Limits.{rowLimit}
-use Rattle.constraint.specs.Steps.{at}
 use Rattle.constraint.specs.Types.{
   ByteRole,
   kind,
@@ -24,7 +23,6 @@ use Rattle.constraint.specs.Types.{
   typeOf,
   fieldsOf,
 }
-use Rattle.constraint.specs.Table.{rowBody}
 use Rattle.constraint.specs.declared.Constraint.{Constraint}
 use Rattle.constraint.specs.declared.Entry.{Entry}
 use Rattle.constraint.specs.declared.Table.{Table}
@@ -81,11 +79,23 @@ byteFields fields = bytesFrom (fields .line .bytes) (fields .bytes) 0
 abbrev pub timeFields : Fields → List Field
 timeFields fields = timesFrom (fields .line .times) (fields .times) 0
 
--- the numbers are those of a row
+-- the values of the fields of one byte, and of the times
+abbrev pub bytesIn : List Field → List ℕ
+bytesIn [] = []
+bytesIn (byte role x ∷ fields) = x ∷ bytesIn fields
+bytesIn (time role x ∷ fields) = bytesIn fields
+
+abbrev pub timesIn : List Field → List ℕ
+timesIn [] = []
+timesIn (byte role x ∷ fields) = timesIn fields
+timesIn (time role x ∷ fields) = x ∷ timesIn fields
+
+-- the numbers are those of a row, and stand first in their arrays
 pub record Holds (c : Constraint) (fields : Fields) : Type 0 where
   pub typed : fields .line .form ≡ typeOf c
   pub all : byteFields fields ++ timeFields fields ≡ fieldsOf c
-  pub first : at (fields .bytes) 0 ≡ at (rowBody c) 1
+  pub bytes : take (length (bytesIn (fieldsOf c))) (fields .bytes) ≡ bytesIn (fieldsOf c)
+  pub times : take (length (timesIn (fieldsOf c))) (fields .times) ≡ timesIn (fieldsOf c)
 
 -- a kind is none of the list
 abbrev pub Absent : ℕ → List ℕ → Type 0

@@ -1,16 +1,14 @@
 -- The table's format: rows to bytes, and bytes to rows or a refusal with its number and place (paper 01, "The table" and the table's questions).
 use Prim.Native.Nat.{ℕ, _+_, _^_, _≤_, _<_}
 use mathlib.Core.Path.{_≡_}
-use mathlib.Core.Bool.{cond}
 use mathlib.Core.List.{List, [], _∷_, _++_}
 use lib.ListN.{length, drop}
-use lib.Dec.{eqb}
 use Rattle.constraint.specs.Limits.{rowLimit}
 use Rattle.constraint.specs.Steps.{at}
 use Rattle.constraint.specs.Questions.{Question, Judged}
 use Rattle.constraint.specs.declared.Answer.{Answer}
 use Rattle.constraint.specs.declared.Answer.the-variants.{Taken, Refused}
-use Rattle.constraint.specs.Types.{Field, byte, time, typeOf, fieldsOf, lengths}
+use Rattle.constraint.specs.Types.{Field, byte, time, typeOf, fieldsOf, lengths, lengthOf}
 use Rattle.constraint.specs.Accepted.{rowQuestions, rowsQuestions}
 use Rattle.constraint.specs.Bytes.{bytesOf, bytesAt, numberAt}
 use Rattle.constraint.specs.declared.Constraint.{Constraint}
@@ -56,17 +54,13 @@ writtenTo buffer rows (Refused n) = buffer
 
 -- Bytes to rows
 
--- the length expected for a body's type, and n
-abbrev pub lengthOf : List ℕ → ℕ
-lengthOf body = at lengths (at body 0) + cond (eqb (at body 0) 7) (at body 1) 0
-
 -- 4: "Is the type 1 to 7, n in range, the length right? 4, also where type byte or n is missing."; the types are those that the list has a length for
 pub record ShapeFits (body : List ℕ) : Type 0 where
   pub type-there : 0 < length body
   pub type-known : (1 ≤ at body 0) × (at body 0 < length lengths)
   pub n-there : at body 0 ≡ 7 → 1 < length body
   pub n-known : at body 0 ≡ 7 → (2 ≤ at body 1) × (at body 1 ≤ 4)
-  pub length-right : length body ≡ lengthOf body
+  pub length-right : length body ≡ lengthOf (at body 0) (at body 1)
 
 -- the times among some fields fit their eight bytes
 abbrev pub TimesFit : List Field → Type 0

@@ -1,7 +1,10 @@
 -- The table of types (paper 01, "The table"): the types, their fields in order, and what each field says. What is asked of a row and its bytes are read off it.
-use Prim.Native.Nat.{ℕ}
+use Prim.Native.Nat.{ℕ, _+_}
+use mathlib.Core.Bool.{cond}
 use mathlib.Core.List.{List, [], _∷_}
+use lib.Dec.{eqb}
 use Rattle.constraint.specs.Limits.{spanLimit}
+use Rattle.constraint.specs.Steps.{at}
 use Rattle.constraint.specs.declared.Constraint.{Constraint}
 use Rattle.constraint.specs.declared.Constraint.the-variants.{
   Delay,
@@ -62,3 +65,6 @@ fieldsOf (StrongSynchronization4 a b c d tolerance) =
 -- the column "Length", by the type byte: "The length expected for each type stands in one constant list."; to a StrongSynchronization's its n is added
 abbrev pub lengths : List ℕ
 lengths = 0 ∷ 19 ∷ 19 ∷ 19 ∷ 34 ∷ 19 ∷ 3 ∷ 10 ∷ []
+
+abbrev pub lengthOf : ℕ → ℕ → ℕ
+lengthOf t n = at lengths t + cond (eqb t 7) n 0

@@ -7,11 +7,7 @@ use lib.ListN.{length}
 use Rattle.constraint.specs.Limits.{lastKind}
 use Rattle.constraint.specs.Steps.{at}
 use Rattle.constraint.specs.Accepted.{KindsFit}
-
--- k is none of the list
-abbrev pub Absent : ℕ → List ℕ → Type 0
-Absent k [] = Unit
-Absent k (j ∷ ks) = (k ≢ j) × Absent k ks
+use Rattle.constraint.specs.Records.{Absent}
 
 -- the first may stand before the others
 abbrev pub FirstFits : ℕ → List ℕ → Type 0

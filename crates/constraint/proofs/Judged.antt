@@ -1,6 +1,6 @@
 -- Questions have one answer, since each is answered "yes" or "no"; and the answer to a list of questions goes by the answers to its parts.
 use Prim.Native.Nat.{ℕ, _≤_}
-use mathlib.Core.Path.{_≡_, refl, sym, _∙_}
+use mathlib.Core.Path.{_≡_, refl, sym, subst⁻¹, _∙_}
 use mathlib.Core.Bool.{Bool, true, false, not}
 use mathlib.Core.List.{List, [], _∷_, _++_}
 use mathlib.Core.Logic.{inl, inr}
@@ -14,6 +14,10 @@ use Rattle.constraint.specs.declared.Answer.the-variants.{Taken, Refused
 -- anything follows where two different constructors are said to be equal: from that, `cc` proves 0 ≡ 1
 pub never : {A : Type 0} → _≡_ {A = ℕ} 0 1 → A
 never e = absurd (omega arith)
+
+-- what a callee asks that requires nothing
+pub free : {A K : Type 0} → A → K → Unit {0}
+free c κs = tt
 
 -- Tests
 
@@ -104,3 +108,13 @@ judged-once (q ∷ later) a b (inl h) (inl k) = judged-once later a b (h .1) (k 
 judged-once (q ∷ later) a b (inl h) (inr k) = absurd (k .0 (h .0))
 judged-once (q ∷ later) a b (inr h) (inl k) = absurd (h .0 (k .0))
 judged-once (q ∷ later) a b (inr h) (inr k) = h .1 ∙ sym (k .1)
+
+-- the same where what is asked later may differ, unless the first are all answered "yes"
+pub judged-once-on : (first later other : List Question) (a b : Answer) → (Judged first Taken → later ≡ other)
+    → Judged (first ++ later) a → Judged (first ++ other) b → a ≡ b
+unfolding Judged
+judged-once-on [] later other a b same h k = judged-once later a b h (subst⁻¹ (λ (qs : List Question). Judged qs b) (same refl) k)
+judged-once-on (q ∷ first) later other a b same (inl h) (inl k) = judged-once-on first later other a b (λ all. same (inl (h .0, all))) (h .1) (k .1)
+judged-once-on (q ∷ first) later other a b same (inl h) (inr k) = absurd (k .0 (h .0))
+judged-once-on (q ∷ first) later other a b same (inr h) (inl k) = absurd (h .0 (k .0))
+judged-once-on (q ∷ first) later other a b same (inr h) (inr k) = h .1 ∙ sym (k .1)

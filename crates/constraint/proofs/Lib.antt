@@ -7,6 +7,7 @@ pub mod Waitings
 pub mod Counting
 pub mod Judged
 pub mod FittingKinds
+pub mod FieldByField
 pub mod Rows
 pub mod Records
 pub mod Accepted

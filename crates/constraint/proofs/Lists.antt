@@ -11,7 +11,7 @@ use lib.Seq.{getD-append-add}
 use Rattle.constraint.specs.Steps.{at}
 
 -- by cases on a test, with the equation
-pub split : (b : Bool) (P : Bool → Type 0) → (b ≡ true → P true) → (b ≡ false → P false) → P b
+pub split {ℓ} : (b : Bool) (P : Bool → Type ℓ) → (b ≡ true → P true) → (b ≡ false → P false) → P b
 split true P f g = f refl
 split false P f g = g refl
 

@@ -1,25 +1,31 @@
--- The record of some rows holds those rows, and a row put in its next entry makes the record of one row more.
-use Prim.Native.Nat.{ℕ, suc, _+_, _-_, _<_}
-use mathlib.Core.Path.{_≡_, refl, sym, ap, _∙_}
+-- The record of some rows holds those rows, a row put in its next entry makes the record of one row more, and a row for which there is no entry makes a record that is refused.
+use Prim.Native.Nat.{ℕ, suc, _+_, _-_, _≤_, _<_, max}
+use mathlib.Core.Path.{_≡_, refl, sym, ap, subst⁻¹, _∙_}
 use mathlib.Core.List.{List, [], _∷_, _++_, map, map-append, append-assoc}
+use native.Mathlib.Numerals.{add-one}
 use native.Mathlib.Omega.{arith}
-use lib.ListN.{length, set, replicate, length-append, length-map}
-use lib.Seq.{set-at, take-append-seam}
+use lib.ListN.{length, getD, set, take, replicate, length-append, length-map, length-take, length-replicate, replicate-append-replicate}
+use lib.Seq.{set-at, take-suc, take-append-le, take-append-seam}
 use Rattle.constraint.specs.Limits.{rowLimit}
-use Rattle.constraint.specs.Rows.{filler, rowsOf, entryOf, tableOf, withRow}
+use Rattle.constraint.specs.Questions.{Judged}
+use Rattle.constraint.specs.Accepted.{Accepted, rowsQuestions}
+use Rattle.constraint.specs.Rows.{filler, rowsOf, tableOf}
+use Rattle.constraint.specs.Records.{entryOf, withRow, Adds}
+use Rattle.constraint.specs.declared.Answer.the-variants.{Refused}
 use Rattle.constraint.specs.declared.Constraint.{Constraint}
 use Rattle.constraint.specs.declared.Entry.{Entry}
 use Rattle.constraint.specs.declared.Table.{Table}
+use Rattle.constraint.proofs.Accepted.{rows-one-more}
 
--- the entries that no row was put in
-free : ℕ → List Entry
-free n = replicate (rowLimit - n) (entryOf filler)
+-- the rows of the entries that no row was put in
+free : ℕ → List Constraint
+free n = replicate (rowLimit - n) filler
 
-free-first : (n : ℕ) → n < rowLimit → free n ≡ entryOf filler ∷ free (suc n)
+free-first : (n : ℕ) → n < rowLimit → free n ≡ filler ∷ free (suc n)
 unfolding free
 free-first n h =
     let one-less : rowLimit - n ≡ suc (rowLimit - suc n) = omega arith in
-    ap (λ (k : ℕ). replicate k (entryOf filler)) one-less
+    ap (λ (k : ℕ). replicate k filler) one-less
 
 -- it counts them
 pub record-count : (table : Table) (rows : List Constraint) → table ≡ tableOf rows → table .count ≡ length rows
@@ -32,21 +38,42 @@ record-more rows c h =
     let n = length rows in
     let long : length (rows ++ (c ∷ [])) ≡ n + 1 = length-append rows (c ∷ []) in
     let next : suc n ≡ length (rows ++ (c ∷ [])) = omega arith in
-    let entries : set (map entryOf rows ++ free n) n (entryOf c) ≡ map entryOf (rows ++ (c ∷ [])) ++ free (length (rows ++ (c ∷ []))) =
-    ap (λ (l : List Entry). set (map entryOf rows ++ l) n (entryOf c)) (free-first n h)
-    ∙ set-at (map entryOf rows) (entryOf filler) (free (suc n)) (entryOf c) n (length-map rows entryOf)
-    ∙ ap (λ (k : ℕ). map entryOf rows ++ (entryOf c ∷ free k)) next
-    ∙ sym (append-assoc (map entryOf rows) (entryOf c ∷ []) (free (length (rows ++ (c ∷ [])))))
-    ∙ ap (λ (l : List Entry). l ++ free (length (rows ++ (c ∷ [])))) (sym (map-append entryOf rows (c ∷ []))) in
+    let entries : set (map entryOf (rows ++ free n)) n (entryOf c) ≡ map entryOf ((rows ++ (c ∷ [])) ++ free (length (rows ++ (c ∷ [])))) =
+    ap (λ (l : List Constraint). set (map entryOf (rows ++ l)) n (entryOf c)) (free-first n h)
+    ∙ ap (λ (l : List Entry). set l n (entryOf c)) (map-append entryOf rows (filler ∷ free (suc n)))
+    ∙ set-at (map entryOf rows) (entryOf filler) (map entryOf (free (suc n))) (entryOf c) n (length-map rows entryOf)
+    ∙ sym (map-append entryOf rows (c ∷ free (suc n)))
+    ∙ ap (map entryOf) (sym (append-assoc rows (c ∷ []) (free (suc n))))
+    ∙ ap (λ (k : ℕ). map entryOf ((rows ++ (c ∷ [])) ++ free k)) next in
     λ i. record { rows = entries i; count = sym long i }
 
-entries-rows : (rows : List Constraint) (others : List Entry)
-    → map (λ (entry : Entry). entry .constraint) (map entryOf rows ++ others) ≡ rows ++ map (λ (entry : Entry). entry .constraint) others
-entries-rows [] others = refl
-entries-rows (c ∷ rows) others = ap (λ (l : List Constraint). c ∷ l) (entries-rows rows others)
+entries-rows : (rows : List Constraint) → map (λ (entry : Entry). entry .constraint) (map entryOf rows) ≡ rows
+entries-rows [] = refl
+entries-rows (c ∷ rows) = ap (λ (l : List Constraint). c ∷ l) (entries-rows rows)
 
 pub record-rows : (rows : List Constraint) → rowsOf (tableOf rows) ≡ rows
 unfolding tableOf rowsOf free
 record-rows rows =
-    rw (entries-rows rows (free (length rows)), append-assoc rows (map (λ (entry : Entry). entry .constraint) (free (length rows))) (replicate (length rows) filler))
-    (take-append-seam rows (map (λ (entry : Entry). entry .constraint) (free (length rows)) ++ replicate (length rows) filler))
+    ap (λ (l : List Constraint). take (length rows) (l ++ replicate (length rows) filler)) (entries-rows (rows ++ free (length rows)))
+    ∙ ap (take (length rows)) (append-assoc rows (free (length rows)) (replicate (length rows) filler))
+    ∙ take-append-seam rows (free (length rows) ++ replicate (length rows) filler)
+
+-- a row for which there is no entry: of 32 accepted rows the next is refused with 3
+pub record-full : (table r : Table) (c : Constraint) → Adds table c r → table .count ≡ rowLimit → Accepted (rowsOf table)
+    → Judged (rowsQuestions 0 (rowsOf r) []) (Refused 3)
+unfolding rowsOf
+record-full table r c adds full accepted =
+    let n = table .count in
+    let entries : List Constraint = map (λ (entry : Entry). entry .constraint) (table .rows) in
+    let listed : List Constraint = entries ++ replicate n filler in
+    let long : n ≤ length listed = omega (arith, length-append entries (replicate n filler), length-replicate n filler) in
+    let made : r ≡ record { rows = table .rows; count = suc n } = adds .full (omega arith) ∙ (λ i. record { rows = table .rows; count = more i }) in
+    subst⁻¹ (λ (rows : List Constraint). Judged (rowsQuestions 0 rows []) (Refused 3))
+    (ap rowsOf made
+    ∙ ap (take (suc n)) (ap (λ (l : List Constraint). entries ++ l) (ap (λ (k : ℕ). replicate k filler) (sym (add-one n)) ∙ sym (replicate-append-replicate n 1 filler)) ∙ sym (append-assoc entries (replicate n filler) (filler ∷ [])))
+    ∙ take-suc (listed ++ (filler ∷ [])) n filler (omega (arith, length-append listed (filler ∷ [])))
+    ∙ ap (λ (l : List Constraint). l ++ (getD (listed ++ (filler ∷ [])) n filler ∷ [])) (take-append-le n listed (filler ∷ []) long))
+    (rows-one-more 0 (take n listed) (getD (listed ++ (filler ∷ [])) n filler) (omega (arith, length-take n listed)) accepted)
+  where
+    more : max (table .count) (rowLimit + 1) ≡ suc (table .count)
+    more = omega arith

@@ -1,61 +1,62 @@
--- Questions 3 to 7, row by row, as fresh and the table writer put them (§9.7). The answer to 4 without the length is always "yes" here:
--- every `Constraint` has a type from 1 to 7 and an n from 2 to 4.
--- every `Constraint` has a type from 1 to 7 and an n from 2 to 4.
+-- Questions 3 to 7, row by row, as fresh and the table writer put them (§9.7). Question 4 is always answered "yes" here, as every
+-- `Constraint` has a known type and n.
+-- Every `Constraint` has a type from 1 to 7 and an n from 2 to 4, so its answer to 4 is yes.
 use Prim.Native.Nat.{ℕ, _+_, _≤_, _<_}
 use mathlib.Core.Path.{_≡_}
 use mathlib.Core.List.{List, [], _∷_, _++_}
 use mathlib.Core.Logic.{_⊎_}
 use lib.ListN.{length}
-use Rattle.constraint.specs.Limits.{lastKind, lastTime, noLimit, rowLimit, spanLimit}
+use Rattle.constraint.specs.Limits.{lastKind, lastTime, noLimit, rowLimit}
 use Rattle.constraint.specs.Steps.{at}
 use Rattle.constraint.specs.Questions.{Question, Judged}
+use Rattle.constraint.specs.Types.{kind, count, span, plain, lower, upper, upper-or-none, Field, byte, time, fieldsOf}
 use Rattle.constraint.specs.declared.Answer.the-variants.{Taken}
 use Rattle.constraint.specs.declared.Constraint.{Constraint}
-use Rattle.constraint.specs.declared.Constraint.the-variants.{Delay, StrongDelay, Repeat, Sporadic, Burst, Order, StrongSynchronization2, StrongSynchronization3, StrongSynchronization4}
 
--- the kinds that a row names
+-- the kinds among some fields, and those that a row names
+abbrev pub kindsIn : List Field → List ℕ
+kindsIn [] = []
+kindsIn (byte kind x ∷ fields) = x ∷ kindsIn fields
+kindsIn (byte count x ∷ fields) = kindsIn fields
+kindsIn (byte (span limit) x ∷ fields) = kindsIn fields
+kindsIn (time role x ∷ fields) = kindsIn fields
+
 abbrev pub kinds : Constraint → List ℕ
-kinds (Delay source target lower upper) = source ∷ target ∷ []
-kinds (StrongDelay source target lower upper) = source ∷ target ∷ []
-kinds (Repeat event span lower upper) = event ∷ []
-kinds (Sporadic event lower upper jitter minimum) = event ∷ []
-kinds (Burst event maximum len minimum) = event ∷ []
-kinds (Order source target) = source ∷ target ∷ []
-kinds (StrongSynchronization2 a b tolerance) = a ∷ b ∷ []
-kinds (StrongSynchronization3 a b c tolerance) = a ∷ b ∷ c ∷ []
-kinds (StrongSynchronization4 a b c d tolerance) = a ∷ b ∷ c ∷ d ∷ []
+kinds c = kindsIn (fieldsOf c)
 
 -- §8.5: no kind is above 63, and no two are the same
 unfoldable pub KindsFit : List ℕ → Type 0
 KindsFit ks = ((i : ℕ) → i < length ks → at ks i ≤ lastKind) × ((i j : ℕ) → i < j → j < length ks → ¬ (at ks i ≡ at ks j))
 
--- §4.7: an upper in range, or the mark for no limit
+-- an upper in range, or the mark for no limit
 abbrev pub UpperInRange : ℕ → Type 0
-UpperInRange upper = (upper ≤ lastTime) ⊎ (upper ≡ noLimit)
+UpperInRange x = (x ≤ lastTime) ⊎ (x ≡ noLimit)
 
--- §8.6: times, span and maximum are in their ranges
+-- §8.6: each field is in its range
+abbrev pub FieldsInRange : List Field → Type 0
+FieldsInRange [] = Unit {0}
+FieldsInRange (byte kind x ∷ fields) = FieldsInRange fields
+FieldsInRange (byte count x ∷ fields) = FieldsInRange fields
+FieldsInRange (byte (span limit) x ∷ fields) = (1 ≤ x) × (x ≤ limit) × FieldsInRange fields
+FieldsInRange (time plain x ∷ fields) = (x ≤ lastTime) × FieldsInRange fields
+FieldsInRange (time lower x ∷ fields) = (x ≤ lastTime) × FieldsInRange fields
+FieldsInRange (time upper x ∷ fields) = (x ≤ lastTime) × FieldsInRange fields
+FieldsInRange (time upper-or-none x ∷ fields) = UpperInRange x × FieldsInRange fields
+
 unfoldable pub InRange : Constraint → Type 0
-InRange (Delay source target lower upper) = (lower ≤ lastTime) × (upper ≤ lastTime)
-InRange (StrongDelay source target lower upper) = (lower ≤ lastTime) × (upper ≤ lastTime)
-InRange (Repeat event span lower upper) = (1 ≤ span) × (span ≤ spanLimit) × (lower ≤ lastTime) × UpperInRange upper
-InRange (Sporadic event lower upper jitter minimum) = (lower ≤ lastTime) × UpperInRange upper × (jitter ≤ lastTime) × (minimum ≤ lastTime)
-InRange (Burst event maximum len minimum) = (1 ≤ maximum) × (maximum ≤ spanLimit) × (len ≤ lastTime) × (minimum ≤ lastTime)
-InRange (Order source target) = Unit {0}
-InRange (StrongSynchronization2 a b tolerance) = tolerance ≤ lastTime
-InRange (StrongSynchronization3 a b c tolerance) = tolerance ≤ lastTime
-InRange (StrongSynchronization4 a b c d tolerance) = tolerance ≤ lastTime
+InRange c = FieldsInRange (fieldsOf c)
 
--- §8.7: lower is at most upper
+-- §8.7: lower is at most upper, in some fields; `low` is the lower that stands before them, and 0 where none does
+abbrev pub NotBelow : ℕ → List Field → Type 0
+NotBelow low [] = Unit {0}
+NotBelow low (byte role x ∷ fields) = NotBelow low fields
+NotBelow low (time plain x ∷ fields) = NotBelow low fields
+NotBelow low (time lower x ∷ fields) = NotBelow x fields
+NotBelow low (time upper x ∷ fields) = low ≤ x
+NotBelow low (time upper-or-none x ∷ fields) = low ≤ x
+
 unfoldable pub LowerFirst : Constraint → Type 0
-LowerFirst (Delay source target lower upper) = lower ≤ upper
-LowerFirst (StrongDelay source target lower upper) = lower ≤ upper
-LowerFirst (Repeat event span lower upper) = lower ≤ upper
-LowerFirst (Sporadic event lower upper jitter minimum) = lower ≤ upper
-LowerFirst (Burst event maximum len minimum) = Unit {0}
-LowerFirst (Order source target) = Unit {0}
-LowerFirst (StrongSynchronization2 a b tolerance) = Unit {0}
-LowerFirst (StrongSynchronization3 a b c tolerance) = Unit {0}
-LowerFirst (StrongSynchronization4 a b c d tolerance) = Unit {0}
+LowerFirst c = NotBelow 0 (fieldsOf c)
 
 -- 5 to 7, of one row
 abbrev pub rowQuestions : Constraint → List Question

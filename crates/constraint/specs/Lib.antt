@@ -15,6 +15,7 @@ pub mod Meets
 pub mod Continuation
 pub mod Waiting
 pub mod Questions
+pub mod Types
 pub mod Accepted
 pub mod Rows
 pub mod Run
@@ -23,3 +24,5 @@ pub mod Bytes
 pub mod Table
 pub mod Recording
 pub mod Report
+-- What the code's records hold.
+pub mod Records

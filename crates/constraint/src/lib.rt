@@ -1,12 +1,21 @@
 // What the whole monitor speaks of: a row's constraint, the limits, the answer to a call, and the verdict of a row.
 // The contract's definitions stand in specs/.
+pub mod fields;
+
+use fields::COUNT;
+use fields::Fields;
+use fields::KIND;
+use fields::LOWER;
+use fields::Line;
+use fields::PLAIN;
+use fields::UPPER;
+use fields::UPPER_OR_NONE;
 ghost use mathlib.Core.Path.{_≡_};
-ghost use mathlib.Core.List.{[], _∷_};
-ghost use Prim.Native.Nat.{_≤_};
-ghost use Rattle.constraint.specs.Limits.{lastTime, spanLimit};
-ghost use Rattle.constraint.specs.Questions.{Decides, Judged};
-ghost use Rattle.constraint.specs.Accepted.{kinds, KindsFit, UpperInRange, InRange, LowerFirst, rowQuestions, rowsQuestions};
-ghost use Rattle.constraint.specs.Rows.{rowsOf, tableOf, Adds};
+ghost use mathlib.Core.List.{[]};
+ghost use Rattle.constraint.specs.Questions.{Judged};
+ghost use Rattle.constraint.specs.Accepted.{rowQuestions, rowsQuestions};
+ghost use Rattle.constraint.specs.Rows.{rowsOf, tableOf};
+ghost use Rattle.constraint.specs.Records.{Adds, Holds};
 
 // The largest kind of event.
 pub const LAST_KIND: u8 = 63;
@@ -109,183 +118,137 @@ pub struct Table {
     pub count: usize,
 }
 
-// Is one kind at most 63?
-fn one_kind_fits(a: u8) -> bool
-    ensures { λ r. ⌜ Decides (KindsFit (a ∷ [])) r ⌝ }
-{
-    if LAST_KIND < a {
-        return false;
-    }
-    true
-}
+// The table of types: a line for each variant, with its type byte and the roles of its fields.
+const DELAY: Line = Line {
+    form: 1,
+    bytes: [KIND, KIND, 0, 0, 0],
+    times: [LOWER, UPPER, 0, 0],
+};
 
-// Are two kinds at most 63 and different?
-fn two_kinds_fit(a: u8, b: u8) -> bool
-    ensures { λ r. ⌜ Decides (KindsFit (a ∷ b ∷ [])) r ⌝ }
-{
-    if LAST_KIND < a {
-        return false;
-    }
-    if a == b {
-        return false;
-    }
-    one_kind_fits(b)
-}
+const STRONG_DELAY: Line = Line {
+    form: 2,
+    bytes: [KIND, KIND, 0, 0, 0],
+    times: [LOWER, UPPER, 0, 0],
+};
 
-// Are three kinds at most 63 and all different?
-fn three_kinds_fit(a: u8, b: u8, c: u8) -> bool
-    ensures { λ r. ⌜ Decides (KindsFit (a ∷ b ∷ c ∷ [])) r ⌝ }
-{
-    if LAST_KIND < a {
-        return false;
-    }
-    if a == b {
-        return false;
-    }
-    if a == c {
-        return false;
-    }
-    two_kinds_fit(b, c)
-}
+const REPEAT: Line = Line {
+    form: 3,
+    bytes: [KIND, SPAN_LIMIT, 0, 0, 0],
+    times: [LOWER, UPPER_OR_NONE, 0, 0],
+};
 
-// Are four kinds at most 63 and all different?
-fn four_kinds_fit(a: u8, b: u8, c: u8, d: u8) -> bool
-    ensures { λ r. ⌜ Decides (KindsFit (a ∷ b ∷ c ∷ d ∷ [])) r ⌝ }
-{
-    if LAST_KIND < a {
-        return false;
-    }
-    if a == b {
-        return false;
-    }
-    if a == c {
-        return false;
-    }
-    if a == d {
-        return false;
-    }
-    three_kinds_fit(b, c, d)
-}
+const SPORADIC: Line = Line {
+    form: 4,
+    bytes: [KIND, 0, 0, 0, 0],
+    times: [LOWER, UPPER_OR_NONE, PLAIN, PLAIN],
+};
 
-// Is a time in range?
-fn time_fits(x: u64) -> bool
-    ensures { λ r. ⌜ Decides (x ≤ lastTime) r ⌝ }
-{
-    x <= LAST_TIME
-}
+const BURST: Line = Line {
+    form: 5,
+    bytes: [KIND, SPAN_LIMIT, 0, 0, 0],
+    times: [PLAIN, PLAIN, 0, 0],
+};
 
-// Are two times in range?
-fn times_fit(x: u64, y: u64) -> bool
-    ensures { λ r. ⌜ Decides ((x ≤ lastTime) × (y ≤ lastTime)) r ⌝ }
-{
-    if LAST_TIME < x {
-        return false;
-    }
-    time_fits(y)
-}
+const ORDER: Line = Line {
+    form: 6,
+    bytes: [KIND, KIND, 0, 0, 0],
+    times: [0, 0, 0, 0],
+};
 
-// Are a lower and an upper, which may be no limit, in range?
-fn bounds_fit(lower: u64, upper: u64) -> bool
-    ensures { λ r. ⌜ Decides ((lower ≤ lastTime) × UpperInRange upper) r ⌝ }
-{
-    if LAST_TIME < lower {
-        return false;
-    }
-    if upper == NO_LIMIT {
-        return true;
-    }
-    time_fits(upper)
-}
+const GROUP_OF_2: Line = Line {
+    form: 7,
+    bytes: [COUNT, KIND, KIND, 0, 0],
+    times: [PLAIN, 0, 0, 0],
+};
 
-// Is a span or a maximum in range?
-fn span_fits(x: u8) -> bool
-    ensures { λ r. ⌜ Decides ((1 ≤ x) × (x ≤ spanLimit)) r ⌝ }
-{
-    if x == 0 {
-        return false;
-    }
-    x <= SPAN_LIMIT
-}
+const GROUP_OF_3: Line = Line {
+    form: 7,
+    bytes: [COUNT, KIND, KIND, KIND, 0],
+    times: [PLAIN, 0, 0, 0],
+};
+
+const GROUP_OF_4: Line = Line {
+    form: 7,
+    bytes: [COUNT, KIND, KIND, KIND, KIND],
+    times: [PLAIN, 0, 0, 0],
+};
 
 impl Constraint {
-    // Question 5: are the kinds at most 63 and all different?
-    fn kinds_fit(self) -> bool
-        ensures { λ r. ⌜ Decides (KindsFit (kinds self)) r ⌝ }
+    // The fields as numbers.
+    pub fn fields(self) -> Fields
+        ensures { λ r. ⌜ Holds self r ⌝ }
     {
         match self {
-            Constraint::Delay { source, target, .. } => two_kinds_fit(source, target),
-            Constraint::StrongDelay { source, target, .. } => two_kinds_fit(source, target),
-            Constraint::Repeat { event, .. } => one_kind_fits(event),
-            Constraint::Sporadic { event, .. } => one_kind_fits(event),
-            Constraint::Burst { event, .. } => one_kind_fits(event),
-            Constraint::Order { source, target } => two_kinds_fit(source, target),
-            Constraint::StrongSynchronization2 { first, second, .. } => two_kinds_fit(
+            Constraint::Delay {
+                source,
+                target,
+                lower,
+                upper,
+            } => Fields::new(DELAY, [source, target, 0, 0, 0], [lower, upper, 0, 0]),
+            Constraint::StrongDelay {
+                source,
+                target,
+                lower,
+                upper,
+            } => Fields::new(
+                STRONG_DELAY,
+                [source, target, 0, 0, 0],
+                [lower, upper, 0, 0],
+            ),
+            Constraint::Repeat {
+                event,
+                span,
+                lower,
+                upper,
+            } => Fields::new(REPEAT, [event, span, 0, 0, 0], [lower, upper, 0, 0]),
+            Constraint::Sporadic {
+                event,
+                lower,
+                upper,
+                jitter,
+                minimum,
+            } => Fields::new(
+                SPORADIC,
+                [event, 0, 0, 0, 0],
+                [lower, upper, jitter, minimum],
+            ),
+            Constraint::Burst {
+                event,
+                maximum,
+                length,
+                minimum,
+            } => Fields::new(BURST, [event, maximum, 0, 0, 0], [length, minimum, 0, 0]),
+            Constraint::Order { source, target } => Fields::new(
+                ORDER,
+                [source, target, 0, 0, 0],
+                [0, 0, 0, 0],
+            ),
+            Constraint::StrongSynchronization2 {
                 first,
                 second,
-            ),
+                tolerance,
+            } => Fields::new(GROUP_OF_2, [2, first, second, 0, 0], [tolerance, 0, 0, 0]),
             Constraint::StrongSynchronization3 {
                 first,
                 second,
                 third,
-                ..
-            } => three_kinds_fit(first, second, third),
+                tolerance,
+            } => Fields::new(
+                GROUP_OF_3,
+                [3, first, second, third, 0],
+                [tolerance, 0, 0, 0],
+            ),
             Constraint::StrongSynchronization4 {
                 first,
                 second,
                 third,
                 fourth,
-                ..
-            } => four_kinds_fit(first, second, third, fourth),
-        }
-    }
-
-    // Question 6: are times, span and maximum in range?
-    fn in_range(self) -> bool
-        ensures { λ r. ⌜ Decides (InRange self) r ⌝ }
-    {
-        match self {
-            Constraint::Delay { lower, upper, .. } => times_fit(lower, upper),
-            Constraint::StrongDelay { lower, upper, .. } => times_fit(lower, upper),
-            Constraint::Repeat {
-                span,
-                lower,
-                upper,
-                ..
-            } => span_fits(span) && bounds_fit(lower, upper),
-            Constraint::Sporadic {
-                lower,
-                upper,
-                jitter,
-                minimum,
-                ..
-            } => bounds_fit(lower, upper) && times_fit(jitter, minimum),
-            Constraint::Burst {
-                maximum,
-                length,
-                minimum,
-                ..
-            } => span_fits(maximum) && times_fit(length, minimum),
-            Constraint::Order { .. } => true,
-            Constraint::StrongSynchronization2 { tolerance, .. } => time_fits(tolerance),
-            Constraint::StrongSynchronization3 { tolerance, .. } => time_fits(tolerance),
-            Constraint::StrongSynchronization4 { tolerance, .. } => time_fits(tolerance),
-        }
-    }
-
-    // Question 7: is lower ≤ upper where both stand?
-    fn lower_first(self) -> bool
-        ensures { λ r. ⌜ Decides (LowerFirst self) r ⌝ }
-    {
-        match self {
-            Constraint::Delay { lower, upper, .. } => lower <= upper,
-            Constraint::StrongDelay { lower, upper, .. } => lower <= upper,
-            Constraint::Repeat { lower, upper, .. } => lower <= upper,
-            Constraint::Sporadic { lower, upper, .. } => lower <= upper,
-            Constraint::Burst { .. } => true,
-            Constraint::Order { .. } => true,
-            Constraint::StrongSynchronization2 { .. } => true,
-            Constraint::StrongSynchronization3 { .. } => true,
-            Constraint::StrongSynchronization4 { .. } => true,
+                tolerance,
+            } => Fields::new(
+                GROUP_OF_4,
+                [4, first, second, third, fourth],
+                [tolerance, 0, 0, 0],
+            ),
         }
     }
 
@@ -293,13 +256,22 @@ impl Constraint {
     pub fn judge(self) -> Answer
         ensures { λ r. ⌜ Judged (rowQuestions self) r ⌝ }
     {
-        if !self.kinds_fit() {
+        let fields = self.fields();
+        let line = fields.line;
+        let byte_roles = line.bytes;
+        let time_roles = line.times;
+        let bytes = fields.bytes;
+        let times = fields.times;
+        if !fields::kinds_fit(byte_roles, bytes) {
             return Answer::Refused(5);
         }
-        if !self.in_range() {
+        if !fields::bytes_fit(byte_roles, bytes) {
             return Answer::Refused(6);
         }
-        if !self.lower_first() {
+        if !fields::times_fit(time_roles, times) {
+            return Answer::Refused(6);
+        }
+        if !fields::lower_first(time_roles, times) {
             return Answer::Refused(7);
         }
         Answer::Taken
@@ -321,7 +293,7 @@ impl Table {
         Table { rows, count: 0 }
     }
 
-    // The table with one row more. A full table stays as it is.
+    // The table with one row more. One that has no entry left makes the count 33, so that the table is refused.
     pub fn with_row(mut self, row: Constraint) -> Self
         ensures { λ r. ⌜ Adds self row r ⌝ }
     {
@@ -329,6 +301,8 @@ impl Table {
         if i < ROW_LIMIT {
             let entry = Entry { constraint: row };
             self.rows[i] = entry;
+            self.count = i + 1;
+        } else if i == ROW_LIMIT {
             self.count = i + 1;
         }
         self

@@ -12,7 +12,8 @@ use lib.Seq.{length-take-le}
 use Rattle.constraint.specs.Limits.{rowLimit}
 use Rattle.constraint.specs.Steps.{at}
 use Rattle.constraint.specs.Questions.{Question, Judged}
-use Rattle.constraint.specs.Table.{lengths, ShapeFits, lengthAt, bodyAt, placeQuestions, TableRead, table-of, table-refused, rowThen, constraintOf, ReadsRows, no-more, row-refused, row-taken, ReadsTable, version-refused, version-taken}
+use Rattle.constraint.specs.Types.{lengths}
+use Rattle.constraint.specs.Table.{ShapeFits, lengthAt, bodyAt, placeQuestions, TableRead, table-of, table-refused, rowThen, ReadsRows, no-more, row-refused, row-taken, ReadsTable, version-refused, version-taken}
 use Rattle.constraint.specs.declared.Answer.the-variants.{Taken, Refused}
 use Rattle.constraint.specs.declared.Constraint.{Constraint}
 use Rattle.constraint.proofs.Judged.{never}
@@ -41,9 +42,9 @@ shape-short body fits =
     (fits .length-right)
 
 -- a row that is taken has at most 36 bytes
-row-short : (bytes : List ℕ) (i place : ℕ) → Judged (placeQuestions bytes i place) Taken → (i < rowLimit) × (lengthAt bytes place ≤ 34)
-row-short bytes i place judged =
-    let taken = place-taken bytes i place judged in
+row-short : (bytes : List ℕ) (i place : ℕ) (c : Constraint) → Judged (placeQuestions bytes i place c) Taken → (i < rowLimit) × (lengthAt bytes place ≤ 34)
+row-short bytes i place c judged =
+    let taken = place-taken bytes i place c judged in
     let body = length-take-le (lengthAt bytes place) (drop (place + 2) bytes) (omega (arith, length-drop (place + 2) bytes)) in
     (taken .room, omega (arith, shape-short (bodyAt bytes place) (taken .shape)))
 
@@ -58,9 +59,9 @@ number-above [] n above e = never (cc)
 number-above (q ∷ later) n above (inl h) = number-above later n (above .1) (h .1)
 number-above (q ∷ later) n above (inr h) = let same : n ≡ q .0 = cc (h .1) in omega (arith, above .0)
 
-row-number : (bytes : List ℕ) (i place n : ℕ) → Judged (placeQuestions bytes i place) (Refused n) → 0 < n
+row-number : (bytes : List ℕ) (i place n : ℕ) (c : Constraint) → Judged (placeQuestions bytes i place c) (Refused n) → 0 < n
 unfolding placeQuestions AllAbove
-row-number bytes i place n judged = number-above (placeQuestions bytes i place) n (omega arith, (omega arith, (omega arith, (omega arith, (omega arith, (omega arith, tt)))))) judged
+row-number bytes i place n c judged = number-above (placeQuestions bytes i place c) n (omega arith, (omega arith, (omega arith, (omega arith, (omega arith, (omega arith, tt)))))) judged
 
 -- a refusal from a place on, with i rows before
 abbrev SmallBehind : ℕ → ℕ → TableRead → Type 0
@@ -73,10 +74,10 @@ small-more i start size c (table-refused n place) room short small = (small .0, 
 
 rows-small : (bytes : List ℕ) {i start : ℕ} {read : TableRead} → ReadsRows bytes i start read → SmallBehind i start read
 rows-small bytes (no-more end) = tt
-rows-small bytes (row-refused {i} {place} n there judged) = (row-number bytes i place n judged, omega arith)
-rows-small bytes (row-taken {i} {place} {later} there judged reads) =
-    let short = row-short bytes i place judged in
-    small-more i place (lengthAt bytes place) (constraintOf (bodyAt bytes place)) later (short .0) (short .1) (rows-small bytes reads)
+rows-small bytes (row-refused {i} {place} n c there at-c judged) = (row-number bytes i place n c judged, omega arith)
+rows-small bytes (row-taken {i} {place} {later} c there at-c judged reads) =
+    let short = row-short bytes i place c judged in
+    small-more i place (lengthAt bytes place) c later (short .0) (short .1) (rows-small bytes reads)
 
 pub refused-small : (bytes : List ℕ) (n place : ℕ) → ReadsTable bytes (table-refused n place) → (0 < n) × (place ≤ 1153)
 refused-small bytes n place (version-refused one) = (omega arith, omega arith)

@@ -80,9 +80,9 @@ unfolding AllAccepted InRange LowerFirst
 accepted =
     let late : Accepted (Delay 0 1 2 3 ∷ []) = accepted-one (Delay 0 1 2 3) pair-fits (omega arith, omega arith) (omega arith) in
     let soon : Accepted (StrongDelay 0 1 0 3 ∷ []) = accepted-one (StrongDelay 0 1 0 3) pair-fits (omega arith, omega arith) (omega arith) in
-    let spans : Accepted (Repeat 0 2 4 5 ∷ []) = accepted-one (Repeat 0 2 4 5) zero-fits (omega arith, omega arith, omega arith, inl (omega arith)) (omega arith) in
-    let five : Accepted (Sporadic 0 5 5 2 0 ∷ []) = accepted-one (Sporadic 0 5 5 2 0) zero-fits (omega arith, inl (omega arith), omega arith, omega arith) (omega arith) in
-    let ten : Accepted (Sporadic 0 10 10 5 0 ∷ []) = accepted-one (Sporadic 0 10 10 5 0) zero-fits (omega arith, inl (omega arith), omega arith, omega arith) (omega arith) in
+    let spans : Accepted (Repeat 0 2 4 5 ∷ []) = accepted-one (Repeat 0 2 4 5) zero-fits (omega arith, omega arith, (omega arith, (inl (omega arith), tt))) (omega arith) in
+    let five : Accepted (Sporadic 0 5 5 2 0 ∷ []) = accepted-one (Sporadic 0 5 5 2 0) zero-fits (omega arith, (inl (omega arith), omega arith)) (omega arith) in
+    let ten : Accepted (Sporadic 0 10 10 5 0 ∷ []) = accepted-one (Sporadic 0 10 10 5 0) zero-fits (omega arith, (inl (omega arith), omega arith)) (omega arith) in
     let order : Accepted (Order 0 1 ∷ []) = accepted-one (Order 0 1) pair-fits tt tt in
     let groups : Accepted (StrongSynchronization2 0 1 2 ∷ []) = accepted-one (StrongSynchronization2 0 1 2) pair-fits (omega arith) tt in (
       late,
@@ -105,7 +105,7 @@ accepted =
                       (
                         spans,
                         (
-                          accepted-one (Repeat 0 1 4 4) zero-fits (omega arith, omega arith, omega arith, inl (omega arith)) (omega arith),
+                          accepted-one (Repeat 0 1 4 4) zero-fits (omega arith, omega arith, (omega arith, (inl (omega arith), tt))) (omega arith),
                           (five, (five, (ten, (ten, (order, (order, (groups, (groups, tt)))))))),
                         ),
                       ),

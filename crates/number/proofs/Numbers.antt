@@ -36,7 +36,7 @@ behind high (byte ∷ bytes) =
     rw (pow-succ' 256 (length bytes), behind (high * 256 + byte) bytes, behind (0 + byte) bytes, zero-add byte)
     (omega (arith, place high byte power))
 
-number-below : (bytes : List ℕ) → Bytes bytes → number bytes < 256 ^ length bytes
+pub number-below : (bytes : List ℕ) → Bytes bytes → number bytes < 256 ^ length bytes
 unfolding numberBehind Bytes
 number-below [] h = omega arith
 number-below (byte ∷ bytes) h =

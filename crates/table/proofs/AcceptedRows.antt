@@ -4,7 +4,7 @@ use mathlib.Core.List.{List, []}
 use Rattle.constraint.specs.Limits.{rowLimit}
 use Rattle.constraint.specs.Questions.{Judged}
 use Rattle.constraint.specs.Accepted.{rowQuestions, rowsQuestions, Accepted}
-use Rattle.constraint.specs.Table.{bodyAt, constraintOf, TableRead, table-of, table-refused, rowThen, ReadsRows, no-more, row-refused, row-taken, ReadsTable, version-taken}
+use Rattle.constraint.specs.Table.{TableRead, table-of, table-refused, rowThen, ReadsRows, no-more, row-refused, row-taken, ReadsTable, version-taken}
 use Rattle.constraint.specs.declared.Answer.the-variants.{Taken}
 use Rattle.constraint.specs.declared.Constraint.{Constraint}
 use Rattle.constraint.proofs.Judged.{judged-none}
@@ -24,10 +24,10 @@ accepted-more i c (table-refused n place) room own accepted = tt
 rows-accepted : (bytes : List ℕ) {i place : ℕ} {read : TableRead} → ReadsRows bytes i place read → AcceptedBehind i read
 unfolding rowsQuestions
 rows-accepted bytes (no-more end) = judged-none
-rows-accepted bytes (row-refused n there refused) = tt
-rows-accepted bytes (row-taken {i} {place} {later} there judged reads) =
-    let taken = place-taken bytes i place judged in
-    accepted-more i (constraintOf (bodyAt bytes place)) later (taken .room) (taken .own) (rows-accepted bytes reads)
+rows-accepted bytes (row-refused n c there at-c refused) = tt
+rows-accepted bytes (row-taken {i} {place} {later} c there at-c judged reads) =
+    let taken = place-taken bytes i place c judged in
+    accepted-more i c later (taken .room) (taken .own) (rows-accepted bytes reads)
 
 pub read-accepted : (bytes : List ℕ) (rows : List Constraint) → ReadsTable bytes (table-of rows) → Accepted rows
 read-accepted bytes rows (version-taken one reads) = rows-accepted bytes reads

@@ -1,11 +1,13 @@
 -- The laws of the table's bytes.
-pub mod Same
-pub mod Once
 pub mod Bodies
+pub mod Types
+pub mod Standing
 pub mod Shapes
+pub mod Same
+pub mod Places
+pub mod Once
 pub mod RoundTrip
 pub mod AcceptedRows
-pub mod Places
 pub mod Progress
 pub mod Stores
 pub mod Written

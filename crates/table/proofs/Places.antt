@@ -1,51 +1,72 @@
 -- The questions of the row at a place are put in their order, so each "no" needs the earlier ones answered "yes".
 use Prim.Native.Nat.{ℕ, _+_, _-_, _≤_, _<_}
-use mathlib.Core.Path.{_≡_}
+use mathlib.Core.Path.{_≡_, ap}
 use mathlib.Core.List.{List, [], _∷_}
 use native.Mathlib.Nat.{add-sub-cancel-left}
 use native.Mathlib.Omega.{arith}
 use lib.ListN.{take, drop}
 use Rattle.constraint.specs.Limits.{rowLimit}
 use Rattle.constraint.specs.Steps.{at}
+use Rattle.constraint.specs.Bytes.{Bytes}
 use Rattle.constraint.specs.Questions.{Judged}
 use Rattle.constraint.specs.Accepted.{rowQuestions}
-use Rattle.constraint.specs.Table.{ShapeFits, constraintOf, lengthAt, bodyAt, WholeAt, placeQuestions, VersionOne}
+use Rattle.constraint.specs.Table.{ShapeFits, lengthAt, bodyAt, WholeAt, RowAt, placeQuestions, VersionOne}
 use Rattle.constraint.specs.declared.Answer.{Answer}
 use Rattle.constraint.specs.declared.Answer.the-variants.{Taken, Refused}
-use Rattle.constraint.proofs.Judged.{judged-yes, judged-no, judged-all}
+use Rattle.constraint.specs.declared.Constraint.{Constraint}
+use Rattle.constraint.proofs.Judged.{judged-yes, judged-no, judged-all, judged-once-on}
+use Rattle.table.specs.Rows.{constraintOf}
+use Rattle.table.proofs.Bodies.{bytes-part}
+use Rattle.table.proofs.Types.{row-stands}
+use Rattle.table.proofs.Standing.{stands-once}
 
-module _ (bytes : List ℕ) (i place : ℕ) where
-  pub place-short : ¬ WholeAt bytes place → Judged (placeQuestions bytes i place) (Refused 2)
+module _ (bytes : List ℕ) (i place : ℕ) (c : Constraint) where
+  pub place-short : ¬ WholeAt bytes place → Judged (placeQuestions bytes i place c) (Refused 2)
   unfolding placeQuestions
   place-short short = judged-no 2 _ _ short
 
-  pub place-full : WholeAt bytes place → rowLimit ≤ i → Judged (placeQuestions bytes i place) (Refused 3)
+  pub place-full : WholeAt bytes place → rowLimit ≤ i → Judged (placeQuestions bytes i place c) (Refused 3)
   unfolding placeQuestions
   place-full whole full = judged-yes 2 _ _ _ whole (judged-no 3 _ _ (λ h. omega arith))
 
-  pub place-misshapen : WholeAt bytes place → i < rowLimit → ¬ ShapeFits (bodyAt bytes place) → Judged (placeQuestions bytes i place) (Refused 4)
+  pub place-misshapen : WholeAt bytes place → i < rowLimit → ¬ ShapeFits (bodyAt bytes place) → Judged (placeQuestions bytes i place c) (Refused 4)
   unfolding placeQuestions
   place-misshapen whole room shape = judged-yes 2 _ _ _ whole (judged-yes 3 _ _ _ room (judged-no 4 _ _ shape))
 
-  pub place-row : (a : Answer) → WholeAt bytes place → i < rowLimit → ShapeFits (bodyAt bytes place) → Judged (rowQuestions (constraintOf (bodyAt bytes place))) a
-      → Judged (placeQuestions bytes i place) a
+  pub place-row : (a : Answer) → WholeAt bytes place → i < rowLimit → ShapeFits (bodyAt bytes place) → Judged (rowQuestions c) a
+      → Judged (placeQuestions bytes i place c) a
   unfolding placeQuestions
   place-row a whole room shape judged = judged-yes 2 _ _ _ whole (judged-yes 3 _ _ _ room (judged-yes 4 _ _ _ shape judged))
 
 -- what is known of a row that is taken
-pub record PlaceTaken (bytes : List ℕ) (i place : ℕ) : Type 0 where
+pub record PlaceTaken (bytes : List ℕ) (i place : ℕ) (c : Constraint) : Type 0 where
   pub whole : WholeAt bytes place
   pub room : i < rowLimit
   pub shape : ShapeFits (bodyAt bytes place)
-  pub own : Judged (rowQuestions (constraintOf (bodyAt bytes place))) Taken
+  pub own : Judged (rowQuestions c) Taken
 
-pub place-taken : (bytes : List ℕ) (i place : ℕ) → Judged (placeQuestions bytes i place) Taken → PlaceTaken bytes i place
+pub place-taken : (bytes : List ℕ) (i place : ℕ) (c : Constraint) → Judged (placeQuestions bytes i place c) Taken → PlaceTaken bytes i place c
 unfolding placeQuestions
-place-taken bytes i place judged =
+place-taken bytes i place c judged =
     let whole = judged-all 2 (WholeAt bytes place) _ judged in
     let room = judged-all 3 (i < rowLimit) _ (whole .1) in
     let shape = judged-all 4 (ShapeFits (bodyAt bytes place)) _ (room .1) in
     record { whole = whole .0; room = room .0; shape = shape .0; own = shape .1 }
+
+-- the row that the body at a place is read as is the row at that place
+pub row-at : (bytes : List ℕ) (place : ℕ) → Bytes bytes → RowAt bytes place (constraintOf (bodyAt bytes place))
+row-at bytes place all = row-stands (bodyAt bytes place) (bytes-part bytes (lengthAt bytes place) (place + 2) all)
+
+-- the row at a place is one, where it has a row's shape, so its questions have one answer
+pub place-once : (bytes : List ℕ) (i place : ℕ) (c d : Constraint) (a b : Answer) → RowAt bytes place c → RowAt bytes place d
+    → Judged (placeQuestions bytes i place c) a → Judged (placeQuestions bytes i place d) b → a ≡ b
+unfolding placeQuestions
+place-once bytes i place c d a b at-c at-d one other =
+    judged-once-on ((2, WholeAt bytes place) ∷ (3, i < rowLimit) ∷ (4, ShapeFits (bodyAt bytes place)) ∷ []) (rowQuestions c) (rowQuestions d) a b
+    (λ all. let room = judged-all 3 (i < rowLimit) _ (judged-all 2 (WholeAt bytes place) _ all .1) in
+    let shape = judged-all 4 (ShapeFits (bodyAt bytes place)) _ (room .1) .0 in
+    ap rowQuestions (stands-once (bodyAt bytes place) c d (at-c shape) (at-d shape)))
+    one other
 
 -- the part of the bytes from the one place to the other is the body
 pub part-body : (bytes : List ℕ) (place size : ℕ) → size ≡ lengthAt bytes place

@@ -4,10 +4,9 @@ use mathlib.Core.Path.{_≡_, refl, sym, ap, subst, subst₂, _∙_}
 use mathlib.Core.List.{List, [], _∷_, _++_}
 use native.Mathlib.Omega.{arith}
 use lib.ListN.{length, length-append}
-use Rattle.constraint.specs.Questions.{Judged}
-use Rattle.constraint.specs.Rows.{rowsOf, tableOf, withRow}
-use Rattle.constraint.specs.Table.{placeQuestions, TableRead, table-of, table-refused, rowThen, ReadsRows, no-more, row-refused, row-taken}
-use Rattle.constraint.specs.declared.Answer.the-variants.{Refused}
+use Rattle.constraint.specs.Rows.{rowsOf, tableOf}
+use Rattle.constraint.specs.Records.{withRow}
+use Rattle.constraint.specs.Table.{TableRead, table-of, table-refused, rowThen, ReadsRows, no-more, row-refused, row-taken}
 use Rattle.constraint.specs.declared.Constraint.{Constraint}
 use Rattle.constraint.specs.declared.Table.{Table}
 use Rattle.table.specs.declared.reader.RowRead.{RowRead}
@@ -49,7 +48,7 @@ up-to-start bytes table there none = record { rows = []; holds = none; within = 
 pub up-to-more : (bytes : List ℕ) (table : Table) (place next : ℕ) (c : Constraint) → ReadUpTo bytes table place → place < length bytes
     → ReadsRow bytes (table .count) place (RowRead.Row c next) → ReadUpTo bytes (withRow table c) next
 up-to-more bytes table place next c before there read =
-    let taken = place-taken bytes (table .count) place (read .0) in
+    let taken = place-taken bytes (table .count) place c (read .1) in
     let counted = record-count table (before .rows) (before .holds) in
     record {
       rows = before .rows ++ (c ∷ []);
@@ -58,17 +57,16 @@ up-to-more bytes table place next c before there read =
       whole = λ later reads.
           subst (ReadsRows bytes 0 1) (then-more (before .rows) c later)
           (before .whole (rowThen c later)
-          (subst (λ (row : Constraint). ReadsRows bytes (length (before .rows)) place (rowThen row later)) (sym (read .1))
-          (row-taken there (rw counted at (read .0))
-          (subst₂ (λ (i p : ℕ). ReadsRows bytes i p later) (length-append (before .rows) (c ∷ [])) (read .2) reads))));
+          (row-taken c there (read .0) (rw counted at (read .1))
+          (subst₂ (λ (i p : ℕ). ReadsRows bytes i p later) (length-append (before .rows) (c ∷ [])) (read .2) reads)));
     }
 
 pub up-to-refused : (bytes : List ℕ) (table : Table) (place n : ℕ) → ReadUpTo bytes table place → place < length bytes
-    → Judged (placeQuestions bytes (table .count) place) (Refused n) → ReadsRows bytes 0 1 (table-refused n place)
-up-to-refused bytes table place n before there judged =
+    → ReadsRow bytes (table .count) place (RowRead.Refused n) → ReadsRows bytes 0 1 (table-refused n place)
+up-to-refused bytes table place n before there read =
     let counted = record-count table (before .rows) (before .holds) in
     subst (ReadsRows bytes 0 1) (then-refused (before .rows) n place)
-    (before .whole (table-refused n place) (row-refused n there (rw counted at judged)))
+    (before .whole (table-refused n place) (row-refused n (read .0) there (read .1) (rw counted at (read .2))))
 
 pub up-to-end : (bytes : List ℕ) (table : Table) (place : ℕ) → ReadUpTo bytes table place → length bytes ≤ place
     → ReadsRows bytes 0 1 (table-of (rowsOf table)) × (table ≡ tableOf (rowsOf table))

@@ -9,12 +9,17 @@ use Rattle.constraint.specs.Limits.{rowLimit}
 use Rattle.constraint.specs.Bytes.{Bytes, bytesOf, bytesAt}
 use Rattle.constraint.specs.Questions.{Judged}
 use Rattle.constraint.specs.Accepted.{kinds, KindsFit, InRange, rowQuestions, rowsQuestions, Accepted}
-use Rattle.constraint.specs.Table.{rowBody, rowBytes, rowsBytes, tableBytes, ShapeFits, constraintOf, lengthAt, bodyAt, WholeAt, placeQuestions, TableRead, table-of, table-refused, rowThen, ReadsRows, no-more, row-refused, row-taken, ReadsTable, version-taken}
+use Rattle.constraint.specs.Types.{fieldsOf}
+use Rattle.constraint.specs.Table.{rowBody, rowBytes, rowsBytes, tableBytes, StandsFor, lengthAt, bodyAt, WholeAt, RowAt, placeQuestions}
+use Rattle.constraint.specs.Table.{TableRead, table-of, table-refused, rowThen, ReadsRows, no-more, row-refused, row-taken, ReadsTable, version-taken}
 use Rattle.constraint.specs.declared.Answer.the-variants.{Taken}
 use Rattle.constraint.specs.declared.Constraint.{Constraint}
-use Rattle.constraint.proofs.Judged.{judged-yes, judged-all, judged-parts}
+use Rattle.constraint.proofs.Judged.{judged-all, judged-parts}
 use Rattle.number.proofs.Numbers.{bytes-length, number-of-bytes}
-use Rattle.table.proofs.Bodies.{number-back, bytes-part, row-back, body-row, body-short, body-fits, row-length}
+use Rattle.table.proofs.Bodies.{number-back, range-fits, row-length}
+use Rattle.table.proofs.Types.{regular}
+use Rattle.table.proofs.Standing.{body-short}
+use Rattle.table.proofs.Places.{place-row, place-taken}
 
 -- From bytes to rows and back
 
@@ -29,34 +34,32 @@ split-row bytes place =
     ∙ take-append-drop 2 (drop place bytes))
 
 -- the bytes of the row at a place are those that stand there
-row-written : (bytes : List ℕ) (place : ℕ) → Bytes bytes → WholeAt bytes place → ShapeFits (bodyAt bytes place)
-    → rowBytes (constraintOf (bodyAt bytes place)) ≡ bytesAt 2 bytes place ++ bodyAt bytes place
+row-written : (bytes : List ℕ) (place : ℕ) (c : Constraint) → Bytes bytes → WholeAt bytes place → StandsFor (bodyAt bytes place) c
+    → rowBytes c ≡ bytesAt 2 bytes place ++ bodyAt bytes place
 unfolding rowBytes
-row-written bytes place all whole fits =
+row-written bytes place c all whole stands =
     let size = lengthAt bytes place in
     let long : length (bodyAt bytes place) ≡ size = length-take-le size (drop (place + 2) bytes) (omega (arith, length-drop (place + 2) bytes, whole .1)) in
-    rw (row-back (bodyAt bytes place) (bytes-part bytes size (place + 2) all (whole .1)) fits, long, number-back 2 bytes place all (whole .0))
+    rw (stands .bytes, long, number-back 2 bytes place all (whole .0))
 
 -- rows that were read from a place on have the bytes that stand there
 abbrev WrittenBack : List ℕ → ℕ → TableRead → Type 0
 WrittenBack bytes place (table-of rows) = rowsBytes rows ≡ drop place bytes
 WrittenBack bytes place (table-refused n p) = Unit
 
-one-more : (bytes : List ℕ) (place : ℕ) (later : TableRead) → Bytes bytes → WholeAt bytes place → ShapeFits (bodyAt bytes place)
-    → WrittenBack bytes (place + 2 + lengthAt bytes place) later → WrittenBack bytes place (rowThen (constraintOf (bodyAt bytes place)) later)
+one-more : (bytes : List ℕ) (place : ℕ) (c : Constraint) (later : TableRead) → rowBytes c ≡ bytesAt 2 bytes place ++ bodyAt bytes place
+    → WrittenBack bytes (place + 2 + lengthAt bytes place) later → WrittenBack bytes place (rowThen c later)
 unfolding rowsBytes
-one-more bytes place (table-of rows) all whole fits written =
-    ap₂ (λ (first later : List ℕ). first ++ later) (row-written bytes place all whole fits) written ∙ sym (split-row bytes place)
-one-more bytes place (table-refused n p) all whole fits written = tt
+one-more bytes place c (table-of rows) row written = ap₂ (λ (first later : List ℕ). first ++ later) row written ∙ sym (split-row bytes place)
+one-more bytes place c (table-refused n p) row written = tt
 
 rows-written : (bytes : List ℕ) {i place : ℕ} {read : TableRead} → Bytes bytes → ReadsRows bytes i place read → WrittenBack bytes place read
-unfolding rowsBytes placeQuestions
+unfolding rowsBytes
 rows-written bytes all (no-more h) = sym (drop-of-length-le bytes h)
-rows-written bytes all (row-refused n h judged) = tt
-rows-written bytes all (row-taken {i} {place} {later} h judged rows) =
-    let whole = judged-all 2 (WholeAt bytes place) _ judged in
-    let shape = judged-all 4 (ShapeFits (bodyAt bytes place)) _ (judged-all 3 (i < rowLimit) _ (whole .1) .1) in
-    one-more bytes place later all (whole .0) (shape .0) (rows-written bytes all rows)
+rows-written bytes all (row-refused n c h at-c judged) = tt
+rows-written bytes all (row-taken {i} {place} {later} c h at-c judged rows) =
+    let taken = place-taken bytes i place c judged in
+    one-more bytes place c later (row-written bytes place c all (taken .whole) (at-c (taken .shape))) (rows-written bytes all rows)
 
 -- what is read from bytes has those bytes
 pub read-then-write : (bytes : List ℕ) (rows : List Constraint) → Bytes bytes → ReadsTable bytes (table-of rows) → tableBytes rows ≡ bytes
@@ -93,13 +96,16 @@ module _ (before : List ℕ) (c : Constraint) (after : List ℕ) where
       )
       (take-append-seam (rowBody c) after)
 
-  -- its questions are answered "yes" where the row's own are
-  row-read : (i : ℕ) → i < rowLimit → Judged (rowQuestions c) Taken → Judged (placeQuestions (before ++ (rowBytes c ++ after)) i (length before)) Taken
-  unfolding placeQuestions
+  -- it stands there, and its questions are answered "yes" where the row's own are
+  row-there : Judged (rowQuestions c) Taken → RowAt (before ++ (rowBytes c ++ after)) (length before) c
+  unfolding InRange
+  row-there judged shape = record { bytes = sym body-there; fits = range-fits (fieldsOf c) (row-ranges c judged) }
+
+  row-read : (i : ℕ) → i < rowLimit → Judged (rowQuestions c) Taken → Judged (placeQuestions (before ++ (rowBytes c ++ after)) i (length before) c) Taken
   row-read i room judged =
-      judged-yes 2 _ _ Taken (rw length-there (omega (arith, length-append before (rowBytes c ++ after), length-append (rowBytes c) after, row-length c)))
-      (judged-yes 3 _ _ Taken room
-      (judged-yes 4 _ _ Taken (rw body-there (body-fits c)) (rw (body-there, body-row c (row-ranges c judged)) judged)))
+      place-row (before ++ (rowBytes c ++ after)) i (length before) c Taken
+      (rw length-there (omega (arith, length-append before (rowBytes c ++ after), length-append (rowBytes c) after, row-length c))) room
+      (rw body-there (regular c .sized .fits)) judged
 
 rows-read : (before : List ℕ) (i : ℕ) (rows : List Constraint) → Judged (rowsQuestions i rows []) Taken
     → ReadsRows (before ++ rowsBytes rows) i (length before) (table-of rows)
@@ -115,10 +121,8 @@ rows-read before i (c ∷ rows) judged =
     let later : ReadsRows bytes (i + 1) (length before + 2 + lengthAt bytes (length before)) (table-of rows) =
     subst₂ (λ (l : List ℕ) (place : ℕ). ReadsRows l (i + 1) place (table-of rows)) (append-assoc before (rowBytes c) after) next
     (rows-read (before ++ rowBytes c) (i + 1) rows (parts .1)) in
-    subst (λ (row : Constraint). ReadsRows bytes i (length before) (table-of (row ∷ rows)))
-    (ap constraintOf (body-there before c after) ∙ body-row c (row-ranges c (parts .0)))
-    (row-taken (omega (arith, length-append before (rowBytes c ++ after), length-append (rowBytes c) after, row-length c))
-    (row-read before c after i (room .0) (parts .0)) later)
+    row-taken {place = length before} c (omega (arith, length-append before (rowBytes c ++ after), length-append (rowBytes c) after, row-length c))
+    (row-there before c after (parts .0)) (row-read before c after i (room .0) (parts .0)) later
 
 -- what is written is read back
 pub write-then-read : (rows : List Constraint) → Accepted rows → ReadsTable (tableBytes rows) (table-of rows)

@@ -1,38 +1,44 @@
 -- A body's shape fits where its length is the one that the list has for its type, to which a StrongSynchronization's n is added.
-use Prim.Native.Nat.{ℕ, _+_, _≤_, _<_}
-use mathlib.Core.Path.{_≡_, sym, _∙_}
+use Prim.Native.Nat.{ℕ, _≤_, _<_}
+use mathlib.Core.Path.{_≡_, refl, sym, ap₂, _∙_}
 use mathlib.Core.List.{List}
 use native.Mathlib.Nat.{add-zero}
 use native.Mathlib.Omega.{arith}
-use borrow.Author.Tests.{ne-eqb}
-use lib.Dec.{eqb}
-use lib.ListN.{length}
+use borrow.Author.Tests.{ltb-true, ltb-false, eqb-true, eqb-false, ne-eqb}
+use lib.Dec.{ltb, eqb}
+use lib.ListN.{length, List·getD-eq-default}
 use Rattle.constraint.specs.Steps.{at}
 use Rattle.constraint.specs.Questions.{Decides}
-use Rattle.constraint.specs.Table.{lengths, lengthOf, ShapeFits, synchronizationOf, constraintOf}
+use Rattle.constraint.specs.Types.{lengths, lengthOf}
+use Rattle.constraint.specs.Table.{ShapeFits}
+use Rattle.constraint.proofs.Lists.{split}
 use Rattle.constraint.proofs.Judged.{same-test, test-equal}
 
--- types 1 to 6
-pub shape-fixed : (body : List ℕ) (size t : ℕ) → size ≡ length body → t ≡ at body 0 → 0 < size → 1 ≤ t → t < 7
-    → Decides (ShapeFits body) (eqb size (at lengths t))
-shape-fixed body size t long typed there low high =
-    let right : lengthOf body ≡ at lengths t = rw (← typed, ne-eqb t 7 (λ e. omega arith), add-zero) in
-    same-test
-    (λ e. record { type-there = omega arith; type-known = omega arith; n-there = λ k. absurd (omega arith); n-known = λ k. absurd (omega arith); length-right = sym long ∙ e ∙ sym right })
-    (λ fits. long ∙ fits .length-right ∙ right) (eqb size (at lengths t)) (test-equal size (at lengths t))
+-- a type that the list has no length for
+pub length-unknown : (t n : ℕ) → length lengths ≤ t → lengthOf t n ≡ 0
+length-unknown t n past = rw (List·getD-eq-default lengths 0 {n = t} past, ne-eqb t 7 (λ e. omega arith))
 
--- type 7
-pub shape-counted : (body : List ℕ) (size t n : ℕ) → size ≡ length body → t ≡ at body 0 → n ≡ at body 1 → 1 < size → t ≡ 7 → 2 ≤ n → n ≤ 4
-    → Decides (ShapeFits body) (eqb size (at lengths t + n))
-shape-counted body size t n long typed count there seven low high =
-    let right : lengthOf body ≡ at lengths t + n = rw (← typed, ← count, seven) in
-    same-test
-    (λ e. record { type-there = omega arith; type-known = omega arith; n-there = λ k. omega arith; n-known = λ k. omega arith; length-right = sym long ∙ e ∙ sym right })
-    (λ fits. long ∙ fits .length-right ∙ right) (eqb size (at lengths t + n)) (test-equal size (at lengths t + n))
+pub length-plain : (t n : ℕ) → ¬ (t ≡ 7) → lengthOf t n ≡ at lengths t
+length-plain t n other = rw (ne-eqb t 7 other) (add-zero (at lengths t))
 
--- a body of any other type is read as a StrongSynchronization
-pub row-else : (body : List ℕ) → 6 < at body 0 → constraintOf body ≡ synchronizationOf body
-unfolding constraintOf
-row-else body high =
-    let t = at body 0 in
-    rw (ne-eqb t 1 (λ e. omega arith), ne-eqb t 2 (λ e. omega arith), ne-eqb t 3 (λ e. omega arith), ne-eqb t 4 (λ e. omega arith), ne-eqb t 5 (λ e. omega arith), ne-eqb t 6 (λ e. omega arith))
+pub shape-asked : (body : List ℕ) (size t n : ℕ) → size ≡ length body → t ≡ at body 0 → n ≡ at body 1 → 0 < size
+    → (t ≡ 7 → (2 ≤ n) × (n ≤ 4)) → Decides (ShapeFits body) (eqb size (lengthOf t n))
+shape-asked body size t n long typed counted there known =
+    same-test
+    (λ e. record {
+      type-there = omega arith;
+      type-known = (typed-low e, typed-high e);
+      n-there = λ seven. omega (arith, rw (typed ∙ seven) at e);
+      n-known = λ seven. rw counted at (known (typed ∙ seven));
+      length-right = sym long ∙ e ∙ ap₂ lengthOf typed counted;
+    })
+    (λ fits. long ∙ fits .length-right ∙ sym (ap₂ lengthOf typed counted)) (eqb size (lengthOf t n)) (test-equal size (lengthOf t n))
+  where
+    typed-low : size ≡ lengthOf t n → 1 ≤ at body 0
+    typed-low e =
+        split (eqb t 0) (λ b. 1 ≤ at body 0) (λ zero. absurd (omega (arith, rw (eqb-true t 0 zero) at e))) (λ other. omega (arith, eqb-false t 0 other))
+
+    typed-high : size ≡ lengthOf t n → at body 0 < length lengths
+    typed-high e =
+        split (ltb t (length lengths)) (λ b. at body 0 < length lengths) (λ less. omega (arith, ltb-true t (length lengths) less))
+        (λ past. absurd (omega (arith, length-unknown t n (ltb-false t (length lengths) past))))

@@ -1,48 +1,48 @@
--- A row's bytes are its length field, its head and its times, so storing these one after the other stores the row.
+-- A row's bytes are its length field, its type byte, the other bytes and its times, so storing these one after the other stores the row.
 use Prim.Native.Nat.{ℕ, suc, _+_, _*_, _≤_, _<_}
-use mathlib.Core.Path.{_≡_, refl, sym, ap, _∙_}
+use mathlib.Core.Path.{_≡_, sym, ap, ap₂, _∙_}
 use mathlib.Core.List.{List, [], _∷_, _++_}
 use native.Mathlib.Numerals.{add-one}
 use native.Mathlib.Omega.{arith}
-use lib.ListN.{length, getD, drop, length-append, length-take}
-use lib.Seq.{sets, drop-cons}
+use lib.ListN.{length, getD, drop, length-append, length-take, List·getD-append}
+use lib.Seq.{sets, drop-cons, getD-take}
 use Rattle.constraint.specs.Bytes.{bytesOf}
-use Rattle.constraint.specs.Table.{fieldsBytes, rowBody, rowBytes, rowsBytes}
+use Rattle.constraint.specs.Steps.{at}
+use Rattle.constraint.specs.Types.{typeOf, fieldsOf, lengthOf}
+use Rattle.constraint.specs.Records.{bytesIn, timesIn, Holds}
+use Rattle.constraint.specs.declared.fields.Fields.{Fields}
+use Rattle.constraint.specs.Table.{rowBody, rowBytes, rowsBytes}
 use Rattle.constraint.specs.Rows.{rowsOf}
 use Rattle.constraint.specs.declared.Entry.{Entry}
 use Rattle.constraint.specs.declared.Table.{Table}
 use Rattle.constraint.specs.declared.Constraint.{Constraint}
-use Rattle.constraint.specs.declared.Constraint.the-variants.{Delay, StrongDelay, Repeat, Sporadic, Burst, Order, StrongSynchronization2, StrongSynchronization3, StrongSynchronization4}
 use Rattle.constraint.proofs.Rows.{rows-from}
 use Rattle.number.proofs.Numbers.{bytes-length}
 use Rattle.number.proofs.Stores.{stores-append}
 use Rattle.table.proofs.Bodies.{row-length}
-use Rattle.table.specs.Rows.{bytesIn, timesIn, headOf, timesOf, timesBytes, HoldsFirst}
+use Rattle.table.proofs.Types.{regular}
+use Rattle.table.proofs.Standing.{body-parts, body-expected}
+use Rattle.table.specs.Rows.{timesBytes}
 
--- the fields of one byte stand before the times
-body-parts : (c : Constraint) → rowBody c ≡ headOf c ++ timesBytes (timesOf c)
-unfolding rowBody fieldsBytes bytesIn timesIn timesBytes
-body-parts (Delay source target lower upper) = refl
-body-parts (StrongDelay source target lower upper) = refl
-body-parts (Repeat event span lower upper) = refl
-body-parts (Sporadic event lower upper jitter minimum) = refl
-body-parts (Burst event maximum len minimum) = refl
-body-parts (Order source target) = refl
-body-parts (StrongSynchronization2 a b tolerance) = refl
-body-parts (StrongSynchronization3 a b c tolerance) = refl
-body-parts (StrongSynchronization4 a b c d tolerance) = refl
+-- A row's numbers
 
-times-length : (xs : List ℕ) → length (timesBytes xs) ≡ 8 * length xs
-unfolding timesBytes
-times-length [] = refl
-times-length (x ∷ xs) = omega (arith, length-append (bytesOf 8 x) (timesBytes xs), bytes-length 8 x, times-length xs)
+module _ (c : Constraint) (f : Fields) (holds : Holds c f) where
+  -- the first of the bytes stands behind the type byte
+  first-byte : at (f .bytes) 0 ≡ at (rowBody c) 1
+  first-byte =
+      let bytes = bytesIn (fieldsOf c) in
+      let some = regular c .sized .some in
+      sym (getD-take (length bytes) (f .bytes) 0 0 some)
+      ∙ ap (λ (l : List ℕ). at l 0) (holds .bytes)
+      ∙ sym (ap (λ (body : List ℕ). at body 1) (body-parts c) ∙ List·getD-append bytes (timesBytes (timesIn (fieldsOf c))) 0 0 some)
 
-pub body-length : (c : Constraint) → length (rowBody c) ≡ length (headOf c) + 8 * length (timesOf c)
-body-length c = ap length (body-parts c) ∙ omega (arith, length-append (headOf c) (timesBytes (timesOf c)), times-length (timesOf c))
+  -- the arrays are long enough
+  pub numbers-there : length (bytesIn (fieldsOf c)) ≤ length (f .bytes)
+  numbers-there = omega (arith, length-take (length (bytesIn (fieldsOf c))) (f .bytes), ap length (holds .bytes))
 
--- an array that holds a list is as long
-pub holds-fits : (list array : List ℕ) (count : ℕ) → HoldsFirst list array count → count ≤ length array
-holds-fits list array count holds = omega (arith, length-take count array, ap length (holds .first), holds .counted)
+  -- the length is that of the list
+  pub numbers-length : lengthOf (f .line .form) (at (f .bytes) 0) ≡ length (rowBody c)
+  numbers-length = ap₂ lengthOf (holds .typed) first-byte ∙ body-expected c
 
 -- the first of the times left is stored
 pub times-more : (buffer : List ℕ) (place : ℕ) (xs : List ℕ) (i : ℕ) → i < length xs
@@ -51,24 +51,27 @@ unfolding timesBytes
 times-more buffer place xs i there =
     rw (add-one i, drop-cons xs i 0 there, stores-append buffer place (bytesOf 8 (getD xs i 0)) (timesBytes (drop (suc i) xs)), bytes-length 8 (getD xs i 0))
 
--- the length field, the head and the times
-row-stored : (buffer : List ℕ) (place : ℕ) (c : Constraint)
-    → sets (sets (sets buffer place (bytesOf 2 (length (rowBody c)))) (place + 2) (headOf c)) (place + 2 + length (headOf c)) (timesBytes (timesOf c))
-    ≡ sets buffer place (rowBytes c)
-unfolding rowBytes
-row-stored buffer place c =
-    let size = bytesOf 2 (length (rowBody c)) in
-    sym (ap (λ (body : List ℕ). sets buffer place (size ++ body)) (body-parts c)
-    ∙ stores-append buffer place size (headOf c ++ timesBytes (timesOf c))
-    ∙ ap (λ (n : ℕ). sets (sets buffer place size) (place + n) (headOf c ++ timesBytes (timesOf c))) (bytes-length 2 (length (rowBody c)))
-    ∙ stores-append (sets buffer place size) (place + 2) (headOf c) (timesBytes (timesOf c)))
+-- what the stores of a body leave: of the type byte, of the other bytes and of the times
+pub body-stores : (buffer one two three : List ℕ) (place : ℕ) (c : Constraint) (form next : ℕ) (bytes times : List ℕ)
+    → form ≡ typeOf c → bytes ≡ bytesIn (fieldsOf c) → next ≡ place + 1 + length (bytesIn (fieldsOf c)) → times ≡ timesIn (fieldsOf c)
+    → one ≡ sets buffer place (form ∷ []) → two ≡ sets one (place + 1) bytes → three ≡ sets two next (timesBytes times)
+    → three ≡ sets buffer place (rowBody c)
+body-stores buffer one two three place c form next bytes times f b n t p q r = cc (stored)
+  where
+    stored : sets (sets (sets buffer place (typeOf c ∷ [])) (place + 1) (bytesIn (fieldsOf c))) (place + 1 + length (bytesIn (fieldsOf c)))
+        (timesBytes (timesIn (fieldsOf c))) ≡ sets buffer place (rowBody c)
+    stored =
+        sym (ap (sets buffer place) (body-parts c)
+        ∙ stores-append buffer place (typeOf c ∷ []) (bytesIn (fieldsOf c) ++ timesBytes (timesIn (fieldsOf c)))
+        ∙ stores-append (sets buffer place (typeOf c ∷ [])) (place + 1) (bytesIn (fieldsOf c)) (timesBytes (timesIn (fieldsOf c))))
 
--- what the three stores of a row leave
-pub row-stores : (buffer one two three : List ℕ) (place : ℕ) (c : Constraint) (size count : ℕ) (head times : List ℕ)
-    → size ≡ length (rowBody c) → head ≡ headOf c → count ≡ length (headOf c) → times ≡ timesOf c
-    → one ≡ sets buffer place (bytesOf 2 size) → two ≡ sets one (place + 2) head → three ≡ sets two (place + 2 + count) (timesBytes times)
-    → three ≡ sets buffer place (rowBytes c)
-row-stores buffer one two three place c size count head times s h n t a b d = cc (row-stored buffer place c)
+-- those of a row: of the length field and of the body
+pub row-stores : (buffer one two : List ℕ) (place : ℕ) (c : Constraint) (size : ℕ) → size ≡ length (rowBody c)
+    → one ≡ sets buffer place (bytesOf 2 size) → two ≡ sets one (place + 2) (rowBody c) → two ≡ sets buffer place (rowBytes c)
+unfolding rowBytes
+row-stores buffer one two place c size s p q =
+    q ∙ rw (p, s) (sym (stores-append buffer place (bytesOf 2 (length (rowBody c))) (rowBody c)
+    ∙ ap (λ (n : ℕ). sets (sets buffer place (bytesOf 2 (length (rowBody c)))) (place + n) (rowBody c)) (bytes-length 2 (length (rowBody c)))))
 
 -- Rows one after the other
 

@@ -1,108 +1,94 @@
-// A row's body, its type byte and fields: its shape, and the row that it stands for.
+// A row's body, its type byte and fields: its length, its shape, and the row that it stands for.
 use constraint::Constraint;
 ghost use mathlib.Core.Path.{_≡_};
-ghost use mathlib.Core.Logic.{_≢_};
-ghost use Prim.Native.Nat.{_≤_};
+ghost use mathlib.Core.List.{[], _∷_};
 ghost use lib.ListN.{length};
-ghost use Rattle.constraint.specs.Steps.{at};
 ghost use Rattle.constraint.specs.Questions.{Decides};
-ghost use Rattle.constraint.specs.Table.{ShapeFits, synchronizationOf, constraintOf};
+ghost use Rattle.constraint.specs.Types.{lengthOf};
+ghost use Rattle.constraint.specs.Table.{ShapeFits};
+ghost use Rattle.table.specs.Rows.{groupFrom, rowFrom, constraintOf};
 
 // The length expected for each type, by the type byte; to a StrongSynchronization's its n is added.
 const LENGTHS: [usize; 8] = [0, 19, 19, 19, 34, 19, 3, 10];
+
+// The length expected of a row of a type, with the byte behind it, which is the n of a StrongSynchronization; 0 if there is
+// no such type. As a row has fewer than eight bytes before its times, they begin at this length modulo 8.
+pub(crate) fn length_of(form: u8, n: u8) -> usize
+    ensures { λ r. ⌜ r ≡ lengthOf form n ⌝ }
+{
+    let place = form as usize;
+    if LENGTHS.len() <= place {
+        return 0;
+    }
+    if form == 7 {
+        return LENGTHS[place] + n as usize;
+    }
+    LENGTHS[place]
+}
 
 // Question 4, of a row with a length field of that size: is the type 1 to 7, n in range, the length right?
 pub(crate) fn shape_fits(body: &[u8], size: usize) -> bool
     requires { ⌜ size ≡ length (now body) ⌝ }
     ensures { λ r. ⌜ Decides (ShapeFits (now (body .entry))) r ⌝ }
 {
+    let form = number::byte_at(body, 0);
+    let n = number::byte_at(body, 1);
     if size == 0 {
         return false;
     }
-    let type_byte = number::byte_at(body, 0) as usize;
-    if type_byte == 0 {
-        return false;
+    if form == 7 {
+        if n < 2 {
+            return false;
+        }
+        if 4 < n {
+            return false;
+        }
     }
-    if 7 < type_byte {
-        return false;
-    }
-    let expected = LENGTHS[type_byte];
-    if type_byte < 7 {
-        return size == expected;
-    }
-    if size == 1 {
-        return false;
-    }
-    let n = number::byte_at(body, 1) as usize;
-    if n < 2 {
-        return false;
-    }
-    if 4 < n {
-        return false;
-    }
-    size == expected + n
+    size == length_of(form, n)
 }
 
-// The StrongSynchronization of n kinds that a body stands for.
-fn synchronization_of(body: &[u8]) -> Constraint
-    ensures { λ r. ⌜ r ≡ synchronizationOf (now (body .entry)) ⌝ }
+// The StrongSynchronization of n kinds with this tolerance.
+fn group_from(n: u8, first: u8, second: u8, third: u8, fourth: u8, tolerance: u64) -> Constraint
+    ensures { λ r. ⌜ r ≡ groupFrom n first second third fourth tolerance ⌝ }
 {
-    let n = number::byte_at(body, 1);
-    let first = number::byte_at(body, 2);
-    let second = number::byte_at(body, 3);
-    if n == 2 {
-        let tolerance = number::eight_at(body, 4);
-        return Constraint::StrongSynchronization2 {
+    match n {
+        2 => Constraint::StrongSynchronization2 {
             first,
             second,
             tolerance,
-        };
-    }
-    let third = number::byte_at(body, 4);
-    if n == 3 {
-        let tolerance = number::eight_at(body, 5);
-        return Constraint::StrongSynchronization3 {
+        },
+        3 => Constraint::StrongSynchronization3 {
             first,
             second,
             third,
             tolerance,
-        };
-    }
-    let fourth = number::byte_at(body, 5);
-    let tolerance = number::eight_at(body, 6);
-    Constraint::StrongSynchronization4 {
-        first,
-        second,
-        third,
-        fourth,
-        tolerance,
+        },
+        _ => Constraint::StrongSynchronization4 {
+            first,
+            second,
+            third,
+            fourth,
+            tolerance,
+        },
     }
 }
 
-// The row of a body of type 4.
-fn sporadic_of(body: &[u8]) -> Constraint
-    requires { ⌜ at (now body) 0 ≡ 4 ⌝ }
-    ensures { λ r. ⌜ r ≡ constraintOf (now (body .entry)) ⌝ }
+// The row of a type byte, the bytes behind it, and times.
+fn row_from(
+    form: u8,
+    a: u8,
+    b: u8,
+    c: u8,
+    d: u8,
+    e: u8,
+    x: u64,
+    y: u64,
+    z: u64,
+    w: u64,
+) -> Constraint
+    ensures { λ r. ⌜ r ≡ rowFrom form (a ∷ b ∷ c ∷ d ∷ e ∷ []) (x ∷ y ∷ z ∷ w ∷ []) ⌝ }
 {
-    Constraint::Sporadic {
-        event: number::byte_at(body, 1),
-        lower: number::eight_at(body, 2),
-        upper: number::eight_at(body, 10),
-        jitter: number::eight_at(body, 18),
-        minimum: number::eight_at(body, 26),
-    }
-}
-
-// The row of a body with two fields of one byte and two times: types 1, 2, 3 and 5.
-fn two_times_of(body: &[u8]) -> Constraint
-    requires { ⌜ (1 ≤ at (now body) 0) × (at (now body) 0 ≤ 5) × (at (now body) 0 ≢ 4) ⌝ }
-    ensures { λ r. ⌜ r ≡ constraintOf (now (body .entry)) ⌝ }
-{
-    let a = number::byte_at(body, 1);
-    let b = number::byte_at(body, 2);
-    let x = number::eight_at(body, 3);
-    let y = number::eight_at(body, 11);
-    match number::byte_at(body, 0) {
+    match form {
         1 => Constraint::Delay {
             source: a,
             target: b,
@@ -121,12 +107,24 @@ fn two_times_of(body: &[u8]) -> Constraint
             lower: x,
             upper: y,
         },
-        _ => Constraint::Burst {
+        4 => Constraint::Sporadic {
+            event: a,
+            lower: x,
+            upper: y,
+            jitter: z,
+            minimum: w,
+        },
+        5 => Constraint::Burst {
             event: a,
             maximum: b,
             length: x,
             minimum: y,
         },
+        6 => Constraint::Order {
+            source: a,
+            target: b,
+        },
+        _ => group_from(a, b, c, d, e, x),
     }
 }
 
@@ -134,21 +132,19 @@ fn two_times_of(body: &[u8]) -> Constraint
 pub fn row_of(body: &[u8]) -> Constraint
     ensures { λ r. ⌜ r ≡ constraintOf (now (body .entry)) ⌝ }
 {
-    let type_byte = number::byte_at(body, 0);
-    if type_byte == 4 {
-        return sporadic_of(body);
-    }
-    if type_byte == 6 {
-        return Constraint::Order {
-            source: number::byte_at(body, 1),
-            target: number::byte_at(body, 2),
-        };
-    }
-    if type_byte == 0 {
-        return synchronization_of(body);
-    }
-    if 6 < type_byte {
-        return synchronization_of(body);
-    }
-    two_times_of(body)
+    let form = number::byte_at(body, 0);
+    let n = number::byte_at(body, 1);
+    let start = length_of(form, n) % 8;
+    row_from(
+        form,
+        n,
+        number::byte_at(body, 2),
+        number::byte_at(body, 3),
+        number::byte_at(body, 4),
+        number::byte_at(body, 5),
+        number::eight_at(body, start),
+        number::eight_at(body, start + 8),
+        number::eight_at(body, start + 16),
+        number::eight_at(body, start + 24),
+    )
 }

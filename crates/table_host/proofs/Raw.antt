@@ -8,8 +8,9 @@ use native.Mathlib.Omega.{arith}
 use lib.ListN.{length, take, drop, length-append}
 use Rattle.constraint.specs.Limits.{rowLimit}
 use Rattle.constraint.specs.Bytes.{bytesAt}
-use Rattle.constraint.specs.Rows.{tableOf, withRow, Adds}
-use Rattle.constraint.specs.Table.{constraintOf}
+use Rattle.constraint.specs.Rows.{tableOf}
+use Rattle.constraint.specs.Records.{withRow, Adds}
+use Rattle.table.specs.Rows.{constraintOf}
 use Rattle.constraint.specs.declared.Constraint.{Constraint}
 use Rattle.constraint.specs.declared.Table.{Table}
 use Rattle.constraint.proofs.Records.{record-count, record-more}

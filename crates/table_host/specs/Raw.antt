@@ -5,7 +5,7 @@ use lib.ListN.{length}
 use Rattle.constraint.specs.Limits.{rowLimit}
 use Rattle.constraint.specs.Bytes.{bytesAt}
 use Rattle.constraint.specs.Rows.{tableOf}
-use Rattle.constraint.specs.Table.{constraintOf}
+use Rattle.table.specs.Rows.{constraintOf}
 use Rattle.constraint.specs.declared.Constraint.{Constraint}
 use Rattle.constraint.specs.declared.Table.{Table}
 

@@ -5,7 +5,7 @@ use mathlib.Core.Path.{_≡_, ap, _∙_}
 use lib.ListN.{length}
 use Rattle.constraint.specs.Limits.{rowLimit}
 use Rattle.constraint.specs.Rows.{tableOf}
-use Rattle.constraint.specs.Table.{constraintOf}
+use Rattle.table.specs.Rows.{constraintOf}
 use Rattle.table_host.specs.Raw.{rawRows}
 use Rattle.table_host.proofs.Raw.{raw-more, stretch}
 use Rattle.table_host.proofs.raw_table.Statement.{statement}

@@ -1,54 +1,62 @@
--- The questions are put in their order, each by its own test, and the first "no" gives the number.
-use borrow.Author.Needs.{needs}
-use Rattle.constraint.proofs.Judged.{passed, failed, judged-none, judged-yes, judged-no}
+-- The questions are put in their order, each to the row's numbers, and the first "no" gives the number.
+use mathlib.Core.Path.{refl}
+use Rattle.constraint.specs.Records.{Holds}
+use Rattle.constraint.proofs.Judged.{free, passed, failed, judged-none, judged-yes, judged-no}
+use Rattle.constraint.proofs.FieldByField.{row-kinds-no, row-bytes-no, row-times-no, row-answered}
 use Rattle.constraint.proofs.Constraint.judge.Statement.{statement}
 use Rattle.constraint.proofs.Constraint.judge.Tie as tie
 
-kinds-fit-requires : tie.Need-kinds-fit-requires
-kinds-fit-requires c κs = search needs
-
 returns : tie.Need-returns
-returns c = let kinds = c .before .kinds-fit in judged-no 5 _ _ (failed (kinds .result) (kinds .ensures) (c .if1 .taken))
-
-in-range-requires : tie.Need-in-range-requires
-in-range-requires c κs = search needs
+returns c =
+    let test = c .before .kinds-fit in
+    let made = c .before .before .before .before .before .before .before .fields in
+    row-kinds-no _ (made .result) (made .ensures) (failed (test .result) (test .ensures) (c .if1 .taken))
 
 returns-2 : tie.Need-returns-2
 returns-2 c =
-    let kinds = c .before .before .before .kinds-fit in
-    let ranges = c .before .in-range in
-    judged-yes 5 _ _ _ (passed (kinds .result) (kinds .ensures) (c .before .before .if1 .left))
-    (judged-no 6 _ _ (failed (ranges .result) (ranges .ensures) (c .if2 .taken)))
-
-lower-first-requires : tie.Need-lower-first-requires
-lower-first-requires c κs = search needs
+    let test = c .before .bytes-fit in
+    let at-kinds = c .before .before in
+    let kinds = at-kinds .before .kinds-fit in
+    let made = at-kinds .before .before .before .before .before .before .before .fields in
+    row-bytes-no _ (made .result) (made .ensures) (passed (kinds .result) (kinds .ensures) (at-kinds .if1 .left))
+    (failed (test .result) (test .ensures) (c .if2 .taken))
 
 returns-3 : tie.Need-returns-3
 returns-3 c =
-    let kinds = c .before .before .before .before .before .kinds-fit in
-    let ranges = c .before .before .before .in-range in
-    let order = c .before .lower-first in
-    judged-yes 5 _ _ _ (passed (kinds .result) (kinds .ensures) (c .before .before .before .before .if1 .left))
-    (judged-yes 6 _ _ _ (passed (ranges .result) (ranges .ensures) (c .before .before .if2 .left))
-    (judged-no 7 _ _ (failed (order .result) (order .ensures) (c .if3 .taken))))
+    let test = c .before .times-fit in
+    let at-kinds = c .before .before .before .before in
+    let kinds = at-kinds .before .kinds-fit in
+    let made = at-kinds .before .before .before .before .before .before .before .fields in
+    row-times-no _ (made .result) (made .ensures) (passed (kinds .result) (kinds .ensures) (at-kinds .if1 .left))
+    (failed (test .result) (test .ensures) (c .if3 .taken))
 
 returns-4 : tie.Need-returns-4
 returns-4 c =
-    let kinds = c .before .before .before .before .before .kinds-fit in
-    let ranges = c .before .before .before .in-range in
-    let order = c .before .lower-first in
-    judged-yes 5 _ _ _ (passed (kinds .result) (kinds .ensures) (c .before .before .before .before .if1 .left))
-    (judged-yes 6 _ _ _ (passed (ranges .result) (ranges .ensures) (c .before .before .if2 .left))
-    (judged-yes 7 _ _ _ (passed (order .result) (order .ensures) (c .if3 .left)) judged-none))
+    let test = c .before .lower-first in
+    let at-times = c .before .before in
+    let times = at-times .before .times-fit in
+    let at-bytes = at-times .before .before in
+    let bytes = at-bytes .before .bytes-fit in
+    let at-kinds = at-bytes .before .before in
+    let kinds = at-kinds .before .kinds-fit in
+    let made = at-kinds .before .before .before .before .before .before .before .fields in
+    row-answered _ (made .result) (made .ensures) (passed (kinds .result) (kinds .ensures) (at-kinds .if1 .left))
+    (passed (bytes .result) (bytes .ensures) (at-bytes .if2 .left)) (passed (times .result) (times .ensures) (at-times .if3 .left)) _
+    (judged-no 7 _ _ (failed (test .result) (test .ensures) (c .if4 .taken)))
+
+returns-5 : tie.Need-returns-5
+returns-5 c =
+    let test = c .before .lower-first in
+    let at-times = c .before .before in
+    let times = at-times .before .times-fit in
+    let at-bytes = at-times .before .before in
+    let bytes = at-bytes .before .bytes-fit in
+    let at-kinds = at-bytes .before .before in
+    let kinds = at-kinds .before .kinds-fit in
+    let made = at-kinds .before .before .before .before .before .before .before .fields in
+    row-answered _ (made .result) (made .ensures) (passed (kinds .result) (kinds .ensures) (at-kinds .if1 .left))
+    (passed (bytes .result) (bytes .ensures) (at-bytes .if2 .left)) (passed (times .result) (times .ensures) (at-times .if3 .left)) _
+    (judged-yes 7 _ _ _ (passed (test .result) (test .ensures) (c .if4 .left)) judged-none)
 
 pub judge-spec : {M : Type 1} → statement M
-judge-spec =
-    tie.close
-    (tie.spec
-    kinds-fit-requires
-    returns
-    in-range-requires
-    returns-2
-    lower-first-requires
-    returns-3
-    returns-4)
+judge-spec = tie.close (tie.spec free free returns free returns-2 free returns-3 free returns-4 returns-5)

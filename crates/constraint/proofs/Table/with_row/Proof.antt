@@ -1,7 +1,9 @@
--- The row goes into the entry that the count says, where there is one.
+-- The row goes into the entry that the count says, where there is one; of a full table only the count is changed.
 use native.Mathlib.Omega.{arith}
 use borrow.Author.Needs.{needs}
-use mathlib.Core.Path.{refl}
+use Prim.Native.Nat.{_+_, max}
+use mathlib.Core.Path.{_≡_, refl}
+use Rattle.constraint.specs.Limits.{rowLimit}
 use Rattle.constraint.proofs.Table.with_row.Statement.{statement}
 use Rattle.constraint.proofs.Table.with_row.Tie as tie
 
@@ -14,11 +16,23 @@ element-set-from-entry c = search needs
 add-self : tie.Need-add-self
 add-self c = search needs
 
+add-self-2 : tie.Need-add-self-2
+add-self-2 c = search needs
+
 returns : tie.Need-returns
 returns c = record { room = λ h. refl; full = λ h. absurd (omega arith) }
 
 returns-2 : tie.Need-returns-2
-returns-2 c = record { room = λ h. absurd (omega arith); full = λ h. refl }
+returns-2 c =
+    let table = c .before .before .args .t1 in
+    let counted : table .count + 1 ≡ max (table .count) (rowLimit + 1) = omega arith in
+    record { room = λ h. absurd (omega arith); full = λ h i. record { rows = table .rows; count = counted i } }
+
+returns-3 : tie.Need-returns-3
+returns-3 c =
+    let table = c .before .before .args .t1 in
+    let counted : table .count ≡ max (table .count) (rowLimit + 1) = omega arith in
+    record { room = λ h. absurd (omega arith); full = λ h i. record { rows = table .rows; count = counted i } }
 
 pub with-row-spec : {M : Type 1} → statement M
-with-row-spec = tie.close (tie.spec mul-entry element-set-from-entry add-self returns returns-2)
+with-row-spec = tie.close (tie.spec mul-entry element-set-from-entry add-self add-self-2 returns returns-2 returns-3)

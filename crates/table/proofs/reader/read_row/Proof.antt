@@ -1,14 +1,15 @@
 -- The questions are put in their order, and the body is the part of the bytes that the definition names.
 use native.Mathlib.Omega.{arith}
 use borrow.Author.Needs.{needs}
-use mathlib.Core.Path.{_≡_, ap, subst, _∙_}
+use mathlib.Core.Path.{_≡_, ap, subst, subst⁻¹, _∙_}
 use denote.Ref.{now}
 use Rattle.constraint.specs.Questions.{Judged, Decides}
-use Rattle.constraint.specs.Accepted.{rowQuestions}
-use Rattle.constraint.specs.Table.{ShapeFits, constraintOf, bodyAt, placeQuestions}
+use Rattle.constraint.specs.Bytes.{Bytes}
+use Rattle.constraint.specs.Table.{ShapeFits, bodyAt, RowAt, placeQuestions}
 use Rattle.constraint.specs.declared.Answer.{Answer}
 use Rattle.constraint.proofs.Judged.{passed, failed}
-use Rattle.table.proofs.Places.{place-short, place-full, place-misshapen, place-row, part-body}
+use Rattle.table.specs.Rows.{constraintOf}
+use Rattle.table.proofs.Places.{place-short, place-full, place-misshapen, place-row, row-at, part-body}
 use Rattle.table.proofs.reader.read_row.Statement.{statement}
 use Rattle.table.proofs.reader.read_row.Tie as tie
 
@@ -19,22 +20,31 @@ shape c =
     let size = c .before .before .before .before .two-at in
     subst (λ body. Decides (ShapeFits body) (c .shape-fits .result)) (part-body (now (a .bytes)) (a .place) (size .result) (size .ensures)) (c .shape-fits .ensures)
 
--- the row that is judged is that of the body at the place
-row : (c : tie.After-row-of) → c .row-of .result ≡ constraintOf (bodyAt (now (c .before .before .before .before .before .before .before .before .before .args .bytes)) (c .before .before .before .before .before .before .before .before .before .args .place))
-row c =
+-- a slice of bytes holds bytes, so the row at the place is the one that the body is read as
+row : (c : tie.After-shared-slice-known) → RowAt (now (c .before .args .bytes)) (c .before .args .place) (constraintOf (bodyAt (now (c .before .args .bytes)) (c .before .args .place)))
+unfolding Bytes
+row c = let a = c .before .args in row-at (now (a .bytes)) (a .place) (λ i h. omega (arith, c .shared-slice-known .given i))
+
+-- and the one that is judged
+same : (c : tie.After-row-of) → c .row-of .result ≡ constraintOf (bodyAt (now (c .before .before .before .before .before .before .before .before .before .args .bytes)) (c .before .before .before .before .before .before .before .before .before .args .place))
+same c =
     let a = c .before .before .before .before .before .before .before .before .before .args in
     let size = c .before .before .before .before .before .before .two-at in
     c .row-of .ensures ∙ ap constraintOf (part-body (now (a .bytes)) (a .place) (size .result) (size .ensures))
 
+judged : (c : tie.After-row-of) → RowAt (now (c .before .before .before .before .before .before .before .before .before .args .bytes)) (c .before .before .before .before .before .before .before .before .before .args .place) (c .row-of .result)
+judged c =
+    let a = c .before .before .before .before .before .before .before .before .before .args in
+    subst⁻¹ (RowAt (now (a .bytes)) (a .place)) (same c) (row (c .before .before .before .before .before .before .before .before))
+
 -- what the row's own questions answer is the answer
 answer : (c : tie.After-judge) (a : Answer) → c .judge .result ≡ a
-    → Judged (placeQuestions (now (c .before .before .before .before .before .before .before .before .before .before .args .bytes)) (c .before .before .before .before .before .before .before .before .before .before .args .before) (c .before .before .before .before .before .before .before .before .before .before .args .place)) a
+    → Judged (placeQuestions (now (c .before .before .before .before .before .before .before .before .before .before .args .bytes)) (c .before .before .before .before .before .before .before .before .before .before .args .before) (c .before .before .before .before .before .before .before .before .before .before .args .place) (c .before .row-of .result)) a
 answer c a e =
     let at-shape = c .before .before .before in
     let start = at-shape .before .before .before .before .before .before .before .args in
-    place-row (now (start .bytes)) (start .before) (start .place) a (omega arith) (omega arith)
-    (passed (at-shape .shape-fits .result) (shape at-shape) (c .before .before .if4 .left))
-    (subst (λ r. Judged (rowQuestions r) a) (row (c .before)) (rw e at (c .judge .ensures)))
+    place-row (now (start .bytes)) (start .before) (start .place) _ a (omega arith) (omega arith)
+    (passed (at-shape .shape-fits .result) (shape at-shape) (c .before .before .if4 .left)) (rw e at (c .judge .ensures))
 
 sub-left : tie.Need-sub-left
 sub-left c = search needs
@@ -42,7 +52,7 @@ sub-left c = search needs
 returns : tie.Need-returns
 returns c =
     let a = c .before .before .args in
-    place-short (now (a .bytes)) (a .before) (a .place) (λ whole. omega arith)
+    (_, row (c .before), place-short (now (a .bytes)) (a .before) (a .place) _ (λ whole. omega arith))
 
 two-at-requires : tie.Need-two-at-requires
 two-at-requires c κs = search needs
@@ -50,12 +60,12 @@ two-at-requires c κs = search needs
 returns-2 : tie.Need-returns-2
 returns-2 c =
     let a = c .before .before .before .before .args in
-    place-short (now (a .bytes)) (a .before) (a .place) (λ whole. omega arith)
+    (_, row (c .before .before .before), place-short (now (a .bytes)) (a .before) (a .place) _ (λ whole. omega arith))
 
 returns-3 : tie.Need-returns-3
 returns-3 c =
     let a = c .before .before .before .before .before .args in
-    place-full (now (a .bytes)) (a .before) (a .place) (omega arith) (c .if3 .taken)
+    (_, row (c .before .before .before .before), place-full (now (a .bytes)) (a .before) (a .place) _ (omega arith) (c .if3 .taken))
 
 add-start : tie.Need-add-start
 add-start c = search needs
@@ -78,8 +88,11 @@ shape-fits-requires c κs = search needs
 returns-4 : tie.Need-returns-4
 returns-4 c =
     let at-shape = c .before in
-    let a = at-shape .before .before .before .before .before .before .before .args in
-    place-misshapen (now (a .bytes)) (a .before) (a .place) (omega arith) (omega arith) (failed (at-shape .shape-fits .result) (shape at-shape) (c .if4 .taken))
+    let a = at-shape .before .before .before .before .before .before .before .args in (
+      _,
+      row (at-shape .before .before .before .before .before .before),
+      place-misshapen (now (a .bytes)) (a .before) (a .place) _ (omega arith) (omega arith) (failed (at-shape .shape-fits .result) (shape at-shape) (c .if4 .taken)),
+    )
 
 row-of-requires : tie.Need-row-of-requires
 row-of-requires c κs = search needs
@@ -94,10 +107,10 @@ enum-known-number : tie.Need-enum-known-number
 enum-known-number c = search needs
 
 returns-5 : tie.Need-returns-5
-returns-5 c = (answer (c .before .before) _ (c .enum-told .given .1), row (c .before .before .before), omega arith)
+returns-5 c = (judged (c .before .before .before), answer (c .before .before) _ (c .enum-told .given .1), omega arith)
 
 returns-6 : tie.Need-returns-6
-returns-6 c = answer (c .before .before .before) _ (c .before .number .given .1)
+returns-6 c = (_, judged (c .before .before .before .before), answer (c .before .before .before) _ (c .before .number .given .1))
 
 pub read-row-spec : {M : Type 1} → statement M
 read-row-spec =

@@ -48,7 +48,7 @@ loop-again : tie.Need-loop-again Inv-loop μ-loop
 loop-again c =
     let at-loop = c .before .before .before .before .before .before in
     let bytes = now (at-loop .before .before .before .args .bytes) in
-    let room = place-taken bytes (at-loop .loop .table .count) (at-loop .loop .place) (row (c .before .before) .0) .room in
+    let room = place-taken bytes (at-loop .loop .table .count) (at-loop .loop .place) _ (row (c .before .before) .1) .room in
     rw (c .with-row .ensures .room room)
     (up-to-more bytes (at-loop .loop .table) (at-loop .loop .place) _ _ (at-loop .loop .inv) (omega arith) (row (c .before .before)))
 

@@ -55,14 +55,14 @@ element-copy-out-entry c = omega arith
 put-row-requires : tie.Need-put-row-requires Inv-loop μ-loop
 put-row-requires c κs = let at-turn = c .before .before in omega (arith, size at-turn, row-length (row at-turn), at-turn .before .before .before .pre)
 
-length-of-requires : tie.Need-length-of-requires Inv-loop μ-loop
-length-of-requires c κs = tt
+row-length-requires : tie.Need-row-length-requires Inv-loop μ-loop
+row-length-requires c κs = tt
 
 add-place : tie.Need-add-place Inv-loop μ-loop
-add-place c = let at-turn = c .before .before .before .before .before .before in omega (arith, fits at-turn, c .length-of .ensures)
+add-place c = let at-turn = c .before .before .before .before .before .before in omega (arith, fits at-turn, c .row-length .ensures)
 
 add-place-2 : tie.Need-add-place-2 Inv-loop μ-loop
-add-place-2 c = let at-turn = c .before .before .before .before .before .before in omega (arith, fits at-turn, c .length-of .ensures)
+add-place-2 c = let at-turn = c .before .before .before .before .before .before in omega (arith, fits at-turn, c .row-length .ensures)
 
 add-i : tie.Need-add-i Inv-loop μ-loop
 add-i c = omega arith
@@ -78,8 +78,8 @@ loop-again c =
     let put = c .before .before .before .put-row in (
       omega arith,
       put .kept .0 ∙ loop .inv .1,
-      omega (arith, size at-turn, c .length-of .ensures),
-      rw (put .ensures, c .length-of .ensures)
+      omega (arith, size at-turn, c .row-length .ensures),
+      rw (put .ensures, c .row-length .ensures)
           (sym (rows-more table (loop .i) _ (omega arith) (entries at-turn) (loop .buffer) (loop .place)) ∙ loop .inv .3),
     )
 
@@ -105,7 +105,7 @@ put-rows-spec =
     mul-entry
     element-copy-out-entry
     put-row-requires
-    length-of-requires
+    row-length-requires
     add-place
     add-place-2
     add-i

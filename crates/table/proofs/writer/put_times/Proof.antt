@@ -3,7 +3,7 @@ use native.Mathlib.Omega.{arith}
 use Prim.Native.Nat.{ℕ, _+_, _*_, _-_, _≤_}
 use mathlib.Core.Path.{_≡_, refl, sym, ap, _∙_}
 use mathlib.Core.List.{List}
-use lib.ListN.{length, getD, take, drop, length-map, drop-of-length-le}
+use lib.ListN.{length, getD, take, drop, drop-of-length-le}
 use lib.Seq.{sets, length-take-le, getD-take}
 use Rattle.table.proofs.Stores.{times-more}
 use Rattle.table.specs.Rows.{timesBytes}
@@ -11,18 +11,16 @@ use Rattle.table.proofs.writer.put_times.Statement.{statement}
 use Rattle.table.proofs.writer.put_times.Tie as tie
 
 abbrev Inv-loop : tie.InvT-loop
-Inv-loop buffer₀ place times count next₀ i₀ buffer next i =
+Inv-loop buffer₀ place count times next₀ i₀ buffer next i =
     (i ≤ count) × (length buffer ≡ length buffer₀) × (next ≡ place + 8 * i)
-    × (sets buffer next (timesBytes (drop i (take count (times .values)))) ≡ sets buffer₀ place (timesBytes (take count (times .values))))
+    × (sets buffer next (timesBytes (drop i (take count times))) ≡ sets buffer₀ place (timesBytes (take count times)))
 
 abbrev μ-loop : tie.MeasureT-loop
-μ-loop buffer₀ place times count next₀ i₀ buffer next i = count - i
+μ-loop buffer₀ place count times next₀ i₀ buffer next i = count - i
 
 -- there are as many times as the count says
-long : (c : tie.Start Inv-loop μ-loop) → length (take (c .args .t3 .count) (c .args .t3 .values)) ≡ c .args .t3 .count
-long c =
-    let size : length (c .args .t3 .values) ≡ 4 = sym (length-map (c .args .t3 .values) _) ∙ c .good .1 .1 .0 .1 .1 .0 .1 .0 .1 in
-    length-take-le (c .args .t3 .count) (c .args .t3 .values) (omega arith)
+long : (c : tie.Start Inv-loop μ-loop) → length (take (c .args .count) (c .args .t3)) ≡ c .args .count
+long c = length-take-le (c .args .count) (c .args .t3) (omega arith)
 
 loop-holds : tie.Need-loop-holds Inv-loop μ-loop
 loop-holds c = (omega arith, refl, omega arith, refl)
@@ -30,8 +28,8 @@ loop-holds c = (omega arith, refl, omega arith, refl)
 mul-time : tie.Need-mul-time Inv-loop μ-loop
 mul-time c = omega arith
 
-element-copy-out-time : tie.Need-element-copy-out-time Inv-loop μ-loop
-element-copy-out-time c = omega arith
+array-read-time : tie.Need-array-read-time Inv-loop μ-loop
+array-read-time c = omega arith
 
 put-eight-requires : tie.Need-put-eight-requires Inv-loop μ-loop
 put-eight-requires c κs = tt
@@ -48,11 +46,11 @@ loop-less c = omega arith
 loop-again : tie.Need-loop-again Inv-loop μ-loop
 loop-again c =
     let at-put = c .before .before in
-    let at-loop = at-put .before .before .before .before in
+    let at-loop = at-put .before .before .before in
     let start = at-loop .before .before in
     let loop = at-loop .loop in
-    let xs = take (start .args .t3 .count) (start .args .t3 .values) in
-    let same : getD xs (loop .i) 0 ≡ getD (start .args .t3 .values) (loop .i) 0 = getD-take (start .args .t3 .count) (start .args .t3 .values) (loop .i) 0 (omega arith) in (
+    let xs = take (start .args .count) (start .args .t3) in
+    let same : getD xs (loop .i) 0 ≡ getD (start .args .t3) (loop .i) 0 = getD-take (start .args .count) (start .args .t3) (loop .i) 0 (omega arith) in (
       omega arith,
       at-put .put-eight .kept .0 ∙ loop .inv .1,
       omega arith,
@@ -68,7 +66,7 @@ returns c =
     let at-loop = c .before in
     let start = at-loop .before .before in
     let loop = at-loop .loop in
-    let xs = take (start .args .t3 .count) (start .args .t3 .values) in
+    let xs = take (start .args .count) (start .args .t3) in
     sym (ap (λ (left : List ℕ). sets (loop .buffer) (loop .next) (timesBytes left)) (drop-of-length-le xs {i = loop .i} (omega (arith, long start)))) ∙ loop .inv .3
 
 pub put-times-spec : {M : Type 1} → statement M
@@ -79,7 +77,7 @@ put-times-spec =
     μ-loop
     loop-holds
     mul-time
-    element-copy-out-time
+    array-read-time
     put-eight-requires
     add-next
     add-i

@@ -7,13 +7,13 @@ use lib.ListN.{length, drop, length-map, drop-of-length-le}
 use Rattle.constraint.specs.Rows.{rowsOf}
 use Rattle.constraint.specs.Table.{rowsBytes, tableBytes}
 use Rattle.constraint.proofs.Rows.{rows-length}
-use Rattle.table.proofs.Bodies.{body-short}
+use Rattle.table.proofs.Standing.{body-short}
 use Rattle.table.proofs.Stores.{rows-size}
 use Rattle.table.proofs.writer.size_of.Statement.{statement}
 use Rattle.table.proofs.writer.size_of.Tie as tie
 
 abbrev Inv-loop : tie.InvT-loop
-Inv-loop table count size₀ i₀ size i = (i ≤ count) × (size ≤ 1 + 36 * i) × (size + length (rowsBytes (drop i (rowsOf table))) ≡ length (tableBytes (rowsOf table)))
+Inv-loop table count size₀ i₀ size i = (i ≤ count) × (size ≤ 1 + 40 * i) × (size + length (rowsBytes (drop i (rowsOf table))) ≡ length (tableBytes (rowsOf table)))
 
 abbrev μ-loop : tie.MeasureT-loop
 μ-loop table count size₀ i₀ size i = count - i
@@ -22,8 +22,8 @@ abbrev μ-loop : tie.MeasureT-loop
 entries : (c : tie.Start Inv-loop μ-loop) → length (c .args .t1 .rows) ≡ 32
 entries c = sym (length-map (c .args .t1 .rows) _) ∙ c .good .0 .1 .1 .0 .1 .0 .1
 
-short : (c : tie.After-length-of Inv-loop μ-loop) → c .length-of .result ≤ 34
-short c = rw (c .length-of .ensures) (body-short _)
+short : (c : tie.After-row-length Inv-loop μ-loop) → c .row-length .result ≤ 38
+short c = rw (c .row-length .ensures) (body-short _)
 
 loop-holds : tie.Need-loop-holds Inv-loop μ-loop
 unfolding tableBytes
@@ -35,8 +35,8 @@ mul-entry c = omega arith
 element-copy-out-entry : tie.Need-element-copy-out-entry Inv-loop μ-loop
 element-copy-out-entry c = omega arith
 
-length-of-requires : tie.Need-length-of-requires Inv-loop μ-loop
-length-of-requires c κs = tt
+row-length-requires : tie.Need-row-length-requires Inv-loop μ-loop
+row-length-requires c κs = tt
 
 add-size : tie.Need-add-size Inv-loop μ-loop
 add-size c = omega (arith, short c)
@@ -55,8 +55,8 @@ loop-again c =
     let at-loop = c .before .before .before in
     let i = at-loop .loop .i in
     let table = at-loop .before .args .t1 in
-    let next : length (rowsBytes (drop i (rowsOf table))) ≡ 2 + c .length-of .result + length (rowsBytes (drop (i + 1) (rowsOf table))) =
-    rw (c .length-of .ensures) (rows-size table i _ (omega arith) (omega (arith, entries (at-loop .before)))) in
+    let next : length (rowsBytes (drop i (rowsOf table))) ≡ 2 + c .row-length .result + length (rowsBytes (drop (i + 1) (rowsOf table))) =
+    rw (c .row-length .ensures) (rows-size table i _ (omega arith) (omega (arith, entries (at-loop .before)))) in
     omega (arith, short c)
 
 returns : tie.Need-returns Inv-loop μ-loop
@@ -76,7 +76,7 @@ size-of-spec =
     loop-holds
     mul-entry
     element-copy-out-entry
-    length-of-requires
+    row-length-requires
     add-size
     add-size-2
     add-i

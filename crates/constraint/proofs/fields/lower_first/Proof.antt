@@ -1,0 +1,108 @@
+-- The loop keeps the lower that it passed: what is asked of the times left, with that lower before them, is what is asked of all.
+use native.Mathlib.Omega.{arith}
+use Prim.Native.Nat.{_-_, _≤_}
+use mathlib.Core.Bool.{Bool, true}
+use mathlib.Core.Logic.{⊎-elim}
+use lib.Dec.{leb}
+use Rattle.constraint.specs.Steps.{at}
+use Rattle.constraint.specs.Questions.{Decides}
+use Rattle.constraint.specs.Accepted.{NotBelow}
+use Rattle.constraint.specs.Records.{timeField, timesFrom}
+use Rattle.constraint.proofs.Judged.{test-le}
+use Rattle.constraint.proofs.FieldByField.{fields-end, bounds-lower, bounds-upper, bounds-upper-or-none, bounds-other}
+use Rattle.constraint.proofs.fields.lower_first.Statement.{statement}
+use Rattle.constraint.proofs.fields.lower_first.Tie as tie
+
+abbrev Inv-loop : tie.InvT-loop
+Inv-loop roles values low₀ i₀ low i =
+    (i ≤ 4) × ((b : Bool) → Decides (NotBelow low (timesFrom roles values i)) b → Decides (NotBelow 0 (timesFrom roles values 0)) b)
+
+abbrev μ-loop : tie.MeasureT-loop
+μ-loop roles values low₀ i₀ low i = 4 - i
+
+loop-holds : tie.Need-loop-holds Inv-loop μ-loop
+loop-holds c = (omega arith, λ b h. h)
+
+array-read-role : tie.Need-array-read-role Inv-loop μ-loop
+array-read-role c = omega arith
+
+mul-result : tie.Need-mul-result Inv-loop μ-loop
+mul-result c = omega arith
+
+array-read-result : tie.Need-array-read-result Inv-loop μ-loop
+array-read-result c = omega arith
+
+mul-result-2 : tie.Need-mul-result-2 Inv-loop μ-loop
+mul-result-2 c = omega arith
+
+array-read-result-2 : tie.Need-array-read-result-2 Inv-loop μ-loop
+array-read-result-2 c = omega arith
+
+mul-low : tie.Need-mul-low Inv-loop μ-loop
+mul-low c = omega arith
+
+array-read-low : tie.Need-array-read-low Inv-loop μ-loop
+array-read-low c = omega arith
+
+returns : tie.Need-returns Inv-loop μ-loop
+returns c =
+    let at-loop = c .before .before in
+    let a = at-loop .before .args in
+    let low = at-loop .loop .low in
+    let i = at-loop .loop .i in
+    at-loop .loop .inv .1 (leb low (at (a .t2) i)) (rw (bounds-upper low (a .t1) (a .t2) i (omega arith) (omega arith) (c .if1 .taken)) (test-le low (at (a .t2) i)))
+
+returns-2 : tie.Need-returns-2 Inv-loop μ-loop
+returns-2 c =
+    let at-loop = c .before .before .before in
+    let a = at-loop .before .args in
+    let low = at-loop .loop .low in
+    let i = at-loop .loop .i in
+    at-loop .loop .inv .1 (leb low (at (a .t2) i)) (rw (bounds-upper-or-none low (a .t1) (a .t2) i (omega arith) (omega arith) (c .if2 .taken)) (test-le low (at (a .t2) i)))
+
+add-i : tie.Need-add-i Inv-loop μ-loop
+add-i c = omega arith
+
+loop-less : tie.Need-loop-less Inv-loop μ-loop
+loop-less c = omega arith
+
+loop-again : tie.Need-loop-again Inv-loop μ-loop
+loop-again c =
+    let at-loop = c .before .before .before .before in
+    let a = at-loop .before .args in
+    let low = at-loop .loop .low in
+    let i = at-loop .loop .i in (
+      omega arith,
+      λ b later. at-loop .loop .inv .1 b
+          (⊎-elim
+          (λ came. rw (bounds-lower low (a .t1) (a .t2) i (omega arith) (omega arith) (came .0 .taken)) (rw (came .1) at later))
+          (λ came. rw (bounds-other low (a .t1) (a .t2) i (omega arith) (omega arith) (came .0 .left) (c .before .before .if1 .left) (c .before .if2 .left))
+          (rw (came .1) at later))
+          (c .if3 .came)),
+    )
+
+returns-3 : tie.Need-returns-3 Inv-loop μ-loop
+returns-3 c =
+    let a = c .before .before .args in
+    c .before .loop .inv .1 true (rw (fields-end timeField (a .t1) (a .t2) (c .before .loop .i) (omega arith)) tt)
+
+pub lower-first-spec : {M : Type 1} → statement M
+lower-first-spec =
+    tie.close
+    (tie.spec
+    Inv-loop
+    μ-loop
+    loop-holds
+    array-read-role
+    mul-result
+    array-read-result
+    returns
+    mul-result-2
+    array-read-result-2
+    returns-2
+    mul-low
+    array-read-low
+    add-i
+    loop-less
+    loop-again
+    returns-3)

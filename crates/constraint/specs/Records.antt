@@ -1,0 +1,103 @@
+-- What the code's records hold: a table with one row more, and a row's fields as numbers. No definition of the contract rests on these.
+use Prim.Native.Nat.{ℕ, _+_, _≤_, _<_, max}
+use mathlib.Core.Path.{_≡_}
+use mathlib.Core.Bool.{cond}
+use mathlib.Core.List.{List, [], _∷_, _++_}
+use mathlib.Core.Logic.{_≢_}
+use lib.ListN.{length, set, take, drop}
+use lib.Dec.{eqb}
+use Rattle.constraint.specs.Limits.{rowLimit}
+use Rattle.constraint.specs.Types.{
+  ByteRole,
+  kind,
+  count,
+  span,
+  TimeRole,
+  plain,
+  lower,
+  upper,
+  upper-or-none,
+  Field,
+  byte,
+  time,
+  typeOf,
+  fieldsOf,
+}
+use Rattle.constraint.specs.declared.Constraint.{Constraint}
+use Rattle.constraint.specs.declared.Entry.{Entry}
+use Rattle.constraint.specs.declared.Table.{Table}
+use Rattle.constraint.specs.declared.fields.Fields.{Fields}
+
+-- A table with one row more
+
+abbrev pub entryOf : Constraint → Entry
+entryOf c = record { constraint = c }
+
+-- the row is put in the entry that the count says
+abbrev pub withRow : Table → Constraint → Table
+withRow table c = record { rows = set (table .rows) (table .count) (entryOf c); count = table .count + 1 }
+
+-- r is the table with one row more; one for which there is no entry makes the count at least 33, so that the table is refused with 3
+pub record Adds (table : Table) (c : Constraint) (r : Table) : Type 0 where
+  pub room : table .count < rowLimit → r ≡ withRow table c
+  pub full : rowLimit ≤ table .count → r ≡ record { rows = table .rows; count = max (table .count) (rowLimit + 1) }
+
+-- A row's fields as numbers: values, and the numbers of their roles, of which 0 is no field
+
+abbrev pub byteRole : ℕ → ByteRole
+byteRole r = cond (eqb r 255) kind (cond (eqb r 254) count (span r))
+
+abbrev pub timeRole : ℕ → TimeRole
+timeRole r = cond (eqb r 2) lower (cond (eqb r 3) upper (cond (eqb r 4) upper-or-none plain))
+
+abbrev pub byteField : ℕ → ℕ → Field
+byteField r x = byte (byteRole r) x
+
+abbrev pub timeField : ℕ → ℕ → Field
+timeField r x = time (timeRole r) x
+
+-- the field at one place, if there is one
+abbrev pub fieldAt : (ℕ → ℕ → Field) → ℕ → ℕ → List Field
+fieldAt field r x = cond (eqb r 0) [] (field r x ∷ [])
+
+-- the fields of some roles and values
+unfoldable pub fieldsAs : (ℕ → ℕ → Field) → List ℕ → List ℕ → List Field
+fieldsAs field [] values = []
+fieldsAs field (r ∷ roles) [] = []
+fieldsAs field (r ∷ roles) (x ∷ values) = fieldAt field r x ++ fieldsAs field roles values
+
+-- those of one byte, and the times, from the i-th place on
+abbrev pub bytesFrom : List ℕ → List ℕ → ℕ → List Field
+bytesFrom roles values i = fieldsAs byteField (drop i roles) (drop i values)
+
+abbrev pub timesFrom : List ℕ → List ℕ → ℕ → List Field
+timesFrom roles values i = fieldsAs timeField (drop i roles) (drop i values)
+
+abbrev pub byteFields : Fields → List Field
+byteFields fields = bytesFrom (fields .line .bytes) (fields .bytes) 0
+
+abbrev pub timeFields : Fields → List Field
+timeFields fields = timesFrom (fields .line .times) (fields .times) 0
+
+-- the values of the fields of one byte, and of the times
+abbrev pub bytesIn : List Field → List ℕ
+bytesIn [] = []
+bytesIn (byte role x ∷ fields) = x ∷ bytesIn fields
+bytesIn (time role x ∷ fields) = bytesIn fields
+
+abbrev pub timesIn : List Field → List ℕ
+timesIn [] = []
+timesIn (byte role x ∷ fields) = timesIn fields
+timesIn (time role x ∷ fields) = x ∷ timesIn fields
+
+-- the numbers are those of a row, and stand first in their arrays
+pub record Holds (c : Constraint) (fields : Fields) : Type 0 where
+  pub typed : fields .line .form ≡ typeOf c
+  pub all : byteFields fields ++ timeFields fields ≡ fieldsOf c
+  pub bytes : take (length (bytesIn (fieldsOf c))) (fields .bytes) ≡ bytesIn (fieldsOf c)
+  pub times : take (length (timesIn (fieldsOf c))) (fields .times) ≡ timesIn (fieldsOf c)
+
+-- a kind is none of the list
+abbrev pub Absent : ℕ → List ℕ → Type 0
+Absent k [] = Unit
+Absent k (j ∷ ks) = (k ≢ j) × Absent k ks

@@ -1,0 +1,47 @@
+-- The type byte says which row it is.
+use Rattle.constraint.proofs.Judged.{free}
+use borrow.Author.Tests.{ne-eqb}
+use Rattle.table.specs.Rows.{rowFrom}
+use Rattle.table.proofs.body.row_from.Statement.{statement}
+use Rattle.table.proofs.body.row_from.Tie as tie
+
+returns : tie.Need-returns
+unfolding rowFrom
+returns c = rw (c .match .keys1)
+
+returns-2 : tie.Need-returns-2
+unfolding rowFrom
+returns-2 c = rw (c .match .keys2)
+
+returns-3 : tie.Need-returns-3
+unfolding rowFrom
+returns-3 c = rw (c .match .keys3)
+
+returns-4 : tie.Need-returns-4
+unfolding rowFrom
+returns-4 c = rw (c .match .keys4)
+
+returns-5 : tie.Need-returns-5
+unfolding rowFrom
+returns-5 c = rw (c .match .keys5)
+
+returns-6 : tie.Need-returns-6
+unfolding rowFrom
+returns-6 c = rw (c .match .keys6)
+
+returns-7 : tie.Need-returns-7
+unfolding rowFrom
+returns-7 c =
+    let other = c .before .match .rest in
+    rw (
+      ne-eqb _ 1 (other .0 .0 .0 .0 .0 .1),
+      ne-eqb _ 2 (other .0 .0 .0 .0 .1),
+      ne-eqb _ 3 (other .0 .0 .0 .1),
+      ne-eqb _ 4 (other .0 .0 .1),
+      ne-eqb _ 5 (other .0 .1),
+      ne-eqb _ 6 (other .1),
+    )
+    (c .group-from .ensures)
+
+pub row-from-spec : {M : Type 1} → statement M
+row-from-spec = tie.close (tie.spec free returns returns-2 returns-3 returns-4 returns-5 returns-6 returns-7)

@@ -1,42 +1,73 @@
--- What is true of continuations for every row type: a row's definition looks only at the times of its own kinds, and what may still follow after a step might have followed before it, so a row that is open after a step was open before it.
-use Prim.Native.Nat.{ℕ, _≤_, _<_}
+-- What is true of continuations for every row type: a row's definition looks only at its own events and the clock, and what may still follow after a step might have followed before it, so a row that is open after a step was open before it.
+use Prim.Native.Nat.{ℕ, zero, suc, _≤_, _<_}
 use native.Mathlib.Omega.{arith}
 use mathlib.Core.Path.{_≡_, refl, sym, ap, _∙_, subst, subst₂}
-use mathlib.Core.Bool.{true, false}
+use mathlib.Core.Bool.{true, false, cond, or-true}
 use mathlib.Core.List.{List, [], _∷_, _++_, map, append-nil, append-assoc}
+use lib.ListN.{length}
 use lib.Dec.{eqb}
 use borrow.Author.Tests.{eq-eqb, ne-eqb}
 use Rattle.constraint.specs.Limits.{lastKind}
-use Rattle.constraint.specs.Steps.{Step, event, tick, close, at, timeIf, times, clock, closed}
+use Rattle.constraint.specs.Steps.{Step, event, tick, close, at, timeIf, times, among, own, clockFrom, clock, closed}
 use Rattle.constraint.specs.Meets.{Meets, MeetsDelay, MeetsStrongDelay, MeetsRepeat, MeetsSporadic, MeetsBurst, MeetsOrder, MeetsStrongSynchronization}
 use Rattle.constraint.specs.Continuation.{EventInOrder, Continues, stop, more, Open}
 use Rattle.constraint.specs.Accepted.{kinds}
 use Rattle.constraint.specs.declared.Constraint.{Constraint}
 use Rattle.constraint.specs.declared.Constraint.the-variants.{Delay, StrongDelay, Repeat, Sporadic, Burst, Order, StrongSynchronization2, StrongSynchronization3, StrongSynchronization4}
-use Rattle.constraint.proofs.Lists.{split, Each, each-none, each-cons, Rising, rising-right, rising-across, rising-snoc}
-use Rattle.constraint.proofs.History.{times-append, times-own, times-tick, times-close, clock-event, clock-tick, closed-event, closed-tick, closed-close, Accepts, with-time}
+use Rattle.constraint.proofs.Lists.{split, both, Each, each-none, each-cons, Rising, rising-right, rising-across, rising-snoc}
+use Rattle.constraint.proofs.History.{times-append, times-own, times-tick, times-close, own-append, own-tick, own-close, clock-append, clock-later, clock-event, clock-tick, clock-close, closed-event, closed-tick, closed-close, Accepts, with-time}
 
--- ---- a row looks only at the times of its own kinds
+-- ---- a row looks only at its own events and the clock
+
+-- the times of one kind among some events
+timesIn : ℕ → List (ℕ × ℕ) → List ℕ
+timesIn k [] = []
+timesIn k (e ∷ es) = timeIf (eqb (e .0) k) (e .1) (timesIn k es)
+
+own-times : (ks : List ℕ) (k : ℕ) → among k ks ≡ true → (steps : List Step) → times k steps ≡ timesIn k (own ks steps)
+unfolding times own timesIn
+own-times ks k is [] = refl
+own-times ks k is (event j t ∷ steps) =
+    split (among j ks) (λ x. among j ks ≡ x → timeIf (eqb j k) t (times k steps) ≡ timesIn k (cond x ((j, t) ∷ own ks steps) (own ks steps)))
+    (λ e f. ap (timeIf (eqb j k) t) (own-times ks k is steps))
+    (λ e f. rw (ne-eqb j k (λ same. both (sym is ∙ ap (λ (i : ℕ). among i ks) (sym same) ∙ f))) (own-times ks k is steps))
+    refl
+own-times ks k is (tick t ∷ steps) = own-times ks k is steps
+own-times ks k is (close ∷ steps) = own-times ks k is steps
+
+among-at : (ks : List ℕ) (i : ℕ) → i < length ks → among (at ks i) ks ≡ true
+among-at [] i h = absurd (omega arith)
+among-at (k ∷ ks) zero h = rw (eq-eqb k k refl)
+among-at (k ∷ ks) (suc i) h = rw (among-at ks i (omega arith)) (or-true (eqb (at ks i) k))
 
 -- two lists of steps have the same times of each of these kinds
 abbrev pub SameTimes : List ℕ → List Step → List Step → Type 0
 SameTimes ks a b = Each (λ k. times k a ≡ times k b) ks
 
+-- they do if they have the same events of these kinds
+pub same-times : (ks : List ℕ) (a b : List Step) → own ks a ≡ own ks b → SameTimes ks a b
+same-times ks a b same i h =
+    own-times ks (at ks i) (among-at ks i h) a ∙ ap (timesIn (at ks i)) same ∙ sym (own-times ks (at ks i) (among-at ks i h) b)
+
 synchronized-same : (ks : List ℕ) (tolerance : ℕ) (a b : List Step) → SameTimes ks a b → MeetsStrongSynchronization ks tolerance a → MeetsStrongSynchronization ks tolerance b
 unfolding MeetsStrongSynchronization
 synchronized-same ks tolerance a b same m j k h g = rw (← same j h, ← same k g) (m j k h g)
 
-pub meets-same : (c : Constraint) (a b : List Step) → SameTimes (kinds c) a b → Meets c a → Meets c b
+meets-same-times : (c : Constraint) (a b : List Step) → SameTimes (kinds c) a b → Meets c a → Meets c b
 unfolding Meets
-meets-same (Delay source target lower upper) a b same m = subst₂ (MeetsDelay lower upper) (same 0 (omega arith)) (same 1 (omega arith)) m
-meets-same (StrongDelay source target lower upper) a b same m = subst₂ (MeetsStrongDelay lower upper) (same 0 (omega arith)) (same 1 (omega arith)) m
-meets-same (Repeat kind span lower upper) a b same m = subst (MeetsRepeat span lower upper) (same 0 (omega arith)) m
-meets-same (Sporadic kind lower upper jitter minimum) a b same m = subst (MeetsSporadic lower upper jitter minimum) (same 0 (omega arith)) m
-meets-same (Burst kind maximum len minimum) a b same m = subst (MeetsBurst maximum len minimum) (same 0 (omega arith)) m
-meets-same (Order source target) a b same m = subst₂ MeetsOrder (same 0 (omega arith)) (same 1 (omega arith)) m
-meets-same (StrongSynchronization2 x y tolerance) a b same m = synchronized-same (x ∷ y ∷ []) tolerance a b same m
-meets-same (StrongSynchronization3 x y z tolerance) a b same m = synchronized-same (x ∷ y ∷ z ∷ []) tolerance a b same m
-meets-same (StrongSynchronization4 x y z w tolerance) a b same m = synchronized-same (x ∷ y ∷ z ∷ w ∷ []) tolerance a b same m
+meets-same-times (Delay source target lower upper) a b same m = subst₂ (MeetsDelay lower upper) (same 0 (omega arith)) (same 1 (omega arith)) m
+meets-same-times (StrongDelay source target lower upper) a b same m = subst₂ (MeetsStrongDelay lower upper) (same 0 (omega arith)) (same 1 (omega arith)) m
+meets-same-times (Repeat kind span lower upper) a b same m = subst (MeetsRepeat span lower upper) (same 0 (omega arith)) m
+meets-same-times (Sporadic kind lower upper jitter minimum) a b same m = subst (MeetsSporadic lower upper jitter minimum) (same 0 (omega arith)) m
+meets-same-times (Burst kind maximum len minimum) a b same m = subst (MeetsBurst maximum len minimum) (same 0 (omega arith)) m
+meets-same-times (Order source target) a b same m = subst₂ MeetsOrder (same 0 (omega arith)) (same 1 (omega arith)) m
+meets-same-times (StrongSynchronization2 x y tolerance) a b same m = synchronized-same (x ∷ y ∷ []) tolerance a b same m
+meets-same-times (StrongSynchronization3 x y z tolerance) a b same m = synchronized-same (x ∷ y ∷ z ∷ []) tolerance a b same m
+meets-same-times (StrongSynchronization4 x y z w tolerance) a b same m = synchronized-same (x ∷ y ∷ z ∷ w ∷ []) tolerance a b same m
+
+-- what a row says of some events and a clock it says of the same events and every earlier clock
+pub meets-same : (c : Constraint) (a b : List Step) → own (kinds c) a ≡ own (kinds c) b → clock b ≤ clock a → Meets c a → Meets c b
+meets-same c a b same earlier m = meets-same-times c a b (same-times (kinds c) a b same) m
 
 -- ---- what a continuation is made of
 
@@ -106,36 +137,43 @@ module _ (c : Constraint) (steps : List Step) where
   open-before-event k t o kind order (further, follows, meets) =
       (event k t ∷ further, more k t o kind order follows, subst (Meets c) (append-assoc steps (event k t ∷ []) further) meets)
 
-  -- nothing is recorded by a tick or a close
-  open-before-other : (s : Step) → ((k : ℕ) → times k (steps ++ (s ∷ [])) ≡ times k steps) → (further : List Step) → Meets c (steps ++ (s ∷ []) ++ further) → Meets c (steps ++ further)
-  open-before-other s same further m =
+  -- nothing is recorded by a tick or a close, and neither moves the clock back
+  meets-before : (s : Step) → own (kinds c) (steps ++ (s ∷ [])) ≡ own (kinds c) steps → clock steps ≤ clock (steps ++ (s ∷ [])) → (further : List Step)
+      → Meets c (steps ++ (s ∷ []) ++ further) → Meets c (steps ++ further)
+  meets-before s same later further m =
       meets-same c (steps ++ (s ∷ []) ++ further) (steps ++ further)
-      (λ i h. times-append (at (kinds c) i) (steps ++ (s ∷ [])) further ∙ rw (same (at (kinds c) i)) (sym (times-append (at (kinds c) i) steps further))) m
+      (own-append (kinds c) (steps ++ (s ∷ [])) further ∙ rw same (sym (own-append (kinds c) steps further)))
+      (rw (clock-append 0 (steps ++ (s ∷ [])) further, clock-append 0 steps further) (clock-later (clock steps) (clock (steps ++ (s ∷ []))) further later)) m
 
   open-before-tick : (t : ℕ) → clock steps ≤ t → Open c (steps ++ (tick t ∷ [])) → Open c steps
   open-before-tick t later (further, follows, meets) = (
     further,
     continues-earlier follows steps (sym (closed-tick t steps)) (λ k. times-tick k t steps) (rw (clock-tick t steps) later),
-    open-before-other (tick t) (λ k. times-tick k t steps) further meets,
+    meets-before (tick t) (own-tick (kinds c) t steps) (rw (clock-tick t steps) later) further meets,
   )
 
   open-before-close : Open c (steps ++ (close ∷ [])) → Open c steps
-  open-before-close (further, follows, meets) =
-      ([], stop, open-before-other close (λ k. times-close k steps) [] (subst (λ (f : List Step). Meets c (steps ++ (close ∷ []) ++ f)) (continues-closed (closed-close steps) follows) meets))
+  open-before-close (further, follows, meets) = (
+    [],
+    stop,
+    meets-before close (own-close (kinds c) steps) (rw (clock-close steps) (omega arith)) []
+        (subst (λ (f : List Step). Meets c (steps ++ (close ∷ []) ++ f)) (continues-closed (closed-close steps) follows) meets),
+  )
 
   -- a row that is open after a step was open before it
   pub open-before : (s : Step) → Accepts steps s → Open c (steps ++ (s ∷ [])) → Open c steps
-  open-before (event k t) a o = open-before-event k t (a .0) (a .1) (a .3) o
-  open-before (tick t) a o = open-before-tick t (omega (arith, a .2)) o
+  open-before (event k t) a o = open-before-event k t (a .not-closed) (a .kind-small) (a .in-order) o
+  open-before (tick t) a o = open-before-tick t (omega (arith, a .later)) o
   open-before close a o = open-before-close o
 
   -- a row that is open after an event would be open after a tick to its time
   pub open-at-tick : (k t : ℕ) → closed steps ≡ false → k ≤ lastKind → EventInOrder steps k t → Open c (steps ++ (event k t ∷ [])) → Open c (steps ++ (tick t ∷ []))
+  unfolding clockFrom
   open-at-tick k t o kind order (further, follows, meets) = (
     event k t ∷ further,
     more k t (closed-tick t steps ∙ o) kind (rw (clock-tick t steps) (omega arith), rw (times-tick k t steps) (order .1))
         (continues-earlier follows (steps ++ (tick t ∷ []) ++ (event k t ∷ [])) closed-same same (rw (clock-event k t steps, clock-event k t (steps ++ (tick t ∷ []))) (omega arith))),
-    meets-same c (steps ++ (event k t ∷ []) ++ further) (steps ++ (tick t ∷ []) ++ (event k t ∷ further)) (λ i h. same-after (at (kinds c) i)) meets,
+    meets-same c (steps ++ (event k t ∷ []) ++ further) (steps ++ (tick t ∷ []) ++ (event k t ∷ further)) own-same clock-same meets,
   )
     where
       same : (j : ℕ) → times j (steps ++ (event k t ∷ [])) ≡ times j (steps ++ (tick t ∷ []) ++ (event k t ∷ []))
@@ -144,7 +182,17 @@ module _ (c : Constraint) (steps : List Step) where
       closed-same : closed (steps ++ (tick t ∷ []) ++ (event k t ∷ [])) ≡ closed (steps ++ (event k t ∷ []))
       closed-same = closed-event k t (steps ++ (tick t ∷ [])) ∙ closed-tick t steps ∙ sym (closed-event k t steps)
 
-      same-after : (j : ℕ) → times j (steps ++ (event k t ∷ []) ++ further) ≡ times j (steps ++ (tick t ∷ []) ++ (event k t ∷ further))
-      same-after j =
-          times-append j (steps ++ (event k t ∷ [])) further ∙ rw (same j) (sym (times-append j (steps ++ (tick t ∷ []) ++ (event k t ∷ [])) further))
-          ∙ ap (times j) (append-assoc (steps ++ (tick t ∷ [])) (event k t ∷ []) further)
+      events-same : own (kinds c) (steps ++ (event k t ∷ [])) ≡ own (kinds c) (steps ++ (tick t ∷ []) ++ (event k t ∷ []))
+      events-same =
+          own-append (kinds c) steps (event k t ∷ [])
+          ∙ rw (← own-tick (kinds c) t steps) (sym (own-append (kinds c) (steps ++ (tick t ∷ [])) (event k t ∷ [])))
+
+      own-same : own (kinds c) (steps ++ (event k t ∷ []) ++ further) ≡ own (kinds c) (steps ++ (tick t ∷ []) ++ (event k t ∷ further))
+      own-same =
+          own-append (kinds c) (steps ++ (event k t ∷ [])) further
+          ∙ rw events-same (sym (own-append (kinds c) (steps ++ (tick t ∷ []) ++ (event k t ∷ [])) further))
+          ∙ ap (own (kinds c)) (append-assoc (steps ++ (tick t ∷ [])) (event k t ∷ []) further)
+
+      clock-same : clock (steps ++ (tick t ∷ []) ++ (event k t ∷ further)) ≤ clock (steps ++ (event k t ∷ []) ++ further)
+      clock-same =
+          rw (clock-append 0 (steps ++ (tick t ∷ [])) (event k t ∷ further), clock-append 0 (steps ++ (event k t ∷ [])) further, clock-event k t steps) (omega arith)

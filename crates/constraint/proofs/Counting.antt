@@ -76,9 +76,9 @@ count-step : (s : Step) (steps : List Step) → Accepts steps s → length steps
     → length steps + 1 ≤ total 64 (steps ++ (s ∷ [])) + clock (steps ++ (s ∷ [])) + closings (steps ++ (s ∷ []))
 unfolding closings
 count-step (event k t) steps a h =
-    rw (clock-event k t steps, closed-event k t steps) (omega (arith, total-event 64 k t steps (omega (arith, a .1)) (a .3), a .3 .0))
+    rw (clock-event k t steps, closed-event k t steps) (omega (arith, total-event 64 k t steps (omega (arith, a .kind-small)) (a .in-order), a .in-order .0))
 count-step (tick t) steps a h =
-    rw (clock-tick t steps, closed-tick t steps, total-same 64 (steps ++ (tick t ∷ [])) steps (λ k g. times-tick k t steps)) (omega (arith, a .2))
+    rw (clock-tick t steps, closed-tick t steps, total-same 64 (steps ++ (tick t ∷ [])) steps (λ k g. times-tick k t steps)) (omega (arith, a .later))
 count-step close steps a h =
     rw (clock-close steps, closed-close steps, total-same 64 (steps ++ (close ∷ [])) steps (λ k g. times-close k steps)) (omega (arith, rw a at h))
 

@@ -2,12 +2,12 @@
 use Prim.Native.Nat.{ℕ, _≤_, _<_}
 use native.Mathlib.Omega.{arith}
 use mathlib.Core.Path.{_≡_, refl, sym, ap, _∙_, subst}
-use mathlib.Core.Bool.{true, false}
+use mathlib.Core.Bool.{true, false, cond}
 use mathlib.Core.List.{List, [], _∷_, _++_, append-nil}
 use lib.Dec.{eqb}
 use borrow.Author.Tests.{eqb-true, eq-eqb, ne-eqb}
 use Rattle.constraint.specs.Limits.{lastKind, lastTime}
-use Rattle.constraint.specs.Steps.{Step, event, tick, close, timeIf, times, clockFrom, clock, closed}
+use Rattle.constraint.specs.Steps.{Step, event, tick, close, timeIf, times, among, own, clockFrom, clock, closed}
 use Rattle.constraint.specs.Continuation.{EventInOrder}
 use Rattle.constraint.proofs.Lists.{split, Each, each-none, each-append, each-cons, Rising, rising-snoc}
 
@@ -38,12 +38,42 @@ pub times-close : (k : ℕ) (steps : List Step) → times k (steps ++ (close ∷
 unfolding times
 times-close k steps = times-append k steps (close ∷ []) ∙ append-nil (times k steps)
 
-clock-append : (now : ℕ) (a b : List Step) → clockFrom now (a ++ b) ≡ clockFrom (clockFrom now a) b
+-- the events of some kinds
+pub own-append : (ks : List ℕ) (a b : List Step) → own ks (a ++ b) ≡ own ks a ++ own ks b
+unfolding own
+own-append ks [] b = refl
+own-append ks (event k t ∷ a) b =
+    split (among k ks) (λ x. cond x ((k, t) ∷ own ks (a ++ b)) (own ks (a ++ b)) ≡ cond x ((k, t) ∷ own ks a) (own ks a) ++ own ks b)
+    (λ e. ap (λ (l : List (ℕ × ℕ)). (k, t) ∷ l) (own-append ks a b)) (λ e. own-append ks a b)
+own-append ks (tick t ∷ a) b = own-append ks a b
+own-append ks (close ∷ a) b = own-append ks a b
+
+pub own-other : (ks : List ℕ) (k t : ℕ) (steps : List Step) → among k ks ≡ false → own ks (steps ++ (event k t ∷ [])) ≡ own ks steps
+unfolding own
+own-other ks k t steps h = own-append ks steps (event k t ∷ []) ∙ rw h (append-nil (own ks steps))
+
+pub own-tick : (ks : List ℕ) (t : ℕ) (steps : List Step) → own ks (steps ++ (tick t ∷ [])) ≡ own ks steps
+unfolding own
+own-tick ks t steps = own-append ks steps (tick t ∷ []) ∙ append-nil (own ks steps)
+
+pub own-close : (ks : List ℕ) (steps : List Step) → own ks (steps ++ (close ∷ [])) ≡ own ks steps
+unfolding own
+own-close ks steps = own-append ks steps (close ∷ []) ∙ append-nil (own ks steps)
+
+pub clock-append : (now : ℕ) (a b : List Step) → clockFrom now (a ++ b) ≡ clockFrom (clockFrom now a) b
 unfolding clockFrom
 clock-append now [] b = refl
 clock-append now (event k t ∷ a) b = clock-append t a b
 clock-append now (tick t ∷ a) b = clock-append t a b
 clock-append now (close ∷ a) b = clock-append now a b
+
+-- a later clock before some steps is no earlier one after them
+pub clock-later : (now later : ℕ) (steps : List Step) → now ≤ later → clockFrom now steps ≤ clockFrom later steps
+unfolding clockFrom
+clock-later now later [] h = h
+clock-later now later (event k t ∷ steps) h = clock-later t t steps (omega arith)
+clock-later now later (tick t ∷ steps) h = clock-later t t steps (omega arith)
+clock-later now later (close ∷ steps) h = clock-later now later steps h
 
 pub clock-event : (k t : ℕ) (steps : List Step) → clock (steps ++ (event k t ∷ [])) ≡ t
 unfolding clockFrom
@@ -80,10 +110,23 @@ closed-close (close ∷ steps) = refl
 
 -- ---- accepted steps
 
--- a step that is accepted after the steps, question 12 aside
+-- an event that is accepted after the steps, question 12 aside
+pub record AcceptsEvent (steps : List Step) (k t : ℕ) : Type 0 where
+  pub not-closed : closed steps ≡ false
+  pub kind-small : k ≤ lastKind
+  pub time-small : t ≤ lastTime
+  pub in-order : EventInOrder steps k t
+
+-- a tick that is
+pub record AcceptsTick (steps : List Step) (t : ℕ) : Type 0 where
+  pub not-closed : closed steps ≡ false
+  pub time-small : t ≤ lastTime
+  pub later : clock steps < t
+
+-- a step that is
 abbrev pub Accepts : List Step → Step → Type 0
-Accepts steps (event k t) = (closed steps ≡ false) × (k ≤ lastKind) × (t ≤ lastTime) × EventInOrder steps k t
-Accepts steps (tick t) = (closed steps ≡ false) × (t ≤ lastTime) × (clock steps < t)
+Accepts steps (event k t) = AcceptsEvent steps k t
+Accepts steps (tick t) = AcceptsTick steps t
 Accepts steps close = closed steps ≡ false
 
 -- steps each of which was accepted after those before it
@@ -138,8 +181,8 @@ past-close steps p =
     }
 
 past-more : (s : Step) (steps : List Step) → Past steps → Accepts steps s → Past (steps ++ (s ∷ []))
-past-more (event k t) steps p a = past-event k t steps p (a .2) (a .3)
-past-more (tick t) steps p a = past-tick t steps p (a .1) (a .2)
+past-more (event k t) steps p a = past-event k t steps p (a .time-small) (a .in-order)
+past-more (tick t) steps p a = past-tick t steps p (a .time-small) (a .later)
 past-more close steps p a = past-close steps p
 
 pub past-of : {steps : List Step} → Valid steps → Past steps

@@ -25,12 +25,13 @@ use Rattle.constraint.proofs.Judged.{never}
 -- a step whose questions are all answered "yes"
 accepts-taken : (rows : List Constraint) (steps : List Step) (s : Call) → Judged (questions rows steps s) Taken → Accepts steps (stepFor s)
 unfolding Judged questions
-accepts-taken rows steps (Call.Event k t) (inl (a, inl (b, inl (c, inl (d, later))))) = (a, b, c, d)
+accepts-taken rows steps (Call.Event k t) (inl (a, inl (b, inl (c, inl (d, later))))) =
+    record { not-closed = a; kind-small = b; time-small = c; in-order = d }
 accepts-taken rows steps (Call.Event k t) (inl (a, inl (b, inl (c, inr e)))) = never (cc (e .1))
 accepts-taken rows steps (Call.Event k t) (inl (a, inl (b, inr e))) = never (cc (e .1))
 accepts-taken rows steps (Call.Event k t) (inl (a, inr e)) = never (cc (e .1))
 accepts-taken rows steps (Call.Event k t) (inr e) = never (cc (e .1))
-accepts-taken rows steps (Call.Tick t) (inl (a, inl (b, inl (c, later)))) = (a, b, c)
+accepts-taken rows steps (Call.Tick t) (inl (a, inl (b, inl (c, later)))) = record { not-closed = a; time-small = b; later = c }
 accepts-taken rows steps (Call.Tick t) (inl (a, inl (b, inr e))) = never (cc (e .1))
 accepts-taken rows steps (Call.Tick t) (inl (a, inr e)) = never (cc (e .1))
 accepts-taken rows steps (Call.Tick t) (inr e) = never (cc (e .1))

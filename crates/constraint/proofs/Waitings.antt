@@ -1,16 +1,16 @@
--- How many wait in a row depends only on the times of the row's own kinds.
+-- How many wait in a row depends only on the row's own events.
 use Prim.Native.Nat.{ℕ, _-_}
 use native.Mathlib.Omega.{arith}
 use mathlib.Core.Path.{_≡_, refl, ap, ap₂}
 use mathlib.Core.List.{List, [], _∷_, map}
 use lib.ListN.{length}
-use Rattle.constraint.specs.Steps.{Step, times}
+use Rattle.constraint.specs.Steps.{Step, times, own}
 use Rattle.constraint.specs.Waiting.{unanswered, largest, least, begunIncomplete, waiting}
 use Rattle.constraint.specs.Accepted.{kinds}
 use Rattle.constraint.specs.declared.Constraint.{Constraint}
 use Rattle.constraint.specs.declared.Constraint.the-variants.{Delay, StrongDelay, Repeat, Sporadic, Burst, Order, StrongSynchronization2, StrongSynchronization3, StrongSynchronization4}
 use Rattle.constraint.proofs.Lists.{each-tail}
-use Rattle.constraint.proofs.Continuations.{SameTimes}
+use Rattle.constraint.proofs.Continuations.{SameTimes, same-times}
 
 counts-same : (ks : List ℕ) (a b : List Step) → SameTimes ks a b → map (λ k. length (times k a)) ks ≡ map (λ k. length (times k b)) ks
 counts-same [] a b same = refl
@@ -21,14 +21,17 @@ groups-same : (ks : List ℕ) (a b : List Step) → SameTimes ks a b → begunIn
 unfolding begunIncomplete
 groups-same ks a b same = ap (λ (counts : List ℕ). largest counts - least counts) (counts-same ks a b same)
 
-pub waiting-same : (c : Constraint) (a b : List Step) → SameTimes (kinds c) a b → waiting c a ≡ waiting c b
+waiting-same-times : (c : Constraint) (a b : List Step) → SameTimes (kinds c) a b → waiting c a ≡ waiting c b
 unfolding waiting
-waiting-same (Delay source target lower upper) a b same = ap₂ (unanswered lower upper) (same 0 (omega arith)) (same 1 (omega arith))
-waiting-same (StrongDelay source target lower upper) a b same = ap₂ (λ (s t : List ℕ). length s - length t) (same 0 (omega arith)) (same 1 (omega arith))
-waiting-same (Repeat event span lower upper) a b same = refl
-waiting-same (Sporadic event lower upper jitter minimum) a b same = refl
-waiting-same (Burst event maximum len minimum) a b same = refl
-waiting-same (Order source target) a b same = refl
-waiting-same (StrongSynchronization2 x y tolerance) a b same = groups-same (x ∷ y ∷ []) a b same
-waiting-same (StrongSynchronization3 x y z tolerance) a b same = groups-same (x ∷ y ∷ z ∷ []) a b same
-waiting-same (StrongSynchronization4 x y z w tolerance) a b same = groups-same (x ∷ y ∷ z ∷ w ∷ []) a b same
+waiting-same-times (Delay source target lower upper) a b same = ap₂ (unanswered lower upper) (same 0 (omega arith)) (same 1 (omega arith))
+waiting-same-times (StrongDelay source target lower upper) a b same = ap₂ (λ (s t : List ℕ). length s - length t) (same 0 (omega arith)) (same 1 (omega arith))
+waiting-same-times (Repeat event span lower upper) a b same = refl
+waiting-same-times (Sporadic event lower upper jitter minimum) a b same = refl
+waiting-same-times (Burst event maximum len minimum) a b same = refl
+waiting-same-times (Order source target) a b same = refl
+waiting-same-times (StrongSynchronization2 x y tolerance) a b same = groups-same (x ∷ y ∷ []) a b same
+waiting-same-times (StrongSynchronization3 x y z tolerance) a b same = groups-same (x ∷ y ∷ z ∷ []) a b same
+waiting-same-times (StrongSynchronization4 x y z w tolerance) a b same = groups-same (x ∷ y ∷ z ∷ w ∷ []) a b same
+
+pub waiting-same : (c : Constraint) (a b : List Step) → own (kinds c) a ≡ own (kinds c) b → waiting c a ≡ waiting c b
+waiting-same c a b same = waiting-same-times c a b (same-times (kinds c) a b same)

@@ -1,6 +1,6 @@
 -- Steps, and what a list of accepted steps has recorded (§1.3 to §1.7).
 use Prim.Native.Nat.{ℕ}
-use mathlib.Core.Bool.{Bool, true, false}
+use mathlib.Core.Bool.{Bool, true, false, cond, _||_}
 use mathlib.Core.List.{List, [], _∷_}
 use lib.ListN.{getD}
 use lib.Dec.{eqb}
@@ -25,6 +25,18 @@ times k [] = []
 times k (event j t ∷ steps) = timeIf (eqb j k) t (times k steps)
 times k (tick t ∷ steps) = times k steps
 times k (close ∷ steps) = times k steps
+
+-- k is one of these kinds
+abbrev pub among : ℕ → List ℕ → Bool
+among k [] = false
+among k (j ∷ ks) = eqb k j || among k ks
+
+-- the events of these kinds, each with its kind and its time, in the order recorded
+unfoldable pub own : List ℕ → List Step → List (ℕ × ℕ)
+own ks [] = []
+own ks (event k t ∷ steps) = cond (among k ks) ((k, t) ∷ own ks steps) (own ks steps)
+own ks (tick t ∷ steps) = own ks steps
+own ks (close ∷ steps) = own ks steps
 
 -- the clock after the steps, from the clock before them: §1.3 and §1.4 say where an event and a tick move it, §1.5 that the close does not
 unfoldable pub clockFrom : ℕ → List Step → ℕ

@@ -1,19 +1,21 @@
--- Laws of `ring`, the times of a list of 64 from a place on, and of what a ring holds.
-use mathlib.Core.Path.{_≡_, refl, ap}
-use mathlib.Core.Bool.{Bool, true, false, cond, _&&_}
+-- Laws of `ring`, the times of a list of 64 from a place on, and of what an edit makes of a ring.
+use mathlib.Core.Path.{_≡_, refl, ap, _∙_}
+use mathlib.Core.Bool.{Bool, true, false, cond}
 use mathlib.Core.Logic.{_≢_}
-use mathlib.Core.List.{List, [], _∷_, _++_}
+use mathlib.Core.List.{List, [], _∷_, _++_, append-assoc}
 use Prim.Native.Nat.{ℕ, zero, suc, _+_, _-_, _%_, _≤_, _<_}
 use native.Mathlib.Nat.{add-zero, suc-add, add-suc}
 use native.Mathlib.Numerals.{add-one}
 use native.Mathlib.Omega.{arith}
-use borrow.Author.Tests.{lt-ltb}
+use borrow.Author.Tests.{ltb-true, ltb-false, lt-ltb}
 use lib.Dec.{ltb}
-use lib.ListN.{length, getD, set, drop, length-append, length-drop, length-set}
-use lib.Seq.{getD-set-same, getD-set-other}
-use Rattle.queue.specs.Ring.{Ring, ring, timeAt, items, changed, shifted}
+use lib.ListN.{length, getD, set, drop, replicate, length-append, length-drop, length-set, drop-of-length-le}
+use lib.Seq.{drop-cons, getD-set-same, getD-set-other, set-out}
+use Rattle.queue.specs.declared.Edit.{Edit}
+use Rattle.queue.specs.declared.Edit.the-variants.{Drop, Push, PushTwo, Store}
+use Rattle.queue.specs.Ring.{Ring, ringOf, ring, ringPlace, timeAt, items, changed, dropRing, pushRing, putRing, edited}
 
--- Rings
+-- ---- Rings
 
 pub ring-length : (l : List ℕ) (f n : ℕ) → length (ring l f n) ≡ n
 unfolding ring
@@ -66,13 +68,31 @@ ring-drop l f (suc n) (suc d) =
     let e : suc n - suc d ≡ n - d = omega arith in
     rw (add-suc, ← suc-add, e) (ring-drop l (suc f) n d)
 
+-- what is left then begins with the time at d, or is nothing
+pub ring-from : (l : List ℕ) (f n d : ℕ) → d < n → drop d (ring l f n) ≡ timeAt l f d ∷ drop (suc d) (ring l f n)
+ring-from l f n d h = rw (ring-read l f n d h) (drop-cons (ring l f n) d 0 (rw ring-length h))
+
+pub ring-spent : (l : List ℕ) (f n d : ℕ) → n ≤ d → drop d (ring l f n) ≡ []
+ring-spent l f n d h = let all : length (ring l f n) ≤ d = rw ring-length h in drop-of-length-le (ring l f n) all
+
 -- one more at the end
 ring-snoc : (l : List ℕ) (f n : ℕ) → ring l f (suc n) ≡ ring l f n ++ getD l ((f + n) % 64) 0 ∷ []
 unfolding ring
 ring-snoc l f zero = rw add-zero
 ring-snoc l f (suc n) = rw (add-suc, ← suc-add) (ap (λ (r : List ℕ). getD l (f % 64) 0 ∷ r) (ring-snoc l (suc f) n))
 
--- a store outside
+-- a ring of zeros
+zero-at : (n i : ℕ) → _≡_ {A = ℕ} (getD (replicate n 0) i 0) 0
+zero-at zero i = refl
+zero-at (suc n) zero = refl
+zero-at (suc n) (suc i) = zero-at n i
+
+pub ring-zeros : (m f n : ℕ) → ring (replicate m 0) f n ≡ replicate n 0
+unfolding ring
+ring-zeros m f zero = refl
+ring-zeros m f (suc n) = rw (zero-at m (f % 64), ring-zeros m (suc f) n)
+
+-- a store outside, and one inside
 ring-set : (l : List ℕ) (f n p t : ℕ) → ((i : ℕ) → i < n → (f + i) % 64 ≢ p) → ring (set l p t) f n ≡ ring l f n
 unfolding ring
 ring-set l f zero p t h = refl
@@ -82,39 +102,98 @@ ring-set l f (suc n) p t h =
       ring-set l (suc f) n p t (λ i k. rw (suc-add, ← add-suc) (h (suc i) (omega arith))),
     )
 
+ring-put : (l : List ℕ) (f n i t : ℕ) → length l ≡ 64 → n ≤ 64 → i < n → ring (set l ((f + i) % 64) t) f n ≡ set (ring l f n) i t
+unfolding ring
+ring-put l f zero i t size few h = absurd (omega arith)
+ring-put l f (suc n) zero t size few h =
+    rw (
+      add-zero,
+      getD-set-same l (f % 64) t 0 (omega arith),
+      ring-set l (suc f) n (f % 64) t (λ i k. omega arith),
+    )
+ring-put l f (suc n) (suc i) t size few h =
+    rw (
+      add-suc,
+      ← suc-add,
+      getD-set-other l ((suc f + i) % 64) (f % 64) t 0 (λ e. omega arith),
+      ring-put l (suc f) n i t size (omega arith) (omega arith),
+    )
+
 ring-push : (l : List ℕ) (f n p t : ℕ) → length l ≡ 64 → n < 64 → p ≡ (f + n) % 64 → ring (set l p t) f (n + 1) ≡ ring l f n ++ t ∷ []
 ring-push l f n p t size room e =
     rw (add-one, ring-snoc, ring-set l f n p t (λ i k. omega arith), ← e, getD-set-same l p t 0 (omega arith))
 
--- Changes
+-- ---- Edits
 
--- the place of the time that is pushed, from the new head
-place : (x n : ℕ) → (x + n % 64) % 64 ≡ (x % 64 + n) % 64
-place x n = omega arith
+-- the place that is i behind a place
+place-is : (head i : ℕ) → ringPlace head i ≡ (head + i) % 64
+place-is head i = omega arith
 
--- a change of the ring is that change of its items, where these are at most 64
-pub items-shifted : (q : Ring) → length (q .times) ≡ 64 → (dropped : ℕ) (pushed : Bool) (t : ℕ)
-    → length (changed dropped pushed t (items q)) ≤ 64
-    → items (shifted dropped pushed t q) ≡ changed dropped pushed t (items q)
-unfolding shifted
-items-shifted q size dropped true t fits =
-    let left = q .len - dropped in
-    let at = q .head % 64 + dropped % 64 in
-    let room : left < 64 = omega (arith, simp (length-append, length-drop, ring-length) at fits) in
-    rw (
-      lt-ltb left 64 room,
-      ring-push (q .times) (at % 64) left ((at + left % 64) % 64) t size room (place at left),
-      ring-drop,
-      ring-mod (q .times) (at % 64) (q .head + dropped) left (omega arith),
-    )
-items-shifted q size dropped false t fits =
-    let at = q .head % 64 + dropped % 64 in
-    rw ring-drop (ring-mod (q .times) (at % 64) (q .head + dropped) (q .len - dropped) (omega arith))
+items-dropped : (q : Ring) (d : ℕ) → items (dropRing d q) ≡ drop d (items q)
+items-dropped q d = rw ring-drop (ring-mod (q .times) (ringPlace (q .head) d) (q .head + d) (q .len - d) (omega arith))
 
-times-either : (b : Bool) (x y : Ring) → length (x .times) ≡ length (y .times) → length (cond b x y .times) ≡ length (y .times)
-times-either true x y e = e
-times-either false x y e = refl
+items-pushed : (q : Ring) (word : ℕ) → length (q .times) ≡ 64 → q .len < 64 → items (pushRing word q) ≡ items q ++ (word ∷ [])
+unfolding pushRing
+items-pushed q word size room =
+    rw (lt-ltb (q .len) 64 room, ring-push (q .times) (q .head) (q .len) (ringPlace (q .head) (q .len)) word size room (place-is (q .head) (q .len)))
 
-pub times-shifted : (q : Ring) (dropped : ℕ) (pushed : Bool) (t : ℕ) → length (shifted dropped pushed t q .times) ≡ length (q .times)
-unfolding shifted
-times-shifted q dropped pushed t = times-either (pushed && ltb (q .len - dropped) 64) _ _ (length-set (q .times) _ t)
+items-put : (q : Ring) (i word : ℕ) → length (q .times) ≡ 64 → q .len ≤ 64 → items (putRing i word q) ≡ set (items q) i word
+unfolding putRing
+items-put q i word size few = by-place (ltb i (q .len)) refl
+  where
+    by-place : (b : Bool) → ltb i (q .len) ≡ b
+        → items (cond b (ringOf (set (q .times) (ringPlace (q .head) i) word) (q .head) (q .len)) q) ≡ set (items q) i word
+    by-place true e = rw place-is (ring-put (q .times) (q .head) (q .len) i word size few (ltb-true i (q .len) e))
+    by-place false e = rw (set-out (items q) i word (omega (arith, ring-length (q .times) (q .head) (q .len), ltb-false i (q .len) e)))
+
+either-times : (b : Bool) (x y : Ring) → length (x .times) ≡ length (y .times) → length (cond b x y .times) ≡ length (y .times)
+either-times true x y e = e
+either-times false x y e = refl
+
+pushed-times : (q : Ring) (word : ℕ) → length (pushRing word q .times) ≡ length (q .times)
+unfolding pushRing
+pushed-times q word = either-times (ltb (q .len) 64) _ q (length-set (q .times) _ word)
+
+put-times : (q : Ring) (i word : ℕ) → length (putRing i word q .times) ≡ length (q .times)
+unfolding putRing
+put-times q i word = either-times (ltb i (q .len)) _ q (length-set (q .times) _ word)
+
+pushed-len : (q : Ring) (word : ℕ) → q .len < 64 → pushRing word q .len ≡ q .len + 1
+unfolding pushRing
+pushed-len q word room = rw (lt-ltb (q .len) 64 room)
+
+put-len : (q : Ring) (i word : ℕ) → putRing i word q .len ≡ q .len
+unfolding putRing
+put-len q i word = either-len (ltb i (q .len)) _ q refl
+  where
+    either-len : (b : Bool) (x y : Ring) → x .len ≡ y .len → cond b x y .len ≡ y .len
+    either-len true x y e = e
+    either-len false x y e = refl
+
+-- an edit of the ring is that edit of its items, where these stay at most 64
+module _ (q : Ring) (size : length (q .times) ≡ 64) (few : q .len ≤ 64) where
+  left-over : (d : ℕ) (words : List ℕ) → length (drop d (items q) ++ words) ≤ 64 → q .len - d + length words ≤ 64
+  left-over d words fits = omega (arith, simp (length-append, length-drop, ring-length) at fits)
+
+  pub items-edited : (e : Edit) → length (changed e (items q)) ≤ 64 → items (edited e q) ≡ changed e (items q)
+  items-edited (Drop d) fits = items-dropped q d
+  items-edited (Push d word) fits =
+      items-pushed (dropRing d q) word size (omega (arith, left-over d (word ∷ []) fits))
+      ∙ ap (λ (l : List ℕ). l ++ (word ∷ [])) (items-dropped q d)
+  items-edited (PushTwo d first second) fits =
+      let some : ℕ = q .len - d in
+      let room : some + 2 ≤ 64 = left-over d (first ∷ second ∷ []) fits in
+      let one : Ring = pushRing first (dropRing d q) in
+      let more : one .len ≡ some + 1 = pushed-len (dropRing d q) first (omega arith) in
+      items-pushed one second (pushed-times (dropRing d q) first ∙ size) (omega arith)
+      ∙ rw (items-pushed (dropRing d q) first size (omega arith), items-dropped q d) (append-assoc (drop d (items q)) (first ∷ []) (second ∷ []))
+  items-edited (Store place first second) fits =
+      let one : Ring = putRing place first q in
+      items-put one (place + 1) second (put-times q place first ∙ size) (omega (arith, put-len q place first))
+      ∙ ap (λ (l : List ℕ). set l (place + 1) second) (items-put q place first size few)
+
+pub times-edited : (q : Ring) (e : Edit) → length (edited e q .times) ≡ length (q .times)
+times-edited q (Drop d) = refl
+times-edited q (Push d word) = pushed-times (dropRing d q) word
+times-edited q (PushTwo d first second) = pushed-times (pushRing first (dropRing d q)) second ∙ pushed-times (dropRing d q) first
+times-edited q (Store place first second) = put-times (putRing place first q) (place + 1) second ∙ put-times q place first

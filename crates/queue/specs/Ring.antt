@@ -1,9 +1,11 @@
--- What a ring of 64 words holds, and what a change makes of it.
+-- What a ring of 64 words holds, and what an edit makes of it.
 use Prim.Native.Nat.{ℕ, zero, suc, _+_, _-_, _%_}
-use mathlib.Core.Bool.{Bool, true, false, cond, _&&_}
+use mathlib.Core.Bool.{cond}
 use mathlib.Core.List.{List, [], _∷_, _++_}
 use lib.ListN.{getD, set, drop}
 use lib.Dec.{ltb}
+use Rattle.queue.specs.declared.Edit.{Edit}
+use Rattle.queue.specs.declared.Edit.the-variants.{Drop, Push, PushTwo, Store}
 
 -- the words, the place of the oldest time, and how many times there are
 pub record Ring : Type 0 where
@@ -19,26 +21,40 @@ unfoldable pub ring : List ℕ → ℕ → ℕ → List ℕ
 ring times head zero = []
 ring times head (suc n) = getD times (head % 64) 0 ∷ ring times (suc head) n
 
--- the time that is i places behind a place, round at the end
+-- the place that is i behind a place, round at the end, and the time there
+abbrev pub ringPlace : ℕ → ℕ → ℕ
+ringPlace head i = (head % 64 + i % 64) % 64
+
 abbrev pub timeAt : List ℕ → ℕ → ℕ → ℕ
-timeAt times head i = getD times ((head % 64 + i % 64) % 64) 0
+timeAt times head i = getD times (ringPlace head i) 0
 
 -- what a ring holds, the oldest first
 abbrev pub items : Ring → List ℕ
 items q = ring (q .times) (q .head) (q .len)
 
--- a list without its first `dropped`, with t behind the rest where it is pushed
-abbrev pub changed : ℕ → Bool → ℕ → List ℕ → List ℕ
-changed dropped true t list = drop dropped list ++ (t ∷ [])
-changed dropped false t list = drop dropped list
+-- a list of times so edited: without its first, with one word or two behind the rest, or with two at a place of their own
+abbrev pub changed : Edit → List ℕ → List ℕ
+changed (Drop dropped) list = drop dropped list
+changed (Push dropped word) list = drop dropped list ++ (word ∷ [])
+changed (PushTwo dropped first second) list = drop dropped list ++ (first ∷ second ∷ [])
+changed (Store place first second) list = set (set list place first) (place + 1) second
 
--- the ring so changed: the head moves on, and t goes behind the last; one that would hold more than 64 times takes no t
-unfoldable pub shifted : ℕ → Bool → ℕ → Ring → Ring
-shifted dropped pushed t q =
-    cond (pushed && ltb (q .len - dropped) 64)
-    (record {
-      times = set (q .times) ((q .head % 64 + dropped % 64 + (q .len - dropped) % 64) % 64) t;
-      head = (q .head % 64 + dropped % 64) % 64;
-      len = q .len - dropped + 1;
-    })
-    (record { times = q .times; head = (q .head % 64 + dropped % 64) % 64; len = q .len - dropped })
+-- the ring without its oldest: the head moves on
+abbrev pub dropRing : ℕ → Ring → Ring
+dropRing dropped q = record { times = q .times; head = ringPlace (q .head) dropped; len = q .len - dropped }
+
+-- the ring with a word behind the rest; one that would hold more than 64 takes none
+unfoldable pub pushRing : ℕ → Ring → Ring
+pushRing word q =
+    cond (ltb (q .len) 64) (ringOf (set (q .times) (ringPlace (q .head) (q .len)) word) (q .head) (q .len + 1)) q
+
+-- the ring with a word at one of its places
+unfoldable pub putRing : ℕ → ℕ → Ring → Ring
+putRing i word q = cond (ltb i (q .len)) (ringOf (set (q .times) (ringPlace (q .head) i) word) (q .head) (q .len)) q
+
+-- the ring so edited
+abbrev pub edited : Edit → Ring → Ring
+edited (Drop dropped) q = dropRing dropped q
+edited (Push dropped word) q = pushRing word (dropRing dropped q)
+edited (PushTwo dropped first second) q = pushRing second (pushRing first (dropRing dropped q))
+edited (Store place first second) q = putRing (place + 1) second (putRing place first q)

@@ -1,7 +1,7 @@
 // The ring of at most 64 times that every row keeps: functions on the 64 words where they lie.
 ghost use mathlib.Core.Path.{_≡_};
 ghost use Prim.Native.Nat.{_-_};
-ghost use Rattle.queue.specs.Ring.{timeAt, ringOf, shifted};
+ghost use Rattle.queue.specs.Ring.{ringPlace, timeAt, ringOf, pushRing, putRing, edited};
 
 // How many times a ring holds at most.
 pub const SIZE: usize = 64;
@@ -12,44 +12,129 @@ pub struct Ends {
     pub len: usize,
 }
 
-// The time that is i places behind the head.
-pub fn time_at(times: &[u64; 64], head: usize, i: usize) -> u64
-    ensures { λ r. ⌜ r ≡ timeAt (now (times .entry)) head i ⌝ }
-{
-    let at = (head % SIZE + i % SIZE) % SIZE;
-    times[at]
+// What is done to the times of a ring.
+pub enum Edit {
+    // the oldest leave, as many as dropped says
+    Drop {
+        dropped: usize,
+    },
+    // so they do, and a word goes behind the rest
+    Push {
+        dropped: usize,
+        word: u64,
+    },
+    // so they do, and two words go behind the rest
+    PushTwo {
+        dropped: usize,
+        first: u64,
+        second: u64,
+    },
+    // none leaves: two words are put at a place of their own and the next
+    Store {
+        place: usize,
+        first: u64,
+        second: u64,
+    },
 }
 
 // a - b, or 0 where b is more.
-pub fn minus(a: usize, b: usize) -> usize
+pub fn minus(a: u64, b: u64) -> u64
     ensures { λ r. ⌜ r ≡ a - b ⌝ }
 {
     if a < b { 0 } else { a - b }
 }
 
-// The ring without its oldest times, as many as dropped says, and with t behind the rest where it is pushed.
-pub fn shift(
-    times: &mut [u64; 64],
-    head: usize,
-    len: usize,
-    dropped: usize,
-    pushed: bool,
-    t: u64,
-) -> Ends
-    ensures { λ r. ⌜ ringOf (now (times .exit)) (r .head) (r .len) ≡ shifted dropped pushed t (ringOf (now (times .entry)) head len) ⌝ }
+// How many of len times are left without the oldest.
+pub fn left(len: usize, dropped: usize) -> usize
+    ensures { λ r. ⌜ r ≡ len - dropped ⌝ }
 {
-    let left = minus(len, dropped);
-    let first = (head % SIZE + dropped % SIZE) % SIZE;
-    let at = (head % SIZE + dropped % SIZE + left % SIZE) % SIZE;
-    if pushed && left < SIZE {
-        times[at] = t;
-        return Ends {
-            head: first,
-            len: left + 1,
-        };
+    minus(len as u64, dropped as u64) as usize
+}
+
+// The place that is i behind the head.
+fn place_of(head: usize, i: usize) -> usize
+    ensures { λ r. ⌜ r ≡ ringPlace head i ⌝ }
+{
+    (head % SIZE + i % SIZE) % SIZE
+}
+
+// The time that is i places behind the head.
+pub fn time_at(times: &[u64; 64], head: usize, i: usize) -> u64
+    ensures { λ r. ⌜ r ≡ timeAt (now (times .entry)) head i ⌝ }
+{
+    let at = place_of(head, i);
+    times[at]
+}
+
+// The ring with a word behind the rest, where it holds fewer than 64: its length.
+fn push(times: &mut [u64; 64], head: usize, len: usize, word: u64) -> usize
+    ensures { λ r. ⌜ ringOf (now (times .exit)) head r ≡ pushRing word (ringOf (now (times .entry)) head len) ⌝ }
+{
+    let at = place_of(head, len);
+    if len < SIZE {
+        times[at] = word;
+        return len + 1;
     }
+    len
+}
+
+// The ring with a word at one of its places.
+fn put(times: &mut [u64; 64], head: usize, len: usize, i: usize, word: u64)
+    ensures { λ r. ⌜ ringOf (now (times .exit)) head len ≡ putRing i word (ringOf (now (times .entry)) head len) ⌝ }
+{
+    let at = place_of(head, i);
+    if i < len {
+        times[at] = word;
+    }
+}
+
+// The ring with what is done to it: where it begins and how many times it holds then.
+pub fn edit_ring(times: &mut [u64; 64], head: usize, len: usize, e: Edit) -> Ends
+    ensures { λ r. ⌜ ringOf (now (times .exit)) (r .head) (r .len) ≡ edited e (ringOf (now (times .entry)) head len) ⌝ }
+{
+    match e {
+        Edit::Drop { dropped } => dropped_ends(head, len, dropped),
+        Edit::Push { dropped, word } => {
+            let ends = dropped_ends(head, len, dropped);
+            let head = ends.head;
+            Ends {
+                head,
+                len: push(times, head, ends.len, word),
+            }
+        }
+        Edit::PushTwo {
+            dropped,
+            first,
+            second,
+        } => {
+            let ends = dropped_ends(head, len, dropped);
+            let head = ends.head;
+            let more = push(times, head, ends.len, first);
+            Ends {
+                head,
+                len: push(times, head, more, second),
+            }
+        }
+        Edit::Store {
+            place,
+            first,
+            second,
+        } => {
+            if place < len {
+                put(times, head, len, place, first);
+                put(times, head, len, place + 1, second);
+            }
+            Ends { head, len }
+        }
+    }
+}
+
+// Where the ring begins and how many times it holds without its oldest.
+fn dropped_ends(head: usize, len: usize, dropped: usize) -> Ends
+    ensures { λ r. ⌜ (r .head ≡ ringPlace head dropped) × (r .len ≡ len - dropped) ⌝ }
+{
     Ends {
-        head: first,
-        len: left,
+        head: place_of(head, dropped),
+        len: left(len, dropped),
     }
 }

@@ -1,7 +1,6 @@
--- Why each row type's machine is exact, and what the code's proofs share.
+-- Every row type is exact, and what a step makes of a row of any type.
 pub mod Exact
+pub mod Engine
 pub mod OwnKinds
 pub mod Steps
-pub mod Laws
-pub mod Engine
-mod Shared
+mod Dispatch

@@ -1,55 +1,39 @@
 -- The row's test of an event's kind is right: its four numbers are the constraint's kinds and, for those that it lacks, 64, which is no kind.
 use Prim.Native.Nat.{ℕ, zero, suc, _-_, _≤_, _<_}
 use native.Mathlib.Omega.{arith}
-use mathlib.Core.Path.{_≡_, refl, sym}
+use mathlib.Core.Path.{_≡_, refl, sym, _∙_}
 use mathlib.Core.Bool.{Bool, true, false, _||_}
 use mathlib.Core.List.{List, [], _∷_, _++_}
-use mathlib.Core.Logic.{_⊎_, inl, inr, ⊎-elim}
+use mathlib.Core.Logic.{⊎-elim}
 use lib.ListN.{length, replicate}
 use lib.Dec.{eqb}
-use borrow.Author.Tests.{eqb-true, eqb-false}
+use borrow.Author.Tests.{eqb-true, ne-eqb}
 use Rattle.constraint.specs.Limits.{lastKind}
-use Rattle.constraint.specs.Steps.{at}
+use Rattle.constraint.specs.Steps.{at, among}
 use Rattle.constraint.specs.Accepted.{kinds}
 use Rattle.constraint.specs.declared.Constraint.{Constraint}
-use Rattle.constraint.specs.declared.Constraint.the-variants.{Delay, StrongDelay, Repeat, Sporadic, Burst, Order, StrongSynchronization2, StrongSynchronization3, StrongSynchronization4}
-use Rattle.constraint.proofs.Lists.{split, or-true, or-false, both, Each, each-none, each-cons}
-use Rattle.row.specs.Row.{noKind, ruleOf}
+use Rattle.constraint.specs.declared.Constraint.the-variants.{Delay, StrongDelay, Repeat, Sporadic, Burst, Order}
+use Rattle.constraint.specs.declared.Constraint.the-variants.{StrongSynchronization2, StrongSynchronization3, StrongSynchronization4}
+use Rattle.constraint.proofs.Lists.{split, or-true, both, Each}
+use Rattle.machine.specs.Rule.{noKind, ruleOf}
 use Rattle.row.specs.Machine.{concerns, noEvent}
 use Rattle.row.proofs.Exact.{OfKind}
 
--- k is among the kinds of a list
-abbrev among : ℕ → List ℕ → Bool
-among k [] = false
-among k (x ∷ []) = eqb k x
-among k (x ∷ (y ∷ ys)) = eqb k x || among k (y ∷ ys)
+-- a kind among some is at one of their places
+among-where : (k : ℕ) (ks : List ℕ) → among k ks ≡ true → (i : ℕ) × (i < length ks) × (at ks i ≡ k)
+among-where k [] e = both (sym e)
+among-where k (j ∷ ks) e =
+    ⊎-elim (λ p. (0, omega arith, sym (eqb-true k j p))) (λ p. let r = among-where k ks p in (suc (r .0), omega (arith, r .1), r .2))
+    (or-true (eqb k j) (among k ks) e)
 
-among-head : (k x : ℕ) (xs : List ℕ) → among k (x ∷ xs) ≡ true → (k ≡ x) ⊎ (among k xs ≡ true)
-among-head k x [] e = inl (eqb-true k x e)
-among-head k x (y ∷ ys) e = ⊎-elim (λ p. inl (eqb-true k x p)) inr (or-true (eqb k x) (among k (y ∷ ys)) e)
+-- the kinds that a row lacks are no event's
+among-absent : (k n : ℕ) (ks : List ℕ) → ¬ (k ≡ noKind) → among k (ks ++ replicate n noKind) ≡ among k ks
+among-absent k zero [] h = refl
+among-absent k (suc n) [] h = rw (ne-eqb k noKind h) (among-absent k n [] h)
+among-absent k n (j ∷ ks) h =
+    split (eqb k j) (λ x. (x || among k (ks ++ replicate n noKind)) ≡ (x || among k ks)) (λ e. refl) (λ e. among-absent k n ks h)
 
-among-neither : (k x : ℕ) (xs : List ℕ) → among k (x ∷ xs) ≡ false → ¬ (k ≡ x) × (among k xs ≡ false)
-among-neither k x [] e = (eqb-false k x e, refl)
-among-neither k x (y ∷ ys) e = let p = or-false (eqb k x) (among k (y ∷ ys)) e in (eqb-false k x (p .0), p .1)
-
-among-where : (k : ℕ) (xs ys : List ℕ) → among k (xs ++ ys) ≡ true → ((i : ℕ) × (i < length xs) × (at xs i ≡ k)) ⊎ (among k ys ≡ true)
-among-where k [] ys e = inr e
-among-where k (x ∷ xs) ys e =
-    ⊎-elim (λ p. inl (0, omega arith, sym p)) (λ q. ⊎-elim (λ r. inl (suc (r .0), omega (arith, r .1), r .2)) inr (among-where k xs ys q)) (among-head k x (xs ++ ys) e)
-
-among-none : (k : ℕ) (xs ys : List ℕ) → among k (xs ++ ys) ≡ false → Each (λ x. ¬ (k ≡ x)) xs
-among-none k [] ys e = each-none (λ x. ¬ (k ≡ x))
-among-none k (x ∷ xs) ys e = let p = among-neither k x (xs ++ ys) e in each-cons (λ x. ¬ (k ≡ x)) x xs (p .0) (among-none k xs ys (p .1))
-
-among-absent : (k n : ℕ) → k ≤ lastKind → among k (replicate n noKind) ≡ true → ⊥
-among-absent k zero small e = both (sym e)
-among-absent k (suc n) small e = ⊎-elim (λ p. omega arith) (among-absent k n small) (among-head k noKind (replicate n noKind) e)
-
--- the kinds that a row lacks
-abbrev absent : Constraint → List ℕ
-absent c = replicate (4 - length (kinds c)) noKind
-
-concerns-among : (c : Constraint) (k : ℕ) → concerns (ruleOf c) k ≡ among k (kinds c ++ absent c)
+concerns-among : (c : Constraint) (k : ℕ) → concerns (ruleOf c) k ≡ among k (kinds c ++ replicate (4 - length (kinds c)) noKind)
 concerns-among (Delay source target lower upper) k = refl
 concerns-among (StrongDelay source target lower upper) k = refl
 concerns-among (Repeat event span lower upper) k = refl
@@ -60,21 +44,15 @@ concerns-among (StrongSynchronization2 a b tolerance) k = refl
 concerns-among (StrongSynchronization3 a b c tolerance) k = refl
 concerns-among (StrongSynchronization4 a b c d tolerance) k = refl
 
-pub concerns-own : (c : Constraint) (k : ℕ) → k ≤ lastKind → concerns (ruleOf c) k ≡ true → OfKind c k
-concerns-own c k small e =
-    ⊎-elim (λ p. p) (λ q. absurd (among-absent k (4 - length (kinds c)) small q)) (among-where k (kinds c) (absent c) (rw (concerns-among c k) at e))
+pub concerns-own : (c : Constraint) (k : ℕ) → ¬ (k ≡ noKind) → concerns (ruleOf c) k ≡ among k (kinds c)
+concerns-own c k h = concerns-among c k ∙ among-absent k (4 - length (kinds c)) (kinds c) h
 
-pub concerns-other : (c : Constraint) (k : ℕ) → concerns (ruleOf c) k ≡ false → Each (λ j. ¬ (k ≡ j)) (kinds c)
-concerns-other c k e = among-none k (kinds c) (absent c) (rw (concerns-among c k) at e)
+pub among-own : (c : Constraint) (k : ℕ) → among k (kinds c) ≡ true → OfKind c k
+among-own c k e = among-where k (kinds c) e
 
 -- no event concerns a row: no kind is so large
 pub concerns-none : (c : Constraint) → Each (λ j. j ≤ lastKind) (kinds c) → concerns (ruleOf c) noEvent ≡ false
 concerns-none c small =
-    split (concerns (ruleOf c) noEvent) (λ x. x ≡ false)
-    (λ e. ⊎-elim (λ p. absurd (omega (arith, small (p .0) (p .1), p .2))) (λ q. absurd (absent-small (4 - length (kinds c)) q))
-    (among-where noEvent (kinds c) (absent c) (rw (concerns-among c noEvent) at e)))
-    (λ e. refl)
-  where
-    absent-small : (n : ℕ) → among noEvent (replicate n noKind) ≡ true → ⊥
-    absent-small zero e = both (sym e)
-    absent-small (suc n) e = ⊎-elim (λ p. omega arith) (absent-small n) (among-head noEvent noKind (replicate n noKind) e)
+    rw (concerns-own c noEvent (λ e. omega arith))
+    (split (among noEvent (kinds c)) (λ x. x ≡ false)
+    (λ e. let (i, h, is) = among-where noEvent (kinds c) e in absurd (omega (arith, small i h))) (λ e. refl))

@@ -1,4 +1,5 @@
--- A row of any type keeps what it has to: going on, it is open and holds what waits; broken, it has the first step after which no continuation was left. By cases on what the machine does at a step, from what each type proves.
+-- A row of any type keeps what it has to: going on, it is open and holds what waits; broken, it has the first step after which no
+-- continuation was left. By cases on what the machine does at a step, from what each type proves.
 use Prim.Native.Nat.{ℕ, _+_, _≤_, _<_}
 use native.Mathlib.Omega.{arith}
 use mathlib.Core.Path.{_≡_, refl, sym, ap, _∙_, subst}
@@ -8,38 +9,33 @@ use mathlib.Core.Logic.{_⊎_, inl, inr, ⊎-elim}
 use lib.ListN.{length}
 use lib.Dec.{ltb, eqb}
 use borrow.Author.Tests.{ltb-true, ltb-false, lt-ltb, le-ltb, eqb-true, eqb-false}
-use Rattle.constraint.specs.Limits.{lastKind, lastTime, noLimit, waitingLimit}
-use Rattle.constraint.specs.Steps.{Step, event, tick, close, at, times, clockFrom, clock, closed}
+use Rattle.constraint.specs.Limits.{lastKind, lastTime, waitingLimit}
+use Rattle.constraint.specs.Steps.{Step, event, tick, close, among, own, clockFrom, clock, closed}
 use Rattle.constraint.specs.Meets.{Meets}
 use Rattle.constraint.specs.Continuation.{Open, BrokenAt, Reads, reads-open, reads-kept, reads-broken}
 use Rattle.constraint.specs.Waiting.{waiting}
 use Rattle.constraint.specs.Accepted.{kinds}
 use Rattle.constraint.specs.declared.Constraint.{Constraint}
-use Rattle.constraint.specs.declared.Constraint.the-variants.{Delay, StrongDelay, Repeat, Sporadic, Burst, Order, StrongSynchronization2, StrongSynchronization3, StrongSynchronization4}
 use Rattle.constraint.specs.declared.Verdict.{Verdict}
 use Rattle.constraint.proofs.Lists.{split, both, Each}
-use Rattle.constraint.proofs.History.{times-other, times-tick, times-close, clock-event, clock-tick, clock-close, closed-event, closed-tick, closed-close, Accepts, Valid, valid-more, Past, past-of}
-use Rattle.constraint.proofs.Continuations.{SameTimes, meets-same, continues-closed, open-at-tick}
+use Rattle.constraint.proofs.History.{own-append, own-other, own-tick, own-close, clock-event, clock-tick, clock-close}
+use Rattle.constraint.proofs.History.{closed-event, closed-tick, closed-close, Accepts, Valid, valid-more, Past, past-of}
+use Rattle.constraint.proofs.Continuations.{meets-same, continues-closed, open-at-tick}
 use Rattle.constraint.proofs.Verdicts.{broken-now, broken-later, broken-shut, open-of-meets}
-use Rattle.queue.specs.Ring.{Ring, ringOf, ring, items, changed, shifted}
-use Rattle.queue.proofs.Laws.{ring-length, items-shifted, times-shifted}
-use Rattle.row.specs.Row.{ruleOf, noMarks}
-use Rattle.row.specs.Delay.{dueDelay, keptDelay}
-use Rattle.row.specs.StrongDelay.{dueStrongDelay, keptStrongDelay}
-use Rattle.row.specs.Repeat.{dueRepeat, keptRepeat}
-use Rattle.row.specs.Sporadic.{dueSporadic, keptSporadic}
-use Rattle.row.specs.Order.{dueOrder, keptOrder}
-use Rattle.row.specs.StrongSynchronization.{dueStrongSynchronization, keptStrongSynchronization}
-use Rattle.row.specs.Machine.{decide, due, kept, concerns, rowFrom, itemsOf, mark, rowOf, brokenState, brokenRow, goingRow, applied, stays, crowding, changedRow, noEvent, eventAt, tickAt, closeAt, rowStep, rowVerdict}
-use Rattle.row.specs.declared.Rule.{Rule}
-use Rattle.row.specs.declared.Marks.{Marks}
-use Rattle.row.specs.declared.Change.{Change}
-use Rattle.row.specs.declared.State.{State}
+use Rattle.queue.specs.Ring.{Ring, ringOf, ring, items, changed, edited}
+use Rattle.queue.proofs.Laws.{ring-length, ring-zeros, items-edited, times-edited}
+use Rattle.machine.specs.Rule.{ruleOf}
+use Rattle.machine.specs.Parts.{noMarks}
+use Rattle.machine.specs.declared.Rule.{Rule}
+use Rattle.machine.specs.declared.Change.{Change}
+use Rattle.machine.specs.declared.State.{State}
+use Rattle.row.specs.Machine.{decide, concerns, rowFrom, itemsOf, mark, rowOf, brokenRow, applied, stays, crowding, changedRow}
+use Rattle.row.specs.Machine.{noEvent, eventAt, tickAt, closeAt, rowStep, rowVerdict}
 use Rattle.row.specs.declared.Occurrence.{Occurrence}
 use Rattle.row.specs.declared.Row.{Row}
 use Rattle.row.specs.declared.RowStep.{RowStep}
-use Rattle.row.proofs.Exact.{Sound, Exact, OfKind}
-use Rattle.row.proofs.OwnKinds.{concerns-own, concerns-other, concerns-none}
+use Rattle.row.proofs.Exact.{GoesOn, ByOutcome, Exact}
+use Rattle.row.proofs.OwnKinds.{concerns-own, among-own, concerns-none}
 
 -- ---- what holds between the steps and a row
 
@@ -48,8 +44,8 @@ module _ (c : Constraint) (exact : Exact c) where
   pub record Going (steps : List Step) (words : List ℕ) (s : State) : Type 0 where
     pub unbroken : s .broken ≡ 0
     pub live : exact .Live steps (s .marks) (ring words (s .head) (s .len))
-    pub due-is : s .due ≡ due (ruleOf c) (s .marks) (ring words (s .head) (s .len))
-    pub kept-is : s .kept ≡ mark (kept (ruleOf c) (s .marks) (ring words (s .head) (s .len)))
+    pub due-is : s .due ≡ exact .due (s .marks) (ring words (s .head) (s .len))
+    pub kept-is : s .kept ≡ mark (exact .kept (s .marks) (ring words (s .head) (s .len)))
     pub in-time : clock steps ≤ s .due
     pub room : s .len ≤ waitingLimit
     pub met : closed steps ≡ true → Meets c steps
@@ -81,41 +77,17 @@ seen steps close = closeAt (clock steps)
 
 -- ---- Start
 
-due-start : (c : Constraint) → noLimit ≡ due (ruleOf c) noMarks []
-unfolding dueDelay dueStrongDelay dueRepeat dueSporadic dueOrder dueStrongSynchronization
-due-start (Delay source target lower upper) = refl
-due-start (StrongDelay source target lower upper) = refl
-due-start (Repeat kind span lower upper) = refl
-due-start (Sporadic kind lower upper jitter minimum) = refl
-due-start (Burst kind maximum len minimum) = refl
-due-start (Order source target) = refl
-due-start (StrongSynchronization2 x y tolerance) = refl
-due-start (StrongSynchronization3 x y z tolerance) = refl
-due-start (StrongSynchronization4 x y z w tolerance) = refl
-
-kept-start : (c : Constraint) → 1 ≡ mark (kept (ruleOf c) noMarks [])
-unfolding keptDelay keptStrongDelay keptRepeat keptSporadic keptOrder keptStrongSynchronization
-kept-start (Delay source target lower upper) = refl
-kept-start (StrongDelay source target lower upper) = refl
-kept-start (Repeat kind span lower upper) = refl
-kept-start (Sporadic kind lower upper jitter minimum) = refl
-kept-start (Burst kind maximum len minimum) = refl
-kept-start (Order source target) = refl
-kept-start (StrongSynchronization2 x y tolerance) = refl
-kept-start (StrongSynchronization3 x y z tolerance) = refl
-kept-start (StrongSynchronization4 x y z w tolerance) = refl
-
 pub fits-start : (c : Constraint) (exact : Exact c) → Fits c exact [] (rowOf c)
-unfolding rowOf clockFrom closed Rattle.queue.specs.Ring.ring
+unfolding rowOf clockFrom closed
 fits-start c exact =
     record {
       rule-is = refl;
       whole = refl;
       state = inl (record {
         unbroken = refl;
-        live = exact .start;
-        due-is = due-start c;
-        kept-is = kept-start c;
+        live = rw (ring-zeros 64 0 _) (exact .start .live);
+        due-is = rw (ring-zeros 64 0 _) (exact .start .due-is);
+        kept-is = rw (ring-zeros 64 0 _) (ap mark (exact .start .kept-is));
         in-time = omega arith;
         room = omega arith;
         met = λ e. both (sym e);
@@ -140,11 +112,15 @@ module _ (c : Constraint) (exact : Exact c) (steps : List Step) (valid : Valid s
       (λ b. broken (lt-ltb 0 (r .now .broken) (b .counted)) b)
       (f .state)
 
+  -- the clock is not past its due time
+  by-due : (words : List ℕ) (s : State) → (g : Going c exact steps words s) → clock steps ≤ exact .due (s .marks) (ring words (s .head) (s .len))
+  by-due words s g = subst (λ (n : ℕ). clock steps ≤ n) (g .due-is) (g .in-time)
+
   -- ---- Open and Waiting
 
   going-open : (words : List ℕ) (s : State) → closed steps ≡ false → Going c exact steps words s → Open c steps
   going-open words s o g =
-      exact .is-open steps (s .marks) (ring words (s .head) (s .len)) past o (g .live) (subst (λ (n : ℕ). clock steps ≤ n) (g .due-is) (g .in-time))
+      exact .is-open past o (g .live) (by-due words s g)
 
   -- a row that is open has at most 64 waiting
   pub fits-room : (r : Row) → Fits c exact steps r → Open c steps → waiting c steps ≤ waitingLimit
@@ -152,7 +128,7 @@ module _ (c : Constraint) (exact : Exact c) (steps : List Step) (valid : Valid s
       ⊎-elim
       (λ (g : Going c exact steps (r .times) (r .now)).
       ⊎-elim (λ e. omega (arith, e, ring-length (r .times) (r .now .head) (r .now .len), g .room)) (λ e. omega (arith, e .0))
-      (exact .waits steps (r .now .marks) (itemsOf r) past (g .live)))
+      (exact .waits past (g .live)))
       (λ b. absurd (broken-shut c (r .now .broken) valid (b .first) o))
       (f .state)
 
@@ -177,7 +153,7 @@ module _ (c : Constraint) (exact : Exact c) (steps : List Step) (valid : Valid s
 
   -- a step that records nothing of the row's kinds, at a clock that is not past the due time
   going-on : (s : Step) (words : List ℕ) (was : State) → length words ≡ 64 → Going c exact steps words was
-      → SameTimes (kinds c) steps (steps ++ (s ∷ [])) → clock (steps ++ (s ∷ [])) ≤ was .due
+      → own (kinds c) (steps ++ (s ∷ [])) ≡ own (kinds c) steps → clock (steps ++ (s ∷ [])) ≤ was .due
       → (closed (steps ++ (s ∷ [])) ≡ true → Meets c (steps ++ (s ∷ [])))
       → Fits c exact (steps ++ (s ∷ [])) (rowFrom (ruleOf c) words was)
   going-on s words was whole g same in-time met =
@@ -186,7 +162,7 @@ module _ (c : Constraint) (exact : Exact c) (steps : List Step) (valid : Valid s
         whole = whole;
         state = inl (record {
           unbroken = g .unbroken;
-          live = exact .same steps (steps ++ (s ∷ [])) (was .marks) (ring words (was .head) (was .len)) same (g .live);
+          live = exact .same (sym same) (g .live);
           due-is = g .due-is;
           kept-is = g .kept-is;
           in-time = in-time;
@@ -198,7 +174,7 @@ module _ (c : Constraint) (exact : Exact c) (steps : List Step) (valid : Valid s
   -- a tick to a time past the due time
   tick-late : (words : List ℕ) (was : State) (t : ℕ) → Going c exact steps words was → was .due < t → t ≤ lastTime → ¬ Open c (steps ++ (tick t ∷ []))
   tick-late words was t g later small =
-      exact .late steps (was .marks) (ring words (was .head) (was .len)) t past (g .live) (subst (λ (n : ℕ). n < t) (g .due-is) later) small
+      exact .late past (g .live) (subst (λ (n : ℕ). n < t) (g .due-is) later) small
 
   -- ---- Events
 
@@ -213,91 +189,89 @@ module _ (c : Constraint) (exact : Exact c) (steps : List Step) (valid : Valid s
       -- at a time past the due time no continuation was left already
       event-late : was .due < t → Fits c exact (steps ++ (event k t ∷ [])) (brokenRow row-was (length steps + 1))
       event-late later =
-          broken-fits (event k t) words was whole (going-open words was (accepts .0) g)
-          (λ o. tick-late words was t g later (accepts .2) (open-at-tick c steps k t (accepts .0) (accepts .1) (accepts .3) o))
+          broken-fits (event k t) words was whole (going-open words was (accepts .not-closed) g)
+          (λ o. tick-late words was t g later (accepts .time-small)
+          (open-at-tick c steps k t (accepts .not-closed) (accepts .kind-small) (accepts .in-order) o))
 
       -- an event of no kind of the row's
-      event-other : t ≤ was .due → Each (λ j. ¬ (k ≡ j)) (kinds c) → Fits c exact (steps ++ (event k t ∷ [])) row-was
+      event-other : t ≤ was .due → among k (kinds c) ≡ false → Fits c exact (steps ++ (event k t ∷ [])) row-was
       event-other in-time other =
-          going-on (event k t) words was whole g (λ i h. sym (times-other (at (kinds c) i) k t steps (other i h))) (rw (clock-event k t steps) in-time)
-          (λ shut. both (sym shut ∙ closed-event k t steps ∙ accepts .0))
+          going-on (event k t) words was whole g (own-other (kinds c) k t steps other) (rw (clock-event k t steps) in-time)
+          (λ shut. both (sym shut ∙ closed-event k t steps ∙ accepts .not-closed))
 
-      module _ (in-time : t ≤ was .due) (own : OfKind c k) (change : Change)
-          (decided : decide (ruleOf c) (was .marks) (ring words (was .head) (was .len)) k t ≡ change) where
+      -- a change that the row goes on with
+      module _ (change : Change) (goes : GoesOn (exact .Live (steps ++ (event k t ∷ []))) (exact .due) (exact .kept) (itemsOf row-was) t change) where
         abbrev kept-times : List ℕ
-        kept-times = changed (change .dropped) (change .pushed) t (ring words (was .head) (was .len))
+        kept-times = changed (change .edit) (itemsOf row-was)
 
-        by-due : t ≤ due (ruleOf c) (was .marks) (ring words (was .head) (was .len))
-        by-due = subst (λ (n : ℕ). t ≤ n) (g .due-is) in-time
+        open-after : Open c (steps ++ (event k t ∷ []))
+        open-after =
+            exact .is-open (past-with (event k t) accepts) (closed-event k t steps ∙ accepts .not-closed) (goes .live)
+            (rw (clock-event k t steps) (subst (λ (n : ℕ). t ≤ n) (goes .due-is) (goes .in-time)))
 
-        -- a change that the row goes on with
-        live-after : change .breaks ≡ false
-            → exact .Live (steps ++ (event k t ∷ [])) (change .marks) kept-times × (t ≤ due (ruleOf c) (change .marks) kept-times)
-        live-after goes = exact .goes-on steps (was .marks) (ring words (was .head) (was .len)) k t past (g .live) own accepts by-due change decided goes
-
-        open-after : change .breaks ≡ false → Open c (steps ++ (event k t ∷ []))
-        open-after goes =
-            exact .is-open (steps ++ (event k t ∷ [])) (change .marks) kept-times (past-with (event k t) accepts) (closed-event k t steps ∙ accepts .0)
-            (live-after goes .0) (rw (clock-event k t steps) (live-after goes .1))
-
-        crowded-after : change .breaks ≡ false → waitingLimit < length kept-times
-            → Open c (steps ++ (event k t ∷ [])) × (waitingLimit < waiting c (steps ++ (event k t ∷ [])))
-        crowded-after goes many = (
-          open-after goes,
-          ⊎-elim (λ e. rw e many) (λ e. absurd (omega (arith, e .1, many)))
-              (exact .waits (steps ++ (event k t ∷ [])) (change .marks) kept-times (past-with (event k t) accepts) (live-after goes .0)),
+        crowded-after : waitingLimit < length kept-times → Open c (steps ++ (event k t ∷ [])) × (waitingLimit < waiting c (steps ++ (event k t ∷ [])))
+        crowded-after many = (
+          open-after,
+          ⊎-elim (λ e. rw e many) (λ e. absurd (omega (arith, e .1, many))) (exact .waits (past-with (event k t) accepts) (goes .live)),
         )
 
-        applied-fits : change .breaks ≡ false → length kept-times ≤ waitingLimit
-            → Fits c exact (steps ++ (event k t ∷ [])) (applied row-was change t)
+        applied-fits : length kept-times ≤ waitingLimit → Fits c exact (steps ++ (event k t ∷ [])) (applied row-was change)
         unfolding applied
-        applied-fits goes few =
+        applied-fits few =
             let old = ringOf words (was .head) (was .len) in
-            let new = shifted (change .dropped) (change .pushed) t old in
-            let holds : items new ≡ kept-times = items-shifted old whole (change .dropped) (change .pushed) t few in
+            let new = edited (change .edit) old in
+            let holds : items new ≡ kept-times = items-edited old whole (g .room) (change .edit) few in
             record {
               rule-is = refl;
-              whole = times-shifted old (change .dropped) (change .pushed) t ∙ whole;
+              whole = times-edited old (change .edit) ∙ whole;
               state = inl (record {
                 unbroken = refl;
-                live = rw holds (live-after goes .0);
-                due-is = refl;
-                kept-is = refl;
-                in-time = rw (clock-event k t steps, holds) (live-after goes .1);
+                live = rw holds (goes .live);
+                due-is = rw holds (goes .due-is);
+                kept-is = rw holds (ap mark (goes .kept-is));
+                in-time = rw (clock-event k t steps) (goes .in-time);
                 room = omega (arith, ap length holds, ring-length (new .times) (new .head) (new .len), few);
-                met = λ shut. both (sym shut ∙ closed-event k t steps ∙ accepts .0);
+                met = λ shut. both (sym shut ∙ closed-event k t steps ∙ accepts .not-closed);
               });
             }
 
-        changed-after : Holds (changedRow row-was change t (length steps + 1))
-        unfolding changedRow
-        changed-after =
-            split (change .breaks)
-            (λ x. Holds (cond x (stays (brokenRow row-was (length steps + 1)))
-            (cond (ltb waitingLimit (length kept-times)) (crowding row-was) (stays (applied row-was change t)))))
-            (λ e. broken-fits (event k t) words was whole (going-open words was (accepts .0) g)
-            (exact .breaks steps (was .marks) (ring words (was .head) (was .len)) k t past (g .live) own accepts by-due (rw decided e)))
-            (λ e. split (ltb waitingLimit (length kept-times)) (λ y. Holds (cond y (crowding row-was) (stays (applied row-was change t))))
-            (λ f. crowded-after e (ltb-true waitingLimit (length kept-times) f))
-            (λ f. applied-fits e (ltb-false waitingLimit (length kept-times) f)))
+        goes-after : Holds (cond (ltb waitingLimit (length kept-times)) (crowding row-was) (stays (applied row-was change)))
+        goes-after =
+            split (ltb waitingLimit (length kept-times)) (λ x. Holds (cond x (crowding row-was) (stays (applied row-was change))))
+            (λ e. crowded-after (ltb-true waitingLimit (length kept-times) e))
+            (λ e. applied-fits (ltb-false waitingLimit (length kept-times) e))
+
+      -- any change
+      changed-after : (change : Change)
+          → ByOutcome (¬ Open c (steps ++ (event k t ∷ []))) (GoesOn (exact .Live (steps ++ (event k t ∷ []))) (exact .due) (exact .kept) (itemsOf row-was) t) change
+          → Holds (changedRow row-was change (length steps + 1))
+      unfolding changedRow
+      changed-after change =
+          split (change .breaks)
+          (λ x. cond x (¬ Open c (steps ++ (event k t ∷ []))) (GoesOn (exact .Live (steps ++ (event k t ∷ []))) (exact .due) (exact .kept) (itemsOf row-was) t change)
+          → Holds (cond x (stays (brokenRow row-was (length steps + 1)))
+          (cond (ltb waitingLimit (length (changed (change .edit) (itemsOf row-was)))) (crowding row-was) (stays (applied row-was change)))))
+          (λ e shut. broken-fits (event k t) words was whole (going-open words was (accepts .not-closed) g) shut)
+          (λ e goes. goes-after change goes)
 
       event-going : ltb 0 (was .broken) ≡ false → Holds (rowStep row-was (eventAt k t) (length steps + 1))
       unfolding rowStep
       event-going unbroken =
-          subst (λ (b : Bool). Holds (cond b (stays row-was) open-row)) (sym unbroken)
+          rw (concerns-own c k (λ e. omega (arith, accepts .kind-small)))
+          (subst (λ (b : Bool). Holds (cond b (stays row-was) open-row)) (sym unbroken)
           (split (ltb (was .due) t) (λ x. Holds (cond x (stays (brokenRow row-was number)) in-time-row)) (λ e. event-late (ltb-true (was .due) t e))
-          (λ e. split (concerns (ruleOf c) k) (λ y. Holds (cond y (changedRow row-was change t number) (stays row-was)))
-          (λ f. changed-after (ltb-false (was .due) t e) (concerns-own c k (accepts .1) f) change refl)
-          (λ f. event-other (ltb-false (was .due) t e) (concerns-other c k f))))
+          (λ e. split (among k (kinds c)) (λ y. Holds (cond y (changedRow row-was change number) (stays row-was)))
+          (λ f. changed-after change (exact .does past (g .live) (among-own c k f) accepts (subst (λ (n : ℕ). t ≤ n) (g .due-is) (ltb-false (was .due) t e))))
+          (λ f. event-other (ltb-false (was .due) t e) f))))
         where
           number : ℕ
           number = length steps + 1
 
           change : Change
-          change = decide (ruleOf c) (was .marks) (ring words (was .head) (was .len)) k t
+          change = decide (ruleOf c) (was .marks) (itemsOf row-was) k t
 
           in-time-row : RowStep
-          in-time-row = cond (concerns (ruleOf c) k) (changedRow row-was change t number) (stays row-was)
+          in-time-row = cond (among k (kinds c)) (changedRow row-was change number) (stays row-was)
 
           open-row : RowStep
           open-row = cond (ltb (was .due) t) (stays (brokenRow row-was number)) in-time-row
@@ -322,9 +296,9 @@ module _ (c : Constraint) (exact : Exact c) (steps : List Step) (valid : Valid s
         (other-row (rowFrom (ruleOf c) words was) t false (length steps + 1) .row)
     tick-going t accepts words was whole g =
         split (ltb (was .due) t) (λ x. Holds (cond x (stays (brokenRow row-was (length steps + 1))) (stays row-was)))
-        (λ e. broken-fits (tick t) words was whole (going-open words was (accepts .0) g) (tick-late words was t g (ltb-true (was .due) t e) (accepts .1)))
-        (λ e. going-on (tick t) words was whole g (λ i h. sym (times-tick (at (kinds c) i) t steps)) (rw (clock-tick t steps) (ltb-false (was .due) t e))
-        (λ shut. both (sym shut ∙ closed-tick t steps ∙ accepts .0)))
+        (λ e. broken-fits (tick t) words was whole (going-open words was (accepts .not-closed) g) (tick-late words was t g (ltb-true (was .due) t e) (accepts .time-small)))
+        (λ e. going-on (tick t) words was whole g (own-tick (kinds c) t steps) (rw (clock-tick t steps) (ltb-false (was .due) t e))
+        (λ shut. both (sym shut ∙ closed-tick t steps ∙ accepts .not-closed)))
       where
         row-was : Row
         row-was = rowFrom (ruleOf c) words was
@@ -332,17 +306,11 @@ module _ (c : Constraint) (exact : Exact c) (steps : List Step) (valid : Valid s
         Holds : RowStep → Type 0
         Holds s = After c exact (steps ++ (tick t ∷ [])) (s .crowded) (s .row)
 
-    same-close : SameTimes (kinds c) steps (steps ++ (close ∷ []))
-    same-close i h = sym (times-close (at (kinds c) i) steps)
-
     close-shut : ¬ Meets c steps → ¬ Open c (steps ++ (close ∷ []))
     close-shut missed (further, follows, meets) =
-        missed (meets-same c (steps ++ (close ∷ []) ++ further) steps (λ i h. shorter (at (kinds c) i)) meets)
-      where
-        shorter : (j : ℕ) → times j (steps ++ (close ∷ []) ++ further) ≡ times j steps
-        shorter j =
-            ap (λ f. times j (steps ++ (close ∷ []) ++ f)) (continues-closed (closed-close steps) follows)
-            ∙ ap (times j) (append-nil (steps ++ (close ∷ []))) ∙ times-close j steps
+        missed (meets-same c (steps ++ (close ∷ [])) steps (own-close (kinds c) steps) (rw (clock-close steps) (omega arith))
+        (subst (Meets c) (append-nil (steps ++ (close ∷ [])))
+        (subst (λ (f : List Step). Meets c (steps ++ (close ∷ []) ++ f)) (continues-closed (closed-close steps) follows) meets)))
 
     close-going : closed steps ≡ false → (words : List ℕ) (was : State) → length words ≡ 64 → Going c exact steps words was
         → After c exact (steps ++ (close ∷ [])) (other-row (rowFrom (ruleOf c) words was) (clock steps) true (length steps + 1) .crowded)
@@ -351,10 +319,10 @@ module _ (c : Constraint) (exact : Exact c) (steps : List Step) (valid : Valid s
         subst (λ (b : Bool). Holds (cond b (stays (brokenRow row-was (length steps + 1))) closing-row)) (sym (le-ltb (was .due) (clock steps) (g .in-time)))
         (split (eqb (was .kept) 0) (λ x. Holds (cond x (stays (brokenRow row-was (length steps + 1))) (stays row-was)))
         (λ e. broken-fits close words was whole (going-open words was not-closed g)
-        (close-shut (exact .not-kept steps (was .marks) (ring words (was .head) (was .len)) past (g .live) (unmarked (eqb-true (was .kept) 0 e)))))
-        (λ e. going-on close words was whole g same-close (rw (clock-close steps) (g .in-time))
-        (λ shut. meets-same c steps (steps ++ (close ∷ [])) same-close
-        (exact .is-kept steps (was .marks) (ring words (was .head) (was .len)) past (g .live) (marked (eqb-false (was .kept) 0 e))))))
+        (close-shut (exact .not-kept past (g .live) (unmarked (eqb-true (was .kept) 0 e)))))
+        (λ e. going-on close words was whole g (own-close (kinds c) steps) (rw (clock-close steps) (g .in-time))
+        (λ shut. meets-same c steps (steps ++ (close ∷ [])) (sym (own-close (kinds c) steps)) (rw (clock-close steps) (omega arith))
+        (exact .is-kept past (g .live) (by-due words was g) (marked (eqb-false (was .kept) 0 e))))))
       where
         row-was : Row
         row-was = rowFrom (ruleOf c) words was
@@ -366,7 +334,7 @@ module _ (c : Constraint) (exact : Exact c) (steps : List Step) (valid : Valid s
         closing-row = cond (eqb (was .kept) 0) (stays (brokenRow row-was (length steps + 1))) (stays row-was)
 
         kept-now : Bool
-        kept-now = kept (ruleOf c) (was .marks) (ring words (was .head) (was .len))
+        kept-now = exact .kept (was .marks) (ring words (was .head) (was .len))
 
         mark-0 : (b : Bool) → mark b ≡ 0 → b ≡ false
         mark-0 true e = absurd (omega arith)

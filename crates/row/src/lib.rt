@@ -2,6 +2,19 @@
 use constraint::Constraint;
 use constraint::NO_LIMIT;
 use constraint::WAITING_LIMIT;
+use groups::strong_synchronization;
+use machine::Change;
+use machine::Marks;
+use machine::Rule;
+use machine::State;
+use machine::numbers;
+use machine::parts;
+use pairs::delay;
+use pairs::order;
+use pairs::strong_delay;
+use points::sporadic;
+use queue::Edit;
+use spans::repeat;
 ghost use mathlib.Core.Path.{_≡_};
 ghost use mathlib.Core.List.{List};
 ghost use Prim.Native.Nat.{ℕ};
@@ -10,76 +23,7 @@ ghost use lib.Dec.{ltb, eqb};
 ghost use lib.ListN.{length};
 ghost use Rattle.constraint.specs.Limits.{waitingLimit};
 ghost use Rattle.queue.specs.Ring.{ring, changed};
-ghost use Rattle.row.specs.Row.{noMarks};
-ghost use Rattle.row.specs.Machine.{decide, due, kept, concerns, mark, rowFrom, rowOf, brokenState, applied, changedRow, rowStep};
-
-mod delay;
-mod numbers;
-mod order;
-pub mod parts;
-mod repeat;
-mod sporadic;
-mod strong_delay;
-mod strong_synchronization;
-
-// The constraint's fields as numbers. A field that a type does not have is 0; a kind that it does not have is 64.
-#[repr(C)]
-pub struct Rule {
-    // the type, 1 to 7
-    pub form: u64,
-    // source, event or first kind
-    pub first: u64,
-    // target or second kind
-    pub second: u64,
-    pub third: u64,
-    pub fourth: u64,
-    // span or maximum
-    pub span: u64,
-    // lower or length
-    pub lower: u64,
-    // upper or tolerance
-    pub upper: u64,
-    pub jitter: u64,
-    pub minimum: u64,
-}
-
-// What a row keeps beside its times; each type's module says which of these it uses, and for what.
-#[repr(C)]
-pub struct Marks {
-    // one more than a time; 0: none
-    pub last: u64,
-    // where the last hidden point can be: from low to high
-    pub low: u64,
-    pub high: u64,
-    // counts, of the first to the fourth kind
-    pub first: u64,
-    pub second: u64,
-    pub third: u64,
-    pub fourth: u64,
-}
-
-// What an event makes of a row: it breaks it; or the oldest times leave, its time may join them, and the marks are new.
-pub struct Change {
-    pub breaks: bool,
-    pub dropped: usize,
-    pub pushed: bool,
-    pub marks: Marks,
-}
-
-// What a row keeps beside its rule and its times.
-#[repr(C)]
-pub struct State {
-    pub marks: Marks,
-    // where its times begin, and how many there are
-    pub head: usize,
-    pub len: usize,
-    // the last clock at which the row is still open if none of its own events comes
-    pub due: u64,
-    // 1: it is kept if the recording is closed now
-    pub kept: u64,
-    // the step that broke it; 0: not broken
-    pub broken: u64,
-}
+ghost use Rattle.row.specs.Machine.{decide, concerns, mark, rowFrom, rowOf, brokenState, applied, changedRow, rowStep};
 
 #[repr(C)]
 pub struct Row {
@@ -120,37 +64,7 @@ pub fn decide(
         3 | 5 => repeat::decide(rule, marks, times, head, len, t),
         4 => sporadic::decide(rule, marks, t),
         6 => order::decide(rule, marks, kind, t),
-        _ => strong_synchronization::decide(rule, marks, len, kind),
-    }
-}
-
-// The last clock at which the row is open if none of its own events comes.
-pub fn due(rule: Rule, marks: Marks, times: &[u64; 64], head: usize, len: usize) -> u64
-    ensures { λ r. ⌜ r ≡ due rule marks (ring (now (times .entry)) head len) ⌝ }
-{
-    let form = rule.form;
-    match form {
-        1 => delay::due(rule, times, head, len),
-        2 => strong_delay::due(rule, marks, times, head, len),
-        3 | 5 => repeat::due(),
-        4 => sporadic::due(),
-        6 => order::due(marks),
-        _ => strong_synchronization::due(rule, times, head, len),
-    }
-}
-
-// Whether the row is kept if the recording is closed now.
-pub fn kept(rule: Rule, marks: Marks, len: usize) -> bool
-    ensures { λ r. ⌜ ((times : List ℕ) → length times ≡ len → r ≡ kept rule marks times) ⌝ }
-{
-    let form = rule.form;
-    match form {
-        1 => delay::kept(len),
-        2 => strong_delay::kept(marks, len),
-        3 | 5 => repeat::kept(),
-        4 => sporadic::kept(),
-        6 => order::kept(marks),
-        _ => strong_synchronization::kept(len),
+        _ => strong_synchronization::decide(rule, marks, times, head, len, kind, t),
     }
 }
 
@@ -161,30 +75,23 @@ pub fn concerns(rule: Rule, kind: u64) -> bool
     kind == rule.first || (kind == rule.second || (kind == rule.third || kind == rule.fourth))
 }
 
-// Whether a ring of len times would hold more than 64 after a change.
-fn crowds(len: usize, dropped: usize, pushed: bool) -> bool
-    ensures { λ r. ⌜ ((t : ℕ) (times : List ℕ) → length times ≡ len → r ≡ ltb waitingLimit (length (changed dropped pushed t times))) ⌝ }
+// Whether a ring of len times would hold more than 64 with what is done to it.
+fn crowds(len: usize, edit: Edit) -> bool
+    ensures { λ r. ⌜ ((times : List ℕ) → length times ≡ len → r ≡ ltb waitingLimit (length (changed edit times))) ⌝ }
 {
-    let left = queue::minus(len, dropped);
-    if pushed {
-        WAITING_LIMIT <= left
-    } else {
-        WAITING_LIMIT < left
-    }
-}
-
-// The marks before any event.
-fn no_marks() -> Marks
-    ensures { λ r. ⌜ r ≡ noMarks ⌝ }
-{
-    Marks {
-        last: 0,
-        low: 0,
-        high: 0,
-        first: 0,
-        second: 0,
-        third: 0,
-        fourth: 0,
+    match edit {
+        Edit::Drop { dropped } => WAITING_LIMIT < queue::left(len, dropped),
+        Edit::Push { dropped, word } => WAITING_LIMIT <= queue::left(len, dropped),
+        Edit::PushTwo {
+            dropped,
+            first,
+            second,
+        } => WAITING_LIMIT - 1 <= queue::left(len, dropped),
+        Edit::Store {
+            place,
+            first,
+            second,
+        } => WAITING_LIMIT < len,
     }
 }
 
@@ -200,7 +107,7 @@ fn broken_at(number: u64) -> State
     ensures { λ r. ⌜ r ≡ brokenState number ⌝ }
 {
     State {
-        marks: no_marks(),
+        marks: parts::no_marks(),
         head: 0,
         len: 0,
         due: NO_LIMIT,
@@ -209,42 +116,35 @@ fn broken_at(number: u64) -> State
     }
 }
 
-// What the row keeps after a change at t, its times being changed where they lie.
-fn apply(rule: Rule, old: State, times: &mut [u64; 64], change: Change, t: u64) -> State
-    ensures { λ r. ⌜ rowFrom rule (now (times .exit)) r ≡ applied (rowFrom rule (now (times .entry)) old) change t ⌝ }
+// What the row keeps after a change, its times being changed where they lie.
+fn apply(rule: Rule, old: State, times: &mut [u64; 64], change: Change) -> State
+    ensures { λ r. ⌜ rowFrom rule (now (times .exit)) r ≡ applied (rowFrom rule (now (times .entry)) old) change ⌝ }
 {
-    let ends = queue::shift(times, old.head, old.len, change.dropped, change.pushed, t);
+    let edit = change.edit;
     let marks = change.marks;
-    let due = due(rule, marks, times, ends.head, ends.len);
-    let kept = mark(kept(rule, marks, ends.len));
+    let ends = queue::edit_ring(times, old.head, old.len, edit);
     State {
         marks,
         head: ends.head,
         len: ends.len,
-        due,
-        kept,
+        due: change.due,
+        kept: mark(change.kept),
         broken: 0,
     }
 }
 
-// What the row keeps after a change at t: broken, as it was where the change crowds it, or with the change.
-fn changed(
-    rule: Rule,
-    old: State,
-    times: &mut [u64; 64],
-    change: Change,
-    t: u64,
-    number: u64,
-) -> State
-    ensures { λ r. ⌜ rowFrom rule (now (times .exit)) r ≡ changedRow (rowFrom rule (now (times .entry)) old) change t number .row ⌝ }
+// What the row keeps after a change: broken, as it was where the change crowds it, or with the change.
+fn changed(rule: Rule, old: State, times: &mut [u64; 64], change: Change, number: u64) -> State
+    ensures { λ r. ⌜ rowFrom rule (now (times .exit)) r ≡ changedRow (rowFrom rule (now (times .entry)) old) change number .row ⌝ }
 {
     if change.breaks {
         return broken_at(number);
     }
-    if crowds(old.len, change.dropped, change.pushed) {
+    let edit = change.edit;
+    if crowds(old.len, edit) {
         return old;
     }
-    apply(rule, old, times, change, t)
+    apply(rule, old, times, change)
 }
 
 // Whether the recording is closed before the row is kept.
@@ -266,7 +166,7 @@ pub fn step(rule: Rule, old: State, times: &mut [u64; 64], o: Occurrence, number
     }
     if concerns(rule, o.kind) {
         let new = decide(rule, old.marks, times, old.head, old.len, o.kind, o.time);
-        return changed(rule, old, times, new, o.time, number);
+        return changed(rule, old, times, new, number);
     }
     if ends_unkept(o.closes, old.kept) {
         return broken_at(number);
@@ -291,7 +191,8 @@ pub fn crowded(rule: Rule, old: State, times: &[u64; 64], o: Occurrence) -> bool
     if new.breaks {
         return false;
     }
-    crowds(old.len, new.dropped, new.pushed)
+    let edit = new.edit;
+    crowds(old.len, edit)
 }
 
 impl Row {
@@ -299,16 +200,17 @@ impl Row {
     pub fn begin(c: Constraint) -> Self
         ensures { λ r. ⌜ r ≡ rowOf c ⌝ }
     {
+        let rule = numbers::rule_of(c);
         let now = State {
-            marks: no_marks(),
+            marks: parts::no_marks(),
             head: 0,
-            len: 0,
+            len: numbers::words_of(rule),
             due: NO_LIMIT,
             kept: 1,
             broken: 0,
         };
         Row {
-            rule: numbers::rule_of(c),
+            rule,
             times: [0u64; 64],
             now,
         }

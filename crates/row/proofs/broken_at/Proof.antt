@@ -1,5 +1,5 @@
 -- Each part is what `brokenState` says.
-use Rattle.row.proofs.Shared.{free}
+use Rattle.queue.proofs.Shared.{free}
 use Rattle.row.proofs.broken_at.Statement.{statement}
 use Rattle.row.proofs.broken_at.Tie as tie
 

@@ -1,7 +1,14 @@
 -- The tests are those of `concerns`, in its order.
+use mathlib.Core.Path.{_≡_, refl}
+use mathlib.Core.Bool.{Bool, true, false, _||_}
 use borrow.Author.Tests.{eq-eqb, ne-eqb}
 use Rattle.row.proofs.concerns.Statement.{statement}
 use Rattle.row.proofs.concerns.Tie as tie
+
+-- the list of kinds ends there
+last : (x : Bool) → x ≡ (x || false)
+last true = refl
+last false = refl
 
 returns : tie.Need-returns
 returns c = rw (eq-eqb _ _ (c .if1 .taken))
@@ -17,7 +24,7 @@ returns-3 c =
 returns-4 : tie.Need-returns-4
 returns-4 c =
     let b = c .before .before .before in
-    rw (ne-eqb _ _ (b .before .before .if1 .left), ne-eqb _ _ (b .if2 .left), ne-eqb _ _ (c .before .if3 .left))
+    rw (ne-eqb _ _ (b .before .before .if1 .left), ne-eqb _ _ (b .if2 .left), ne-eqb _ _ (c .before .if3 .left)) (last _)
 
 pub concerns-spec : {M : Type 1} → statement M
 concerns-spec = tie.close (tie.spec returns returns-2 returns-3 returns-4)

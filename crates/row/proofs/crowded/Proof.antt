@@ -7,7 +7,7 @@ use Rattle.row.specs.declared.Row.{Row}
 use borrow.Author.Tests.{lt-ltb, le-ltb, not-true, not-false}
 use Rattle.queue.proofs.Laws.{ring-length}
 use Rattle.row.specs.Machine.{rowFrom, brokenRow, rowStep, changedRow, stays, crowding}
-use Rattle.row.proofs.Shared.{free}
+use Rattle.queue.proofs.Shared.{free}
 use Rattle.row.proofs.crowded.Statement.{statement}
 use Rattle.row.proofs.crowded.Tie as tie
 
@@ -68,7 +68,7 @@ returns-5 c number =
       not-false (b .before .concerns .result) (b .if3 .left),
       ← c .before .before .decide .ensures,
       c .before .if4 .left,
-      ← c .crowds .ensures _ _ (ring-length _ _ _),
+      ← c .crowds .ensures _ (ring-length _ _ _),
     )
     (told (c .crowds .result) _ _)
 

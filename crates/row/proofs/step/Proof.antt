@@ -2,7 +2,7 @@
 use mathlib.Core.Logic.{⊎-elim}
 use borrow.Author.Tests.{lt-ltb, le-ltb, eq-eqb, ne-eqb}
 use Rattle.row.specs.Machine.{rowStep, brokenRow}
-use Rattle.row.proofs.Shared.{free}
+use Rattle.queue.proofs.Shared.{free}
 use Rattle.row.proofs.step.Statement.{statement}
 use Rattle.row.proofs.step.Tie as tie
 

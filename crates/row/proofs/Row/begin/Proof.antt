@@ -1,12 +1,12 @@
 -- Each part is what `rowOf` says.
+use Rattle.queue.proofs.Shared.{free}
 use Rattle.row.specs.Machine.{rowOf}
-use Rattle.row.proofs.Shared.{free}
 use Rattle.row.proofs.Row.begin.Statement.{statement}
 use Rattle.row.proofs.Row.begin.Tie as tie
 
 returns : tie.Need-returns
 unfolding rowOf
-returns c = rw (c .rule-of .ensures, c .before .no-marks .ensures)
+returns c = rw (c .words-of .ensures, c .before .no-marks .ensures, c .before .before .rule-of .ensures)
 
 pub begin-spec : {M : Type 1} → statement M
-begin-spec = tie.close (tie.spec free free returns)
+begin-spec = tie.close (tie.spec free free free returns)

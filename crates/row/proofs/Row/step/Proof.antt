@@ -8,11 +8,11 @@ use Rattle.constraint.specs.Limits.{waitingLimit}
 use Rattle.constraint.proofs.Lists.{both}
 use Rattle.queue.specs.Ring.{changed}
 use Rattle.row.specs.Machine.{decide, concerns, itemsOf, brokenRow, applied, stays, crowding, changedRow, rowStep}
-use Rattle.row.specs.declared.Change.{Change}
+use Rattle.machine.specs.declared.Change.{Change}
 use Rattle.row.specs.declared.Occurrence.{Occurrence}
 use Rattle.row.specs.declared.Row.{Row}
 use Rattle.row.specs.declared.RowStep.{RowStep}
-use Rattle.row.proofs.Shared.{free}
+use Rattle.queue.proofs.Shared.{free}
 use Rattle.row.proofs.Row.step.Statement.{statement}
 use Rattle.row.proofs.Row.step.Tie as tie
 
@@ -28,12 +28,12 @@ whole-either : (b : Bool) (r : Row) (x y : RowStep) → Whole r x → Whole r y 
 whole-either true r x y p q = p
 whole-either false r x y p q = q
 
-whole-changed : (r : Row) (change : Change) (t number : ℕ) → Whole r (changedRow r change t number)
+whole-changed : (r : Row) (change : Change) (number : ℕ) → Whole r (changedRow r change number)
 unfolding changedRow Whole
-whole-changed r change t number =
+whole-changed r change number =
     whole-either (change .breaks) r _ _ (whole-stays r (brokenRow r number))
-    (whole-either (ltb waitingLimit (length (changed (change .dropped) (change .pushed) t (itemsOf r)))) r _ _ (λ e. refl, λ e. both e)
-    (whole-stays r (applied r change t)))
+    (whole-either (ltb waitingLimit (length (changed (change .edit) (itemsOf r)))) r _ _ (λ e. refl, λ e. both e)
+    (whole-stays r (applied r change)))
 
 whole : (r : Row) (o : Occurrence) (number : ℕ) → Whole r (rowStep r o number)
 unfolding rowStep
@@ -41,7 +41,7 @@ whole r o number =
     whole-either (ltb 0 (r .now .broken)) r _ _ (whole-stays r r)
     (whole-either (ltb (r .now .due) (o .time)) r _ _ (whole-stays r (brokenRow r number))
     (whole-either (concerns (r .rule) (o .kind)) r _ _
-    (whole-changed r (decide (r .rule) (r .now .marks) (itemsOf r) (o .kind) (o .time)) (o .time) number)
+    (whole-changed r (decide (r .rule) (r .now .marks) (itemsOf r) (o .kind) (o .time)) number)
     (whole-either (o .closes && eqb (r .now .kept) 0) r _ _ (whole-stays r (brokenRow r number)) (whole-stays r r))))
 
 returns : tie.Need-returns

@@ -1,0 +1,136 @@
+-- The marks of a StrongSynchronization as one count for each kind: the kinds are different, so the machine's four places are those of the list of kinds, and a place without a kind never matters.
+use Prim.Native.Nat.{ℕ, zero, suc, _+_, _-_, _≤_, _<_}
+use native.Mathlib.Omega.{arith}
+use native.Mathlib.Decide.{decLt}
+use mathlib.Core.Path.{_≡_, refl, sym, ap, _∙_, subst}
+use mathlib.Core.Bool.{Bool, true, false, _&&_, _||_, false≢true, and-eq-true-iff}
+use mathlib.Core.List.{List, [], _∷_, _++_}
+use mathlib.Core.Logic.{_⊎_, inl, inr, ⊎-elim, by-cases}
+use lib.ListN.{length, replicate, length-append, length-replicate, getD-replicate}
+use lib.Dec.{ltb, eqb}
+use borrow.Author.Tests.{ltb-true, ltb-false, eqb-false, eq-eqb, ne-eqb}
+use Rattle.constraint.specs.Limits.{lastKind, noLimit}
+use Rattle.constraint.specs.Steps.{at}
+use Rattle.constraint.specs.Accepted.{KindsFit}
+use Rattle.constraint.proofs.Lists.{split, at-left, at-right}
+use Rattle.machine.specs.Rule.{noKind}
+use Rattle.machine.specs.Parts.{noMarks}
+use Rattle.groups.specs.StrongSynchronization.{countOf, oneMore, counted, has, complete, withoutOldest}
+use Rattle.machine.specs.declared.Rule.{Rule}
+use Rattle.machine.specs.declared.Marks.{Marks}
+use Rattle.machine.proofs.SeveralKinds.{kinds-small, kinds-apart}
+
+-- the four kinds of a rule, some of which may be absent, and the count of each
+abbrev pub fourKinds : Rule → List ℕ
+fourKinds rule = rule .first ∷ rule .second ∷ rule .third ∷ rule .fourth ∷ []
+
+abbrev pub fourCounts : Marks → List ℕ
+fourCounts marks = marks .first ∷ marks .second ∷ marks .third ∷ marks .fourth ∷ []
+
+-- the rule is of these kinds, which are two or more and different, and of no others
+pub record Names (rule : Rule) (ks : List ℕ) : Type 0 where
+  pub fit : KindsFit ks
+  pub several : 2 ≤ length ks
+  pub absent : ℕ
+  pub padded : fourKinds rule ≡ ks ++ replicate absent noKind
+
+-- what holds of four places holds of each
+four-each : (P : ℕ → Type 0) → P 0 → P 1 → P 2 → P 3 → (i : ℕ) → i < 4 → P i
+four-each P a b c d zero h = a
+four-each P a b c d (suc zero) h = b
+four-each P a b c d (suc (suc zero)) h = c
+four-each P a b c d (suc (suc (suc zero))) h = d
+four-each P a b c d (suc (suc (suc (suc i)))) h = absurd (omega arith)
+
+and-false : (a b : Bool) → a && b ≡ false → (a ≡ false) ⊎ (b ≡ false)
+and-false true b e = inr e
+and-false false b e = inl refl
+
+-- four tests in a row
+module _ (f : ℕ → Bool) where
+  four-true : f 0 && (f 1 && (f 2 && f 3)) ≡ true → (i : ℕ) → i < 4 → f i ≡ true
+  four-true e =
+      let (a, r) = and-eq-true-iff (f 0) (f 1 && (f 2 && f 3)) .0 e in
+      let (b, s) = and-eq-true-iff (f 1) (f 2 && f 3) .0 r in
+      let (c, d) = and-eq-true-iff (f 2) (f 3) .0 s in
+      four-each (λ i. f i ≡ true) a b c d
+
+  four-false : f 0 && (f 1 && (f 2 && f 3)) ≡ false → (i : ℕ) × (i < 4) × (f i ≡ false)
+  four-false e =
+      ⊎-elim (λ a. (0, omega arith, a))
+      (λ r. ⊎-elim (λ b. (1, omega arith, b))
+      (λ s. ⊎-elim (λ c. (2, omega arith, c)) (λ d. (3, omega arith, d)) (and-false (f 2) (f 3) s))
+      (and-false (f 1) (f 2 && f 3) r))
+      (and-false (f 0) (f 1 && (f 2 && f 3)) e)
+
+has-true : (k count : ℕ) → k ≤ lastKind → has k count ≡ true → 0 < count
+has-true k count small e = ltb-true 0 count (rw (ne-eqb k noKind (λ same. omega arith)) at e)
+
+has-false : (k count : ℕ) → has k count ≡ false → (¬ (k ≡ noKind)) × (count ≡ 0)
+has-false k count =
+    split (eqb k noKind) (λ x. (x || ltb 0 count) ≡ false → (¬ (k ≡ noKind)) × (count ≡ 0))
+    (λ e f. absurd (false≢true (sym f)))
+    (λ e f. (eqb-false k noKind e, omega (arith, ltb-false 0 count f)))
+
+-- the four places
+module _ (rule : Rule) (marks : Marks) where
+  abbrev hasAt : ℕ → Bool
+  hasAt i = has (at (fourKinds rule) i) (at (fourCounts marks) i)
+
+  count-more : (k i : ℕ) → i < 4 → at (fourCounts (counted rule marks k)) i ≡ oneMore k (at (fourKinds rule) i) (at (fourCounts marks) i)
+  count-more k = four-each (λ i. at (fourCounts (counted rule marks k)) i ≡ oneMore k (at (fourKinds rule) i) (at (fourCounts marks) i)) refl refl refl refl
+
+  -- the count of a kind is at the first place that has the kind
+  count-at : (i : ℕ) → i < 4 → ((j : ℕ) → j < i → ¬ (at (fourKinds rule) i ≡ at (fourKinds rule) j)) → countOf rule marks (at (fourKinds rule) i) ≡ at (fourCounts marks) i
+  count-at =
+      four-each (λ i. ((j : ℕ) → j < i → ¬ (at (fourKinds rule) i ≡ at (fourKinds rule) j)) → countOf rule marks (at (fourKinds rule) i) ≡ at (fourCounts marks) i)
+      (λ apart. rw (eq-eqb (rule .first) (rule .first) refl))
+      (λ apart. rw (ne-eqb (rule .second) (rule .first) (apart 0 (omega arith)), eq-eqb (rule .second) (rule .second) refl))
+      (λ apart. rw (ne-eqb (rule .third) (rule .first) (apart 0 (omega arith)), ne-eqb (rule .third) (rule .second) (apart 1 (omega arith)), eq-eqb (rule .third) (rule .third) refl))
+      (λ apart. rw (ne-eqb (rule .fourth) (rule .first) (apart 0 (omega arith)), ne-eqb (rule .fourth) (rule .second) (apart 1 (omega arith)), ne-eqb (rule .fourth) (rule .third) (apart 2 (omega arith))))
+
+-- the places of the list of kinds
+module _ {rule : Rule} {ks : List ℕ} (names : Names rule ks) where
+  abbrev padding : List ℕ
+  padding = replicate (names .absent) noKind
+
+  names-four : length ks + names .absent ≡ 4
+  names-four = omega (arith, ap length (names .padded), length-append ks padding, length-replicate (names .absent) noKind)
+
+  pub count-none : (j : ℕ) → j < length ks → at (fourCounts noMarks) j ≡ 0
+  count-none j h = four-each (λ i. at (fourCounts noMarks) i ≡ 0) refl refl refl refl j (omega (arith, names-four))
+
+  kind-present : (j : ℕ) → j < length ks → at (fourKinds rule) j ≡ at ks j
+  kind-present j h = ap (λ (l : List ℕ). at l j) (names .padded) ∙ at-left ks padding j h
+
+  kind-absent : (j : ℕ) → length ks ≤ j → j < 4 → at (fourKinds rule) j ≡ noKind
+  kind-absent j h l =
+      let place : length ks + (j - length ks) ≡ j = omega arith in
+      ap (λ (l : List ℕ). at l j) (names .padded)
+      ∙ subst (λ (i : ℕ). at (ks ++ padding) i ≡ noKind) place (at-right ks padding (j - length ks) ∙ getD-replicate (names .absent) (j - length ks) noKind 0 (omega (arith, names-four)))
+
+  module _ (marks : Marks) where
+    pub count-is : (k : ℕ) → k < length ks → countOf rule marks (at ks k) ≡ at (fourCounts marks) k
+    count-is k h =
+        rw (← kind-present k h) (count-at rule marks k (omega (arith, names-four))
+        (λ j l. rw (kind-present k h, kind-present j (omega arith)) (kinds-apart ks (names .fit) k j h (omega arith) (λ e. omega arith))))
+
+    pub count-own : (k : ℕ) → k < length ks → at (fourCounts marks) k < noLimit → at (fourCounts (counted rule marks (at ks k))) k ≡ suc (at (fourCounts marks) k)
+    count-own k h small = count-more rule marks (at ks k) k (omega (arith, names-four)) ∙ rw (kind-present k h, eq-eqb (at ks k) (at ks k) refl) (omega arith)
+
+    pub count-other : (k j : ℕ) → k < length ks → j < length ks → ¬ (j ≡ k) → at (fourCounts (counted rule marks (at ks k))) j ≡ at (fourCounts marks) j
+    count-other k j h l apart =
+        count-more rule marks (at ks k) j (omega (arith, names-four)) ∙ rw (kind-present j l, ne-eqb (at ks k) (at ks j) (kinds-apart ks (names .fit) k j h l (λ e. apart (sym e))))
+
+    pub count-left : (j : ℕ) → j < length ks → at (fourCounts (withoutOldest marks)) j ≡ at (fourCounts marks) j - 1
+    count-left j h = four-each (λ i. at (fourCounts (withoutOldest marks)) i ≡ at (fourCounts marks) i - 1) refl refl refl refl j (omega (arith, names-four))
+
+    pub complete-has : complete rule marks ≡ true → (j : ℕ) → j < length ks → 0 < at (fourCounts marks) j
+    complete-has e j h =
+        has-true (at ks j) (at (fourCounts marks) j) (kinds-small ks (names .fit) j h) (rw (kind-present j h) at (four-true (hasAt rule marks) e j (omega (arith, names-four))))
+
+    pub incomplete-lacks : complete rule marks ≡ false → (j : ℕ) × (j < length ks) × (at (fourCounts marks) j ≡ 0)
+    incomplete-lacks e =
+        let (j, h, lacks) = four-false (hasAt rule marks) e in
+        let (known, none) = has-false (at (fourKinds rule) j) (at (fourCounts marks) j) lacks in
+        (j, by-cases (decLt j (length ks)) (λ l. l) (λ l. absurd (known (kind-absent j (omega arith) h))), none)

@@ -1,0 +1,155 @@
+-- StrongSynchronization: the first times of the groups begun and not complete, and each kind's count of them, are enough, since an event goes
+-- to the first group that lacks its kind and the oldest group is due first.
+use Prim.Native.Nat.{ℕ, _≤_, _<_}
+use native.Mathlib.Omega.{arith}
+use mathlib.Core.Path.{_≡_, refl, sym, _∙_}
+use mathlib.Core.Bool.{true, false, false≢true}
+use mathlib.Core.List.{List, [], _∷_, _++_}
+use mathlib.Core.Logic.{inl}
+use lib.ListN.{length}
+use Rattle.constraint.specs.Limits.{lastTime}
+use Rattle.constraint.specs.Steps.{Step, event, tick, at, own, clock, closed}
+use Rattle.constraint.specs.Meets.{Meets, MeetsStrongSynchronization}
+use Rattle.constraint.specs.Continuation.{Open}
+use Rattle.constraint.specs.Waiting.{waiting, begunIncomplete}
+use Rattle.constraint.specs.Accepted.{kinds, KindsFit}
+use Rattle.constraint.specs.declared.Constraint.{Constraint}
+use Rattle.constraint.specs.declared.Constraint.the-variants.{StrongSynchronization2, StrongSynchronization3, StrongSynchronization4}
+use Rattle.constraint.proofs.History.{Accepts, Past}
+use Rattle.constraint.proofs.Continuations.{same-times}
+use Rattle.machine.specs.Rule.{ruleOf, startWords}
+use Rattle.machine.specs.Parts.{dueOldest, none-left}
+use Rattle.machine.specs.declared.Marks.{Marks}
+use Rattle.machine.proofs.Exact.{Sound, OfKind, Starts, GoesOn, ByOutcome, Exact}
+use Rattle.machine.proofs.SeveralKinds.{by-place}
+use Rattle.machine.proofs.Oldest.{due-within, due-passed}
+use Rattle.groups.specs.StrongSynchronization.{decideStrongSynchronization}
+use Rattle.groups.proofs.Laws.Columns.{groups-same, behind-same, groups-late, groups-meet, Completes, completes, groups-wait, groups-left-over}
+use Rattle.groups.proofs.Laws.Counts.{Names}
+use Rattle.groups.proofs.Laws.LiveGroups.{LiveGroups, due, kept, live-none, event-does}
+
+-- a row of a list of kinds: its rule, its definition and what waits are those of the list
+record Synchronized (c : Constraint) : Type 1 where
+  names : Names (ruleOf c) (kinds c)
+  no-words : startWords (ruleOf c) ≡ []
+  meets : (steps : List Step) → Meets c steps ≡ MeetsStrongSynchronization (kinds c) (ruleOf c .upper) steps
+  waits : (steps : List Step) → waiting c steps ≡ begunIncomplete (kinds c) steps
+
+module _ (c : Constraint) (s : Synchronized c) where
+  abbrev tolerance : ℕ
+  tolerance = ruleOf c .upper
+
+  abbrev Live : List Step → Marks → List ℕ → Type 0
+  Live = LiveGroups (kinds c) tolerance
+
+  -- ---- Start
+
+  live-start : Starts (Live []) (due tolerance) kept (startWords (ruleOf c))
+  live-start = rw (s .no-words) (record { live = live-none (s .names) tolerance; due-is = refl; kept-is = refl })
+
+  -- ---- Events
+
+  live-does : {steps : List Step} {marks : Marks} {firsts : List ℕ} {k t : ℕ} → Past steps → Live steps marks firsts → OfKind c k
+      → Accepts steps (event k t) → t ≤ dueOldest tolerance firsts
+      → ByOutcome (¬ Open c (steps ++ (event k t ∷ []))) (GoesOn (Live (steps ++ (event k t ∷ []))) (due tolerance) kept firsts t)
+      (decideStrongSynchronization (ruleOf c) marks firsts k t)
+  live-does {steps} {marks} {firsts} {k} {t} past live =
+      by-place c (λ j. Accepts steps (event j t) → t ≤ dueOldest tolerance firsts
+      → ByOutcome (¬ Open c (steps ++ (event j t ∷ []))) (GoesOn (Live (steps ++ (event j t ∷ []))) (due tolerance) kept firsts t)
+      (decideStrongSynchronization (ruleOf c) marks firsts j t))
+      (λ i h accepts in-time. event-does (s .names) tolerance steps marks firsts i t past live h accepts in-time
+      (¬ Open c (steps ++ (event (at (kinds c) i) t ∷ []))) refl)
+
+  -- ---- Ticks
+
+  live-same : (a b : List Step) (marks : Marks) (firsts : List ℕ) → own (kinds c) a ≡ own (kinds c) b → Live a marks firsts → Live b marks firsts
+  live-same a b marks firsts equal live =
+      let same = same-times (kinds c) a b equal in
+      record {
+        done = live .done;
+        groups = groups-same (kinds c) tolerance a b same (live .groups);
+        behind = behind-same (kinds c) tolerance a b same (live .behind);
+        counts = λ j h. rw (← same j h) (live .counts j h);
+      }
+
+  live-late : (steps : List Step) (marks : Marks) (firsts : List ℕ) (t : ℕ) → Live steps marks firsts → dueOldest tolerance firsts < t
+      → t ≤ lastTime → ¬ Open c (steps ++ (tick t ∷ []))
+  live-late steps marks firsts t live passed small (further, follows, meets) =
+      let (begun, late) = due-passed tolerance t firsts small passed in
+      groups-late (kinds c) tolerance t steps further (live .groups) (live .behind) begun late follows
+      (rw (s .meets (steps ++ (tick t ∷ []) ++ further)) at meets)
+
+  -- ---- Open
+
+  live-open : (steps : List Step) (marks : Marks) (firsts : List ℕ) → Past steps → closed steps ≡ false → Live steps marks firsts
+      → clock steps ≤ dueOldest tolerance firsts → Open c steps
+  live-open steps marks firsts past goes-on live in-time =
+      let (further, follows, meets) = completes (kinds c) (s .names .fit) tolerance firsts (live .done) steps (record {
+        goes-on = goes-on;
+        ordered = λ k. (past .rising k, past .past k);
+        groups = live .groups;
+        in-time = due-within tolerance (clock steps) firsts in-time;
+      }) in
+      (further, follows, rw (s .meets (steps ++ further)) meets)
+
+  -- ---- Close
+
+  live-kept : (steps : List Step) (marks : Marks) (firsts : List ℕ) → Live steps marks firsts → none-left firsts ≡ true → Meets c steps
+  live-kept steps marks [] live e = rw (s .meets steps) (groups-meet (kinds c) tolerance steps (live .groups))
+  live-kept steps marks (f ∷ fs) live e = absurd (false≢true e)
+
+  live-not-kept : (steps : List Step) (marks : Marks) (firsts : List ℕ) → Live steps marks firsts → none-left firsts ≡ false → ¬ Meets c steps
+  live-not-kept steps marks [] live e = absurd (false≢true (sym e))
+  live-not-kept steps marks (f ∷ fs) live e =
+      λ meets. groups-left-over (kinds c) tolerance steps (live .groups) (live .behind) (omega arith) (rw (s .meets steps) at meets)
+
+  -- ---- Exact
+
+  exact-synchronized : Exact c (decideStrongSynchronization (ruleOf c))
+  exact-synchronized =
+      record {
+        Live = Live;
+        due = due tolerance;
+        kept = kept;
+        start = live-start;
+        does = live-does;
+        same = live-same _ _ _ _;
+        late = λ past live. live-late _ _ _ _ live;
+        is-open = live-open _ _ _;
+        waits = λ past live. inl (s .waits _ ∙ groups-wait (kinds c) tolerance _ (live .groups) (live .behind));
+        is-kept = λ past live in-time. live-kept _ _ _ live;
+        not-kept = λ past live. live-not-kept _ _ _ live;
+      }
+
+pub exactStrongSynchronization2 : (a b tolerance : ℕ) → Sound (StrongSynchronization2 a b tolerance)
+    → Exact (StrongSynchronization2 a b tolerance) (decideStrongSynchronization (ruleOf (StrongSynchronization2 a b tolerance)))
+unfolding Meets waiting
+exactStrongSynchronization2 a b tolerance sound =
+    exact-synchronized (StrongSynchronization2 a b tolerance) (record {
+      names = record { fit = sound .kinds-fit; several = omega arith; absent = 2; padded = refl };
+      no-words = refl;
+      meets = λ steps. refl;
+      waits = λ steps. refl;
+    })
+
+pub exactStrongSynchronization3 : (a b c tolerance : ℕ) → Sound (StrongSynchronization3 a b c tolerance)
+    → Exact (StrongSynchronization3 a b c tolerance) (decideStrongSynchronization (ruleOf (StrongSynchronization3 a b c tolerance)))
+unfolding Meets waiting
+exactStrongSynchronization3 a b c tolerance sound =
+    exact-synchronized (StrongSynchronization3 a b c tolerance) (record {
+      names = record { fit = sound .kinds-fit; several = omega arith; absent = 1; padded = refl };
+      no-words = refl;
+      meets = λ steps. refl;
+      waits = λ steps. refl;
+    })
+
+pub exactStrongSynchronization4 : (a b c d tolerance : ℕ) → Sound (StrongSynchronization4 a b c d tolerance)
+    → Exact (StrongSynchronization4 a b c d tolerance) (decideStrongSynchronization (ruleOf (StrongSynchronization4 a b c d tolerance)))
+unfolding Meets waiting
+exactStrongSynchronization4 a b c d tolerance sound =
+    exact-synchronized (StrongSynchronization4 a b c d tolerance) (record {
+      names = record { fit = sound .kinds-fit; several = omega arith; absent = 0; padded = refl };
+      no-words = refl;
+      meets = λ steps. refl;
+      waits = λ steps. refl;
+    })

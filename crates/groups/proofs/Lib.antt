@@ -1,0 +1,2 @@
+-- Why the machine of StrongSynchronization is exact.
+pub mod Laws

@@ -1,0 +1,2 @@
+-- The machine of rows of several kinds whose events come in groups.
+pub mod StrongSynchronization

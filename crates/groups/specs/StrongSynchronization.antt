@@ -1,0 +1,72 @@
+-- StrongSynchronization: the times are the first times of the groups begun and not complete; `first` to `fourth` say how many of these groups
+-- have an event of that kind.
+use Prim.Native.Nat.{ℕ, _-_}
+use mathlib.Core.Bool.{Bool, cond, _&&_, _||_}
+use mathlib.Core.List.{List}
+use lib.ListN.{length}
+use lib.Dec.{ltb, eqb}
+use Rattle.queue.specs.declared.Edit.the-variants.{Drop, Push}
+use Rattle.machine.specs.Rule.{noKind}
+use Rattle.machine.specs.Parts.{plus, waits}
+use Rattle.machine.specs.declared.Rule.{Rule}
+use Rattle.machine.specs.declared.Marks.{Marks}
+use Rattle.machine.specs.declared.Change.{Change}
+
+-- how many of the groups have an event of the kind
+abbrev pub countOf : Rule → Marks → ℕ → ℕ
+countOf rule marks kind =
+    cond (eqb kind (rule .first)) (marks .first)
+    (cond (eqb kind (rule .second)) (marks .second)
+    (cond (eqb kind (rule .third)) (marks .third)
+    (marks .fourth)))
+
+-- one more of the kind
+abbrev pub oneMore : ℕ → ℕ → ℕ → ℕ
+oneMore kind of count = cond (eqb kind of) (plus count 1) count
+
+abbrev pub counted : Rule → Marks → ℕ → Marks
+counted rule marks kind =
+    record {
+      last = marks .last;
+      early = marks .early;
+      ahead = marks .ahead;
+      low = marks .low;
+      high = marks .high;
+      first = oneMore kind (rule .first) (marks .first);
+      second = oneMore kind (rule .second) (marks .second);
+      third = oneMore kind (rule .third) (marks .third);
+      fourth = oneMore kind (rule .fourth) (marks .fourth);
+    }
+
+-- the oldest group has an event of the kind, or there is no such kind
+abbrev pub has : ℕ → ℕ → Bool
+has kind count = eqb kind noKind || ltb 0 count
+
+-- the oldest group has an event of each kind
+abbrev pub complete : Rule → Marks → Bool
+complete rule marks =
+    has (rule .first) (marks .first)
+    && (has (rule .second) (marks .second) && (has (rule .third) (marks .third) && has (rule .fourth) (marks .fourth)))
+
+-- the counts without the oldest group
+abbrev pub withoutOldest : Marks → Marks
+withoutOldest marks =
+    record {
+      last = marks .last;
+      early = marks .early;
+      ahead = marks .ahead;
+      low = marks .low;
+      high = marks .high;
+      first = marks .first - 1;
+      second = marks .second - 1;
+      third = marks .third - 1;
+      fourth = marks .fourth - 1;
+    }
+
+-- an event of a kind that all groups have begins a new one; any other goes to the first group that lacks its kind, and a complete one leaves
+unfoldable pub decideStrongSynchronization : Rule → Marks → List ℕ → ℕ → ℕ → Change
+decideStrongSynchronization rule marks times kind t =
+    let now : Marks = counted rule marks kind in
+    cond (ltb (countOf rule marks kind) (length times))
+    (cond (complete rule now) (waits (rule .upper) times (Drop 1) (withoutOldest now)) (waits (rule .upper) times (Drop 0) now))
+    (waits (rule .upper) times (Push 0 t) now)

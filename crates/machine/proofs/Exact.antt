@@ -1,0 +1,80 @@
+-- What each row type proves of its machine, so that whoever steps rows never looks inside a type.
+use Prim.Native.Nat.{ℕ, _≤_, _<_}
+use mathlib.Core.Path.{_≡_}
+use mathlib.Core.Bool.{Bool, true, false, cond}
+use mathlib.Core.List.{List, [], _∷_, _++_}
+use mathlib.Core.Logic.{_⊎_}
+use lib.ListN.{length}
+use Rattle.constraint.specs.Limits.{lastTime, noLimit, waitingLimit}
+use Rattle.constraint.specs.Steps.{Step, event, tick, at, own, clock, closed}
+use Rattle.constraint.specs.Meets.{Meets}
+use Rattle.constraint.specs.Continuation.{Open}
+use Rattle.constraint.specs.Waiting.{waiting}
+use Rattle.constraint.specs.Accepted.{kinds, KindsFit, InRange, LowerFirst}
+use Rattle.constraint.specs.declared.Constraint.{Constraint}
+use Rattle.constraint.proofs.History.{Accepts, Past}
+use Rattle.queue.specs.Ring.{changed}
+use Rattle.machine.specs.Rule.{ruleOf, startWords}
+use Rattle.machine.specs.Parts.{noMarks}
+use Rattle.machine.specs.declared.Marks.{Marks}
+use Rattle.machine.specs.declared.Change.{Change}
+
+-- a row whose answers to questions 5 to 7 are yes
+pub record Sound (c : Constraint) : Type 0 where
+  pub kinds-fit : KindsFit (kinds c)
+  pub in-range : InRange c
+  pub lower-first : LowerFirst c
+
+-- k is one of the row's kinds
+abbrev pub OfKind : Constraint → ℕ → Type 0
+OfKind c k = (i : ℕ) × (i < length (kinds c)) × (at (kinds c) i ≡ k)
+
+-- what holds of marks and times, with the due time and the mark for kept that go with them, before any event
+pub record Starts (Live : Marks → List ℕ → Type 0) (due : Marks → List ℕ → ℕ) (kept : Marks → List ℕ → Bool) (times : List ℕ) : Type 0 where
+  pub live : Live noMarks times
+  pub due-is : noLimit ≡ due noMarks times
+  pub kept-is : true ≡ kept noMarks times
+
+-- and after a change at t that the row goes on with
+pub record GoesOn (Live : Marks → List ℕ → Type 0) (due : Marks → List ℕ → ℕ) (kept : Marks → List ℕ → Bool) (times : List ℕ) (t : ℕ)
+    (change : Change) : Type 0 where
+  pub live : Live (change .marks) (changed (change .edit) times)
+  pub due-is : change .due ≡ due (change .marks) (changed (change .edit) times)
+  pub kept-is : change .kept ≡ kept (change .marks) (changed (change .edit) times)
+  pub in-time : t ≤ change .due
+
+-- by what a change does: it breaks the row, or the row goes on with it
+abbrev pub ByOutcome : Type 0 → (Change → Type 0) → Change → Type 0
+ByOutcome Breaks Goes change = cond (change .breaks) Breaks (Goes change)
+
+pub outcome-map : {A B P Q : Type 0} (breaks : Bool) → (A → B) → (P → Q) → cond breaks A P → cond breaks B Q
+outcome-map true f g = f
+outcome-map false f g = g
+
+-- a constraint whose rows decide so
+pub record Exact (c : Constraint) (decide : Marks → List ℕ → ℕ → ℕ → Change) : Type 1 where
+  -- what holds between the steps and what the row keeps of them, while it is open; its due time, and whether it is kept at a close
+  pub Live : List Step → Marks → List ℕ → Type 0
+  pub due : Marks → List ℕ → ℕ
+  pub kept : Marks → List ℕ → Bool
+  -- Start
+  pub start : Starts (Live []) due kept (startWords (ruleOf c))
+  -- Events: one that comes in time either leaves no continuation or leaves the row going on
+  pub does : {steps : List Step} {marks : Marks} {times : List ℕ} {k t : ℕ} → Past steps → Live steps marks times → OfKind c k
+      → Accepts steps (event k t) → t ≤ due marks times
+      → ByOutcome (¬ Open c (steps ++ (event k t ∷ []))) (GoesOn (Live (steps ++ (event k t ∷ []))) due kept times t) (decide marks times k t)
+  -- Ticks: steps that record nothing of the row's kinds leave it as it is, until its due time has passed
+  pub same : {a b : List Step} {marks : Marks} {times : List ℕ} → own (kinds c) a ≡ own (kinds c) b → Live a marks times → Live b marks times
+  pub late : {steps : List Step} {marks : Marks} {times : List ℕ} {t : ℕ} → Past steps → Live steps marks times → due marks times < t
+      → t ≤ lastTime → ¬ Open c (steps ++ (tick t ∷ []))
+  -- Open
+  pub is-open : {steps : List Step} {marks : Marks} {times : List ℕ} → Past steps → closed steps ≡ false → Live steps marks times
+      → clock steps ≤ due marks times → Open c steps
+  -- Waiting
+  pub waits : {steps : List Step} {marks : Marks} {times : List ℕ} → Past steps → Live steps marks times
+      → (waiting c steps ≡ length times) ⊎ ((waiting c steps ≡ 0) × (length times ≤ waitingLimit))
+  -- Close
+  pub is-kept : {steps : List Step} {marks : Marks} {times : List ℕ} → Past steps → Live steps marks times → clock steps ≤ due marks times
+      → kept marks times ≡ true → Meets c steps
+  pub not-kept : {steps : List Step} {marks : Marks} {times : List ℕ} → Past steps → Live steps marks times
+      → kept marks times ≡ false → ¬ Meets c steps

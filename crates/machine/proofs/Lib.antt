@@ -1,0 +1,8 @@
+-- What each row type proves of its machine, and what several types share.
+pub mod Exact
+pub mod SeveralKinds
+pub mod OneKind
+pub mod TwoKinds
+pub mod Oldest
+pub mod Spans
+pub mod Tests

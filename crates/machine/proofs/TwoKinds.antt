@@ -1,0 +1,200 @@
+-- Rows of a source kind and a target kind: what is proved over their lists of times holds of the steps that recorded them.
+use Prim.Native.Nat.{ℕ, zero, suc, _≤_, _<_}
+use native.Mathlib.Omega.{arith}
+use mathlib.Core.Path.{_≡_, sym, subst, subst₂, transport}
+use mathlib.Core.Bool.{Bool, true, false}
+use mathlib.Core.List.{List, [], _∷_, _++_, append-nil}
+use mathlib.Core.Logic.{_⊎_, inl, inr}
+use lib.ListN.{length}
+use Rattle.constraint.specs.Limits.{lastTime, waitingLimit}
+use Rattle.constraint.specs.Steps.{Step, event, tick, at, times, own, clock, closed}
+use Rattle.constraint.specs.Meets.{Meets}
+use Rattle.constraint.specs.Continuation.{Continues, Open}
+use Rattle.constraint.specs.Waiting.{waiting}
+use Rattle.constraint.specs.Accepted.{kinds, KindsFit}
+use Rattle.constraint.specs.declared.Constraint.{Constraint}
+use Rattle.constraint.proofs.Lists.{Each, Rising}
+use Rattle.constraint.proofs.History.{Accepts, Past, times-append, times-own, times-other, times-tick, clock-event, clock-tick}
+use Rattle.constraint.proofs.Continuations.{SameTimes, same-times, events, continues-late, continues-events, times-events, times-no-events}
+use Rattle.machine.specs.Rule.{ruleOf, startWords}
+use Rattle.machine.specs.declared.Marks.{Marks}
+use Rattle.machine.specs.declared.Change.{Change}
+use Rattle.machine.proofs.Exact.{OfKind, Starts, GoesOn, ByOutcome, outcome-map, Exact}
+use Rattle.machine.proofs.SeveralKinds.{kinds-small, kinds-apart, by-place}
+
+-- what is known of the times recorded up to a clock
+pub record UpTo (now : ℕ) (sources targets : List ℕ) : Type 0 where
+  pub sources-rise : Rising sources
+  pub targets-rise : Rising targets
+  pub sources-past : Each (λ s. s ≤ now) sources
+  pub targets-past : Each (λ t. t ≤ now) targets
+  pub small : now ≤ lastTime
+
+-- further times of one kind that make the row's definition true
+abbrev pub Further : ℕ → List ℕ → (List ℕ → Type 0) → Type 0
+Further now times Meet = (further : List ℕ) × Rising (times ++ further) × Each (λ t. now ≤ t) further × Meet (times ++ further)
+
+-- no further times from t on do
+abbrev pub Lost : ℕ → (List ℕ → List ℕ → Type 0) → List ℕ → List ℕ → Type 0
+Lost t Meet sources targets =
+    (fs gs : List ℕ) → Each (λ s. t ≤ s) fs → Each (λ y. t ≤ y) gs → ¬ Meet (sources ++ fs) (targets ++ gs)
+
+-- what a row of two kinds proves over its lists of times; the parts are those of `Exact`
+pub record TwoKinds (decide : Marks → List ℕ → ℕ → ℕ → Change) (source target : ℕ) (Meet : List ℕ → List ℕ → Type 0)
+    (wait : List ℕ → List ℕ → ℕ) : Type 1 where
+  pub Live : List ℕ → List ℕ → Marks → List ℕ → Type 0
+  pub due : Marks → List ℕ → ℕ
+  pub kept : Marks → List ℕ → Bool
+  pub start : Starts (Live [] []) due kept []
+  pub source-does : {sources targets : List ℕ} {marks : Marks} {times : List ℕ} {t : ℕ} → UpTo t sources targets
+      → Live sources targets marks times → t ≤ due marks times
+      → ByOutcome (Lost t Meet (sources ++ t ∷ []) targets) (GoesOn (Live (sources ++ t ∷ []) targets) due kept times t) (decide marks times source t)
+  pub target-does : {sources targets : List ℕ} {marks : Marks} {times : List ℕ} {t : ℕ} → UpTo t sources targets → Each (λ y. y < t) targets
+      → Live sources targets marks times → t ≤ due marks times
+      → ByOutcome (Lost t Meet sources (targets ++ t ∷ [])) (GoesOn (Live sources (targets ++ t ∷ [])) due kept times t) (decide marks times target t)
+  pub late : {sources targets : List ℕ} {marks : Marks} {times : List ℕ} {t : ℕ} → Live sources targets marks times → due marks times < t
+      → t ≤ lastTime → Lost t Meet sources targets
+  pub is-open : {now : ℕ} {sources targets : List ℕ} {marks : Marks} {times : List ℕ} → UpTo now sources targets
+      → Live sources targets marks times → now ≤ due marks times
+      → Further now sources (λ all. Meet all targets) ⊎ Further now targets (λ all. Meet sources all)
+  pub waits : {sources targets : List ℕ} {marks : Marks} {times : List ℕ} → Live sources targets marks times
+      → (wait sources targets ≡ length times) ⊎ ((wait sources targets ≡ 0) × (length times ≤ waitingLimit))
+  pub is-kept : {sources targets : List ℕ} {marks : Marks} {times : List ℕ} → Live sources targets marks times
+      → kept marks times ≡ true → Meet sources targets
+  pub not-kept : {sources targets : List ℕ} {marks : Marks} {times : List ℕ} → Live sources targets marks times
+      → kept marks times ≡ false → ¬ Meet sources targets
+
+-- a constraint whose definition and what waits are said of two lists of times
+pub record OfTwoKinds (c : Constraint) (source target : ℕ) (Meet : List ℕ → List ℕ → Type 0) (wait : List ℕ → List ℕ → ℕ) : Type 1 where
+  pub kinds-are : kinds c ≡ source ∷ target ∷ []
+  pub kinds-fit : KindsFit (kinds c)
+  pub no-words : startWords (ruleOf c) ≡ []
+  pub meets-are : (steps : List Step) → Meets c steps ≡ Meet (times source steps) (times target steps)
+  pub waiting-is : (steps : List Step) → waiting c steps ≡ wait (times source steps) (times target steps)
+
+module _ {c : Constraint} {source target : ℕ} {Meet : List ℕ → List ℕ → Type 0} {wait : List ℕ → List ℕ → ℕ}
+    (of : OfTwoKinds c source target Meet wait) (decide : Marks → List ℕ → ℕ → ℕ → Change) (laws : TwoKinds decide source target Meet wait) where
+  -- ---- the two kinds
+
+  pair-fit : KindsFit (source ∷ target ∷ [])
+  pair-fit = subst KindsFit (of .kinds-are) (of .kinds-fit)
+
+  apart : ¬ (source ≡ target)
+  apart = kinds-apart (source ∷ target ∷ []) pair-fit 0 1 (omega arith) (omega arith) (λ e. omega arith)
+
+  -- what holds of both kinds holds of a kind of the row
+  of-kind : (P : ℕ → Type 0) → P source → P target → {k : ℕ} → OfKind c k → P k
+  of-kind P s t = by-place c P (subst (λ (ks : List ℕ). (i : ℕ) → i < length ks → P (at ks i)) (sym (of .kinds-are)) both)
+    where
+      both : (i : ℕ) → i < 2 → P (at (source ∷ target ∷ []) i)
+      both zero h = s
+      both (suc zero) h = t
+      both (suc (suc i)) h = absurd (omega arith)
+
+  -- ---- the lists of times
+
+  abbrev Live : List Step → Marks → List ℕ → Type 0
+  Live steps = laws .Live (times source steps) (times target steps)
+
+  up-to : (now : ℕ) (steps : List Step) → Past steps → clock steps ≤ now → now ≤ lastTime → UpTo now (times source steps) (times target steps)
+  up-to now steps p later small =
+      record {
+        sources-rise = p .rising source;
+        targets-rise = p .rising target;
+        sources-past = λ i h. omega (arith, p .past source i h);
+        targets-past = λ i h. omega (arith, p .past target i h);
+        small = small;
+      }
+
+  meets-of : (steps further : List Step)
+      → Meet (times source steps ++ times source further) (times target steps ++ times target further) → Meets c (steps ++ further)
+  meets-of steps further m =
+      transport (sym (of .meets-are (steps ++ further))) (rw (times-append source steps further, times-append target steps further) m)
+
+  -- no continuation is left where no further times are
+  shut : (t : ℕ) (steps : List Step) → clock steps ≡ t → Lost t Meet (times source steps) (times target steps) → ¬ Open c steps
+  shut t steps now lost (further, follows, meets) =
+      lost (times source further) (times target further) (rw now at (continues-late follows source)) (rw now at (continues-late follows target))
+      (subst₂ Meet (times-append source steps further) (times-append target steps further) (transport (of .meets-are (steps ++ further)) meets))
+
+  -- ---- Start
+
+  pair-start : Starts (Live []) (laws .due) (laws .kept) (startWords (ruleOf c))
+  unfolding times
+  pair-start = rw (of .no-words) (laws .start)
+
+  -- ---- Events
+
+  abbrev Does : List Step → Marks → List ℕ → ℕ → ℕ → Type 0
+  Does steps marks held k t =
+      ByOutcome (¬ Open c (steps ++ (event k t ∷ []))) (GoesOn (Live (steps ++ (event k t ∷ []))) (laws .due) (laws .kept) held t) (decide marks held k t)
+
+  -- what the event makes of the two lists it makes of the steps
+  does-of : (steps : List Step) (marks : Marks) (held : List ℕ) (k t : ℕ) (sources targets : List ℕ)
+      → times source (steps ++ (event k t ∷ [])) ≡ sources → times target (steps ++ (event k t ∷ [])) ≡ targets
+      → ByOutcome (Lost t Meet sources targets) (GoesOn (laws .Live sources targets) (laws .due) (laws .kept) held t) (decide marks held k t)
+      → Does steps marks held k t
+  does-of steps marks held k t sources targets are-sources are-targets =
+      outcome-map (decide marks held k t .breaks)
+      (λ lost. shut t (steps ++ (event k t ∷ [])) (clock-event k t steps) (rw (are-sources, are-targets) lost))
+      (subst₂ (λ (x y : List ℕ). GoesOn (laws .Live x y) (laws .due) (laws .kept) held t (decide marks held k t)) (sym are-sources) (sym are-targets))
+
+  pair-does : {steps : List Step} {marks : Marks} {held : List ℕ} {k t : ℕ} → Past steps → Live steps marks held → OfKind c k
+      → Accepts steps (event k t) → t ≤ laws .due marks held → Does steps marks held k t
+  pair-does {steps} {marks} {held} {k} {t} p live =
+      of-kind (λ j. Accepts steps (event j t) → t ≤ laws .due marks held → Does steps marks held j t)
+      (λ a soon. does-of steps marks held source t (times source steps ++ t ∷ []) (times target steps)
+      (times-own source t steps) (times-other target source t steps apart)
+      (laws .source-does (up-to t steps p (a .in-order .0) (a .time-small)) live soon))
+      (λ a soon. does-of steps marks held target t (times source steps) (times target steps ++ t ∷ [])
+      (times-other source target t steps (λ f. apart (sym f))) (times-own target t steps)
+      (laws .target-does (up-to t steps p (a .in-order .0) (a .time-small)) (a .in-order .1) live soon))
+
+  -- ---- Ticks
+
+  pair-same : (a b : List Step) (marks : Marks) (held : List ℕ) → own (kinds c) a ≡ own (kinds c) b → Live a marks held → Live b marks held
+  pair-same a b marks held same live =
+      let both : SameTimes (source ∷ target ∷ []) a b = rw (of .kinds-are) at (same-times (kinds c) a b same) in
+      subst₂ (λ (x y : List ℕ). laws .Live x y marks held) (both 0 (omega arith)) (both 1 (omega arith)) live
+
+  pair-late : (steps : List Step) (marks : Marks) (held : List ℕ) (t : ℕ) → Live steps marks held → laws .due marks held < t
+      → t ≤ lastTime → ¬ Open c (steps ++ (tick t ∷ []))
+  pair-late steps marks held t live passed small =
+      shut t (steps ++ (tick t ∷ [])) (clock-tick t steps) (rw (times-tick source t steps, times-tick target t steps) (laws .late live passed small))
+
+  -- ---- Open
+
+  pair-open : (steps : List Step) → closed steps ≡ false
+      → Further (clock steps) (times source steps) (λ all. Meet all (times target steps))
+      ⊎ Further (clock steps) (times target steps) (λ all. Meet (times source steps) all)
+      → Open c steps
+  pair-open steps o (inl (further, rising, late, meets)) = (
+    events source further,
+    continues-events source (kinds-small (source ∷ target ∷ []) pair-fit 0 (omega arith)) further steps o rising late,
+    meets-of steps (events source further)
+        (rw (times-events source further, times-no-events target source apart further, append-nil (times target steps)) meets),
+  )
+  pair-open steps o (inr (further, rising, late, meets)) = (
+    events target further,
+    continues-events target (kinds-small (source ∷ target ∷ []) pair-fit 1 (omega arith)) further steps o rising late,
+    meets-of steps (events target further)
+        (rw (times-events target further, times-no-events source target (λ f. apart (sym f)) further, append-nil (times source steps)) meets),
+  )
+
+  -- ---- Exact
+
+  pub exactTwoKinds : Exact c decide
+  exactTwoKinds =
+      record {
+        Live = Live;
+        due = laws .due;
+        kept = laws .kept;
+        start = pair-start;
+        does = pair-does;
+        same = pair-same _ _ _ _;
+        late = λ p. pair-late _ _ _ _;
+        is-open = λ p o live soon. pair-open _ o (laws .is-open (up-to _ _ p (omega arith) (p .small)) live soon);
+        waits = λ p live. rw (of .waiting-is _) (laws .waits live);
+        is-kept = λ p live soon k. transport (sym (of .meets-are _)) (laws .is-kept live k);
+        not-kept = λ p live k m. laws .not-kept live k (transport (of .meets-are _) m);
+      }

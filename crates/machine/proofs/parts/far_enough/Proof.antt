@@ -1,0 +1,23 @@
+-- The last event was at last - 1, where last is not 0.
+use Prim.Native.Nat.{_+_, _-_}
+use native.Mathlib.Omega.{arith}
+use borrow.Author.Needs.{needs}
+use borrow.Author.Tests.{eq-eqb, ne-eqb}
+use Rattle.queue.proofs.Shared.{free, leb-same}
+use Rattle.machine.proofs.parts.far_enough.Statement.{statement}
+use Rattle.machine.proofs.parts.far_enough.Tie as tie
+
+sub-reaches : tie.Need-sub-reaches
+sub-reaches c = search needs
+
+returns : tie.Need-returns
+returns c = rw (eq-eqb _ _ (c .if1 .taken))
+
+returns-2 : tie.Need-returns-2
+returns-2 c =
+    let a = c .before .before .args in
+    rw (ne-eqb _ _ (c .before .if1 .left), c .reaches .ensures)
+    (leb-same (a .last - 1 + a .minimum) (a .t) (a .last + a .minimum) (a .t + 1) (omega arith) (omega arith))
+
+pub far-enough-spec : {M : Type 1} → statement M
+far-enough-spec = tie.close (tie.spec sub-reaches free returns returns-2)

@@ -1,0 +1,18 @@
+-- What is at most t - by is, with by more, at most t; and by alone may be more than t.
+use Prim.Native.Nat.{_+_, _-_}
+use native.Mathlib.Omega.{arith}
+use borrow.Author.Tests.{lt-leb}
+use Rattle.queue.proofs.Shared.{leb-same}
+use Rattle.machine.proofs.parts.reaches.Statement.{statement}
+use Rattle.machine.proofs.parts.reaches.Tie as tie
+
+returns : tie.Need-returns
+returns c =
+    let a = c .before .args in
+    leb-same (a .from) (a .t - a .by) (a .from + a .by) (a .t) (omega arith) (omega arith)
+
+returns-2 : tie.Need-returns-2
+returns-2 c = let a = c .before .args in rw (lt-leb _ _ (c .if1 .left), lt-leb (a .from + a .by) (a .t) (omega arith))
+
+pub reaches-spec : {M : Type 1} → statement M
+reaches-spec = tie.close (tie.spec returns returns-2)

@@ -1,0 +1,3 @@
+-- What every row type is made of, as functions on numbers and lists.
+pub mod Rule
+pub mod Parts

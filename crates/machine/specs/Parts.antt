@@ -1,0 +1,81 @@
+-- What row types share: sums and tests, the oldest time, and the parts of a change.
+use Prim.Native.Nat.{ℕ, _+_, min}
+use mathlib.Core.Bool.{Bool, true, false, _||_}
+use mathlib.Core.List.{List, [], _∷_}
+use lib.Dec.{leb, eqb}
+use Rattle.constraint.specs.Limits.{noLimit}
+use Rattle.queue.specs.Ring.{changed}
+use Rattle.queue.specs.declared.Edit.{Edit}
+use Rattle.queue.specs.declared.Edit.the-variants.{Drop}
+use Rattle.machine.specs.declared.Marks.{Marks}
+use Rattle.machine.specs.declared.Change.{Change}
+
+-- a sum that does not wrap: past the largest number it stays there
+abbrev pub plus : ℕ → ℕ → ℕ
+plus a b = min (a + b) noLimit
+
+-- t is at least minimum after the last event, where there was one; `last` is one more than its time
+abbrev pub farEnough : ℕ → ℕ → ℕ → Bool
+farEnough minimum last t = eqb last 0 || leb (last + minimum) (t + 1)
+
+-- the first of the times
+abbrev pub front : List ℕ → ℕ
+front [] = 0
+front (t ∷ ts) = t
+
+-- there is none
+abbrev pub none-left : List ℕ → Bool
+none-left [] = true
+none-left (t ∷ ts) = false
+
+-- the due time that the oldest time gives, or another where there is none
+abbrev pub dueOr : ℕ → ℕ → List ℕ → ℕ
+dueOr otherwise upper [] = otherwise
+dueOr otherwise upper (t ∷ ts) = plus t upper
+
+abbrev pub dueOldest : ℕ → List ℕ → ℕ
+dueOldest upper times = dueOr noLimit upper times
+
+abbrev pub noMarks : Marks
+noMarks = record { last = 0; early = 0; ahead = 0; low = 0; high = 0; first = 0; second = 0; third = 0; fourth = 0 }
+
+-- the marks with another last event
+abbrev pub withLast : Marks → ℕ → Marks
+withLast m last =
+    record {
+      last = last;
+      early = m .early;
+      ahead = m .ahead;
+      low = m .low;
+      high = m .high;
+      first = m .first;
+      second = m .second;
+      third = m .third;
+      fourth = m .fourth;
+    }
+
+-- the marks with another target beyond the number of sources
+abbrev pub withEarly : Marks → ℕ → Marks
+withEarly m early =
+    record {
+      last = m .last;
+      early = early;
+      ahead = m .ahead;
+      low = m .low;
+      high = m .high;
+      first = m .first;
+      second = m .second;
+      third = m .third;
+      fourth = m .fourth;
+    }
+
+-- the change of a row that goes on, and that of one that breaks
+abbrev pub goesOn : Edit → Marks → ℕ → Bool → Change
+goesOn edit marks due kept = record { breaks = false; edit = edit; marks = marks; due = due; kept = kept }
+
+abbrev pub breaking : Change
+breaking = record { breaks = true; edit = Drop 0; marks = noMarks; due = 0; kept = false }
+
+-- the change of a row each of whose times waits until upper after it: the oldest gives the due time, and it is kept where none waits
+abbrev pub waits : ℕ → List ℕ → Edit → Marks → Change
+waits upper times edit marks = goesOn edit marks (dueOldest upper (changed edit times)) (none-left (changed edit times))

@@ -1,0 +1,70 @@
+// What every row type is made of: a constraint as numbers, what a row keeps of its events, and the change that an event makes.
+use queue::Edit;
+
+pub mod numbers;
+pub mod parts;
+
+// The constraint's fields as numbers. A field that a type does not have is 0; a kind that it does not have is 64.
+#[repr(C)]
+pub struct Rule {
+    // the type, 1 to 7
+    pub form: u64,
+    // source, event or first kind
+    pub first: u64,
+    // target or second kind
+    pub second: u64,
+    pub third: u64,
+    pub fourth: u64,
+    // span or maximum
+    pub span: u64,
+    // lower or length
+    pub lower: u64,
+    // upper or tolerance
+    pub upper: u64,
+    pub jitter: u64,
+    pub minimum: u64,
+}
+
+// What a row keeps beside its times. A type uses some of these; the others stay 0.
+#[repr(C)]
+pub struct Marks {
+    // one more than the time of the last event, or of the last target; 0: none
+    pub last: u64,
+    // one more than the time of a target beyond the number of sources; 0: none
+    pub early: u64,
+    // how many sources are beyond the number of targets
+    pub ahead: u64,
+    // where the last hidden point can be: from low to high
+    pub low: u64,
+    pub high: u64,
+    // how many of the groups begun have an event of the first to the fourth kind
+    pub first: u64,
+    pub second: u64,
+    pub third: u64,
+    pub fourth: u64,
+}
+
+// What a row keeps beside its rule and its times.
+#[repr(C)]
+pub struct State {
+    pub marks: Marks,
+    // where its times begin, and how many there are
+    pub head: usize,
+    pub len: usize,
+    // the last clock at which the row is still open if none of its own events comes
+    pub due: u64,
+    // 1: it is kept if the recording is closed now
+    pub kept: u64,
+    // the step that broke it; 0: not broken
+    pub broken: u64,
+}
+
+// What an event makes of a row: it breaks it; or its times are edited, its marks and its due time are new, and it is kept or
+// not if the recording is closed then.
+pub struct Change {
+    pub breaks: bool,
+    pub edit: Edit,
+    pub marks: Marks,
+    pub due: u64,
+    pub kept: bool,
+}

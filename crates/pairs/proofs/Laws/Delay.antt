@@ -1,0 +1,238 @@
+-- Delay is exact: the times that it keeps are just the sources with no target in their interval; a target answers the oldest of them, and
+-- the oldest is the first that can no longer be answered.
+use Prim.Native.Nat.{ℕ, suc, _+_, _≤_, _<_}
+use native.Mathlib.Omega.{arith}
+use mathlib.Core.Path.{_≡_, refl, sym, ap, _∙_, subst}
+use mathlib.Core.Bool.{Bool, true, false, cond, _&&_, _||_, true≢false, false≢true}
+use mathlib.Core.List.{List, [], _∷_, _++_, append-nil}
+use mathlib.Core.Logic.{inl, inr}
+use lib.ListN.{length, drop}
+use lib.Dec.{leb, eqb}
+use borrow.Author.Tests.{leb-true, leb-false, le-leb, lt-leb, eqb-true, eq-eqb, ne-eqb}
+use Rattle.constraint.specs.Limits.{lastTime}
+use Rattle.constraint.specs.Steps.{at}
+use Rattle.constraint.specs.Meets.{Meets, MeetsDelay}
+use Rattle.constraint.specs.Waiting.{answered, unanswered, waiting}
+use Rattle.constraint.specs.Accepted.{LowerFirst}
+use Rattle.constraint.specs.declared.Constraint.the-variants.{Delay}
+use Rattle.constraint.proofs.Lists.{split, Each, each-tail, each-left, Rising}
+use Rattle.constraint.proofs.Counting.{nextFree, next-above, next-least, next-snoc}
+use Rattle.queue.specs.declared.Edit.the-variants.{Drop, Push}
+use Rattle.machine.specs.Rule.{ruleOf}
+use Rattle.machine.specs.Parts.{noMarks, plus, withLast, waits, dueOldest, none-left}
+use Rattle.machine.specs.declared.Rule.{Rule}
+use Rattle.machine.specs.declared.Marks.{Marks}
+use Rattle.machine.proofs.Exact.{Sound, GoesOn, ByOutcome, Exact}
+use Rattle.machine.proofs.SeveralKinds.{kinds-apart}
+use Rattle.machine.proofs.TwoKinds.{UpTo, Further, Lost, TwoKinds, exactTwoKinds}
+use Rattle.machine.proofs.Oldest.{due-each, due-passed, due-pushed, due-dropped}
+use Rattle.pairs.specs.Delay.{answeredBy, answeredAtOnce, decideDelay}
+use Rattle.pairs.proofs.Laws.Answers.{answers, answers-count, answers-between, firstFree, answers-follow, answers-from-now}
+use Rattle.pairs.proofs.Laws.Unmet.{Answered, unmet, answered-true, answered-by, unmet-sources, unmet-targets, unmet-rising}
+use Rattle.pairs.proofs.Laws.Unmet.{unmet-unanswered, unmet-count, meets-unmet, unmet-meets}
+
+-- the times are the sources with no target in their interval, and `last` is one more than the last target's time
+record LiveDelay (lower upper : ℕ) (sources targets : List ℕ) (marks : Marks) (times : List ℕ) : Type 0 where
+  unmet-are : times ≡ unmet lower upper sources targets
+  last-is : marks .last ≡ nextFree targets
+
+-- its due time, and whether it is kept
+abbrev due : ℕ → Marks → List ℕ → ℕ
+due upper marks times = dueOldest upper times
+
+abbrev kept : Marks → List ℕ → Bool
+kept marks times = none-left times
+
+module _ (source target lower upper : ℕ) (sound : Sound (Delay source target lower upper)) where
+  abbrev rule : Rule
+  rule = ruleOf (Delay source target lower upper)
+
+  -- ---- Start
+
+  delay-start : LiveDelay lower upper [] [] noMarks []
+  unfolding nextFree
+  delay-start = record { unmet-are = refl; last-is = refl }
+
+  -- ---- Events
+
+  -- of targets that are not after the source only the last can answer it, and only at its time
+  earlier-unanswered : (targets : List ℕ) (t : ℕ) → lower ≡ 0 → Each (λ y. y ≤ t) targets → answered lower upper t targets ≡ false
+      → Each (λ y. y < t) targets
+  earlier-unanswered targets t none past e j h =
+      split (leb t (at targets j)) (λ x. at targets j < t)
+      (λ f. absurd (true≢false (sym (answered-by lower upper t targets j h (omega (arith, leb-true, past j h))) ∙ e)))
+      (λ f. omega (arith, leb-false))
+
+  answered-at-once : (targets : List ℕ) (t : ℕ) → t ≤ lastTime → Each (λ y. y ≤ t) targets
+      → answered lower upper t targets ≡ answeredAtOnce lower (nextFree targets) t
+  answered-at-once targets t small past =
+      split (answered lower upper t targets) (λ x. x ≡ answeredAtOnce lower (nextFree targets) t)
+      (λ e. let a = answered-true lower upper t targets e in
+      rw (
+        eq-eqb lower 0 (omega (arith, a .2, past (a .0) (a .1))),
+        eq-eqb (nextFree targets) (plus t 1)
+            (omega (arith, a .2, next-above targets (a .0) (a .1), next-least targets (suc t) (λ j h. omega (arith, past j h)))),
+      ))
+      (λ e. split (eqb lower 0) (λ x. false ≡ (x && eqb (nextFree targets) (plus t 1)))
+      (λ f. let before = earlier-unanswered targets t (eqb-true lower 0 f) past e in
+      sym (ne-eqb (nextFree targets) (plus t 1) (λ is. omega (arith, next-least targets t before))))
+      (λ f. refl))
+
+  -- a target answers the oldest of the waiting, as many as are at least lower before it
+  unmet-none : (times : List ℕ) (t : ℕ) → Each (λ s. t < s + lower) times → unmet lower upper times (t ∷ []) ≡ times
+  unfolding answered
+  unmet-none [] t early = refl
+  unmet-none (s ∷ times) t early =
+      rw (lt-leb (s + lower) t (early 0 (omega arith)), unmet-none times t (each-tail (λ s. t < s + lower) s times early))
+
+  answered-oldest : (times : List ℕ) (t : ℕ) → Rising times → Each (λ s. t ≤ s + upper) times
+      → drop (answeredBy lower t times) times ≡ unmet lower upper times (t ∷ [])
+  unfolding answered answeredBy
+  answered-oldest [] t rise in-time = refl
+  answered-oldest (s ∷ times) t rise in-time =
+      rw (le-leb t (s + upper) (in-time 0 (omega arith)))
+      (split (leb (s + lower) t)
+      (λ x. drop (cond x (suc (answeredBy lower t times)) 0) (s ∷ times)
+      ≡ cond ((x && true) || false) (unmet lower upper times (t ∷ [])) (s ∷ unmet lower upper times (t ∷ [])))
+      (λ e. answered-oldest times t (rise .1) (each-tail (λ s. t ≤ s + upper) s times in-time))
+      (λ e. ap (λ (l : List ℕ). s ∷ l) (sym (unmet-none times t (λ i h. omega (arith, leb-false, rise .0 i h))))))
+
+  module _ {now : ℕ} {sources targets : List ℕ} {marks : Marks} {times : List ℕ} (r : UpTo now sources targets)
+      (live : LiveDelay lower upper sources targets marks times) where
+    times-rise : Rising times
+    times-rise = rw (live .unmet-are) (unmet-rising lower upper sources targets (r .sources-rise))
+
+    module _ (in-time : now ≤ dueOldest upper times) where
+      -- a source that a target answers already, and one that waits
+      source-goes : (b : Bool) → answered lower upper now targets ≡ b
+          → GoesOn (LiveDelay lower upper (sources ++ now ∷ []) targets) (due upper) kept times now (waits upper times (cond b (Drop 0) (Push 0 now)) marks)
+      source-goes true e =
+          record {
+            live = record {
+              unmet-are = live .unmet-are ∙ sym (append-nil (unmet lower upper sources targets)) ∙ rw (unmet-sources lower upper sources (now ∷ []) targets, e);
+              last-is = live .last-is;
+            };
+            due-is = refl;
+            kept-is = refl;
+            in-time = in-time;
+          }
+      source-goes false e =
+          record {
+            live = record { unmet-are = rw (live .unmet-are, unmet-sources lower upper sources (now ∷ []) targets, e); last-is = live .last-is };
+            due-is = refl;
+            kept-is = refl;
+            in-time = due-pushed upper now times (r .small) in-time;
+          }
+
+      source-does : ByOutcome (Lost now (MeetsDelay lower upper) (sources ++ now ∷ []) targets)
+          (GoesOn (LiveDelay lower upper (sources ++ now ∷ []) targets) (due upper) kept times now) (decideDelay rule marks times source now)
+      unfolding decideDelay
+      source-does =
+          rw (eq-eqb source source refl)
+          (source-goes (answeredAtOnce lower (marks .last) now) (rw (live .last-is) (answered-at-once targets now (r .small) (r .targets-past))))
+
+      target-does : Each (λ y. y < now) targets → ByOutcome (Lost now (MeetsDelay lower upper) sources (targets ++ now ∷ []))
+          (GoesOn (LiveDelay lower upper sources (targets ++ now ∷ [])) (due upper) kept times now) (decideDelay rule marks times target now)
+      unfolding decideDelay
+      target-does before =
+          rw (ne-eqb target source (kinds-apart (source ∷ target ∷ []) (sound .kinds-fit) 1 0 (omega arith) (omega arith) (λ e. omega arith))) (record {
+            live = record {
+              unmet-are = answered-oldest times now times-rise (due-each upper now times times-rise in-time)
+                  ∙ rw (live .unmet-are) (sym (unmet-targets lower upper sources targets (now ∷ [])));
+              last-is = omega (arith, next-snoc targets now before, r .small);
+            };
+            due-is = refl;
+            kept-is = refl;
+            in-time = due-dropped upper now (answeredBy lower now times) times (r .small) times-rise in-time;
+          })
+
+  -- ---- Ticks
+
+  -- no target from t on answers the oldest
+  late-oldest : (times : List ℕ) (t : ℕ) (further : List ℕ) → t ≤ lastTime → dueOldest upper times < t → Each (λ y. t ≤ y) further
+      → ¬ MeetsDelay lower upper times further
+  unfolding MeetsDelay
+  late-oldest times t further small passed late m =
+      let (some, over) = due-passed upper t times small passed in
+      let a = m 0 some in
+      omega (arith, a .2, late (a .0) (a .1))
+
+  delay-late : {sources targets : List ℕ} {marks : Marks} {times : List ℕ} {t : ℕ} → LiveDelay lower upper sources targets marks times
+      → dueOldest upper times < t → t ≤ lastTime → Lost t (MeetsDelay lower upper) sources targets
+  unfolding MeetsDelay
+  delay-late {sources} {targets} {marks} {times} {t} live passed small fs gs late-fs late m =
+      late-oldest times t gs small passed late
+      (unmet-meets lower upper times gs
+      (rw (live .unmet-are, ← unmet-targets lower upper sources targets gs)
+      (meets-unmet lower upper sources (targets ++ gs) (each-left (Answered lower upper (targets ++ gs)) sources fs m))))
+
+  -- ---- Open
+
+  module _ {now : ℕ} {sources targets : List ℕ} {marks : Marks} {times : List ℕ} (r : UpTo now sources targets)
+      (live : LiveDelay lower upper sources targets marks times) (in-time : now ≤ dueOldest upper times) where
+    -- every target is earlier than the end of each waiting source's interval
+    targets-early : (s : ℕ) → ¬ Answered lower upper targets s → now ≤ s + upper → Each (λ t. t < s + upper) targets
+    unfolding LowerFirst
+    targets-early s waits late j h =
+        split (leb (s + lower) (at targets j)) (λ x. at targets j < s + upper)
+        (λ e. absurd (waits (j, h, (leb-true (s + lower) (at targets j) e, omega (arith, r .targets-past j h)))))
+        (λ e. omega (arith, leb-false, sound .lower-first))
+
+    free-in-time : Each (λ s. firstFree now targets ≤ s + upper) times
+    free-in-time i h =
+        let none-answered = subst (Each (λ s. ¬ Answered lower upper targets s)) (sym (live .unmet-are)) (unmet-unanswered lower upper sources targets) in
+        let late = due-each upper now times (times-rise r live) in-time i h in
+        omega (arith, next-least targets (at times i + upper) (targets-early (at times i) (none-answered i h) late))
+
+    delay-open : Further now targets (λ all. MeetsDelay lower upper sources all)
+    unfolding MeetsDelay LowerFirst
+    delay-open =
+        let further : List ℕ = answers lower (firstFree now targets) times in
+        let between = answers-between lower upper (firstFree now targets) times (sound .lower-first) (times-rise r live) free-in-time in (
+          further,
+          answers-follow lower now targets times (r .targets-rise),
+          answers-from-now lower now targets times,
+          unmet-meets lower upper sources (targets ++ further)
+              (rw (unmet-targets lower upper sources targets further, ← live .unmet-are)
+              (meets-unmet lower upper times further (λ i h. (i, rw (answers-count lower (firstFree now targets) times) h, between i h)))),
+        )
+
+  -- ---- Waiting
+
+  delay-waits : {sources targets : List ℕ} {marks : Marks} {times : List ℕ} → LiveDelay lower upper sources targets marks times
+      → unanswered lower upper sources targets ≡ length times
+  delay-waits {sources} {targets} live = unmet-count lower upper sources targets ∙ ap length (sym (live .unmet-are))
+
+  -- ---- Close
+
+  delay-kept : (sources targets times : List ℕ) → times ≡ unmet lower upper sources targets → none-left times ≡ true → MeetsDelay lower upper sources targets
+  delay-kept sources targets [] are e = unmet-meets lower upper sources targets (sym are)
+  delay-kept sources targets (s ∷ times) are e = absurd (false≢true e)
+
+  delay-not-kept : (sources targets times : List ℕ) → times ≡ unmet lower upper sources targets → none-left times ≡ false → ¬ MeetsDelay lower upper sources targets
+  delay-not-kept sources targets times are e m = true≢false (rw (are, meets-unmet lower upper sources targets m) at e)
+
+  -- ---- Exact
+
+  delay-laws : TwoKinds (decideDelay rule) source target (MeetsDelay lower upper) (unanswered lower upper)
+  delay-laws =
+      record {
+        Live = LiveDelay lower upper;
+        due = due upper;
+        kept = kept;
+        start = record { live = delay-start; due-is = refl; kept-is = refl };
+        source-does = source-does;
+        target-does = λ r before live soon. target-does r live soon before;
+        late = delay-late;
+        is-open = λ r live soon. inr (delay-open r live soon);
+        waits = λ live. inl (delay-waits live);
+        is-kept = λ live. delay-kept _ _ _ (live .unmet-are);
+        not-kept = λ live. delay-not-kept _ _ _ (live .unmet-are);
+      }
+
+  pub exactDelay : Exact (Delay source target lower upper) (decideDelay rule)
+  unfolding Meets waiting
+  exactDelay =
+      exactTwoKinds
+      (record { kinds-are = refl; kinds-fit = sound .kinds-fit; no-words = refl; meets-are = λ steps. refl; waiting-is = λ steps. refl })
+      (decideDelay rule) delay-laws

@@ -1,0 +1,195 @@
+-- Order is exact: as many sources as it counts are beyond the number of targets and may get theirs at any later time, and a target beyond the
+-- number of sources is the partner of a source at its own time only.
+use Prim.Native.Nat.{ℕ, _+_, _-_, _≤_, _<_}
+use native.Mathlib.Omega.{arith}
+use mathlib.Core.Path.{_≡_, refl, sym, ap, _∙_, subst}
+use mathlib.Core.Bool.{Bool, true, false, cond, _&&_, false≢true}
+use mathlib.Core.List.{List, [], _∷_, _++_}
+use mathlib.Core.Logic.{_⊎_, inl, inr}
+use lib.ListN.{length, length-append}
+use lib.Dec.{eqb}
+use borrow.Author.Tests.{eqb-true, eq-eqb, ne-eqb}
+use Rattle.constraint.specs.Limits.{lastTime, noLimit}
+use Rattle.constraint.specs.Meets.{Meets, MeetsOrder}
+use Rattle.constraint.specs.Waiting.{waiting}
+use Rattle.constraint.specs.declared.Constraint.the-variants.{Order}
+use Rattle.constraint.proofs.Lists.{split, both, Each, each-right, Rising, rising-by}
+use Rattle.machine.specs.Rule.{ruleOf}
+use Rattle.queue.specs.declared.Edit.the-variants.{Drop}
+use Rattle.machine.specs.Parts.{noMarks, plus, withEarly, goesOn}
+use Rattle.machine.specs.declared.Rule.{Rule}
+use Rattle.machine.specs.declared.Marks.{Marks}
+use Rattle.machine.proofs.Exact.{Sound, GoesOn, ByOutcome, Exact}
+use Rattle.machine.proofs.SeveralKinds.{kinds-apart}
+use Rattle.machine.proofs.TwoKinds.{UpTo, Further, Lost, TwoKinds, exactTwoKinds}
+use Rattle.pairs.specs.Order.{withAhead, changesTo, decideOrder}
+use Rattle.pairs.proofs.Laws.Answers.{firstFree}
+use Rattle.pairs.proofs.Laws.Paired.{Paired, Ahead, Pairing, dueEarly, due-ahead, due-beyond, pairing-start, beyond-each, source-waits}
+use Rattle.pairs.proofs.Laws.Paired.{source-partners, target-partners, target-beyond, beyond-late, beyond-open, ahead-open, ahead-count}
+use Rattle.pairs.proofs.Laws.Paired.{pairing-paired, paired-none-beyond}
+
+-- no times are kept, and `ahead` counts the sources beyond the number of targets
+record LiveOrder (sources targets : List ℕ) (marks : Marks) (times : List ℕ) : Type 0 where
+  no-times : times ≡ []
+  waiting : List ℕ
+  count : marks .ahead ≡ length waiting
+  pairing : Pairing _≤_ sources targets (marks .early) waiting
+
+-- its due time, and whether it is kept
+abbrev due : Marks → List ℕ → ℕ
+due marks times = dueEarly (marks .early) noLimit
+
+abbrev kept : Marks → List ℕ → Bool
+kept marks times = eqb (marks .early) 0 && eqb (marks .ahead) 0
+
+-- times that rise up to a clock are not more than one more than it
+rising-count : (now : ℕ) (xs : List ℕ) → Rising xs → Each (λ x. x ≤ now) xs → length xs ≤ now + 1
+rising-count now [] rise past = omega arith
+rising-count now (x ∷ xs) rise past = omega (arith, rising-by (x ∷ xs) rise 0 (length xs) (omega arith), past (0 + length xs) (omega arith))
+
+module _ (source target : ℕ) (sound : Sound (Order source target)) where
+  abbrev rule : Rule
+  rule = ruleOf (Order source target)
+
+  -- ---- Start
+
+  order-start : LiveOrder [] [] noMarks []
+  order-start = record { no-times = refl; waiting = []; count = refl; pairing = pairing-start _≤_ }
+
+  -- ---- Events
+
+  -- the row goes on with each change to other marks
+  goes-to : (sources targets : List ℕ) (marks : Marks) (times : List ℕ) (t : ℕ) → LiveOrder sources targets marks times → t ≤ due marks times
+      → ByOutcome (Lost t (Paired _≤_) sources targets) (GoesOn (LiveOrder sources targets) due kept times t) (changesTo marks)
+  unfolding changesTo
+  goes-to sources targets marks times t live in-time =
+      split (eqb (marks .early) 0)
+      (λ x. eqb (marks .early) 0 ≡ x → ByOutcome (Lost t (Paired _≤_) sources targets) (GoesOn (LiveOrder sources targets) due kept times t)
+      (cond x (goesOn (Drop 0) marks noLimit (eqb (marks .ahead) 0)) (goesOn (Drop 0) marks (marks .early - 1) false)))
+      (λ e f. record { live = live; due-is = rw f; kept-is = rw f; in-time = rw f at in-time })
+      (λ e f. record { live = live; due-is = rw f; kept-is = rw f; in-time = rw f at in-time })
+      refl
+
+  module _ (sources targets : List ℕ) (marks : Marks) (times : List ℕ) (t : ℕ) (r : UpTo t sources targets) (no-times : times ≡ [])
+      (waiting : List ℕ) (count : marks .ahead ≡ length waiting) where
+    source-by : Pairing _≤_ sources targets (marks .early) waiting → t ≤ due marks times
+        → ByOutcome (Lost t (Paired _≤_) (sources ++ t ∷ []) targets) (GoesOn (LiveOrder (sources ++ t ∷ []) targets) due kept times t)
+        (decideOrder rule marks times source t)
+    unfolding decideOrder
+    source-by (inl (none, a)) in-time =
+        rw (eq-eqb source source refl, eq-eqb (marks .early) 0 none)
+        (goes-to (sources ++ t ∷ []) targets (withAhead marks (plus (marks .ahead) 1)) times t
+        (record { no-times = no-times; waiting = waiting ++ t ∷ []; count = one-more; pairing = inl (none, source-waits t a) })
+        (omega (arith, r .small, due-ahead (marks .early) noLimit none)))
+      where
+        one-more : plus (marks .ahead) 1 ≡ length (waiting ++ t ∷ [])
+        one-more =
+            rw (count, length-append waiting (t ∷ []))
+            (omega (arith, r .small, ahead-count a, rising-count t sources (r .sources-rise) (r .sources-past)))
+    source-by (inr (b, is, none, beyond)) in-time =
+        rw (eq-eqb source source refl, ne-eqb (marks .early) 0 (omega arith))
+        (goes-to (sources ++ t ∷ []) targets (withEarly marks 0) times t
+        (record {
+          no-times = no-times;
+          waiting = [];
+          count = count ∙ ap length none;
+          pairing = inl (refl, subst (λ (x : ℕ). Ahead _≤_ (sources ++ x ∷ []) targets []) now (source-partners beyond));
+        })
+        (omega (arith, r .small)))
+      where
+        now : b ≡ t
+        now = omega (arith, beyond-each (λ y. y ≤ t) beyond (r .targets-past), due-beyond (marks .early) noLimit b is)
+
+  abbrev TargetDoes : List ℕ → List ℕ → Marks → List ℕ → ℕ → Type 0
+  TargetDoes sources targets marks times t =
+      ByOutcome (Lost t (Paired _≤_) sources (targets ++ t ∷ [])) (GoesOn (LiveOrder sources (targets ++ t ∷ [])) due kept times t)
+      (decideOrder rule marks times target t)
+
+  target-change : (marks : Marks) (times : List ℕ) (t : ℕ) → decideOrder rule marks times target t
+      ≡ cond (eqb (marks .ahead) 0) (changesTo (withEarly marks (plus t 1))) (changesTo (withAhead marks (marks .ahead - 1)))
+  unfolding decideOrder
+  target-change marks times t =
+      rw (ne-eqb target source (kinds-apart (source ∷ target ∷ []) (sound .kinds-fit) 1 0 (omega arith) (omega arith) (λ e. omega arith)))
+
+  module _ (sources targets : List ℕ) (marks : Marks) (times : List ℕ) (t : ℕ) (r : UpTo t sources targets) (before : Each (λ y. y < t) targets)
+      (no-times : times ≡ []) where
+    target-by : (waiting : List ℕ) → marks .ahead ≡ length waiting → Pairing _≤_ sources targets (marks .early) waiting → t ≤ due marks times
+        → TargetDoes sources targets marks times t
+    target-by [] count (inl (none, a)) in-time =
+        rw (target-change marks times t, eq-eqb (marks .ahead) 0 count)
+        (goes-to sources (targets ++ t ∷ []) (withEarly marks (plus t 1)) times t
+        (record {
+          no-times = no-times;
+          waiting = [];
+          count = count;
+          pairing = inr (t, omega (arith, r .small), refl, target-beyond t a (omega arith));
+        })
+        (omega (arith, due-beyond (plus t 1) noLimit t (omega (arith, r .small)))))
+    target-by (s ∷ waiting) count (inl (none, a)) in-time =
+        rw (target-change marks times t, ne-eqb (marks .ahead) 0 (omega arith))
+        (goes-to sources (targets ++ t ∷ []) (withAhead marks (marks .ahead - 1)) times t
+        (record { no-times = no-times; waiting = waiting; count = omega arith; pairing = inl (none, target-partners t a earlier) })
+        (omega (arith, r .small, due-ahead (marks .early) noLimit none)))
+      where
+        earlier : s ≤ t
+        earlier = each-right (λ x. x ≤ t) (a .paired) (s ∷ waiting) (subst (Each (λ x. x ≤ t)) (a .rest) (r .sources-past)) 0 (omega arith)
+    target-by waiting count (inr (b, is, none, beyond)) in-time =
+        absurd (omega (arith, beyond-each (λ y. y < t) beyond before, due-beyond (marks .early) noLimit b is))
+
+  -- ---- Ticks
+
+  late-by : (sources targets : List ℕ) (early : ℕ) (waiting : List ℕ) (t : ℕ) → Pairing _≤_ sources targets early waiting → dueEarly early noLimit < t
+      → t ≤ lastTime → Lost t (Paired _≤_) sources targets
+  late-by sources targets early waiting t (inl (none, a)) passed small = λ fs gs late-fs late-gs m. omega (arith, due-ahead early noLimit none)
+  late-by sources targets early waiting t (inr (b, is, none, beyond)) passed small =
+      beyond-late (λ x y h. h) t beyond (omega (arith, due-beyond early noLimit b is))
+
+  -- ---- Open
+
+  open-by : (now : ℕ) (sources targets : List ℕ) (early : ℕ) (waiting : List ℕ) → UpTo now sources targets
+      → Pairing _≤_ sources targets early waiting → now ≤ dueEarly early noLimit
+      → Further now sources (λ all. Paired _≤_ all targets) ⊎ Further now targets (λ all. Paired _≤_ sources all)
+  open-by now sources targets early waiting r (inl (none, a)) in-time =
+      inr (ahead-open 0 (firstFree now targets) (omega arith) (λ x y h. omega (arith, h .0)) r a (λ i h. omega arith))
+  open-by now sources targets early waiting r (inr (b, is, none, beyond)) in-time =
+      inl (beyond-open (λ x y h. h) r beyond (omega (arith, due-beyond early noLimit b is)))
+
+  -- ---- Close
+
+  order-kept : (sources targets : List ℕ) (marks : Marks) (times : List ℕ) → LiveOrder sources targets marks times → kept marks times ≡ true
+      → Paired _≤_ sources targets
+  order-kept sources targets marks times live =
+      split (eqb (marks .early) 0) (λ x. x && eqb (marks .ahead) 0 ≡ true → Paired _≤_ sources targets)
+      (λ e f. pairing-paired (live .waiting) (live .pairing) (sym (live .count) ∙ eqb-true (marks .ahead) 0 f) (eqb-true (marks .early) 0 e))
+      (λ e f. absurd (false≢true f))
+
+  order-not-kept : (sources targets : List ℕ) (marks : Marks) (times : List ℕ) → LiveOrder sources targets marks times → kept marks times ≡ false
+      → ¬ Paired _≤_ sources targets
+  order-not-kept sources targets marks times live e p =
+      let (no-source, no-target) = paired-none-beyond (live .pairing) p in
+      both (rw (eq-eqb (marks .ahead) 0 (live .count ∙ no-source), eq-eqb (marks .early) 0 no-target) at e)
+
+  -- ---- Exact
+
+  order-laws : TwoKinds (decideOrder rule) source target (Paired _≤_) (λ sources targets. 0)
+  order-laws =
+      record {
+        Live = LiveOrder;
+        due = due;
+        kept = kept;
+        start = record { live = order-start; due-is = refl; kept-is = refl };
+        source-does = λ r live. source-by _ _ _ _ _ r (live .no-times) (live .waiting) (live .count) (live .pairing);
+        target-does = λ r before live. target-by _ _ _ _ _ r before (live .no-times) (live .waiting) (live .count) (live .pairing);
+        late = λ live. late-by _ _ _ (live .waiting) _ (live .pairing);
+        is-open = λ r live. open-by _ _ _ _ (live .waiting) r (live .pairing);
+        waits = λ live. inl (sym (ap length (live .no-times)));
+        is-kept = λ live. order-kept _ _ _ _ live;
+        not-kept = λ live. order-not-kept _ _ _ _ live;
+      }
+
+  pub exactOrder : Exact (Order source target) (decideOrder rule)
+  unfolding Meets MeetsOrder waiting
+  exactOrder =
+      exactTwoKinds
+      (record { kinds-are = refl; kinds-fit = sound .kinds-fit; no-words = refl; meets-are = λ steps. refl; waiting-is = λ steps. refl })
+      (decideOrder rule) order-laws

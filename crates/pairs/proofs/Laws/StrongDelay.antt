@@ -1,0 +1,215 @@
+-- StrongDelay is exact: the times that it keeps are just the sources beyond the number of targets, each pair is tested when its second event
+-- comes, and the oldest source that waits is the first that can no longer get its target.
+use Prim.Native.Nat.{ℕ, _+_, _-_, _≤_, _<_}
+use native.Mathlib.Omega.{arith}
+use mathlib.Core.Path.{_≡_, refl, subst}
+use mathlib.Core.Bool.{Bool, true, false, cond, _&&_, false≢true}
+use mathlib.Core.List.{List, [], _∷_, _++_}
+use mathlib.Core.Logic.{_⊎_, inl, inr}
+use lib.ListN.{length}
+use lib.Dec.{leb, eqb}
+use borrow.Author.Tests.{leb-true, leb-false, eqb-true, eqb-false, eq-eqb, ne-eqb}
+use Rattle.constraint.specs.Limits.{lastTime}
+use Rattle.constraint.specs.Steps.{at}
+use Rattle.constraint.specs.Meets.{Between, Meets, MeetsStrongDelay}
+use Rattle.constraint.specs.Waiting.{waiting}
+use Rattle.constraint.specs.Accepted.{LowerFirst}
+use Rattle.constraint.specs.declared.Constraint.the-variants.{StrongDelay}
+use Rattle.constraint.proofs.Lists.{split, both, Each, Rising, rising-across}
+use Rattle.constraint.proofs.Counting.{next-least}
+use Rattle.queue.specs.declared.Edit.the-variants.{Drop, Push}
+use Rattle.machine.specs.Rule.{ruleOf}
+use Rattle.machine.specs.Parts.{noMarks, plus, withEarly, goesOn, breaking, waits, dueOldest, none-left}
+use Rattle.machine.specs.declared.Rule.{Rule}
+use Rattle.machine.specs.declared.Marks.{Marks}
+use Rattle.machine.proofs.Exact.{Sound, GoesOn, ByOutcome, Exact}
+use Rattle.machine.proofs.SeveralKinds.{kinds-apart}
+use Rattle.machine.proofs.TwoKinds.{UpTo, Further, Lost, TwoKinds, exactTwoKinds}
+use Rattle.machine.proofs.Oldest.{due-each, due-pushed, due-dropped}
+use Rattle.pairs.specs.StrongDelay.{sourceStrongDelay, targetStrongDelay, decideStrongDelay}
+use Rattle.pairs.proofs.Laws.Paired.{Paired, Ahead, Beyond, Pairing, dueEarly, due-ahead, due-beyond, pairing-start, beyond-each}
+use Rattle.pairs.proofs.Laws.Paired.{source-waits, source-partners, target-partners, target-beyond, target-misfits, ahead-rising}
+use Rattle.pairs.proofs.Laws.Paired.{waiting-late, beyond-late, beyond-misfits, beyond-open, ahead-open, pairing-waits, pairing-paired}
+use Rattle.pairs.proofs.Laws.Paired.{paired-none-beyond}
+
+-- the times are the sources beyond the number of targets
+record LiveStrongDelay (lower upper : ℕ) (sources targets : List ℕ) (marks : Marks) (times : List ℕ) : Type 0 where
+  pairing : Pairing (Between lower upper) sources targets (marks .early) times
+
+-- its due time, and whether it is kept
+abbrev due : ℕ → Marks → List ℕ → ℕ
+due upper marks times = dueEarly (marks .early) (dueOldest upper times)
+
+abbrev kept : Marks → List ℕ → Bool
+kept marks times = eqb (marks .early) 0 && none-left times
+
+between-not-later : (lower upper x y : ℕ) → Between lower upper x y → x ≤ y
+between-not-later lower upper x y f = omega (arith, f .0)
+
+module _ (source target lower upper : ℕ) (sound : Sound (StrongDelay source target lower upper)) where
+  abbrev rule : Rule
+  rule = ruleOf (StrongDelay source target lower upper)
+
+  -- what the change at t makes of the row
+  abbrev Does : List ℕ → List ℕ → Marks → List ℕ → ℕ → ℕ → Type 0
+  Does sources targets marks times t k =
+      ByOutcome (Lost t (Paired (Between lower upper)) sources targets) (GoesOn (LiveStrongDelay lower upper sources targets) (due upper) kept times t)
+      (decideStrongDelay rule marks times k t)
+
+  -- ---- Start
+
+  strong-delay-start : LiveStrongDelay lower upper [] [] noMarks []
+  strong-delay-start = record { pairing = pairing-start (Between lower upper) }
+
+  -- ---- Events
+
+  -- what the machine does in each state
+  source-change : (marks : Marks) (times : List ℕ) (t : ℕ) (b : Bool) → eqb (marks .early) 0 ≡ b
+      → decideStrongDelay rule marks times source t ≡ waits upper times (cond b (Push 0 t) (Drop 0)) (withEarly marks 0)
+  unfolding decideStrongDelay sourceStrongDelay
+  source-change marks times t b e = rw (eq-eqb source source refl, e)
+
+  target-change : (marks : Marks) (times : List ℕ) (t : ℕ) → decideStrongDelay rule marks times target t ≡ targetStrongDelay rule marks times t
+  unfolding decideStrongDelay
+  target-change marks times t =
+      rw (ne-eqb target source (kinds-apart (source ∷ target ∷ []) (sound .kinds-fit) 1 0 (omega arith) (omega arith) (λ e. omega arith)))
+
+  module _ (sources targets : List ℕ) (marks : Marks) (t : ℕ) (r : UpTo t sources targets) where
+    source-by : (times : List ℕ) → Pairing (Between lower upper) sources targets (marks .early) times → t ≤ due upper marks times
+        → Does (sources ++ t ∷ []) targets marks times t source
+    source-by times (inl (none, a)) in-time =
+        rw (source-change marks times t true (eq-eqb (marks .early) 0 none)) (record {
+          live = record { pairing = inl (refl, source-waits t a) };
+          due-is = refl;
+          kept-is = refl;
+          in-time = due-pushed upper t times (r .small) (rw (due-ahead (marks .early) (dueOldest upper times) none) at in-time);
+        })
+    source-by times (inr (b, is, none, beyond)) in-time =
+        let now : b ≡ t = omega (arith, beyond-each (λ y. y ≤ t) beyond (r .targets-past), due-beyond (marks .early) (dueOldest upper times) b is) in
+        rw (source-change marks times t false (ne-eqb (marks .early) 0 (omega arith)), none) (record {
+          live = record { pairing = inl (refl, subst (λ (x : ℕ). Ahead (Between lower upper) (sources ++ x ∷ []) targets []) now (source-partners beyond)) };
+          due-is = refl;
+          kept-is = refl;
+          in-time = omega (arith, r .small);
+        })
+
+    -- a target with no source that waits, and one that takes the oldest
+    target-alone : marks .early ≡ 0 → Ahead (Between lower upper) sources targets [] → Does sources (targets ++ t ∷ []) marks [] t target
+    unfolding targetStrongDelay
+    target-alone none a =
+        rw (target-change marks [] t)
+        (split (eqb lower 0)
+        (λ x. ByOutcome (Lost t (Paired (Between lower upper)) sources (targets ++ t ∷ []))
+        (GoesOn (LiveStrongDelay lower upper sources (targets ++ t ∷ [])) (due upper) kept [] t)
+        (cond x (goesOn (Drop 0) (withEarly marks (plus t 1)) t false) breaking))
+        (λ e. record {
+          live = record { pairing = inr (t, omega (arith, r .small), refl, target-beyond t a (omega (arith, eqb-true lower 0 e), omega arith)) };
+          due-is = omega (arith, due-beyond (plus t 1) (dueOldest upper []) t (omega (arith, r .small)));
+          kept-is = rw (ne-eqb (plus t 1) 0 (omega arith));
+          in-time = omega arith;
+        })
+        (λ e. beyond-misfits (between-not-later lower upper) t a (λ f. eqb-false lower 0 e (omega (arith, f .0)))))
+
+    target-takes : (s : ℕ) (times : List ℕ) → marks .early ≡ 0 → Ahead (Between lower upper) sources targets (s ∷ times) → t ≤ plus s upper
+        → Does sources (targets ++ t ∷ []) marks (s ∷ times) t target
+    unfolding targetStrongDelay
+    target-takes s times none a oldest =
+        rw (target-change marks (s ∷ times) t)
+        (split (leb (s + lower) t)
+        (λ x. ByOutcome (Lost t (Paired (Between lower upper)) sources (targets ++ t ∷ []))
+        (GoesOn (LiveStrongDelay lower upper sources (targets ++ t ∷ [])) (due upper) kept (s ∷ times) t)
+        (cond x (waits upper (s ∷ times) (Drop 1) marks) breaking))
+        (λ e. record {
+          live = record { pairing = inl (none, target-partners t a (leb-true (s + lower) t e, omega arith)) };
+          due-is = rw (due-ahead (marks .early) (dueOldest upper times) none);
+          kept-is = rw (eq-eqb (marks .early) 0 none);
+          in-time = due-dropped upper t 1 (s ∷ times) (r .small) (ahead-rising a (r .sources-rise)) oldest;
+        })
+        (λ e. target-misfits t a (λ f. omega (arith, f .0, leb-false (s + lower) t e))))
+
+    -- a second target beyond would be later than the due time
+    target-by : (times : List ℕ) → Each (λ y. y < t) targets → Pairing (Between lower upper) sources targets (marks .early) times
+        → t ≤ due upper marks times → Does sources (targets ++ t ∷ []) marks times t target
+    target-by [] before (inl (none, a)) in-time = target-alone none a
+    target-by (s ∷ times) before (inl (none, a)) in-time =
+        target-takes s times none a (rw (due-ahead (marks .early) (plus s upper) none) at in-time)
+    target-by times before (inr (b, is, none, beyond)) in-time =
+        absurd (omega (arith, beyond-each (λ y. y < t) beyond before, due-beyond (marks .early) (dueOldest upper times) b is))
+
+  -- ---- Ticks
+
+  late-by : (sources targets : List ℕ) (early : ℕ) (times : List ℕ) (t : ℕ) → Pairing (Between lower upper) sources targets early times
+      → dueEarly early (dueOldest upper times) < t → t ≤ lastTime → Lost t (Paired (Between lower upper)) sources targets
+  late-by sources targets early [] t (inl (none, a)) passed small =
+      λ fs gs late-fs late-gs m. omega (arith, due-ahead early (dueOldest upper []) none)
+  late-by sources targets early (s ∷ times) t (inl (none, a)) passed small =
+      waiting-late t a (λ g h f. omega (arith, f .1, due-ahead early (plus s upper) none))
+  late-by sources targets early times t (inr (b, is, none, beyond)) passed small =
+      beyond-late (between-not-later lower upper) t beyond (omega (arith, due-beyond early (dueOldest upper times) b is))
+
+  -- ---- Open
+
+  -- every target is earlier than the end of each waiting source's interval
+  targets-early : (sources targets waiting : List ℕ) → Rising sources → Ahead (Between lower upper) sources targets waiting
+      → Each (λ s. Each (λ t. t < s + upper) targets) waiting
+  targets-early sources targets waiting rise a i h j k =
+      omega (
+        arith,
+        rising-across (a .paired) waiting (subst Rising (a .rest) rise) j (omega (arith, a .pairs .0)) i h,
+        a .pairs .1 j (omega (arith, a .pairs .0)),
+      )
+
+  open-by : (now : ℕ) (sources targets : List ℕ) (early : ℕ) (times : List ℕ) → UpTo now sources targets
+      → Pairing (Between lower upper) sources targets early times → now ≤ dueEarly early (dueOldest upper times)
+      → Further now sources (λ all. Paired (Between lower upper) all targets) ⊎ Further now targets (λ all. Paired (Between lower upper) sources all)
+  unfolding LowerFirst
+  open-by now sources targets early times r (inl (none, a)) in-time =
+      let soon : now ≤ dueOldest upper times = rw (due-ahead early (dueOldest upper times) none) at in-time in
+      let each-in-time = due-each upper now times (ahead-rising a (r .sources-rise)) soon in
+      inr (ahead-open lower upper (sound .lower-first) (λ x y f. f) r a
+      (λ i h. omega (arith, each-in-time i h, next-least targets (at times i + upper) (targets-early sources targets times (r .sources-rise) a i h))))
+  open-by now sources targets early times r (inr (b, is, none, beyond)) in-time =
+      inl (beyond-open (between-not-later lower upper) r beyond (omega (arith, due-beyond early (dueOldest upper times) b is)))
+
+  -- ---- Close
+
+  kept-by : (sources targets : List ℕ) (early : ℕ) (times : List ℕ) → Pairing (Between lower upper) sources targets early times
+      → (eqb early 0 && none-left times) ≡ true → Paired (Between lower upper) sources targets
+  kept-by sources targets early times p =
+      split (eqb early 0) (λ x. x && none-left times ≡ true → Paired (Between lower upper) sources targets)
+      (λ e. empty times p (eqb-true early 0 e)) (λ e f. absurd (false≢true f))
+    where
+      empty : (times : List ℕ) → Pairing (Between lower upper) sources targets early times → early ≡ 0 → none-left times ≡ true
+          → Paired (Between lower upper) sources targets
+      empty [] p none f = pairing-paired [] p refl none
+      empty (s ∷ times) p none f = absurd (false≢true f)
+
+  not-kept-by : (sources targets : List ℕ) (early : ℕ) (times : List ℕ) → Pairing (Between lower upper) sources targets early times
+      → (eqb early 0 && none-left times) ≡ false → ¬ Paired (Between lower upper) sources targets
+  not-kept-by sources targets early [] p e m = both (rw (eq-eqb early 0 (paired-none-beyond p m .1)) at e)
+  not-kept-by sources targets early (s ∷ times) p e m = omega (arith, paired-none-beyond p m .0)
+
+  -- ---- Exact
+
+  strong-delay-laws : TwoKinds (decideStrongDelay rule) source target (Paired (Between lower upper)) (λ sources targets. length sources - length targets)
+  strong-delay-laws =
+      record {
+        Live = LiveStrongDelay lower upper;
+        due = due upper;
+        kept = kept;
+        start = record { live = strong-delay-start; due-is = refl; kept-is = refl };
+        source-does = λ r live. source-by _ _ _ _ r _ (live .pairing);
+        target-does = λ r before live. target-by _ _ _ _ r _ before (live .pairing);
+        late = λ live. late-by _ _ _ _ _ (live .pairing);
+        is-open = λ r live. open-by _ _ _ _ _ r (live .pairing);
+        waits = λ live. inl (pairing-waits (live .pairing));
+        is-kept = λ live. kept-by _ _ _ _ (live .pairing);
+        not-kept = λ live. not-kept-by _ _ _ _ (live .pairing);
+      }
+
+  pub exactStrongDelay : Exact (StrongDelay source target lower upper) (decideStrongDelay rule)
+  unfolding Meets MeetsStrongDelay waiting
+  exactStrongDelay =
+      exactTwoKinds
+      (record { kinds-are = refl; kinds-fit = sound .kinds-fit; no-words = refl; meets-are = λ steps. refl; waiting-is = λ steps. refl })
+      (decideStrongDelay rule) strong-delay-laws

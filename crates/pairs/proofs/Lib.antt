@@ -1,0 +1,2 @@
+-- Why the machines of rows of a source kind and a target kind are exact.
+pub mod Laws

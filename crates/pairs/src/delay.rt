@@ -1,0 +1,53 @@
+// Delay: the times are the waiting sources; last is one more than the last target's time.
+use machine::Change;
+use machine::Marks;
+use machine::Rule;
+use machine::parts;
+use queue::time_at;
+ghost use mathlib.Core.Path.{_≡_};
+ghost use Rattle.queue.specs.Ring.{ring};
+ghost use Rattle.pairs.specs.Delay.{answeredBy, answeredAtOnce, decideDelay};
+
+// What an event makes of the row.
+pub fn decide(
+    rule: Rule,
+    marks: Marks,
+    times: &[u64; 64],
+    head: usize,
+    len: usize,
+    kind: u64,
+    t: u64,
+) -> Change
+    ensures { λ r. ⌜ r ≡ decideDelay rule marks (ring (now (times .entry)) head len) kind t ⌝ }
+{
+    if kind == rule.first {
+        if answered_at_once(rule.lower, marks.last, t) {
+            return parts::fewer_wait(rule.upper, marks, times, head, len, 0);
+        }
+        return parts::one_more_waits(rule.upper, marks, times, head, len, t);
+    }
+    let dropped = answered(rule.lower, t, times, head, len);
+    let marks = parts::with_last(marks, parts::plus(t, 1));
+    parts::fewer_wait(rule.upper, marks, times, head, len, dropped)
+}
+
+// How many of the waiting sources a target at t answers, from the oldest on. The ring is over after 64: those behind are the same again.
+fn answered(lower: u64, t: u64, times: &[u64; 64], head: usize, len: usize) -> usize
+    ensures { λ r. ⌜ r ≡ answeredBy lower t (ring (now (times .entry)) head len) ⌝ }
+{
+    let mut n = 0;
+    while n < len && n < 64 {
+        if !parts::reaches(time_at(times, head, n), lower, t) {
+            return n;
+        }
+        n += 1;
+    }
+    len
+}
+
+// Whether the last target answers a source at t.
+fn answered_at_once(lower: u64, last: u64, t: u64) -> bool
+    ensures { λ r. ⌜ r ≡ answeredAtOnce lower last t ⌝ }
+{
+    lower == 0 && last == parts::plus(t, 1)
+}

@@ -1,0 +1,56 @@
+// StrongDelay: the times are the sources beyond the number of targets; early is one more than the time of a target beyond
+// the number of sources.
+use machine::Change;
+use machine::Marks;
+use machine::Rule;
+use machine::parts;
+use queue::Edit;
+ghost use mathlib.Core.Path.{_≡_};
+ghost use Rattle.queue.specs.Ring.{ring};
+ghost use Rattle.pairs.specs.StrongDelay.{sourceStrongDelay, targetStrongDelay, decideStrongDelay};
+
+// What an event makes of the row.
+pub fn decide(
+    rule: Rule,
+    marks: Marks,
+    times: &[u64; 64],
+    head: usize,
+    len: usize,
+    kind: u64,
+    t: u64,
+) -> Change
+    ensures { λ r. ⌜ r ≡ decideStrongDelay rule marks (ring (now (times .entry)) head len) kind t ⌝ }
+{
+    if kind == rule.first {
+        return source(rule, marks, times, head, len, t);
+    }
+    target(rule, marks, times, head, len, t)
+}
+
+// What a source makes of the row: it waits, or it is the partner of the target beyond.
+fn source(rule: Rule, marks: Marks, times: &[u64; 64], head: usize, len: usize, t: u64) -> Change
+    ensures { λ r. ⌜ r ≡ sourceStrongDelay rule marks (ring (now (times .entry)) head len) t ⌝ }
+{
+    let none = parts::with_early(marks, 0);
+    if marks.early == 0 {
+        return parts::one_more_waits(rule.upper, none, times, head, len, t);
+    }
+    parts::fewer_wait(rule.upper, none, times, head, len, 0)
+}
+
+// What a target makes of the row: it is the partner of the oldest source that waits, or one beyond.
+fn target(rule: Rule, marks: Marks, times: &[u64; 64], head: usize, len: usize, t: u64) -> Change
+    ensures { λ r. ⌜ r ≡ targetStrongDelay rule marks (ring (now (times .entry)) head len) t ⌝ }
+{
+    if len == 0 {
+        if rule.lower == 0 {
+            let beyond = parts::with_early(marks, parts::plus(t, 1));
+            return parts::goes_on(Edit::Drop { dropped: 0 }, beyond, t, false);
+        }
+        return parts::breaking();
+    }
+    if parts::reaches(parts::front(times, head, len), rule.lower, t) {
+        return parts::fewer_wait(rule.upper, marks, times, head, len, 1);
+    }
+    parts::breaking()
+}

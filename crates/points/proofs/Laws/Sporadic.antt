@@ -1,0 +1,224 @@
+-- Sporadic: the places where the last hidden point can be are the numbers from low to high, since each place of the next point has a place of the last one before it, so the machine's test tells whether an event has a point.
+use Prim.Native.Nat.{ℕ, _+_, _-_, _≤_, min}
+use native.Mathlib.Omega.{arith}
+use mathlib.Core.Path.{_≡_, refl, sym, ap, subst, _∙_}
+use mathlib.Core.Bool.{Bool, cond}
+use mathlib.Core.List.{List, [], _∷_, _++_}
+use mathlib.Core.Logic.{_⊎_, inl, inr, ⊎-elim}
+use lib.ListN.{length, take, length-append}
+use lib.Seq.{getD-take}
+use lib.Dec.{eqb}
+use borrow.Author.Tests.{eqb-true, eqb-false}
+use Rattle.constraint.specs.Limits.{lastTime, noLimit}
+use Rattle.constraint.specs.Steps.{at}
+use Rattle.constraint.specs.Meets.{Meets, Between, HiddenPoints, MeetsRepeat, MeetsSporadic, AtLeastApart}
+use Rattle.constraint.specs.Waiting.{waiting}
+use Rattle.constraint.specs.Accepted.{InRange}
+use Rattle.constraint.specs.declared.Constraint.the-variants.{Sporadic}
+use Rattle.constraint.proofs.Lists.{split, at-next}
+use Rattle.machine.specs.Rule.{ruleOf}
+use Rattle.machine.specs.Parts.{noMarks, plus, breaking}
+use Rattle.points.specs.Sporadic.{pointAt, stride, lowest, highest, laterSporadic, decideSporadic}
+use Rattle.machine.specs.declared.Rule.{Rule}
+use Rattle.machine.specs.declared.Marks.{Marks}
+use Rattle.machine.specs.declared.Change.{Change}
+use Rattle.machine.proofs.Exact.{Sound, Exact}
+use Rattle.machine.proofs.Tests.{Tells, holds, fails, tells-leb, tells-and}
+use Rattle.machine.proofs.OneKind.{Turns, exactOneKind}
+use Rattle.machine.proofs.Spans.{apart-first, apart-more, LastIs, last-none, last-new, last-zero, last-some, far-enough}
+use Rattle.points.proofs.Laws.Points.{points-none, points-first, NextPoint, points-more, points-near, points-next}
+
+abbrev PointsOf : Rule → List ℕ → List ℕ → Type 0
+PointsOf rule events points = HiddenPoints (rule .lower) (rule .upper) (rule .jitter) events points
+
+-- the point of the n-th event from 0, which is the last, can be at each place from low to high and at no other
+record Places (rule : Rule) (events : List ℕ) (n low high : ℕ) : Type 0 where
+  ordered : low ≤ high
+  each : (p : ℕ) → low ≤ p → p ≤ high → (points : List ℕ) × PointsOf rule events points × (at points n ≡ p)
+  no-other : (points : List ℕ) → PointsOf rule events points → (low ≤ at points n) × (at points n ≤ high)
+
+-- what the row keeps of its events: no times, the last, and the places of its point
+record KeepsSporadic (rule : Rule) (events : List ℕ) (marks : Marks) (kept : List ℕ) : Type 0 where
+  no-times : kept ≡ []
+  apart : AtLeastApart (rule .minimum) events
+  last-is : LastIs events (marks .last)
+  places : (n : ℕ) → n + 1 ≡ length events → Places rule events n (marks .low) (marks .high)
+
+-- what an event at t makes of the row
+abbrev TurnsSporadic : Rule → List ℕ → List ℕ → ℕ → Change → Type 0
+TurnsSporadic rule events kept t change = Turns (MeetsSporadic (rule .lower) (rule .upper) (rule .jitter) (rule .minimum)) (KeepsSporadic rule) events kept t change
+
+-- ---- Start
+
+sporadic-none : (rule : Rule) → KeepsSporadic rule [] noMarks []
+unfolding MeetsRepeat
+sporadic-none rule =
+    record { no-times = refl; apart = λ i h. absurd (omega arith); last-is = last-none; places = λ n e. absurd (omega arith) }
+
+-- ---- Events
+
+-- q can be the point of an event at t, behind the point p
+abbrev NextAt : Rule → ℕ → ℕ → ℕ → Type 0
+NextAt rule t p q = NextPoint (rule .lower) (rule .upper) p q × Between 0 (rule .jitter) q t
+
+-- q is one of the places from the lowest to the highest
+abbrev IsPlace : Rule → Marks → ℕ → ℕ → Type 0
+IsPlace rule marks t q = (lowest rule marks t ≤ q) × (q ≤ highest rule marks t)
+
+module _ (rule : Rule) (marks : Marks) (t : ℕ) (small : t ≤ lastTime) where
+  below-highest : (q : ℕ) → q ≤ highest rule marks t → (q ≤ t) × ((rule .upper ≡ noLimit) ⊎ (q ≤ marks .high + rule .upper))
+  below-highest q =
+      split (eqb (rule .upper) noLimit) (λ x. q ≤ cond x t (min (plus (marks .high) (rule .upper)) t) → (q ≤ t) × ((rule .upper ≡ noLimit) ⊎ (q ≤ marks .high + rule .upper)))
+      (λ e h. (h, inl (eqb-true (rule .upper) noLimit e)))
+      (λ e h. (omega arith, inr (omega arith)))
+
+  upto-highest : (q : ℕ) → q ≤ t → (rule .upper ≡ noLimit) ⊎ (q ≤ marks .high + rule .upper) → q ≤ highest rule marks t
+  upto-highest q soon reach =
+      split (eqb (rule .upper) noLimit) (λ x. q ≤ cond x t (min (plus (marks .high) (rule .upper)) t))
+      (λ e. soon)
+      (λ e. ⊎-elim (λ f. absurd (eqb-false (rule .upper) noLimit e f)) (λ h. omega arith) reach)
+
+  -- each place of the next point has a place of the last one before it
+  place-before : marks .low ≤ marks .high → stride (rule .lower) ≤ rule .upper → (q : ℕ) → IsPlace rule marks t q
+      → (p : ℕ) × (marks .low ≤ p) × (p ≤ marks .high) × NextAt rule t p q
+  place-before ordered possible q place =
+      let (soon, reach) = below-highest q (place .1) in
+      (min (marks .high) (q - stride (rule .lower)), omega arith, omega arith, ((omega arith, (omega arith, ⊎-elim inl (λ h. inr (omega arith)) reach)), (omega arith, omega arith)))
+
+  -- and behind a place of the last point there is no other place of the next one
+  place-behind : rule .lower ≤ lastTime → (p q : ℕ) → marks .low ≤ p → p ≤ marks .high → NextAt rule t p q → (stride (rule .lower) ≤ rule .upper) × IsPlace rule marks t q
+  place-behind small-lower p q low high next = (
+    ⊎-elim (λ e. omega arith) (λ h. omega arith) (next .0 .1 .1),
+    (omega arith, upto-highest q (omega arith) (⊎-elim inl (λ h. inr (omega arith)) (next .0 .1 .1))),
+  )
+
+module _ (rule : Rule) (events : List ℕ) (t : ℕ) (small : t ≤ lastTime) where
+  -- the point of the first event
+  first-places : length events ≡ 0 → Places rule (events ++ (t ∷ [])) (length events) (t - rule .jitter) t
+  first-places empty =
+      record {
+        ordered = omega arith;
+        each = λ p low high. (
+          p ∷ [],
+          points-more (rule .lower) (rule .upper) (rule .jitter) events t [] p (points-none (rule .lower) (rule .upper) (rule .jitter) events empty) (omega arith) (λ n e. absurd (omega arith)),
+          at-next [] p [] (length events) empty,
+        );
+        no-other = λ points hidden. let near : Between 0 (rule .jitter) (at points (length events)) t = points-near (rule .lower) (rule .upper) (rule .jitter) events t points hidden in
+            (omega arith, omega arith);
+      }
+
+  module _ (marks : Marks) (n : ℕ) (e : n + 1 ≡ length events) (places : Places rule events n (marks .low) (marks .high)) where
+    -- the point of a later event
+    later-place : rule .lower ≤ lastTime → (points : List ℕ) → PointsOf rule (events ++ (t ∷ [])) points
+        → (stride (rule .lower) ≤ rule .upper) × IsPlace rule marks t (at points (length events))
+    later-place small-lower points hidden =
+        place-behind rule marks t small small-lower (at points n) (at points (length events)) (before .0) (before .1)
+        (points-next (rule .lower) (rule .upper) (rule .jitter) events t points hidden n e, points-near (rule .lower) (rule .upper) (rule .jitter) events t points hidden)
+      where
+        before : (marks .low ≤ at points n) × (at points n ≤ marks .high)
+        before =
+            rw (getD-take (length events) points n 0 (omega arith)) at
+            (places .no-other (take (length events) points) (points-first (rule .lower) (rule .upper) (rule .jitter) events (t ∷ []) points hidden))
+
+    later-points : (p q : ℕ) → NextAt rule t p q → (points : List ℕ) × PointsOf rule events points × (at points n ≡ p)
+        → (points : List ℕ) × PointsOf rule (events ++ (t ∷ [])) points × (at points (length events) ≡ q)
+    later-points p q next (points, hidden, is) = (
+      points ++ (q ∷ []),
+      points-more (rule .lower) (rule .upper) (rule .jitter) events t points q hidden (next .1) (λ m f. subst (λ (x : ℕ). NextPoint (rule .lower) (rule .upper) x q) (last m f) (next .0)),
+      at-next points q [] (length events) (sym (hidden .one-each)),
+    )
+      where
+        last : (m : ℕ) → m + 1 ≡ length events → p ≡ at points m
+        last m f = let same : n ≡ m = omega arith in sym is ∙ ap (at points) same
+
+    later-places : rule .lower ≤ lastTime → stride (rule .lower) ≤ rule .upper → lowest rule marks t ≤ highest rule marks t
+        → Places rule (events ++ (t ∷ [])) (length events) (lowest rule marks t) (highest rule marks t)
+    later-places small-lower possible ordered =
+        record {
+          ordered = ordered;
+          each = λ q low high. let (p, low-p, high-p, next) = place-before rule marks t small (places .ordered) possible q (low, high) in
+              later-points p q next (places .each p low-p high-p);
+          no-other = λ points hidden. later-place small-lower points hidden .1;
+        }
+
+module _ (rule : Rule) (events : List ℕ) (marks : Marks) (kept : List ℕ) (keeps : KeepsSporadic rule events marks kept) (t : ℕ) (small : t ≤ lastTime) where
+  -- what it keeps with the event
+  keeps-more : (low high : ℕ) → AtLeastApart (rule .minimum) (events ++ (t ∷ [])) → Places rule (events ++ (t ∷ [])) (length events) low high
+      → TurnsSporadic rule events kept t (pointAt marks t low high)
+  keeps-more low high apart places =
+      record {
+        live = record {
+          no-times = keeps .no-times;
+          apart = apart;
+          last-is = last-new events t (plus t 1) (omega arith);
+          places = λ n e. let last : length events ≡ n = omega (arith, length-append events (t ∷ [])) in
+              subst (λ (m : ℕ). Places rule (events ++ (t ∷ [])) m low high) last places;
+        };
+        due-is = refl;
+        kept-is = refl;
+        in-time = omega arith;
+      }
+
+  later-event : rule .lower ≤ lastTime → (n : ℕ) → n + 1 ≡ length events → TurnsSporadic rule events kept t (laterSporadic rule marks t)
+  unfolding laterSporadic MeetsSporadic
+  later-event small-lower n e =
+      turn
+      (tells-and (far-enough (rule .minimum) events t (marks .last) (keeps .last-is) (keeps .apart))
+      (tells-and (tells-leb (stride (rule .lower)) (rule .upper)) (tells-leb (lowest rule marks t) (highest rule marks t))))
+    where
+      turn : {test : Bool}
+          → Tells (AtLeastApart (rule .minimum) (events ++ (t ∷ [])) × ((stride (rule .lower) ≤ rule .upper) × (lowest rule marks t ≤ highest rule marks t))) test
+          → TurnsSporadic rule events kept t (cond test (pointAt marks t (lowest rule marks t) (highest rule marks t)) breaking)
+      turn (holds (apart, some)) =
+          keeps-more (lowest rule marks t) (highest rule marks t) apart (later-places rule events t small marks n e (keeps .places n e) small-lower (some .0) (some .1))
+      turn (fails none) = λ m. let place = later-place rule events t small marks n e (keeps .places n e) small-lower (m .0 .0) (m .0 .1) in none (m .1, (place .0, omega arith))
+
+  sporadic-event : rule .lower ≤ lastTime → (kind : ℕ) → TurnsSporadic rule events kept t (decideSporadic rule marks kept kind t)
+  unfolding decideSporadic
+  sporadic-event small-lower kind =
+      split (eqb (marks .last) 0)
+      (λ x. TurnsSporadic rule events kept t (cond x (pointAt marks t (t - rule .jitter) t) (laterSporadic rule marks t)))
+      (λ none. let empty : length events ≡ 0 = last-zero events (marks .last) (keeps .last-is) none in
+      keeps-more (t - rule .jitter) t (apart-more 1 (rule .minimum) noLimit events t (omega arith) (keeps .apart) (λ i e. absurd (omega arith))) (first-places rule events t small empty))
+      (λ some. let (n, more, is) = last-some events (marks .last) (keeps .last-is) some in later-event small-lower n (omega arith))
+
+-- ---- Open
+
+sporadic-first : (lower upper jitter minimum : ℕ) (xs ys : List ℕ) → MeetsSporadic lower upper jitter minimum (xs ++ ys) → MeetsSporadic lower upper jitter minimum xs
+unfolding MeetsSporadic
+sporadic-first lower upper jitter minimum xs ys m =
+    ((take (length xs) (m .0 .0), points-first lower upper jitter xs ys (m .0 .0) (m .0 .1)), apart-first 1 minimum noLimit xs ys (m .1))
+
+sporadic-says : (rule : Rule) (events : List ℕ) (marks : Marks) (kept : List ℕ) → KeepsSporadic rule events marks kept
+    → MeetsSporadic (rule .lower) (rule .upper) (rule .jitter) (rule .minimum) events
+unfolding MeetsSporadic
+sporadic-says rule [] marks kept keeps = (([], points-none (rule .lower) (rule .upper) (rule .jitter) [] refl), keeps .apart)
+sporadic-says rule (x ∷ xs) marks kept keeps =
+    let places : Places rule (x ∷ xs) (length xs) (marks .low) (marks .high) = keeps .places (length xs) (omega arith) in
+    let (points, hidden, is) = places .each (marks .low) (omega arith) (places .ordered) in
+    ((points, hidden), keeps .apart)
+
+-- ---- Exact
+
+pub exactSporadic : (kind lower upper jitter minimum : ℕ) → Sound (Sporadic kind lower upper jitter minimum)
+    → Exact (Sporadic kind lower upper jitter minimum) (decideSporadic (ruleOf (Sporadic kind lower upper jitter minimum)))
+unfolding Meets waiting InRange
+exactSporadic kind lower upper jitter minimum sound =
+    exactOneKind (Sporadic kind lower upper jitter minimum) (decideSporadic rule)
+    (record {
+      kind = kind;
+      Says = MeetsSporadic lower upper jitter minimum;
+      Keeps = KeepsSporadic rule;
+      one-kind = refl;
+      no-words = refl;
+      meets = λ steps. (λ m. m, λ m. m);
+      waits-none = λ steps. refl;
+      says-first = sporadic-first lower upper jitter minimum;
+      keeps-none = sporadic-none rule;
+      keeps-says = λ keeps. sporadic-says rule _ _ _ keeps;
+      keeps-few = λ keeps. omega (arith, ap length (keeps .no-times));
+      keeps-event = λ t rises small keeps. sporadic-event rule _ _ _ keeps t small (sound .in-range .0) kind;
+    })
+  where
+    rule : Rule
+    rule = ruleOf (Sporadic kind lower upper jitter minimum)

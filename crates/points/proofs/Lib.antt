@@ -1,0 +1,2 @@
+-- Why the machine of Sporadic is exact.
+pub mod Laws

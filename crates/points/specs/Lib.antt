@@ -1,0 +1,2 @@
+-- The machine of rows of one kind whose events have hidden points.
+pub mod Sporadic

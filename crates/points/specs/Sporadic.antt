@@ -1,0 +1,51 @@
+-- Sporadic: no times are kept; the last hidden point can be at each place from `low` to `high`, and `last` is one more than the last event's time.
+use Prim.Native.Nat.{ℕ, _-_, min, max}
+use mathlib.Core.Bool.{true, cond, _&&_}
+use mathlib.Core.List.{List}
+use lib.Dec.{leb, eqb}
+use Rattle.constraint.specs.Limits.{noLimit}
+use Rattle.queue.specs.declared.Edit.the-variants.{Drop}
+use Rattle.machine.specs.Parts.{plus, farEnough, goesOn, breaking}
+use Rattle.machine.specs.declared.Rule.{Rule}
+use Rattle.machine.specs.declared.Marks.{Marks}
+use Rattle.machine.specs.declared.Change.{Change}
+
+-- the marks with another last event and other places of its point
+abbrev pub pointMarks : Marks → ℕ → ℕ → ℕ → Marks
+pointMarks m last low high =
+    record {
+      last = last;
+      early = m .early;
+      ahead = m .ahead;
+      low = low;
+      high = high;
+      first = m .first;
+      second = m .second;
+      third = m .third;
+      fourth = m .fourth;
+    }
+
+-- the row goes on with an event at t, whose point can be at each place from low to high
+abbrev pub pointAt : Marks → ℕ → ℕ → ℕ → Change
+pointAt marks t low high = goesOn (Drop 0) (pointMarks marks (plus t 1) low high) noLimit true
+
+-- how far the next point is from the last at least: points rise strictly
+abbrev pub stride : ℕ → ℕ
+stride lower = max lower 1
+
+-- where the point of an event at t can be, the point before it being from low to high
+abbrev pub lowest : Rule → Marks → ℕ → ℕ
+lowest rule marks t = max (plus (marks .low) (stride (rule .lower))) (t - rule .jitter)
+
+abbrev pub highest : Rule → Marks → ℕ → ℕ
+highest rule marks t = cond (eqb (rule .upper) noLimit) t (min (plus (marks .high) (rule .upper)) t)
+
+unfoldable pub laterSporadic : Rule → Marks → ℕ → Change
+laterSporadic rule marks t =
+    cond (farEnough (rule .minimum) (marks .last) t && (leb (stride (rule .lower)) (rule .upper) && leb (lowest rule marks t) (highest rule marks t)))
+    (pointAt marks t (lowest rule marks t) (highest rule marks t))
+    breaking
+
+unfoldable pub decideSporadic : Rule → Marks → List ℕ → ℕ → ℕ → Change
+decideSporadic rule marks times kind t =
+    cond (eqb (marks .last) 0) (pointAt marks t (t - rule .jitter) t) (laterSporadic rule marks t)

@@ -1,0 +1,24 @@
+-- The place is that of `putRing`, and the test is its test.
+use borrow.Author.Needs.{needs}
+use borrow.Author.Tests.{lt-ltb, le-ltb}
+use Rattle.queue.specs.Ring.{putRing}
+use Rattle.queue.proofs.Shared.{free}
+use Rattle.queue.proofs.put.Statement.{statement}
+use Rattle.queue.proofs.put.Tie as tie
+
+mul-times : tie.Need-mul-times
+mul-times c = search needs
+
+element-write-times : tie.Need-element-write-times
+element-write-times c = search needs
+
+returns : tie.Need-returns
+unfolding putRing
+returns c = rw (lt-ltb _ _ (c .if1 .taken), ← c .before .place-of .ensures)
+
+returns-2 : tie.Need-returns-2
+unfolding putRing
+returns-2 c = rw (le-ltb _ _ (c .if1 .left))
+
+pub put-spec : {M : Type 1} → statement M
+put-spec = tie.close (tie.spec free mul-times element-write-times returns returns-2)

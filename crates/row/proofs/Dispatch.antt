@@ -1,0 +1,41 @@
+-- The types by their number, as the code picks them and as `decide` does.
+use Prim.Native.Nat.{ℕ}
+use mathlib.Core.Path.{_≡_}
+use mathlib.Core.Bool.{cond, _||_}
+use mathlib.Core.Logic.{_⊎_, inl, inr, ⊎-elim}
+use borrow.Author.Tests.{ne-eqb}
+use lib.Dec.{eqb}
+
+-- the number is none of those that the code names
+abbrev pub NoneOf : ℕ → Type 0
+NoneOf n = ((((Unit {0} × (n ≡ 1 → ⊥)) × (n ≡ 2 → ⊥)) × ((n ≡ 3) ⊎ (n ≡ 5) → ⊥)) × (n ≡ 4 → ⊥)) × (n ≡ 6 → ⊥)
+
+module _ {A : Type 0} (n : ℕ) (a b c d e f : A) where
+  abbrev pub chosen : A
+  chosen = cond (eqb n 1) a (cond (eqb n 2) b (cond (eqb n 3 || eqb n 5) c (cond (eqb n 4) d (cond (eqb n 6) e f))))
+
+  pub form-1 : n ≡ 1 → chosen ≡ a
+  form-1 is = rw is
+
+  pub form-2 : n ≡ 2 → chosen ≡ b
+  form-2 is = rw is
+
+  pub form-3-5 : (n ≡ 3) ⊎ (n ≡ 5) → chosen ≡ c
+  form-3-5 is = ⊎-elim (λ e. rw e) (λ e. rw e) is
+
+  pub form-4 : n ≡ 4 → chosen ≡ d
+  form-4 is = rw is
+
+  pub form-6 : n ≡ 6 → chosen ≡ e
+  form-6 is = rw is
+
+  pub form-none : NoneOf n → chosen ≡ f
+  form-none is =
+      rw (
+        ne-eqb n 1 (is .0 .0 .0 .0 .1),
+        ne-eqb n 2 (is .0 .0 .0 .1),
+        ne-eqb n 3 (λ x. is .0 .0 .1 (inl x)),
+        ne-eqb n 5 (λ x. is .0 .0 .1 (inr x)),
+        ne-eqb n 4 (is .0 .1),
+        ne-eqb n 6 (is .1),
+      )

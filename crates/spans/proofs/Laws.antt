@@ -1,0 +1,3 @@
+-- The laws of each row type.
+pub mod Repeat
+pub mod Burst

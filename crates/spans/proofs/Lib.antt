@@ -1,0 +1,2 @@
+-- Why the machine of Repeat and Burst is exact.
+pub mod Laws

@@ -226,12 +226,12 @@ extern "C" {
 #define DELKUTHI_MONITOR_STACK 262144
 
 /*
- * A monitor: 22,560 bytes, aligned as a uint64_t is. Put it on the stack, in
+ * A monitor: 23,072 bytes, aligned as a uint64_t is. Put it on the stack, in
  * static memory, on a heap or in a struct of your own, and give it to
  * delkuthi_fresh first. What its words mean is the library's own business.
  */
 typedef struct delkuthi_monitor {
-    uint64_t words[2820];
+    uint64_t words[2884];
 } delkuthi_monitor;
 
 /* Returns the version of the library, which is that of its own header. */

@@ -20,15 +20,15 @@ use Rattle.constraint.specs.declared.Constraint.the-variants.{Delay, StrongDela
 use Rattle.constraint.specs.declared.Verdict.{Verdict}
 use Rattle.constraint.proofs.Judged.{never}
 use Rattle.constraint.proofs.FittingKinds.{kinds-none, kinds-more}
-use Rattle.row.specs.Delay.{answeredBy, decideDelay, dueDelay, keptDelay}
-use Rattle.row.specs.StrongDelay.{sourceStrongDelay, targetStrongDelay, decideStrongDelay, dueStrongDelay, keptStrongDelay}
-use Rattle.row.specs.Repeat.{decideRepeat, dueRepeat, keptRepeat}
-use Rattle.row.specs.Sporadic.{laterSporadic, decideSporadic, dueSporadic, keptSporadic}
-use Rattle.row.specs.Order.{decideOrder, dueOrder, keptOrder}
-use Rattle.row.specs.StrongSynchronization.{decideStrongSynchronization, dueStrongSynchronization, keptStrongSynchronization}
+use Rattle.pairs.specs.Delay.{answeredBy, decideDelay}
+use Rattle.pairs.specs.StrongDelay.{sourceStrongDelay, targetStrongDelay, decideStrongDelay}
+use Rattle.spans.specs.Repeat.{decideRepeat}
+use Rattle.points.specs.Sporadic.{laterSporadic, decideSporadic}
+use Rattle.pairs.specs.Order.{changesTo, decideOrder}
+use Rattle.groups.specs.StrongSynchronization.{decideStrongSynchronization}
 use Rattle.row.specs.Machine.{rowOf, brokenRow, applied, changedRow, rowStep, rowVerdict}
 use Rattle.row.proofs.Exact.{Sound, Exact}
-use Rattle.queue.specs.Ring.{ring, shifted}
+use Rattle.queue.specs.Ring.{ring, pushRing, putRing}
 use Rattle.monitor.specs.Machine.{monitorOf, mapFirst, anyFirst, takenCall, stepOf, verdictOf}
 use Rattle.monitor.specs.Contract.{step, after, Recorded}
 use Rattle.monitor.specs.Examples.{Example, examples, stepsOf, AllRead}
@@ -53,7 +53,7 @@ AllComputed [] = Unit {0}
 AllComputed (e ∷ later) = Computed e × AllComputed later
 
 computed : AllComputed examples
-unfolding AllComputed Computed allTaken play monitorOf mapFirst anyFirst takenCall stepOf verdictOf rowOf brokenRow applied changedRow rowStep rowVerdict ring shifted answeredBy decideDelay dueDelay keptDelay sourceStrongDelay targetStrongDelay decideStrongDelay dueStrongDelay keptStrongDelay decideRepeat dueRepeat keptRepeat laterSporadic decideSporadic dueSporadic keptSporadic decideOrder dueOrder keptOrder decideStrongSynchronization dueStrongSynchronization keptStrongSynchronization
+unfolding AllComputed Computed allTaken play monitorOf mapFirst anyFirst takenCall stepOf verdictOf rowOf brokenRow applied changedRow rowStep rowVerdict ring pushRing putRing answeredBy decideDelay sourceStrongDelay targetStrongDelay decideStrongDelay decideRepeat laterSporadic decideSporadic changesTo decideOrder decideStrongSynchronization
 computed = (
   (refl, refl),
   ((refl, refl), ((refl, refl), ((refl, refl), ((refl, refl), ((refl, refl), ((refl, refl), ((refl, refl), ((refl, refl), ((refl, refl), ((refl, refl), ((refl, refl), ((refl, refl), ((refl, refl), ((refl, refl), ((refl, refl), ((refl, refl), ((refl, refl), ((refl, refl), tt)))))))))))))))))),

@@ -23,7 +23,7 @@ use Rattle.constraint.specs.declared.Constraint.{Constraint}
 use Rattle.constraint.proofs.Lists.{split, both}
 use Rattle.constraint.proofs.History.{times-own, times-other, times-tick, times-close, clock-event, clock-tick, clock-close, closed-event, closed-tick, closed-close, Accepts, Valid, valid-more}
 use Rattle.constraint.proofs.Counting.{nextFree, next-above, next-least, next-snoc, count-fits}
-use Rattle.row.specs.Row.{plus}
+use Rattle.machine.specs.Parts.{plus}
 use Rattle.row.specs.Machine.{closeAt, rowStep}
 use Rattle.row.proofs.Exact.{Sound, Exact}
 use Rattle.row.proofs.Steps.{seen}
@@ -108,11 +108,11 @@ module _ (engine : (c : Constraint) → Sound c → Exact c) where
     next-event : (k t : ℕ) → Accepts steps (event k t) → (j : ℕ) → j ≤ lastKind
         → getD (set (m .next) (placeFor (Call.Event k t)) (plus t 1)) j 0 ≡ nextFree (times j (steps ++ (event k t ∷ [])))
     next-event k t accepts j kind =
-        rw (kind-place k t (accepts .1))
+        rw (kind-place k t (accepts .kind-small))
         (by-cases (ℕ-discrete j k)
         (λ e. subst (λ i. getD (set (m .next) k (plus t 1)) i 0 ≡ nextFree (times i (steps ++ (event k t ∷ [])))) (sym e)
-        (getD-set-same (m .next) k (plus t 1) 0 (omega (arith, f .next-whole, accepts .1)) ∙ omega (arith, accepts .2)
-        ∙ sym (ap nextFree (times-own k t steps) ∙ next-snoc (times k steps) t (accepts .3 .1))))
+        (getD-set-same (m .next) k (plus t 1) 0 (omega (arith, f .next-whole, accepts .kind-small)) ∙ omega (arith, accepts .time-small)
+        ∙ sym (ap nextFree (times-own k t steps) ∙ next-snoc (times k steps) t (accepts .in-order .1))))
         (λ e. getD-set-other (m .next) k j (plus t 1) 0 e ∙ f .next-is j kind ∙ sym (ap nextFree (times-other j k t steps (λ same. e (sym same))))))
 
     next-after : (call : Call) → Accepts steps (stepFor call) → (j : ℕ) → j ≤ lastKind
@@ -186,7 +186,7 @@ module _ (engine : (c : Constraint) → Sound c → Exact c) where
         split (ltb t free) (λ x. Left c (cond x 11 0))
         (λ e. (inl (not-closed e8, inl (kind, inl (small, inr (not-free k t kind (sym (ap (ltb t) place) ∙ e), refl)))), f)) (λ taken.
         let order = in-order k t kind late (sym (ap (ltb t) place) ∙ taken) in
-        last-asked c (not-closed e8, kind, small, order) (λ a j. inl (not-closed e8, inl (kind, inl (small, inl (order, j)))))
+        last-asked c (record { not-closed = not-closed e8; kind-small = kind; time-small = small; in-order = order }) (λ a j. inl (not-closed e8, inl (kind, inl (small, inl (order, j)))))
         )))))
 
     tick-answered : (t : ℕ) → Left (Call.Tick t) (refusalBy (Call.Tick t) (m .closed) (m .clock) (nextFor m (Call.Tick t)))
@@ -199,7 +199,7 @@ module _ (engine : (c : Constraint) → Sound c → Exact c) where
         split (leb t (m .clock)) (λ x. Left c (cond x 11 0))
         (λ e. (inl (not-closed e8, inl (ltb-false lastTime t e10, inr (λ h. omega (arith, leb-true t (m .clock) e, f .clock-is), refl))), f)) (λ e11.
         let later : clock steps < t = omega (arith, leb-false t (m .clock) e11, f .clock-is) in
-        last-asked c (not-closed e8, ltb-false lastTime t e10, later) (λ a j. inl (not-closed e8, inl (ltb-false lastTime t e10, inl (later, j)))))))
+        last-asked c (record { not-closed = not-closed e8; time-small = ltb-false lastTime t e10; later = later }) (λ a j. inl (not-closed e8, inl (ltb-false lastTime t e10, inl (later, j)))))))
 
     -- the close has only question 8: it crowds no row
     close-answered : Left Call.Close (refusalBy Call.Close (m .closed) (m .clock) (nextFor m Call.Close))

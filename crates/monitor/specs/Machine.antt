@@ -11,7 +11,7 @@ use Rattle.constraint.specs.declared.Answer.the-variants.{Taken, Refused}
 use Rattle.constraint.specs.declared.Call.{Call}
 use Rattle.constraint.specs.declared.Constraint.{Constraint}
 use Rattle.constraint.specs.declared.Verdict.{Verdict}
-use Rattle.row.specs.Row.{plus}
+use Rattle.machine.specs.Parts.{plus}
 use Rattle.row.specs.Machine.{rowOf, eventAt, tickAt, closeAt, rowStep, rowVerdict}
 use Rattle.row.specs.declared.Occurrence.{Occurrence}
 use Rattle.row.specs.declared.Row.{Row}

@@ -2,8 +2,8 @@
 use constraint::Call;
 use constraint::LAST_KIND;
 use constraint::LAST_TIME;
+use machine::parts::plus;
 use row::Occurrence;
-use row::parts::plus;
 ghost use mathlib.Core.Path.{_≡_};
 ghost use Prim.Native.Nat.{ℕ};
 ghost use Rattle.constraint.specs.declared.Call.{Call};

@@ -167,7 +167,7 @@ fn every_cut_in_blocks_of_just_that_length() {
 #[test]
 fn the_monitors_memory() {
     let size = format!("{} {}\n", size_of::<Monitor>(), align_of::<Monitor>());
-    assert_eq!(size, "22560 8\n");
+    assert_eq!(size, "23072 8\n");
     for level in LEVELS {
         let host = c_host("memory", level);
         assert_eq!(host.run(&["300"]), Ran::new(0, &size));

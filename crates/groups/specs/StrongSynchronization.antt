@@ -20,23 +20,29 @@ countOf rule marks kind =
     (cond (eqb kind (rule .third)) (marks .third)
     (marks .fourth)))
 
+-- the marks with these counts
+abbrev pub withCounts : ℕ → ℕ → ℕ → ℕ → Marks → Marks
+withCounts first second third fourth m =
+    record {
+      last = m .last;
+      early = m .early;
+      ahead = m .ahead;
+      low = m .low;
+      high = m .high;
+      first = first;
+      second = second;
+      third = third;
+      fourth = fourth;
+    }
+
 -- one more of the kind
 abbrev pub oneMore : ℕ → ℕ → ℕ → ℕ
 oneMore kind of count = cond (eqb kind of) (plus count 1) count
 
 abbrev pub counted : Rule → Marks → ℕ → Marks
 counted rule marks kind =
-    record {
-      last = marks .last;
-      early = marks .early;
-      ahead = marks .ahead;
-      low = marks .low;
-      high = marks .high;
-      first = oneMore kind (rule .first) (marks .first);
-      second = oneMore kind (rule .second) (marks .second);
-      third = oneMore kind (rule .third) (marks .third);
-      fourth = oneMore kind (rule .fourth) (marks .fourth);
-    }
+    withCounts (oneMore kind (rule .first) (marks .first)) (oneMore kind (rule .second) (marks .second))
+    (oneMore kind (rule .third) (marks .third)) (oneMore kind (rule .fourth) (marks .fourth)) marks
 
 -- the oldest group has an event of the kind, or there is no such kind
 abbrev pub has : ℕ → ℕ → Bool
@@ -50,18 +56,7 @@ complete rule marks =
 
 -- the counts without the oldest group
 abbrev pub withoutOldest : Marks → Marks
-withoutOldest marks =
-    record {
-      last = marks .last;
-      early = marks .early;
-      ahead = marks .ahead;
-      low = marks .low;
-      high = marks .high;
-      first = marks .first - 1;
-      second = marks .second - 1;
-      third = marks .third - 1;
-      fourth = marks .fourth - 1;
-    }
+withoutOldest marks = withCounts (marks .first - 1) (marks .second - 1) (marks .third - 1) (marks .fourth - 1) marks
 
 -- an event of a kind that all groups have begins a new one; any other goes to the first group that lacks its kind, and a complete one leaves
 unfoldable pub decideStrongSynchronization : Rule → Marks → List ℕ → ℕ → ℕ → Change

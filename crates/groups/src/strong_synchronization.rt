@@ -5,6 +5,7 @@ use machine::Marks;
 use machine::Rule;
 use machine::numbers::NO_KIND;
 use machine::parts;
+use queue::SIZE;
 use queue::minus;
 ghost use mathlib.Core.Path.{_≡_};
 ghost use Rattle.queue.specs.Ring.{ring};
@@ -14,7 +15,7 @@ ghost use Rattle.groups.specs.StrongSynchronization.{countOf, oneMore, c
 pub fn decide(
     rule: Rule,
     marks: Marks,
-    times: &[u64; 64],
+    times: &[u64; SIZE],
     head: usize,
     len: usize,
     kind: u64,

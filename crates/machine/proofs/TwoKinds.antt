@@ -72,6 +72,10 @@ pub record OfTwoKinds (c : Constraint) (source target : ℕ) (Meet : List ℕ �
   pub meets-are : (steps : List Step) → Meets c steps ≡ Meet (times source steps) (times target steps)
   pub waiting-is : (steps : List Step) → waiting c steps ≡ wait (times source steps) (times target steps)
 
+-- the two kinds differ
+pub target-apart : {source target : ℕ} → KindsFit (source ∷ target ∷ []) → ¬ (target ≡ source)
+target-apart {source} {target} fit = kinds-apart (source ∷ target ∷ []) fit 1 0 (omega arith) (omega arith) (λ e. omega arith)
+
 module _ {c : Constraint} {source target : ℕ} {Meet : List ℕ → List ℕ → Type 0} {wait : List ℕ → List ℕ → ℕ}
     (of : OfTwoKinds c source target Meet wait) (decide : Marks → List ℕ → ℕ → ℕ → Change) (laws : TwoKinds decide source target Meet wait) where
   -- ---- the two kinds
@@ -80,7 +84,7 @@ module _ {c : Constraint} {source target : ℕ} {Meet : List ℕ → List ℕ �
   pair-fit = subst KindsFit (of .kinds-are) (of .kinds-fit)
 
   apart : ¬ (source ≡ target)
-  apart = kinds-apart (source ∷ target ∷ []) pair-fit 0 1 (omega arith) (omega arith) (λ e. omega arith)
+  apart e = target-apart pair-fit (sym e)
 
   -- what holds of both kinds holds of a kind of the row
   of-kind : (P : ℕ → Type 0) → P source → P target → {k : ℕ} → OfKind c k → P k
@@ -127,7 +131,9 @@ module _ {c : Constraint} {source target : ℕ} {Meet : List ℕ → List ℕ �
 
   abbrev Does : List Step → Marks → List ℕ → ℕ → ℕ → Type 0
   Does steps marks held k t =
-      ByOutcome (¬ Open c (steps ++ (event k t ∷ []))) (GoesOn (Live (steps ++ (event k t ∷ []))) (laws .due) (laws .kept) held t) (decide marks held k t)
+      ByOutcome (¬ Open c (steps ++ (event k t ∷ [])))
+      (GoesOn (Live (steps ++ (event k t ∷ []))) (laws .due) (laws .kept) held t)
+      (decide marks held k t)
 
   -- what the event makes of the two lists it makes of the steps
   does-of : (steps : List Step) (marks : Marks) (held : List ℕ) (k t : ℕ) (sources targets : List ℕ)

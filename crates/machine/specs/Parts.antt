@@ -39,35 +39,27 @@ dueOldest upper times = dueOr noLimit upper times
 abbrev pub noMarks : Marks
 noMarks = record { last = 0; early = 0; ahead = 0; low = 0; high = 0; first = 0; second = 0; third = 0; fourth = 0 }
 
--- the marks with another last event
-abbrev pub withLast : Marks → ℕ → Marks
-withLast m last =
+-- marks with these numbers, and the counts of others
+abbrev pub marksOf : ℕ → ℕ → ℕ → ℕ → ℕ → Marks → Marks
+marksOf last early ahead low high m =
     record {
       last = last;
-      early = m .early;
-      ahead = m .ahead;
-      low = m .low;
-      high = m .high;
+      early = early;
+      ahead = ahead;
+      low = low;
+      high = high;
       first = m .first;
       second = m .second;
       third = m .third;
       fourth = m .fourth;
     }
 
--- the marks with another target beyond the number of sources
+-- the marks with another last event, and with another target beyond the number of sources
+abbrev pub withLast : Marks → ℕ → Marks
+withLast m last = marksOf last (m .early) (m .ahead) (m .low) (m .high) m
+
 abbrev pub withEarly : Marks → ℕ → Marks
-withEarly m early =
-    record {
-      last = m .last;
-      early = early;
-      ahead = m .ahead;
-      low = m .low;
-      high = m .high;
-      first = m .first;
-      second = m .second;
-      third = m .third;
-      fourth = m .fourth;
-    }
+withEarly m early = marksOf (m .last) early (m .ahead) (m .low) (m .high) m
 
 -- the change of a row that goes on, and that of one that breaks
 abbrev pub goesOn : Edit → Marks → ℕ → Bool → Change

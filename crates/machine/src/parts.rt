@@ -3,6 +3,7 @@ use crate::Change;
 use crate::Marks;
 use constraint::NO_LIMIT;
 use queue::Edit;
+use queue::SIZE;
 use queue::minus;
 use queue::time_at;
 ghost use mathlib.Core.Path.{_≡_};
@@ -56,7 +57,7 @@ pub fn larger(a: u64, b: u64) -> u64
 }
 
 // The oldest time, or 0 where there is none.
-pub fn front(times: &[u64; 64], head: usize, len: usize) -> u64
+pub fn front(times: &[u64; SIZE], head: usize, len: usize) -> u64
     ensures { λ r. ⌜ r ≡ front (ring (now (times .entry)) head len) ⌝ }
 {
     if len == 0 {
@@ -68,7 +69,7 @@ pub fn front(times: &[u64; 64], head: usize, len: usize) -> u64
 // The due time that the oldest time gives once some have left, where one is left; else another.
 pub fn due_after(
     upper: u64,
-    times: &[u64; 64],
+    times: &[u64; SIZE],
     head: usize,
     len: usize,
     dropped: usize,
@@ -147,7 +148,7 @@ pub fn breaking() -> Change
 pub fn fewer_wait(
     upper: u64,
     marks: Marks,
-    times: &[u64; 64],
+    times: &[u64; SIZE],
     head: usize,
     len: usize,
     dropped: usize,
@@ -162,7 +163,7 @@ pub fn fewer_wait(
 pub fn one_more_waits(
     upper: u64,
     marks: Marks,
-    times: &[u64; 64],
+    times: &[u64; SIZE],
     head: usize,
     len: usize,
     t: u64,

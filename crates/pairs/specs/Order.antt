@@ -6,25 +6,14 @@ use mathlib.Core.List.{List}
 use lib.Dec.{eqb}
 use Rattle.constraint.specs.Limits.{noLimit}
 use Rattle.queue.specs.declared.Edit.the-variants.{Drop}
-use Rattle.machine.specs.Parts.{plus, withEarly, goesOn}
+use Rattle.machine.specs.Parts.{plus, marksOf, withEarly, goesOn}
 use Rattle.machine.specs.declared.Rule.{Rule}
 use Rattle.machine.specs.declared.Marks.{Marks}
 use Rattle.machine.specs.declared.Change.{Change}
 
 -- the marks with another number of sources beyond the number of targets
 abbrev pub withAhead : Marks → ℕ → Marks
-withAhead m ahead =
-    record {
-      last = m .last;
-      early = m .early;
-      ahead = ahead;
-      low = m .low;
-      high = m .high;
-      first = m .first;
-      second = m .second;
-      third = m .third;
-      fourth = m .fourth;
-    }
+withAhead m ahead = marksOf (m .last) (m .early) ahead (m .low) (m .high) m
 
 -- the change to other marks: a target beyond needs its source at once, and the row is kept where nothing is beyond
 unfoldable pub changesTo : Marks → Change

@@ -3,6 +3,7 @@ use machine::Change;
 use machine::Marks;
 use machine::Rule;
 use machine::parts;
+use queue::SIZE;
 use queue::time_at;
 ghost use mathlib.Core.Path.{_≡_};
 ghost use Rattle.queue.specs.Ring.{ring};
@@ -12,7 +13,7 @@ ghost use Rattle.pairs.specs.Delay.{answeredBy, answeredAtOnce, decideDe
 pub fn decide(
     rule: Rule,
     marks: Marks,
-    times: &[u64; 64],
+    times: &[u64; SIZE],
     head: usize,
     len: usize,
     kind: u64,
@@ -31,12 +32,12 @@ pub fn decide(
     parts::fewer_wait(rule.upper, marks, times, head, len, dropped)
 }
 
-// How many of the waiting sources a target at t answers, from the oldest on. The ring is over after 64: those behind are the same again.
-fn answered(lower: u64, t: u64, times: &[u64; 64], head: usize, len: usize) -> usize
+// How many of the waiting sources a target at t answers, from the oldest on.
+fn answered(lower: u64, t: u64, times: &[u64; SIZE], head: usize, len: usize) -> usize
     ensures { λ r. ⌜ r ≡ answeredBy lower t (ring (now (times .entry)) head len) ⌝ }
 {
     let mut n = 0;
-    while n < len && n < 64 {
+    while n < len && n < SIZE {
         if !parts::reaches(time_at(times, head, n), lower, t) {
             return n;
         }

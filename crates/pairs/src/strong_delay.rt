@@ -5,6 +5,7 @@ use machine::Marks;
 use machine::Rule;
 use machine::parts;
 use queue::Edit;
+use queue::SIZE;
 ghost use mathlib.Core.Path.{_≡_};
 ghost use Rattle.queue.specs.Ring.{ring};
 ghost use Rattle.pairs.specs.StrongDelay.{sourceStrongDelay, targetStrongDelay, decideStrongDelay};
@@ -13,7 +14,7 @@ ghost use Rattle.pairs.specs.StrongDelay.{sourceStrongDelay, targetStron
 pub fn decide(
     rule: Rule,
     marks: Marks,
-    times: &[u64; 64],
+    times: &[u64; SIZE],
     head: usize,
     len: usize,
     kind: u64,
@@ -28,7 +29,7 @@ pub fn decide(
 }
 
 // What a source makes of the row: it waits, or it is the partner of the target beyond.
-fn source(rule: Rule, marks: Marks, times: &[u64; 64], head: usize, len: usize, t: u64) -> Change
+fn source(rule: Rule, marks: Marks, times: &[u64; SIZE], head: usize, len: usize, t: u64) -> Change
     ensures { λ r. ⌜ r ≡ sourceStrongDelay rule marks (ring (now (times .entry)) head len) t ⌝ }
 {
     let none = parts::with_early(marks, 0);
@@ -39,7 +40,7 @@ fn source(rule: Rule, marks: Marks, times: &[u64; 64], head: usize, len: usize, 
 }
 
 // What a target makes of the row: it is the partner of the oldest source that waits, or one beyond.
-fn target(rule: Rule, marks: Marks, times: &[u64; 64], head: usize, len: usize, t: u64) -> Change
+fn target(rule: Rule, marks: Marks, times: &[u64; SIZE], head: usize, len: usize, t: u64) -> Change
     ensures { λ r. ⌜ r ≡ targetStrongDelay rule marks (ring (now (times .entry)) head len) t ⌝ }
 {
     if len == 0 {

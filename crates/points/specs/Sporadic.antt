@@ -5,29 +5,14 @@ use mathlib.Core.List.{List}
 use lib.Dec.{leb, eqb}
 use Rattle.constraint.specs.Limits.{noLimit}
 use Rattle.queue.specs.declared.Edit.the-variants.{Drop}
-use Rattle.machine.specs.Parts.{plus, farEnough, goesOn, breaking}
+use Rattle.machine.specs.Parts.{plus, farEnough, marksOf, goesOn, breaking}
 use Rattle.machine.specs.declared.Rule.{Rule}
 use Rattle.machine.specs.declared.Marks.{Marks}
 use Rattle.machine.specs.declared.Change.{Change}
 
--- the marks with another last event and other places of its point
-abbrev pub pointMarks : Marks → ℕ → ℕ → ℕ → Marks
-pointMarks m last low high =
-    record {
-      last = last;
-      early = m .early;
-      ahead = m .ahead;
-      low = low;
-      high = high;
-      first = m .first;
-      second = m .second;
-      third = m .third;
-      fourth = m .fourth;
-    }
-
 -- the row goes on with an event at t, whose point can be at each place from low to high
 abbrev pub pointAt : Marks → ℕ → ℕ → ℕ → Change
-pointAt marks t low high = goesOn (Drop 0) (pointMarks marks (plus t 1) low high) noLimit true
+pointAt marks t low high = goesOn (Drop 0) (marksOf (plus t 1) (marks .early) (marks .ahead) low high marks) noLimit true
 
 -- how far the next point is from the last at least: points rise strictly
 abbrev pub stride : ℕ → ℕ

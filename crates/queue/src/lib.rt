@@ -59,7 +59,7 @@ fn place_of(head: usize, i: usize) -> usize
 }
 
 // The time that is i places behind the head.
-pub fn time_at(times: &[u64; 64], head: usize, i: usize) -> u64
+pub fn time_at(times: &[u64; SIZE], head: usize, i: usize) -> u64
     ensures { λ r. ⌜ r ≡ timeAt (now (times .entry)) head i ⌝ }
 {
     let at = place_of(head, i);
@@ -67,7 +67,7 @@ pub fn time_at(times: &[u64; 64], head: usize, i: usize) -> u64
 }
 
 // The ring with a word behind the rest, where it holds fewer than 64: its length.
-fn push(times: &mut [u64; 64], head: usize, len: usize, word: u64) -> usize
+fn push(times: &mut [u64; SIZE], head: usize, len: usize, word: u64) -> usize
     ensures { λ r. ⌜ ringOf (now (times .exit)) head r ≡ pushRing word (ringOf (now (times .entry)) head len) ⌝ }
 {
     let at = place_of(head, len);
@@ -79,7 +79,7 @@ fn push(times: &mut [u64; 64], head: usize, len: usize, word: u64) -> usize
 }
 
 // The ring with a word at one of its places.
-fn put(times: &mut [u64; 64], head: usize, len: usize, i: usize, word: u64)
+fn put(times: &mut [u64; SIZE], head: usize, len: usize, i: usize, word: u64)
     ensures { λ r. ⌜ ringOf (now (times .exit)) head len ≡ putRing i word (ringOf (now (times .entry)) head len) ⌝ }
 {
     let at = place_of(head, i);
@@ -89,7 +89,7 @@ fn put(times: &mut [u64; 64], head: usize, len: usize, i: usize, word: u64)
 }
 
 // The ring with what is done to it: where it begins and how many times it holds then.
-pub fn edit_ring(times: &mut [u64; 64], head: usize, len: usize, e: Edit) -> Ends
+pub fn edit_ring(times: &mut [u64; SIZE], head: usize, len: usize, e: Edit) -> Ends
     ensures { λ r. ⌜ ringOf (now (times .exit)) (r .head) (r .len) ≡ edited e (ringOf (now (times .entry)) head len) ⌝ }
 {
     match e {

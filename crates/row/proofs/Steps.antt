@@ -200,7 +200,10 @@ module _ (c : Constraint) (exact : Exact c) (steps : List Step) (valid : Valid s
           (λ shut. both (sym shut ∙ closed-event k t steps ∙ accepts .not-closed))
 
       -- a change that the row goes on with
-      module _ (change : Change) (goes : GoesOn (exact .Live (steps ++ (event k t ∷ []))) (exact .due) (exact .kept) (itemsOf row-was) t change) where
+      abbrev Goes : Change → Type 0
+      Goes = GoesOn (exact .Live (steps ++ (event k t ∷ []))) (exact .due) (exact .kept) (itemsOf row-was) t
+
+      module _ (change : Change) (goes : Goes change) where
         abbrev kept-times : List ℕ
         kept-times = changed (change .edit) (itemsOf row-was)
 
@@ -243,12 +246,12 @@ module _ (c : Constraint) (exact : Exact c) (steps : List Step) (valid : Valid s
 
       -- any change
       changed-after : (change : Change)
-          → ByOutcome (¬ Open c (steps ++ (event k t ∷ []))) (GoesOn (exact .Live (steps ++ (event k t ∷ []))) (exact .due) (exact .kept) (itemsOf row-was) t) change
+          → ByOutcome (¬ Open c (steps ++ (event k t ∷ []))) Goes change
           → Holds (changedRow row-was change (length steps + 1))
       unfolding changedRow
       changed-after change =
           split (change .breaks)
-          (λ x. cond x (¬ Open c (steps ++ (event k t ∷ []))) (GoesOn (exact .Live (steps ++ (event k t ∷ []))) (exact .due) (exact .kept) (itemsOf row-was) t change)
+          (λ x. cond x (¬ Open c (steps ++ (event k t ∷ []))) (Goes change)
           → Holds (cond x (stays (brokenRow row-was (length steps + 1)))
           (cond (ltb waitingLimit (length (changed (change .edit) (itemsOf row-was)))) (crowding row-was) (stays (applied row-was change)))))
           (λ e shut. broken-fits (event k t) words was whole (going-open words was (accepts .not-closed) g) shut)
@@ -261,7 +264,8 @@ module _ (c : Constraint) (exact : Exact c) (steps : List Step) (valid : Valid s
           (subst (λ (b : Bool). Holds (cond b (stays row-was) open-row)) (sym unbroken)
           (split (ltb (was .due) t) (λ x. Holds (cond x (stays (brokenRow row-was number)) in-time-row)) (λ e. event-late (ltb-true (was .due) t e))
           (λ e. split (among k (kinds c)) (λ y. Holds (cond y (changedRow row-was change number) (stays row-was)))
-          (λ f. changed-after change (exact .does past (g .live) (among-own c k f) accepts (subst (λ (n : ℕ). t ≤ n) (g .due-is) (ltb-false (was .due) t e))))
+          (λ f. let soon : t ≤ exact .due (was .marks) (itemsOf row-was) = subst (λ (n : ℕ). t ≤ n) (g .due-is) (ltb-false (was .due) t e) in
+          changed-after change (exact .does past (g .live) (among-own c k f) accepts soon))
           (λ f. event-other (ltb-false (was .due) t e) f))))
         where
           number : ℕ
@@ -296,7 +300,8 @@ module _ (c : Constraint) (exact : Exact c) (steps : List Step) (valid : Valid s
         (other-row (rowFrom (ruleOf c) words was) t false (length steps + 1) .row)
     tick-going t accepts words was whole g =
         split (ltb (was .due) t) (λ x. Holds (cond x (stays (brokenRow row-was (length steps + 1))) (stays row-was)))
-        (λ e. broken-fits (tick t) words was whole (going-open words was (accepts .not-closed) g) (tick-late words was t g (ltb-true (was .due) t e) (accepts .time-small)))
+        (λ e. broken-fits (tick t) words was whole (going-open words was (accepts .not-closed) g)
+        (tick-late words was t g (ltb-true (was .due) t e) (accepts .time-small)))
         (λ e. going-on (tick t) words was whole g (own-tick (kinds c) t steps) (rw (clock-tick t steps) (ltb-false (was .due) t e))
         (λ shut. both (sym shut ∙ closed-tick t steps ∙ accepts .not-closed)))
       where
@@ -316,7 +321,8 @@ module _ (c : Constraint) (exact : Exact c) (steps : List Step) (valid : Valid s
         → After c exact (steps ++ (close ∷ [])) (other-row (rowFrom (ruleOf c) words was) (clock steps) true (length steps + 1) .crowded)
         (other-row (rowFrom (ruleOf c) words was) (clock steps) true (length steps + 1) .row)
     close-going not-closed words was whole g =
-        subst (λ (b : Bool). Holds (cond b (stays (brokenRow row-was (length steps + 1))) closing-row)) (sym (le-ltb (was .due) (clock steps) (g .in-time)))
+        subst (λ (b : Bool). Holds (cond b (stays (brokenRow row-was (length steps + 1))) closing-row))
+        (sym (le-ltb (was .due) (clock steps) (g .in-time)))
         (split (eqb (was .kept) 0) (λ x. Holds (cond x (stays (brokenRow row-was (length steps + 1))) (stays row-was)))
         (λ e. broken-fits close words was whole (going-open words was not-closed g)
         (close-shut (exact .not-kept past (g .live) (unmarked (eqb-true (was .kept) 0 e)))))
@@ -362,12 +368,14 @@ module _ (c : Constraint) (exact : Exact c) (steps : List Step) (valid : Valid s
         Holds : RowStep → Type 0
         Holds x = After c exact (steps ++ (s ∷ [])) (x .crowded) (x .row)
 
-        by-step : (s : Step) → Accepts steps s → (words : List ℕ) (was : State) → length words ≡ 64 → ltb 0 (was .broken) ≡ false → Going c exact steps words was
+        by-step : (s : Step) → Accepts steps s → (words : List ℕ) (was : State) → length words ≡ 64 → ltb 0 (was .broken) ≡ false
+            → Going c exact steps words was
             → After c exact (steps ++ (s ∷ [])) (rowStep (rowFrom (ruleOf c) words was) (seen steps s) (length steps + 1) .crowded)
             (rowStep (rowFrom (ruleOf c) words was) (seen steps s) (length steps + 1) .row)
         by-step (event k t) a words was whole unbroken g = event-going k t a words was whole g unbroken
         by-step (tick t) a words was whole unbroken g = rw (no-event words was t false (length steps + 1) unbroken) (tick-going t a words was whole g)
-        by-step close a words was whole unbroken g = rw (no-event words was (clock steps) true (length steps + 1) unbroken) (close-going a words was whole g)
+        by-step close a words was whole unbroken g =
+            rw (no-event words was (clock steps) true (length steps + 1) unbroken) (close-going a words was whole g)
 
     -- the close crowds no row
     pub close-calm : (r : Row) → Fits c exact steps r → (number : ℕ) → rowStep r (closeAt (clock steps)) number .crowded ≡ false
@@ -379,7 +387,11 @@ module _ (c : Constraint) (exact : Exact c) (steps : List Step) (valid : Valid s
         one-of false x y p q = q
 
         calm : (words : List ℕ) (was : State) → rowStep (rowFrom (ruleOf c) words was) (closeAt (clock steps)) number .crowded ≡ false
-        calm words was = rw (concerns-none c small) (one-of (ltb 0 (was .broken)) _ _ refl (one-of (ltb (was .due) (clock steps)) _ _ refl (one-of (eqb (was .kept) 0) _ _ refl refl)))
+        calm words was =
+            rw (concerns-none c small)
+            (one-of (ltb 0 (was .broken)) _ _ refl
+            (one-of (ltb (was .due) (clock steps)) _ _ refl
+            (one-of (eqb (was .kept) 0) _ _ refl refl)))
 
   -- ---- Verdict
 

@@ -14,6 +14,7 @@ use pairs::order;
 use pairs::strong_delay;
 use points::sporadic;
 use queue::Edit;
+use queue::SIZE;
 use spans::repeat;
 ghost use mathlib.Core.Path.{_≡_};
 ghost use mathlib.Core.List.{List};
@@ -28,7 +29,7 @@ ghost use Rattle.row.specs.Machine.{decide, concerns, mark, rowFrom, row
 #[repr(C)]
 pub struct Row {
     pub rule: Rule,
-    pub times: [u64; 64],
+    pub times: [u64; SIZE],
     pub now: State,
 }
 
@@ -49,7 +50,7 @@ pub struct RowStep {
 pub fn decide(
     rule: Rule,
     marks: Marks,
-    times: &[u64; 64],
+    times: &[u64; SIZE],
     head: usize,
     len: usize,
     kind: u64,
@@ -117,7 +118,7 @@ fn broken_at(number: u64) -> State
 }
 
 // What the row keeps after a change, its times being changed where they lie.
-fn apply(rule: Rule, old: State, times: &mut [u64; 64], change: Change) -> State
+fn apply(rule: Rule, old: State, times: &mut [u64; SIZE], change: Change) -> State
     ensures { λ r. ⌜ rowFrom rule (now (times .exit)) r ≡ applied (rowFrom rule (now (times .entry)) old) change ⌝ }
 {
     let edit = change.edit;
@@ -134,7 +135,7 @@ fn apply(rule: Rule, old: State, times: &mut [u64; 64], change: Change) -> State
 }
 
 // What the row keeps after a change: broken, as it was where the change crowds it, or with the change.
-fn changed(rule: Rule, old: State, times: &mut [u64; 64], change: Change, number: u64) -> State
+fn changed(rule: Rule, old: State, times: &mut [u64; SIZE], change: Change, number: u64) -> State
     ensures { λ r. ⌜ rowFrom rule (now (times .exit)) r ≡ changedRow (rowFrom rule (now (times .entry)) old) change number .row ⌝ }
 {
     if change.breaks {
@@ -155,7 +156,7 @@ fn ends_unkept(closes: bool, kept: u64) -> bool
 }
 
 // What the row keeps after what occurs, which is the step of that number; its times are changed where they lie.
-pub fn step(rule: Rule, old: State, times: &mut [u64; 64], o: Occurrence, number: u64) -> State
+pub fn step(rule: Rule, old: State, times: &mut [u64; SIZE], o: Occurrence, number: u64) -> State
     ensures { λ r. ⌜ rowFrom rule (now (times .exit)) r ≡ rowStep (rowFrom rule (now (times .entry)) old) o number .row ⌝ }
 {
     if 0 < old.broken {
@@ -175,7 +176,7 @@ pub fn step(rule: Rule, old: State, times: &mut [u64; 64], o: Occurrence, number
 }
 
 // Whether what occurs would leave the row open with more than 64 waiting.
-pub fn crowded(rule: Rule, old: State, times: &[u64; 64], o: Occurrence) -> bool
+pub fn crowded(rule: Rule, old: State, times: &[u64; SIZE], o: Occurrence) -> bool
     ensures { λ r. ⌜ ((number : ℕ) → r ≡ rowStep (rowFrom rule (now (times .entry)) old) o number .crowded) ⌝ }
 {
     if 0 < old.broken {
@@ -211,7 +212,7 @@ impl Row {
         };
         Row {
             rule,
-            times: [0u64; 64],
+            times: [0u64; SIZE],
             now,
         }
     }

@@ -6,6 +6,7 @@ use machine::Marks;
 use machine::Rule;
 use machine::parts;
 use queue::Edit;
+use queue::SIZE;
 ghost use mathlib.Core.Path.{_≡_};
 ghost use Prim.Native.Nat.{ℕ};
 ghost use Rattle.queue.specs.Ring.{ring};
@@ -15,7 +16,7 @@ ghost use Rattle.spans.specs.Repeat.{inSpan, leaving, decideRepeat};
 pub fn decide(
     rule: Rule,
     marks: Marks,
-    times: &[u64; 64],
+    times: &[u64; SIZE],
     head: usize,
     len: usize,
     t: u64,
@@ -41,7 +42,7 @@ fn leaving(rule: Rule, len: usize) -> usize
 }
 
 // Whether t is lower to upper after the first of span events before it, where there are so many.
-fn in_span(rule: Rule, times: &[u64; 64], head: usize, len: usize, t: u64) -> bool
+fn in_span(rule: Rule, times: &[u64; SIZE], head: usize, len: usize, t: u64) -> bool
     ensures { λ r. ⌜ r ≡ inSpan rule (ring (now (times .entry)) head len) t ⌝ }
 {
     if (len as u64) < rule.span {

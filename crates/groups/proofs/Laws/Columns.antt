@@ -1,4 +1,5 @@
--- The recorded events of a row's kinds as groups: some continuation completes each group at its last moment, as long as the oldest group's last moment has not passed; once it has, none does.
+-- The recorded events of a row's kinds as groups: some continuation completes each group at its last moment, as long as the oldest group's
+-- last moment has not passed; once it has, none does.
 use Prim.Native.Nat.{ℕ, zero, suc, _+_, _-_, _≤_, _<_}
 use native.Mathlib.Omega.{arith}
 use native.Mathlib.Decide.{decLt, ℕ-discrete}
@@ -28,17 +29,23 @@ column ks steps j = times (at ks j) steps
 pub columns-added : (ks : List ℕ) → KindsFit ks → (steps : List Step) (k t : ℕ) → k < length ks
     → Added (length ks) k t (column ks steps) (column ks (steps ++ (event (at ks k) t ∷ [])))
 columns-added ks fit steps k t own =
-    record { own = times-own (at ks k) t steps; other = λ j h apart. times-other (at ks j) (at ks k) t steps (kinds-apart ks fit k j own h (λ e. apart (sym e))) }
+    record {
+      own = times-own (at ks k) t steps;
+      other = λ j h apart. times-other (at ks j) (at ks k) t steps
+          (kinds-apart ks fit k j own h (λ e. apart (sym e)));
+    }
 
 -- ---- Ticks
 
 module _ (ks : List ℕ) (tolerance : ℕ) (a b : List Step) (same : SameTimes ks a b) where
-  pub groups-same : {done : ℕ} {firsts : List ℕ} → Groups (length ks) tolerance done (column ks a) firsts → Groups (length ks) tolerance done (column ks b) firsts
+  pub groups-same : {done : ℕ} {firsts : List ℕ} → Groups (length ks) tolerance done (column ks a) firsts
+      → Groups (length ks) tolerance done (column ks b) firsts
   groups-same {done} {firsts} g =
       record {
         complete = λ j h. rw (← same j h) (g .complete j h);
         begun = λ j h. rw (← same j h) (g .begun j h);
-        first = λ i h. let (p, in-range, there, is-first) = g .first i h in (p, in-range, rw (← same p in-range) there, rw (← same p in-range) is-first);
+        first = λ i h. let (p, in-range, there, is-first) = g .first i h in
+            (p, in-range, rw (← same p in-range) there, rw (← same p in-range) is-first);
         after = λ j i h. rw (← same j h) (g .after j i h);
         spread = λ j k i h l. rw (← same j h, ← same k l) (g .spread j k i h l);
       }
@@ -47,7 +54,8 @@ module _ (ks : List ℕ) (tolerance : ℕ) (a b : List Step) (same : SameTimes k
   behind-same (j, h, lacks) = (j, h, rw (← same j h) lacks)
 
 -- after the last moment of the oldest group, an event that it lacks comes too late
-pub groups-late : (ks : List ℕ) (tolerance t : ℕ) (steps further : List Step) {done : ℕ} {firsts : List ℕ} → Groups (length ks) tolerance done (column ks steps) firsts
+pub groups-late : (ks : List ℕ) (tolerance t : ℕ) (steps further : List Step) {done : ℕ} {firsts : List ℕ}
+    → Groups (length ks) tolerance done (column ks steps) firsts
     → Behind (length ks) done (column ks steps) → 0 < length firsts → at firsts 0 + tolerance < t → Continues (steps ++ (tick t ∷ [])) further
     → ¬ MeetsStrongSynchronization ks tolerance (steps ++ (tick t ∷ []) ++ further)
 unfolding MeetsStrongSynchronization
@@ -76,10 +84,12 @@ groups-late ks tolerance t steps further {done} {firsts} g (j, h, lacks) begun l
 -- ---- Open
 
 -- where all groups are complete, the definition is met
-pub groups-meet : (ks : List ℕ) (tolerance : ℕ) (steps : List Step) {done : ℕ} → Groups (length ks) tolerance done (column ks steps) [] → MeetsStrongSynchronization ks tolerance steps
+pub groups-meet : (ks : List ℕ) (tolerance : ℕ) (steps : List Step) {done : ℕ} → Groups (length ks) tolerance done (column ks steps) []
+    → MeetsStrongSynchronization ks tolerance steps
 unfolding MeetsStrongSynchronization
 groups-meet ks tolerance steps g j k h l =
-    let even : length (column ks steps j) ≡ length (column ks steps k) = omega (arith, g .complete j h, g .complete k l, g .begun j h, g .begun k l) in
+    let even : length (column ks steps j) ≡ length (column ks steps k) = omega
+    (arith, g .complete j h, g .complete k l, g .begun j h, g .begun k l) in
     (even, λ i m. g .spread j k i h l m (omega arith))
 
 -- the times of each kind rise strictly and none is after the clock
@@ -88,7 +98,8 @@ Ordered steps = (k : ℕ) → Rising (times k steps) × Each (λ t. t ≤ clock 
 
 ordered-event : (k t : ℕ) (steps : List Step) → Ordered steps → EventInOrder steps k t → Ordered (steps ++ (event k t ∷ []))
 ordered-event k t steps ordered order j = (
-  with-time j k t steps Rising (λ e. rising-snoc (times j steps) t (ordered j .0) (subst (λ (i : ℕ). Each (λ s. s < t) (times i steps)) e (order .1))) (ordered j .0),
+  with-time j k t steps Rising
+      (λ e. rising-snoc (times j steps) t (ordered j .0) (subst (λ (i : ℕ). Each (λ s. s < t) (times i steps)) e (order .1))) (ordered j .0),
   rw (clock-event k t steps) (with-time j k t steps (Each (λ s. s ≤ t))
       (λ e. each-append (λ s. s ≤ t) (times j steps) (t ∷ []) before (each-cons (λ s. s ≤ t) t [] (omega arith) (each-none (λ s. s ≤ t)))) before),
 )
@@ -107,9 +118,14 @@ module _ (ks : List ℕ) (fit : KindsFit ks) (tolerance : ℕ) where
   abbrev pub Completes : List Step → Type 0
   Completes steps = (further : List Step) × Continues steps further × MeetsStrongSynchronization ks tolerance (steps ++ further)
 
-  completes-before : (steps : List Step) (k t : ℕ) → closed steps ≡ false → k ≤ lastKind → EventInOrder steps k t → Completes (steps ++ (event k t ∷ [])) → Completes steps
-  completes-before steps k t goes-on small order (further, follows, meets) =
-      (event k t ∷ further, more k t goes-on small order follows, subst (MeetsStrongSynchronization ks tolerance) (append-assoc steps (event k t ∷ []) further) meets)
+  completes-before : (steps : List Step) (k t : ℕ) → closed steps ≡ false → k ≤ lastKind → EventInOrder steps k t
+      → Completes (steps ++ (event k t ∷ [])) → Completes steps
+  completes-before steps k t goes-on small order (further, follows, meets) = (
+    event k t ∷ further,
+    more k t goes-on small order follows,
+    subst (MeetsStrongSynchronization ks tolerance)
+        (append-assoc steps (event k t ∷ []) further) meets,
+  )
 
   -- an event that the oldest group lacks, at its last moment
   abbrev lacking : ℕ → ℕ → Step
@@ -128,7 +144,8 @@ module _ (ks : List ℕ) (fit : KindsFit ks) (tolerance : ℕ) where
           goes-on = closed-event (at ks k) (f + tolerance) steps ∙ pending .goes-on;
           ordered = ordered-event (at ks k) (f + tolerance) steps (pending .ordered) (lacking-in-order k h lacks);
           groups = groups-joined (pending .groups) (λ j. pending .ordered (at ks j) .0)
-              (λ j i l. omega (arith, pending .ordered (at ks j) .1 i l, pending .in-time (omega arith))) h (columns-added ks fit steps k (f + tolerance) h) (omega arith) (omega arith);
+              (λ j i l. omega (arith, pending .ordered (at ks j) .1 i l, pending .in-time (omega arith))) h
+              (columns-added ks fit steps k (f + tolerance) h) (omega arith) (omega arith);
           in-time = λ l. rw (clock-event (at ks k) (f + tolerance) steps) (omega arith);
         }
 
@@ -138,7 +155,8 @@ module _ (ks : List ℕ) (fit : KindsFit ks) (tolerance : ℕ) where
           goes-on = pending .goes-on;
           ordered = pending .ordered;
           groups = groups-left (pending .groups) full;
-          in-time = λ l. omega (arith, pending .in-time (omega arith), oldest-first (pending .groups) (λ j. pending .ordered (at ks j) .0) 1 (omega arith));
+          in-time = λ l. omega
+              (arith, pending .in-time (omega arith), oldest-first (pending .groups) (λ j. pending .ordered (at ks j) .0) 1 (omega arith));
         }
 
   -- each kind below the m-th that the oldest group lacks gets its event
@@ -148,10 +166,12 @@ module _ (ks : List ℕ) (fit : KindsFit ks) (tolerance : ℕ) where
   completes-oldest zero done f fs steps h pending full rest = rest steps (pending-left done f fs steps pending (λ j. full j (omega arith)))
   completes-oldest (suc m) done f fs steps h pending full rest =
       by-cases (decLt done (length (column ks steps m)))
-      (λ has. completes-oldest m done f fs steps (omega arith) pending (λ j l g. by-cases (ℕ-discrete j m) (λ e. rw e has) (λ e. full j (omega arith) g)) rest)
+      (λ has. completes-oldest m done f fs steps (omega arith) pending
+      (λ j l g. by-cases (ℕ-discrete j m) (λ e. rw e has) (λ e. full j (omega arith) g)) rest)
       (λ has. let lacks : length (column ks steps m) ≡ done = omega (arith, pending .groups .complete m h) in
       let added = columns-added ks fit steps m (f + tolerance) h in
-      completes-before steps (at ks m) (f + tolerance) (pending .goes-on) (kinds-small ks fit m h) (lacking-in-order done f fs steps pending m h lacks)
+      completes-before steps (at ks m) (f + tolerance) (pending .goes-on) (kinds-small ks fit m h)
+      (lacking-in-order done f fs steps pending m h lacks)
       (completes-oldest m done f fs (steps ++ (lacking f m ∷ [])) (omega arith) (pending-event done f fs steps pending m h lacks)
       (λ j l g. by-cases (ℕ-discrete j m)
       (λ e. rw e (omega (arith, longer-own added)))
@@ -189,12 +209,20 @@ module _ (f : ℕ → ℕ) where
   least-each k (j ∷ ks) zero h = omega arith
   least-each k (j ∷ ks) (suc i) h = omega (arith, least-each j ks i (omega arith))
 
-pub groups-wait : (ks : List ℕ) (tolerance : ℕ) (steps : List Step) {done : ℕ} {firsts : List ℕ} → Groups (length ks) tolerance done (column ks steps) firsts
+pub groups-wait : (ks : List ℕ) (tolerance : ℕ) (steps : List Step) {done : ℕ} {firsts : List ℕ}
+    → Groups (length ks) tolerance done (column ks steps) firsts
     → Behind (length ks) done (column ks steps) → begunIncomplete ks steps ≡ length firsts
 unfolding begunIncomplete
 groups-wait [] tolerance steps g (j, h, lacks) = absurd (omega arith)
 groups-wait (k ∷ ks) tolerance steps {done} {firsts} g (j, h, lacks) =
-    omega (arith, newest, largest-most count (k ∷ ks) (done + length firsts) (g .begun), least-most count k ks done (g .complete), least-each count k ks j h)
+    omega (
+      arith,
+      newest,
+      largest-most count (k ∷ ks) (done + length firsts) (g .begun),
+      least-most count k ks done
+          (g .complete),
+      least-each count k ks j h,
+    )
   where
     count : ℕ → ℕ
     count k = length (times k steps)
@@ -202,12 +230,14 @@ groups-wait (k ∷ ks) tolerance steps {done} {firsts} g (j, h, lacks) =
     newest : done + length firsts ≤ largest (map count (k ∷ ks))
     newest =
         by-cases (decLt 0 (length firsts))
-        (λ l. let (p, in-range, there, is-first) = g .first (length firsts - 1) (omega arith) in omega (arith, largest-each count (k ∷ ks) p in-range))
+        (λ l. let (p, in-range, there, is-first) = g .first (length firsts - 1) (omega arith) in omega
+        (arith, largest-each count (k ∷ ks) p in-range))
         (λ l. omega (arith, largest-each count (k ∷ ks) j h))
 
 -- ---- Close
 
-pub groups-left-over : (ks : List ℕ) (tolerance : ℕ) (steps : List Step) {done : ℕ} {firsts : List ℕ} → Groups (length ks) tolerance done (column ks steps) firsts
+pub groups-left-over : (ks : List ℕ) (tolerance : ℕ) (steps : List Step) {done : ℕ} {firsts : List ℕ}
+    → Groups (length ks) tolerance done (column ks steps) firsts
     → Behind (length ks) done (column ks steps) → 0 < length firsts → ¬ MeetsStrongSynchronization ks tolerance steps
 unfolding MeetsStrongSynchronization
 groups-left-over ks tolerance steps g (j, h, lacks) begun meets =

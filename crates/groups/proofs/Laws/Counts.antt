@@ -1,4 +1,5 @@
--- The marks of a StrongSynchronization as one count for each kind: the kinds are different, so the machine's four places are those of the list of kinds, and a place without a kind never matters.
+-- The marks of a StrongSynchronization as one count for each kind: the kinds are different, so the machine's four places are those of the
+-- list of kinds, and a place without a kind never matters.
 use Prim.Native.Nat.{ℕ, zero, suc, _+_, _-_, _≤_, _<_}
 use native.Mathlib.Omega.{arith}
 use native.Mathlib.Decide.{decLt}
@@ -78,16 +79,27 @@ module _ (rule : Rule) (marks : Marks) where
   hasAt i = has (at (fourKinds rule) i) (at (fourCounts marks) i)
 
   count-more : (k i : ℕ) → i < 4 → at (fourCounts (counted rule marks k)) i ≡ oneMore k (at (fourKinds rule) i) (at (fourCounts marks) i)
-  count-more k = four-each (λ i. at (fourCounts (counted rule marks k)) i ≡ oneMore k (at (fourKinds rule) i) (at (fourCounts marks) i)) refl refl refl refl
+  count-more k =
+      four-each (λ i. at (fourCounts (counted rule marks k)) i ≡ oneMore k (at (fourKinds rule) i) (at (fourCounts marks) i)) refl refl refl refl
 
   -- the count of a kind is at the first place that has the kind
-  count-at : (i : ℕ) → i < 4 → ((j : ℕ) → j < i → ¬ (at (fourKinds rule) i ≡ at (fourKinds rule) j)) → countOf rule marks (at (fourKinds rule) i) ≡ at (fourCounts marks) i
+  count-at : (i : ℕ) → i < 4 → ((j : ℕ) → j < i → ¬ (at (fourKinds rule) i ≡ at (fourKinds rule) j))
+      → countOf rule marks (at (fourKinds rule) i) ≡ at (fourCounts marks) i
   count-at =
-      four-each (λ i. ((j : ℕ) → j < i → ¬ (at (fourKinds rule) i ≡ at (fourKinds rule) j)) → countOf rule marks (at (fourKinds rule) i) ≡ at (fourCounts marks) i)
+      four-each (λ i. ((j : ℕ) → j < i → ¬ (at (fourKinds rule) i ≡ at (fourKinds rule) j))
+      → countOf rule marks (at (fourKinds rule) i) ≡ at (fourCounts marks) i)
       (λ apart. rw (eq-eqb (rule .first) (rule .first) refl))
       (λ apart. rw (ne-eqb (rule .second) (rule .first) (apart 0 (omega arith)), eq-eqb (rule .second) (rule .second) refl))
-      (λ apart. rw (ne-eqb (rule .third) (rule .first) (apart 0 (omega arith)), ne-eqb (rule .third) (rule .second) (apart 1 (omega arith)), eq-eqb (rule .third) (rule .third) refl))
-      (λ apart. rw (ne-eqb (rule .fourth) (rule .first) (apart 0 (omega arith)), ne-eqb (rule .fourth) (rule .second) (apart 1 (omega arith)), ne-eqb (rule .fourth) (rule .third) (apart 2 (omega arith))))
+      (λ apart. rw (
+        ne-eqb (rule .third) (rule .first) (apart 0 (omega arith)),
+        ne-eqb (rule .third) (rule .second) (apart 1 (omega arith)),
+        eq-eqb (rule .third) (rule .third) refl,
+      ))
+      (λ apart. rw (
+        ne-eqb (rule .fourth) (rule .first) (apart 0 (omega arith)),
+        ne-eqb (rule .fourth) (rule .second) (apart 1 (omega arith)),
+        ne-eqb (rule .fourth) (rule .third) (apart 2 (omega arith)),
+      ))
 
 -- the places of the list of kinds
 module _ {rule : Rule} {ks : List ℕ} (names : Names rule ks) where
@@ -107,7 +119,8 @@ module _ {rule : Rule} {ks : List ℕ} (names : Names rule ks) where
   kind-absent j h l =
       let place : length ks + (j - length ks) ≡ j = omega arith in
       ap (λ (l : List ℕ). at l j) (names .padded)
-      ∙ subst (λ (i : ℕ). at (ks ++ padding) i ≡ noKind) place (at-right ks padding (j - length ks) ∙ getD-replicate (names .absent) (j - length ks) noKind 0 (omega (arith, names-four)))
+      ∙ subst (λ (i : ℕ). at (ks ++ padding) i ≡ noKind) place
+      (at-right ks padding (j - length ks) ∙ getD-replicate (names .absent) (j - length ks) noKind 0 (omega (arith, names-four)))
 
   module _ (marks : Marks) where
     pub count-is : (k : ℕ) → k < length ks → countOf rule marks (at ks k) ≡ at (fourCounts marks) k
@@ -115,19 +128,25 @@ module _ {rule : Rule} {ks : List ℕ} (names : Names rule ks) where
         rw (← kind-present k h) (count-at rule marks k (omega (arith, names-four))
         (λ j l. rw (kind-present k h, kind-present j (omega arith)) (kinds-apart ks (names .fit) k j h (omega arith) (λ e. omega arith))))
 
-    pub count-own : (k : ℕ) → k < length ks → at (fourCounts marks) k < noLimit → at (fourCounts (counted rule marks (at ks k))) k ≡ suc (at (fourCounts marks) k)
-    count-own k h small = count-more rule marks (at ks k) k (omega (arith, names-four)) ∙ rw (kind-present k h, eq-eqb (at ks k) (at ks k) refl) (omega arith)
+    pub count-own : (k : ℕ) → k < length ks → at (fourCounts marks) k < noLimit
+        → at (fourCounts (counted rule marks (at ks k))) k ≡ suc (at (fourCounts marks) k)
+    count-own k h small =
+        count-more rule marks (at ks k) k (omega (arith, names-four)) ∙ rw (kind-present k h, eq-eqb (at ks k) (at ks k) refl) (omega arith)
 
-    pub count-other : (k j : ℕ) → k < length ks → j < length ks → ¬ (j ≡ k) → at (fourCounts (counted rule marks (at ks k))) j ≡ at (fourCounts marks) j
+    pub count-other : (k j : ℕ) → k < length ks → j < length ks → ¬ (j ≡ k)
+        → at (fourCounts (counted rule marks (at ks k))) j ≡ at (fourCounts marks) j
     count-other k j h l apart =
-        count-more rule marks (at ks k) j (omega (arith, names-four)) ∙ rw (kind-present j l, ne-eqb (at ks k) (at ks j) (kinds-apart ks (names .fit) k j h l (λ e. apart (sym e))))
+        count-more rule marks (at ks k) j (omega (arith, names-four))
+        ∙ rw (kind-present j l, ne-eqb (at ks k) (at ks j) (kinds-apart ks (names .fit) k j h l (λ e. apart (sym e))))
 
     pub count-left : (j : ℕ) → j < length ks → at (fourCounts (withoutOldest marks)) j ≡ at (fourCounts marks) j - 1
-    count-left j h = four-each (λ i. at (fourCounts (withoutOldest marks)) i ≡ at (fourCounts marks) i - 1) refl refl refl refl j (omega (arith, names-four))
+    count-left j h =
+        four-each (λ i. at (fourCounts (withoutOldest marks)) i ≡ at (fourCounts marks) i - 1) refl refl refl refl j (omega (arith, names-four))
 
     pub complete-has : complete rule marks ≡ true → (j : ℕ) → j < length ks → 0 < at (fourCounts marks) j
     complete-has e j h =
-        has-true (at ks j) (at (fourCounts marks) j) (kinds-small ks (names .fit) j h) (rw (kind-present j h) at (four-true (hasAt rule marks) e j (omega (arith, names-four))))
+        has-true (at ks j) (at (fourCounts marks) j) (kinds-small ks (names .fit) j h)
+        (rw (kind-present j h) at (four-true (hasAt rule marks) e j (omega (arith, names-four))))
 
     pub incomplete-lacks : complete rule marks ≡ false → (j : ℕ) × (j < length ks) × (at (fourCounts marks) j ≡ 0)
     incomplete-lacks e =

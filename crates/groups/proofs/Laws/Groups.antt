@@ -1,4 +1,5 @@
--- Groups of times by place: the i-th group has the i-th time of each column. One more time goes to the first group that its column lacks, and the oldest group leaves when no column lacks it, so first times are enough to say which times still fit.
+-- Groups of times by place: the i-th group has the i-th time of each column. One more time goes to the first group that its column lacks, and
+-- the oldest group leaves when no column lacks it, so first times are enough to say which times still fit.
 use Prim.Native.Nat.{ℕ, zero, suc, _+_, _-_, _≤_, _<_}
 use native.Mathlib.Omega.{arith}
 use native.Mathlib.Decide.{decLt, ℕ-discrete}
@@ -10,7 +11,8 @@ use lib.Seq.{getD-drop}
 use Rattle.constraint.specs.Steps.{at}
 use Rattle.constraint.proofs.Lists.{at-left, at-next, Each, Rising, rising-at}
 
--- n columns whose first `done` groups are complete; the groups begun after these have the first times `firsts`, and all times of a group are within tolerance of one another
+-- n columns whose first `done` groups are complete; the groups begun after these have the first times `firsts`, and all times of a group are
+-- within tolerance of one another
 pub record Groups (n tolerance done : ℕ) (column : ℕ → List ℕ) (firsts : List ℕ) : Type 0 where
   pub complete : (j : ℕ) → j < n → done ≤ length (column j)
   pub begun : (j : ℕ) → j < n → length (column j) ≤ done + length firsts
@@ -70,7 +72,8 @@ module _ {n k t : ℕ} {column longer : ℕ → List ℕ} (added : Added n k t c
   longer-length j h =
       by-cases (ℕ-discrete j k) (λ e. inr (e, rw e longer-own)) (λ e. inl (ap length (added .other j h e)))
 
-module _ {n tolerance done : ℕ} {column : ℕ → List ℕ} {firsts : List ℕ} (groups : Groups n tolerance done column firsts) (rising : (j : ℕ) → Rising (column j)) where
+module _ {n tolerance done : ℕ} {column : ℕ → List ℕ} {firsts : List ℕ} (groups : Groups n tolerance done column firsts)
+    (rising : (j : ℕ) → Rising (column j)) where
   -- a time of an earlier group is before the last moment of a later one
   pub groups-before : (j i m : ℕ) → j < n → i < length (column j) → i < done + m → m < length firsts → at (column j) i < at firsts m + tolerance
   groups-before j i m h l earlier begun =
@@ -84,10 +87,12 @@ module _ {n tolerance done : ℕ} {column : ℕ → List ℕ} {firsts : List ℕ
       let (p, in-range, there, is-first) = groups .first (suc m) h in
       omega (arith, groups .after p 0 in-range (omega arith), rising-at (column p) (rising p) (done + 0) (done + suc m) (omega arith) there)
 
-module _ {n tolerance done k t : ℕ} {column longer : ℕ → List ℕ} {firsts : List ℕ} (groups : Groups n tolerance done column firsts) (rising : (j : ℕ) → Rising (column j))
+module _ {n tolerance done k t : ℕ} {column longer : ℕ → List ℕ} {firsts : List ℕ} (groups : Groups n tolerance done column firsts)
+    (rising : (j : ℕ) → Rising (column j))
     (past : (j : ℕ) → Each (λ s. s ≤ t) (column j)) (own : k < n) (added : Added n k t column longer) where
   -- a time that joins a group or begins the next one, not before its first time and not too late for those that the group has
-  groups-longer : (newer : List ℕ) → ((i : ℕ) → i < length firsts → at newer i ≡ at firsts i) → length firsts ≤ length newer → length (column k) < done + length newer
+  groups-longer : (newer : List ℕ) → ((i : ℕ) → i < length firsts → at newer i ≡ at firsts i) → length firsts ≤ length newer
+      → length (column k) < done + length newer
       → ((i : ℕ) → length firsts ≤ i → i < length newer → (done + i ≡ length (column k)) × (at newer i ≡ t))
       → ((i : ℕ) → done + i ≡ length (column k) → at newer i ≤ t)
       → ((j : ℕ) → j < n → length (column k) < length (column j) → t ≤ at (column j) (length (column k)) + tolerance)
@@ -95,7 +100,8 @@ module _ {n tolerance done k t : ℕ} {column longer : ℕ → List ℕ} {firsts
   groups-longer newer kept more fits begins not-before not-late =
       record {
         complete = λ j h. ⊎-elim (λ e. omega (arith, groups .complete j h)) (λ e. omega (arith, groups .complete j h)) (longer-length added j h);
-        begun = λ j h. ⊎-elim (λ e. omega (arith, groups .begun j h)) (λ (e, grown). omega (arith, ap (λ (x : ℕ). length (column x)) e)) (longer-length added j h);
+        begun = λ j h. ⊎-elim (λ e. omega (arith, groups .begun j h)) (λ (e, grown). omega (arith, ap (λ (x : ℕ). length (column x)) e))
+            (longer-length added j h);
         first = λ i h. by-cases (decLt i (length firsts))
             (λ old. let (p, in-range, there, is-first) = groups .first i old in
             let (stays, same) = longer-old added p (done + i) in-range there in
@@ -112,7 +118,8 @@ module _ {n tolerance done k t : ℕ} {column longer : ℕ → List ℕ} {firsts
             (λ (e, last, is-new). omega (arith, past j i old))
             (longer-cases added x i g m))
             (λ (e, last, is-new). ⊎-elim
-            (λ (old, same). let late : t ≤ at (column x) (length (column k)) + tolerance = not-late x g (omega arith) in omega (arith, rw (← last) at late))
+            (λ (old, same). let late : t ≤ at (column x) (length (column k)) + tolerance = not-late x g (omega arith) in omega
+            (arith, rw (← last) at late))
             (λ (e′, last′, is-new′). omega arith)
             (longer-cases added x i g m))
             (longer-cases added j i h l);
@@ -128,13 +135,15 @@ module _ {n tolerance done k t : ℕ} {column longer : ℕ → List ℕ} {firsts
 
   pub groups-begun : length (column k) ≡ done + length firsts → Groups n tolerance done longer (firsts ++ (t ∷ []))
   groups-begun e =
-      groups-longer (firsts ++ (t ∷ [])) (λ i h. at-left firsts (t ∷ []) i h) (omega (arith, length-append firsts (t ∷ []))) (omega (arith, length-append firsts (t ∷ [])))
+      groups-longer (firsts ++ (t ∷ [])) (λ i h. at-left firsts (t ∷ []) i h) (omega (arith, length-append firsts (t ∷ [])))
+      (omega (arith, length-append firsts (t ∷ [])))
       (λ i h g. let last : i ≡ length firsts = omega (arith, length-append firsts (t ∷ [])) in (omega arith, at-next firsts t [] i last))
       (λ i h. omega (arith, at-next firsts t [] i (omega arith)))
       (λ j h l. absurd (omega (arith, groups .begun j h)))
 
 -- the oldest group leaves when no column lacks it
-pub groups-left : {n tolerance done : ℕ} {column : ℕ → List ℕ} {firsts : List ℕ} → Groups n tolerance done column firsts → ((j : ℕ) → j < n → done < length (column j))
+pub groups-left : {n tolerance done : ℕ} {column : ℕ → List ℕ} {firsts : List ℕ} → Groups n tolerance done column firsts
+    → ((j : ℕ) → j < n → done < length (column j))
     → Groups n tolerance (suc done) column (drop 1 firsts)
 groups-left {n} {tolerance} {done} {column} {firsts} groups full =
     record {

@@ -1,4 +1,5 @@
--- What a StrongSynchronization keeps, and that each event keeps it so: the event goes to the first group that lacks its kind, and the oldest group leaves once it lacks none.
+-- What a StrongSynchronization keeps, and that each event keeps it so: the event goes to the first group that lacks its kind, and the oldest
+-- group leaves once it lacks none.
 use Prim.Native.Nat.{ℕ, suc, _+_, _-_, _≤_, _<_}
 use native.Mathlib.Omega.{arith}
 use native.Mathlib.Decide.{decLt, ℕ-discrete}
@@ -24,7 +25,8 @@ use Rattle.machine.proofs.Exact.{GoesOn, ByOutcome}
 use Rattle.machine.proofs.Oldest.{due-within, due-reached}
 use Rattle.groups.proofs.Laws.Groups.{Groups, Behind, groups-none, longer-own, oldest-first, groups-joined, groups-begun, groups-left}
 use Rattle.groups.proofs.Laws.Columns.{column, columns-added}
-use Rattle.groups.proofs.Laws.Counts.{fourCounts, Names, count-none, count-is, count-own, count-other, count-left, complete-has, incomplete-lacks}
+use Rattle.groups.proofs.Laws.Counts.{fourCounts, Names, count-none, count-is, count-own, count-other, count-left, complete-has}
+use Rattle.groups.proofs.Laws.Counts.{incomplete-lacks}
 
 -- what the row keeps: the groups of the recorded events, and how many of those begun and not complete have an event of each kind
 pub record LiveGroups (ks : List ℕ) (tolerance : ℕ) (steps : List Step) (marks : Marks) (firsts : List ℕ) : Type 0 where
@@ -61,8 +63,10 @@ due tolerance marks firsts = dueOldest tolerance firsts
 abbrev pub kept : Marks → List ℕ → Bool
 kept marks firsts = none-left firsts
 
-module _ {rule : Rule} {ks : List ℕ} (names : Names rule ks) (tolerance : ℕ) (steps : List Step) (marks : Marks) (firsts : List ℕ) (k t : ℕ) (past : Past steps)
-    (live : LiveGroups ks tolerance steps marks firsts) (own : k < length ks) (accepts : Accepts steps (event (at ks k) t)) (in-time : t ≤ dueOldest tolerance firsts) where
+module _ {rule : Rule} {ks : List ℕ} (names : Names rule ks) (tolerance : ℕ) (steps : List Step) (marks : Marks) (firsts : List ℕ) (k t : ℕ)
+    (past : Past steps)
+    (live : LiveGroups ks tolerance steps marks firsts) (own : k < length ks) (accepts : Accepts steps (event (at ks k) t))
+    (in-time : t ≤ dueOldest tolerance firsts) where
   abbrev after : List Step
   after = steps ++ (event (at ks k) t ∷ [])
 
@@ -93,14 +97,16 @@ module _ {rule : Rule} {ks : List ℕ} (names : Names rule ks) (tolerance : ℕ)
   -- an event that goes to a group begun before, which may complete the oldest
   groups-after : at (fourCounts marks) k < length firsts → Groups (length ks) tolerance (live .done) (column ks after) firsts
   groups-after fits =
-      groups-joined (live .groups) rising recorded own (columns-added ks (names .fit) steps k t own) (omega (arith, live .counts k own)) (due-within tolerance t firsts in-time (omega arith))
+      groups-joined (live .groups) rising recorded own (columns-added ks (names .fit) steps k t own) (omega (arith, live .counts k own))
+      (due-within tolerance t firsts in-time (omega arith))
 
   event-joins : at (fourCounts marks) k < length firsts → complete rule more ≡ false → LiveGroups ks tolerance after more firsts
   event-joins fits e =
       let (j, h, none) = incomplete-lacks names more e in
       record { done = live .done; groups = groups-after fits; behind = (j, h, omega (arith, counts-after j h)); counts = counts-after }
 
-  event-completes : at (fourCounts marks) k < length firsts → complete rule more ≡ true → LiveGroups ks tolerance after (withoutOldest more) (drop 1 firsts)
+  event-completes : at (fourCounts marks) k < length firsts → complete rule more ≡ true
+      → LiveGroups ks tolerance after (withoutOldest more) (drop 1 firsts)
   event-completes fits e =
       record {
         done = suc (live .done);
@@ -114,7 +120,8 @@ module _ {rule : Rule} {ks : List ℕ} (names : Names rule ks) (tolerance : ℕ)
 
       alone : Behind (length ks) (live .done) (column ks steps) → length (column ks after k) ≡ suc (live .done)
       alone (j, h, lacks) =
-          by-cases (ℕ-discrete j k) (λ same. own-longer ∙ ap suc (rw (← same) lacks)) (λ apart. absurd (omega (arith, full j h, other-same j h apart)))
+          by-cases (ℕ-discrete j k) (λ same. own-longer ∙ ap suc (rw (← same) lacks))
+          (λ apart. absurd (omega (arith, full j h, other-same j h apart)))
 
   -- an event of a kind that all groups have
   event-begins : at (fourCounts marks) k ≡ length firsts → LiveGroups ks tolerance after more (firsts ++ (t ∷ []))

@@ -26,14 +26,16 @@ answers-late lower start (s ∷ sources) =
 
 answers-rising : (lower start : ℕ) (sources : List ℕ) → Rising (answers lower start sources)
 answers-rising lower start [] = tt
-answers-rising lower start (s ∷ sources) = (answers-late lower (suc (max (s + lower) start)) sources, answers-rising lower (suc (max (s + lower) start)) sources)
+answers-rising lower start (s ∷ sources) =
+    (answers-late lower (suc (max (s + lower) start)) sources, answers-rising lower (suc (max (s + lower) start)) sources)
 
 pub answers-between : (lower upper start : ℕ) (sources : List ℕ) → lower ≤ upper → Rising sources → Each (λ s. start ≤ s + upper) sources
     → (i : ℕ) → i < length sources → Between lower upper (at sources i) (at (answers lower start sources) i)
 answers-between lower upper start [] sound rise in-time i h = absurd (omega arith)
 answers-between lower upper start (s ∷ sources) sound rise in-time zero h = (omega arith, omega (arith, in-time 0 (omega arith)))
 answers-between lower upper start (s ∷ sources) sound rise in-time (suc i) h =
-    answers-between lower upper (suc (max (s + lower) start)) sources sound (rise .1) (λ j k. omega (arith, rise .0 j k, in-time 0 (omega arith))) i (omega arith)
+    answers-between lower upper (suc (max (s + lower) start)) sources sound (rise .1) (λ j k. omega (arith, rise .0 j k, in-time 0 (omega arith))) i
+    (omega arith)
 
 -- the first place for a further target, and that targets from there on may follow
 abbrev pub firstFree : ℕ → List ℕ → ℕ

@@ -23,8 +23,7 @@ use Rattle.machine.specs.Parts.{noMarks, plus, withLast, waits, dueOldest, none
 use Rattle.machine.specs.declared.Rule.{Rule}
 use Rattle.machine.specs.declared.Marks.{Marks}
 use Rattle.machine.proofs.Exact.{Sound, GoesOn, ByOutcome, Exact}
-use Rattle.machine.proofs.SeveralKinds.{kinds-apart}
-use Rattle.machine.proofs.TwoKinds.{UpTo, Further, Lost, TwoKinds, exactTwoKinds}
+use Rattle.machine.proofs.TwoKinds.{UpTo, Further, Lost, TwoKinds, target-apart, exactTwoKinds}
 use Rattle.machine.proofs.Oldest.{due-each, due-passed, due-pushed, due-dropped}
 use Rattle.pairs.specs.Delay.{answeredBy, answeredAtOnce, decideDelay}
 use Rattle.pairs.proofs.Laws.Answers.{answers, answers-count, answers-between, firstFree, answers-follow, answers-from-now}
@@ -105,11 +104,13 @@ module _ (source target lower upper : ℕ) (sound : Sound (Delay source target l
     module _ (in-time : now ≤ dueOldest upper times) where
       -- a source that a target answers already, and one that waits
       source-goes : (b : Bool) → answered lower upper now targets ≡ b
-          → GoesOn (LiveDelay lower upper (sources ++ now ∷ []) targets) (due upper) kept times now (waits upper times (cond b (Drop 0) (Push 0 now)) marks)
+          → GoesOn (LiveDelay lower upper (sources ++ now ∷ []) targets) (due upper) kept times now
+          (waits upper times (cond b (Drop 0) (Push 0 now)) marks)
       source-goes true e =
           record {
             live = record {
-              unmet-are = live .unmet-are ∙ sym (append-nil (unmet lower upper sources targets)) ∙ rw (unmet-sources lower upper sources (now ∷ []) targets, e);
+              unmet-are = live .unmet-are ∙ sym (append-nil (unmet lower upper sources targets))
+                  ∙ rw (unmet-sources lower upper sources (now ∷ []) targets, e);
               last-is = live .last-is;
             };
             due-is = refl;
@@ -135,7 +136,7 @@ module _ (source target lower upper : ℕ) (sound : Sound (Delay source target l
           (GoesOn (LiveDelay lower upper sources (targets ++ now ∷ [])) (due upper) kept times now) (decideDelay rule marks times target now)
       unfolding decideDelay
       target-does before =
-          rw (ne-eqb target source (kinds-apart (source ∷ target ∷ []) (sound .kinds-fit) 1 0 (omega arith) (omega arith) (λ e. omega arith))) (record {
+          rw (ne-eqb target source (target-apart (sound .kinds-fit))) (record {
             live = record {
               unmet-are = answered-oldest times now times-rise (due-each upper now times times-rise in-time)
                   ∙ rw (live .unmet-are) (sym (unmet-targets lower upper sources targets (now ∷ [])));
@@ -180,7 +181,8 @@ module _ (source target lower upper : ℕ) (sound : Sound (Delay source target l
 
     free-in-time : Each (λ s. firstFree now targets ≤ s + upper) times
     free-in-time i h =
-        let none-answered = subst (Each (λ s. ¬ Answered lower upper targets s)) (sym (live .unmet-are)) (unmet-unanswered lower upper sources targets) in
+        let none-answered : Each (λ s. ¬ Answered lower upper targets s) times =
+        rw (live .unmet-are) (unmet-unanswered lower upper sources targets) in
         let late = due-each upper now times (times-rise r live) in-time i h in
         omega (arith, next-least targets (at times i + upper) (targets-early (at times i) (none-answered i h) late))
 
@@ -205,11 +207,13 @@ module _ (source target lower upper : ℕ) (sound : Sound (Delay source target l
 
   -- ---- Close
 
-  delay-kept : (sources targets times : List ℕ) → times ≡ unmet lower upper sources targets → none-left times ≡ true → MeetsDelay lower upper sources targets
+  delay-kept : (sources targets times : List ℕ) → times ≡ unmet lower upper sources targets → none-left times ≡ true
+      → MeetsDelay lower upper sources targets
   delay-kept sources targets [] are e = unmet-meets lower upper sources targets (sym are)
   delay-kept sources targets (s ∷ times) are e = absurd (false≢true e)
 
-  delay-not-kept : (sources targets times : List ℕ) → times ≡ unmet lower upper sources targets → none-left times ≡ false → ¬ MeetsDelay lower upper sources targets
+  delay-not-kept : (sources targets times : List ℕ) → times ≡ unmet lower upper sources targets → none-left times ≡ false
+      → ¬ MeetsDelay lower upper sources targets
   delay-not-kept sources targets times are e m = true≢false (rw (are, meets-unmet lower upper sources targets m) at e)
 
   -- ---- Exact

@@ -20,8 +20,7 @@ use Rattle.machine.specs.Parts.{noMarks, plus, withEarly, goesOn}
 use Rattle.machine.specs.declared.Rule.{Rule}
 use Rattle.machine.specs.declared.Marks.{Marks}
 use Rattle.machine.proofs.Exact.{Sound, GoesOn, ByOutcome, Exact}
-use Rattle.machine.proofs.SeveralKinds.{kinds-apart}
-use Rattle.machine.proofs.TwoKinds.{UpTo, Further, Lost, TwoKinds, exactTwoKinds}
+use Rattle.machine.proofs.TwoKinds.{UpTo, Further, Lost, TwoKinds, target-apart, exactTwoKinds}
 use Rattle.pairs.specs.Order.{withAhead, changesTo, decideOrder}
 use Rattle.pairs.proofs.Laws.Answers.{firstFree}
 use Rattle.pairs.proofs.Laws.Paired.{Paired, Ahead, Pairing, dueEarly, due-ahead, due-beyond, pairing-start, beyond-each, source-waits}
@@ -109,7 +108,7 @@ module _ (source target : ℕ) (sound : Sound (Order source target)) where
       ≡ cond (eqb (marks .ahead) 0) (changesTo (withEarly marks (plus t 1))) (changesTo (withAhead marks (marks .ahead - 1)))
   unfolding decideOrder
   target-change marks times t =
-      rw (ne-eqb target source (kinds-apart (source ∷ target ∷ []) (sound .kinds-fit) 1 0 (omega arith) (omega arith) (λ e. omega arith)))
+      rw (ne-eqb target source (target-apart (sound .kinds-fit)))
 
   module _ (sources targets : List ℕ) (marks : Marks) (times : List ℕ) (t : ℕ) (r : UpTo t sources targets) (before : Each (λ y. y < t) targets)
       (no-times : times ≡ []) where

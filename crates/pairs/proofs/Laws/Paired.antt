@@ -1,4 +1,5 @@
--- Sources and targets paired by their places: while every pair fits, sources beyond the number of targets may still get theirs, and one target beyond the number of sources only at its own time.
+-- Sources and targets paired by their places: while every pair fits, sources beyond the number of targets may still get theirs, and one
+-- target beyond the number of sources only at its own time.
 use Prim.Native.Nat.{ℕ, zero, suc, _+_, _-_, _≤_, _<_}
 use native.Mathlib.Omega.{arith}
 use mathlib.Core.Path.{_≡_, refl, sym, ap, _∙_, subst}
@@ -71,17 +72,21 @@ module _ (Fits : ℕ → ℕ → Type 0) where
   paired-snoc xs ys x y p f = paired-append xs ys (x ∷ []) (y ∷ []) p (paired-cons x y [] [] f paired-none)
 
   -- the pair just behind two lists of one length
-  paired-next : (xs ys : List ℕ) (x y : ℕ) (more-xs more-ys : List ℕ) → length ys ≡ length xs → Paired Fits (xs ++ x ∷ more-xs) (ys ++ y ∷ more-ys) → Fits x y
+  paired-next : (xs ys : List ℕ) (x y : ℕ) (more-xs more-ys : List ℕ) → length ys ≡ length xs → Paired Fits (xs ++ x ∷ more-xs) (ys ++ y ∷ more-ys)
+      → Fits x y
   paired-next xs ys x y more-xs more-ys e p =
-      rw (at-next xs x more-xs (length xs) refl, at-next ys y more-ys (length xs) (sym e)) at (p .1 (length xs) (rw (length-append xs (x ∷ more-xs)) (omega arith)))
+      rw (at-next xs x more-xs (length xs) refl, at-next ys y more-ys (length xs) (sym e)) at
+      (p .1 (length xs) (rw (length-append xs (x ∷ more-xs)) (omega arith)))
 
   -- there, a target gets one of the further sources, and a source one of the further targets
-  paired-further-source : (P : ℕ → Type 0) (xs ys : List ℕ) (y : ℕ) (fs gs : List ℕ) → length ys ≡ length xs → Each P fs → Paired Fits (xs ++ fs) (ys ++ y ∷ gs)
+  paired-further-source : (P : ℕ → Type 0) (xs ys : List ℕ) (y : ℕ) (fs gs : List ℕ) → length ys ≡ length xs → Each P fs
+      → Paired Fits (xs ++ fs) (ys ++ y ∷ gs)
       → (f : ℕ) × P f × Fits f y
   paired-further-source P xs ys y [] gs e each p = absurd (omega (arith, p .0, length-append xs [], length-append ys (y ∷ gs)))
   paired-further-source P xs ys y (f ∷ fs) gs e each p = (f, each 0 (omega arith), paired-next xs ys f y fs gs e p)
 
-  paired-further-target : (P : ℕ → Type 0) (xs ys : List ℕ) (x : ℕ) (fs gs : List ℕ) → length ys ≡ length xs → Each P gs → Paired Fits (xs ++ x ∷ fs) (ys ++ gs)
+  paired-further-target : (P : ℕ → Type 0) (xs ys : List ℕ) (x : ℕ) (fs gs : List ℕ) → length ys ≡ length xs → Each P gs
+      → Paired Fits (xs ++ x ∷ fs) (ys ++ gs)
       → (g : ℕ) × P g × Fits x g
   paired-further-target P xs ys x fs [] e each p = absurd (omega (arith, p .0, length-append xs (x ∷ fs), length-append ys []))
   paired-further-target P xs ys x fs (g ∷ gs) e each p = (g, each 0 (omega arith), paired-next xs ys x g fs gs e p)
@@ -105,7 +110,8 @@ module _ {Fits : ℕ → ℕ → Type 0} {sources targets : List ℕ} where
         rest = sym (append-nil (sources ++ t ∷ []));
       }
 
-  pub target-partners : {s : ℕ} {waiting : List ℕ} (t : ℕ) → Ahead Fits sources targets (s ∷ waiting) → Fits s t → Ahead Fits sources (targets ++ t ∷ []) waiting
+  pub target-partners : {s : ℕ} {waiting : List ℕ} (t : ℕ) → Ahead Fits sources targets (s ∷ waiting) → Fits s t
+      → Ahead Fits sources (targets ++ t ∷ []) waiting
   target-partners {s} {waiting} t a f =
       record {
         paired = a .paired ++ s ∷ [];
@@ -138,24 +144,28 @@ module _ {Fits : ℕ → ℕ → Type 0} {sources targets : List ℕ} where
   pub waiting-late : {s : ℕ} {waiting : List ℕ} (t : ℕ) → Ahead Fits sources targets (s ∷ waiting) → ((g : ℕ) → t ≤ g → ¬ Fits s g)
       → Lost t (Paired Fits) sources targets
   waiting-late {s} {waiting} t a misfit fs gs late-fs late p =
-      let g = paired-further-target Fits (λ y. t ≤ y) (a .paired) targets s (waiting ++ fs) gs (a .pairs .0) late (rw (a .rest, append-assoc (a .paired) (s ∷ waiting) fs) at p) in
+      let g = paired-further-target Fits (λ y. t ≤ y) (a .paired) targets s (waiting ++ fs) gs (a .pairs .0) late
+      (rw (a .rest, append-assoc (a .paired) (s ∷ waiting) fs) at p) in
       misfit (g .0) (g .1) (g .2)
 
   module _ (not-later : (x y : ℕ) → Fits x y → x ≤ y) where
     pub beyond-late : {b : ℕ} (t : ℕ) → Beyond Fits sources targets b → b < t → Lost t (Paired Fits) sources targets
     beyond-late {b} t beyond passed fs gs late late-gs p =
-        let f = paired-further-source Fits (λ s. t ≤ s) sources (beyond .paired) b fs gs (beyond .pairs .0) late (rw (beyond .rest, append-assoc (beyond .paired) (b ∷ []) gs) at p) in
+        let f = paired-further-source Fits (λ s. t ≤ s) sources (beyond .paired) b fs gs (beyond .pairs .0) late
+        (rw (beyond .rest, append-assoc (beyond .paired) (b ∷ []) gs) at p) in
         omega (arith, f .1, not-later (f .0) b (f .2))
 
     -- a target for which even a source at its time is too late
     pub beyond-misfits : (t : ℕ) → Ahead Fits sources targets [] → ¬ Fits t t → Lost t (Paired Fits) sources (targets ++ (t ∷ []))
     beyond-misfits t a misfit fs gs late late-gs p =
-        let f = paired-further-source Fits (λ s. t ≤ s) sources targets t fs gs (ahead-paired a .0) late (rw (append-assoc targets (t ∷ []) gs) at p) in
+        let f = paired-further-source Fits (λ s. t ≤ s) sources targets t fs gs (ahead-paired a .0) late
+        (rw (append-assoc targets (t ∷ []) gs) at p) in
         misfit (subst (λ (x : ℕ). Fits x t) (omega (arith, f .1, not-later (f .0) t (f .2))) (f .2))
 
     -- ---- Open
 
-    pub beyond-open : {now t : ℕ} → UpTo now sources targets → Beyond Fits sources targets t → now ≤ t → Further now sources (λ all. Paired Fits all targets)
+    pub beyond-open : {now t : ℕ} → UpTo now sources targets → Beyond Fits sources targets t → now ≤ t
+        → Further now sources (λ all. Paired Fits all targets)
     beyond-open {now} {t} r b in-time = (
       t ∷ [],
       rising-snoc sources t (r .sources-rise) earlier,
@@ -171,8 +181,10 @@ module _ {Fits : ℕ → ℕ → Type 0} {sources targets : List ℕ} where
               rising-across (b .paired) (t ∷ []) (subst Rising (b .rest) (r .targets-rise)) i (omega (arith, b .pairs .0)) 0 (omega arith),
             )
 
-  pub ahead-open : {now : ℕ} {waiting : List ℕ} (lower upper : ℕ) → lower ≤ upper → ((x y : ℕ) → Between lower upper x y → Fits x y) → UpTo now sources targets
-      → Ahead Fits sources targets waiting → Each (λ s. firstFree now targets ≤ s + upper) waiting → Further now targets (λ all. Paired Fits sources all)
+  pub ahead-open : {now : ℕ} {waiting : List ℕ} (lower upper : ℕ) → lower ≤ upper → ((x y : ℕ) → Between lower upper x y → Fits x y)
+      → UpTo now sources targets
+      → Ahead Fits sources targets waiting → Each (λ s. firstFree now targets ≤ s + upper) waiting
+      → Further now targets (λ all. Paired Fits sources all)
   ahead-open {now} {waiting} lower upper sound fits r a in-time =
       let start : ℕ = firstFree now targets in
       let between = answers-between lower upper start waiting sound (ahead-rising a (r .sources-rise)) in-time in (
@@ -198,11 +210,13 @@ module _ {Fits : ℕ → ℕ → Type 0} {sources targets : List ℕ} where
   -- ---- Close
 
   -- the pairs are all there is just where nothing is beyond
-  pub pairing-paired : {early : ℕ} (waiting : List ℕ) → Pairing Fits sources targets early waiting → length waiting ≡ 0 → early ≡ 0 → Paired Fits sources targets
+  pub pairing-paired : {early : ℕ} (waiting : List ℕ) → Pairing Fits sources targets early waiting → length waiting ≡ 0 → early ≡ 0
+      → Paired Fits sources targets
   pairing-paired [] (inl (none, a)) no-source no-target = ahead-paired a
   pairing-paired (s ∷ waiting) (inl (none, a)) no-source no-target = absurd (omega arith)
   pairing-paired waiting (inr (t, is, none, b)) no-source no-target = absurd (omega arith)
 
-  pub paired-none-beyond : {early : ℕ} {waiting : List ℕ} → Pairing Fits sources targets early waiting → Paired Fits sources targets → (length waiting ≡ 0) × (early ≡ 0)
+  pub paired-none-beyond : {early : ℕ} {waiting : List ℕ} → Pairing Fits sources targets early waiting → Paired Fits sources targets
+      → (length waiting ≡ 0) × (early ≡ 0)
   paired-none-beyond (inl (none, a)) p = (omega (arith, p .0, ahead-count a), none)
   paired-none-beyond (inr (t, is, none, b)) p = absurd (omega (arith, p .0, beyond-count b))

@@ -23,8 +23,7 @@ use Rattle.machine.specs.Parts.{noMarks, plus, withEarly, goesOn, breaking, wai
 use Rattle.machine.specs.declared.Rule.{Rule}
 use Rattle.machine.specs.declared.Marks.{Marks}
 use Rattle.machine.proofs.Exact.{Sound, GoesOn, ByOutcome, Exact}
-use Rattle.machine.proofs.SeveralKinds.{kinds-apart}
-use Rattle.machine.proofs.TwoKinds.{UpTo, Further, Lost, TwoKinds, exactTwoKinds}
+use Rattle.machine.proofs.TwoKinds.{UpTo, Further, Lost, TwoKinds, target-apart, exactTwoKinds}
 use Rattle.machine.proofs.Oldest.{due-each, due-pushed, due-dropped}
 use Rattle.pairs.specs.StrongDelay.{sourceStrongDelay, targetStrongDelay, decideStrongDelay}
 use Rattle.pairs.proofs.Laws.Paired.{Paired, Ahead, Beyond, Pairing, dueEarly, due-ahead, due-beyond, pairing-start, beyond-each}
@@ -53,7 +52,8 @@ module _ (source target lower upper : ℕ) (sound : Sound (StrongDelay source ta
   -- what the change at t makes of the row
   abbrev Does : List ℕ → List ℕ → Marks → List ℕ → ℕ → ℕ → Type 0
   Does sources targets marks times t k =
-      ByOutcome (Lost t (Paired (Between lower upper)) sources targets) (GoesOn (LiveStrongDelay lower upper sources targets) (due upper) kept times t)
+      ByOutcome (Lost t (Paired (Between lower upper)) sources targets)
+      (GoesOn (LiveStrongDelay lower upper sources targets) (due upper) kept times t)
       (decideStrongDelay rule marks times k t)
 
   -- ---- Start
@@ -72,7 +72,7 @@ module _ (source target lower upper : ℕ) (sound : Sound (StrongDelay source ta
   target-change : (marks : Marks) (times : List ℕ) (t : ℕ) → decideStrongDelay rule marks times target t ≡ targetStrongDelay rule marks times t
   unfolding decideStrongDelay
   target-change marks times t =
-      rw (ne-eqb target source (kinds-apart (source ∷ target ∷ []) (sound .kinds-fit) 1 0 (omega arith) (omega arith) (λ e. omega arith)))
+      rw (ne-eqb target source (target-apart (sound .kinds-fit)))
 
   module _ (sources targets : List ℕ) (marks : Marks) (t : ℕ) (r : UpTo t sources targets) where
     source-by : (times : List ℕ) → Pairing (Between lower upper) sources targets (marks .early) times → t ≤ due upper marks times
@@ -87,7 +87,10 @@ module _ (source target lower upper : ℕ) (sound : Sound (StrongDelay source ta
     source-by times (inr (b, is, none, beyond)) in-time =
         let now : b ≡ t = omega (arith, beyond-each (λ y. y ≤ t) beyond (r .targets-past), due-beyond (marks .early) (dueOldest upper times) b is) in
         rw (source-change marks times t false (ne-eqb (marks .early) 0 (omega arith)), none) (record {
-          live = record { pairing = inl (refl, subst (λ (x : ℕ). Ahead (Between lower upper) (sources ++ x ∷ []) targets []) now (source-partners beyond)) };
+          live = record {
+            pairing = inl
+                (refl, subst (λ (x : ℕ). Ahead (Between lower upper) (sources ++ x ∷ []) targets []) now (source-partners beyond));
+          };
           due-is = refl;
           kept-is = refl;
           in-time = omega (arith, r .small);
@@ -191,7 +194,8 @@ module _ (source target lower upper : ℕ) (sound : Sound (StrongDelay source ta
 
   -- ---- Exact
 
-  strong-delay-laws : TwoKinds (decideStrongDelay rule) source target (Paired (Between lower upper)) (λ sources targets. length sources - length targets)
+  strong-delay-laws : TwoKinds (decideStrongDelay rule) source target (Paired (Between lower upper))
+      (λ sources targets. length sources - length targets)
   strong-delay-laws =
       record {
         Live = LiveStrongDelay lower upper;

@@ -1,4 +1,5 @@
--- The sources with no target in their interval, as a list: it is filtered source by source and target by target, and Delay is met just where it is empty.
+-- The sources with no target in their interval, as a list: it is filtered source by source and target by target, and Delay is met just where
+-- it is empty.
 use Prim.Native.Nat.{ℕ, zero, suc, _+_, _<_}
 use native.Mathlib.Omega.{arith}
 use mathlib.Core.Path.{_≡_, refl, sym, ap, _∙_}
@@ -19,7 +20,8 @@ Answered lower upper targets s = (j : ℕ) × (j < length targets) × Between lo
 -- the sources with no target in their interval
 abbrev pub unmet : ℕ → ℕ → List ℕ → List ℕ → List ℕ
 unmet lower upper [] targets = []
-unmet lower upper (s ∷ sources) targets = cond (answered lower upper s targets) (unmet lower upper sources targets) (s ∷ unmet lower upper sources targets)
+unmet lower upper (s ∷ sources) targets =
+    cond (answered lower upper s targets) (unmet lower upper sources targets) (s ∷ unmet lower upper sources targets)
 
 both-true : (a b : Bool) → (a && b) ≡ true → (a ≡ true) × (b ≡ true)
 both-true true b e = (refl, e)
@@ -31,17 +33,20 @@ module _ (lower upper : ℕ) where
   answered-true s [] e = absurd (false≢true e)
   answered-true s (t ∷ targets) e =
       split (leb (s + lower) t && leb t (s + upper)) (λ x. (x || answered lower upper s targets) ≡ true → Answered lower upper (t ∷ targets) s)
-      (λ f g. let h = both-true (leb (s + lower) t) (leb t (s + upper)) f in (0, omega arith, (leb-true (s + lower) t (h .0), leb-true t (s + upper) (h .1))))
+      (λ f g. let h = both-true (leb (s + lower) t) (leb t (s + upper)) f in
+      (0, omega arith, (leb-true (s + lower) t (h .0), leb-true t (s + upper) (h .1))))
       (λ f g. let h = answered-true s targets g in (suc (h .0), omega (arith, h .1), h .2))
       e
 
-  pub answered-by : (s : ℕ) (targets : List ℕ) (j : ℕ) → j < length targets → Between lower upper s (at targets j) → answered lower upper s targets ≡ true
+  pub answered-by : (s : ℕ) (targets : List ℕ) (j : ℕ) → j < length targets → Between lower upper s (at targets j)
+      → answered lower upper s targets ≡ true
   unfolding answered
   answered-by s [] j h b = absurd (omega arith)
   answered-by s (t ∷ targets) zero h b = rw (le-leb (s + lower) t (b .0), le-leb t (s + upper) (b .1))
   answered-by s (t ∷ targets) (suc j) h b = rw (answered-by s targets j (omega arith) b) (or-true (leb (s + lower) t && leb t (s + upper)))
 
-  answered-append : (s : ℕ) (targets more : List ℕ) → answered lower upper s (targets ++ more) ≡ (answered lower upper s targets || answered lower upper s more)
+  answered-append : (s : ℕ) (targets more : List ℕ)
+      → answered lower upper s (targets ++ more) ≡ (answered lower upper s targets || answered lower upper s more)
   unfolding answered
   answered-append s [] more = refl
   answered-append s (t ∷ targets) more =
@@ -49,7 +54,8 @@ module _ (lower upper : ℕ) where
       (λ x. (x || answered lower upper s (targets ++ more)) ≡ ((x || answered lower upper s targets) || answered lower upper s more))
       (λ e. refl) (λ e. answered-append s targets more)
 
-  pub unmet-sources : (sources more targets : List ℕ) → unmet lower upper (sources ++ more) targets ≡ unmet lower upper sources targets ++ unmet lower upper more targets
+  pub unmet-sources : (sources more targets : List ℕ)
+      → unmet lower upper (sources ++ more) targets ≡ unmet lower upper sources targets ++ unmet lower upper more targets
   unmet-sources [] more targets = refl
   unmet-sources (s ∷ sources) more targets =
       split (answered lower upper s targets)
@@ -57,12 +63,14 @@ module _ (lower upper : ℕ) where
       ≡ cond x (unmet lower upper sources targets) (s ∷ unmet lower upper sources targets) ++ unmet lower upper more targets)
       (λ e. unmet-sources sources more targets) (λ e. ap (λ (l : List ℕ). s ∷ l) (unmet-sources sources more targets))
 
-  pub unmet-targets : (sources targets more : List ℕ) → unmet lower upper sources (targets ++ more) ≡ unmet lower upper (unmet lower upper sources targets) more
+  pub unmet-targets : (sources targets more : List ℕ)
+      → unmet lower upper sources (targets ++ more) ≡ unmet lower upper (unmet lower upper sources targets) more
   unmet-targets [] targets more = refl
   unmet-targets (s ∷ sources) targets more =
       rw (answered-append s targets more, unmet-targets sources targets more)
       (split (answered lower upper s targets)
-      (λ x. cond (x || answered lower upper s more) (unmet lower upper (unmet lower upper sources targets) more) (s ∷ unmet lower upper (unmet lower upper sources targets) more)
+      (λ x. cond (x || answered lower upper s more) (unmet lower upper (unmet lower upper sources targets) more)
+      (s ∷ unmet lower upper (unmet lower upper sources targets) more)
       ≡ unmet lower upper (cond x (unmet lower upper sources targets) (s ∷ unmet lower upper sources targets)) more)
       (λ e. refl) (λ e. refl))
 
@@ -83,7 +91,8 @@ module _ (lower upper : ℕ) where
   pub unmet-unanswered : (sources targets : List ℕ) → Each (λ s. ¬ Answered lower upper targets s) (unmet lower upper sources targets)
   unmet-unanswered [] targets = each-none (λ s. ¬ Answered lower upper targets s)
   unmet-unanswered (s ∷ sources) targets =
-      split (answered lower upper s targets) (λ x. Each (λ s. ¬ Answered lower upper targets s) (cond x (unmet lower upper sources targets) (s ∷ unmet lower upper sources targets)))
+      split (answered lower upper s targets)
+      (λ x. Each (λ s. ¬ Answered lower upper targets s) (cond x (unmet lower upper sources targets) (s ∷ unmet lower upper sources targets)))
       (λ e. unmet-unanswered sources targets)
       (λ e. each-cons (λ s. ¬ Answered lower upper targets s) s (unmet lower upper sources targets)
       (λ a. true≢false (sym (answered-by s targets (a .0) (a .1) (a .2)) ∙ e)) (unmet-unanswered sources targets))
@@ -93,7 +102,8 @@ module _ (lower upper : ℕ) where
   unmet-count [] targets = refl
   unmet-count (s ∷ sources) targets =
       split (answered lower upper s targets)
-      (λ x. oneIf (not x) + unanswered lower upper sources targets ≡ length (cond x (unmet lower upper sources targets) (s ∷ unmet lower upper sources targets)))
+      (λ x. oneIf (not x) + unanswered lower upper sources targets ≡ length
+      (cond x (unmet lower upper sources targets) (s ∷ unmet lower upper sources targets)))
       (λ e. omega (arith, unmet-count sources targets)) (λ e. omega (arith, unmet-count sources targets))
 
   -- the definition is true just where there is none
@@ -109,7 +119,8 @@ module _ (lower upper : ℕ) where
   unmet-meets [] targets e = each-none (Answered lower upper targets)
   unmet-meets (s ∷ sources) targets e =
       split (answered lower upper s targets)
-      (λ x. cond x (unmet lower upper sources targets) (s ∷ unmet lower upper sources targets) ≡ [] → Each (Answered lower upper targets) (s ∷ sources))
+      (λ x. cond x (unmet lower upper sources targets) (s ∷ unmet lower upper sources targets) ≡ [] → Each (Answered lower upper targets)
+      (s ∷ sources))
       (λ f g. each-cons (Answered lower upper targets) s sources (answered-true s targets f) (unmet-meets sources targets g))
       (λ f g. absurd (let z : _≡_ {A = ℕ} 0 1 = cc in omega arith))
       e

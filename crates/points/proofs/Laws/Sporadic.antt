@@ -1,4 +1,5 @@
--- Sporadic: the places where the last hidden point can be are the numbers from low to high, since each place of the next point has a place of the last one before it, so the machine's test tells whether an event has a point.
+-- Sporadic: the places where the last hidden point can be are the numbers from low to high, since each place of the next point has a place of
+-- the last one before it, so the machine's test tells whether an event has a point.
 use Prim.Native.Nat.{ℕ, _+_, _-_, _≤_, min}
 use native.Mathlib.Omega.{arith}
 use mathlib.Core.Path.{_≡_, refl, sym, ap, subst, _∙_}
@@ -46,7 +47,8 @@ record KeepsSporadic (rule : Rule) (events : List ℕ) (marks : Marks) (kept : L
 
 -- what an event at t makes of the row
 abbrev TurnsSporadic : Rule → List ℕ → List ℕ → ℕ → Change → Type 0
-TurnsSporadic rule events kept t change = Turns (MeetsSporadic (rule .lower) (rule .upper) (rule .jitter) (rule .minimum)) (KeepsSporadic rule) events kept t change
+TurnsSporadic rule events kept t change =
+    Turns (MeetsSporadic (rule .lower) (rule .upper) (rule .jitter) (rule .minimum)) (KeepsSporadic rule) events kept t change
 
 -- ---- Start
 
@@ -68,7 +70,8 @@ IsPlace rule marks t q = (lowest rule marks t ≤ q) × (q ≤ highest rule mark
 module _ (rule : Rule) (marks : Marks) (t : ℕ) (small : t ≤ lastTime) where
   below-highest : (q : ℕ) → q ≤ highest rule marks t → (q ≤ t) × ((rule .upper ≡ noLimit) ⊎ (q ≤ marks .high + rule .upper))
   below-highest q =
-      split (eqb (rule .upper) noLimit) (λ x. q ≤ cond x t (min (plus (marks .high) (rule .upper)) t) → (q ≤ t) × ((rule .upper ≡ noLimit) ⊎ (q ≤ marks .high + rule .upper)))
+      split (eqb (rule .upper) noLimit)
+      (λ x. q ≤ cond x t (min (plus (marks .high) (rule .upper)) t) → (q ≤ t) × ((rule .upper ≡ noLimit) ⊎ (q ≤ marks .high + rule .upper)))
       (λ e h. (h, inl (eqb-true (rule .upper) noLimit e)))
       (λ e h. (omega arith, inr (omega arith)))
 
@@ -82,11 +85,16 @@ module _ (rule : Rule) (marks : Marks) (t : ℕ) (small : t ≤ lastTime) where
   place-before : marks .low ≤ marks .high → stride (rule .lower) ≤ rule .upper → (q : ℕ) → IsPlace rule marks t q
       → (p : ℕ) × (marks .low ≤ p) × (p ≤ marks .high) × NextAt rule t p q
   place-before ordered possible q place =
-      let (soon, reach) = below-highest q (place .1) in
-      (min (marks .high) (q - stride (rule .lower)), omega arith, omega arith, ((omega arith, (omega arith, ⊎-elim inl (λ h. inr (omega arith)) reach)), (omega arith, omega arith)))
+      let (soon, reach) = below-highest q (place .1) in (
+        min (marks .high) (q - stride (rule .lower)),
+        omega arith,
+        omega arith,
+        ((omega arith, (omega arith, ⊎-elim inl (λ h. inr (omega arith)) reach)), (omega arith, omega arith)),
+      )
 
   -- and behind a place of the last point there is no other place of the next one
-  place-behind : rule .lower ≤ lastTime → (p q : ℕ) → marks .low ≤ p → p ≤ marks .high → NextAt rule t p q → (stride (rule .lower) ≤ rule .upper) × IsPlace rule marks t q
+  place-behind : rule .lower ≤ lastTime → (p q : ℕ) → marks .low ≤ p → p ≤ marks .high → NextAt rule t p q
+      → (stride (rule .lower) ≤ rule .upper) × IsPlace rule marks t q
   place-behind small-lower p q low high next = (
     ⊎-elim (λ e. omega arith) (λ h. omega arith) (next .0 .1 .1),
     (omega arith, upto-highest q (omega arith) (⊎-elim inl (λ h. inr (omega arith)) (next .0 .1 .1))),
@@ -100,10 +108,13 @@ module _ (rule : Rule) (events : List ℕ) (t : ℕ) (small : t ≤ lastTime) wh
         ordered = omega arith;
         each = λ p low high. (
           p ∷ [],
-          points-more (rule .lower) (rule .upper) (rule .jitter) events t [] p (points-none (rule .lower) (rule .upper) (rule .jitter) events empty) (omega arith) (λ n e. absurd (omega arith)),
+          points-more (rule .lower) (rule .upper) (rule .jitter) events t [] p (points-none (rule .lower) (rule .upper) (rule .jitter) events empty)
+              (omega arith) (λ n e. absurd (omega arith)),
           at-next [] p [] (length events) empty,
         );
-        no-other = λ points hidden. let near : Between 0 (rule .jitter) (at points (length events)) t = points-near (rule .lower) (rule .upper) (rule .jitter) events t points hidden in
+        no-other =
+            λ points hidden. let near : Between 0 (rule .jitter) (at points (length events)) t =
+            points-near (rule .lower) (rule .upper) (rule .jitter) events t points hidden in
             (omega arith, omega arith);
       }
 
@@ -112,8 +123,11 @@ module _ (rule : Rule) (events : List ℕ) (t : ℕ) (small : t ≤ lastTime) wh
     later-place : rule .lower ≤ lastTime → (points : List ℕ) → PointsOf rule (events ++ (t ∷ [])) points
         → (stride (rule .lower) ≤ rule .upper) × IsPlace rule marks t (at points (length events))
     later-place small-lower points hidden =
-        place-behind rule marks t small small-lower (at points n) (at points (length events)) (before .0) (before .1)
-        (points-next (rule .lower) (rule .upper) (rule .jitter) events t points hidden n e, points-near (rule .lower) (rule .upper) (rule .jitter) events t points hidden)
+        place-behind rule marks t small small-lower (at points n) (at points (length events)) (before .0) (before .1) (
+          points-next (rule .lower) (rule .upper) (rule .jitter) events t points hidden n e,
+          points-near (rule .lower) (rule .upper)
+              (rule .jitter) events t points hidden,
+        )
       where
         before : (marks .low ≤ at points n) × (at points n ≤ marks .high)
         before =
@@ -124,7 +138,8 @@ module _ (rule : Rule) (events : List ℕ) (t : ℕ) (small : t ≤ lastTime) wh
         → (points : List ℕ) × PointsOf rule (events ++ (t ∷ [])) points × (at points (length events) ≡ q)
     later-points p q next (points, hidden, is) = (
       points ++ (q ∷ []),
-      points-more (rule .lower) (rule .upper) (rule .jitter) events t points q hidden (next .1) (λ m f. subst (λ (x : ℕ). NextPoint (rule .lower) (rule .upper) x q) (last m f) (next .0)),
+      points-more (rule .lower) (rule .upper) (rule .jitter) events t points q hidden (next .1)
+          (λ m f. subst (λ (x : ℕ). NextPoint (rule .lower) (rule .upper) x q) (last m f) (next .0)),
       at-next points q [] (length events) (sym (hidden .one-each)),
     )
       where
@@ -141,7 +156,8 @@ module _ (rule : Rule) (events : List ℕ) (t : ℕ) (small : t ≤ lastTime) wh
           no-other = λ points hidden. later-place small-lower points hidden .1;
         }
 
-module _ (rule : Rule) (events : List ℕ) (marks : Marks) (kept : List ℕ) (keeps : KeepsSporadic rule events marks kept) (t : ℕ) (small : t ≤ lastTime) where
+module _ (rule : Rule) (events : List ℕ) (marks : Marks) (kept : List ℕ) (keeps : KeepsSporadic rule events marks kept) (t : ℕ)
+    (small : t ≤ lastTime) where
   -- what it keeps with the event
   keeps-more : (low high : ℕ) → AtLeastApart (rule .minimum) (events ++ (t ∷ [])) → Places rule (events ++ (t ∷ [])) (length events) low high
       → TurnsSporadic rule events kept t (pointAt marks t low high)
@@ -167,11 +183,15 @@ module _ (rule : Rule) (events : List ℕ) (marks : Marks) (kept : List ℕ) (ke
       (tells-and (tells-leb (stride (rule .lower)) (rule .upper)) (tells-leb (lowest rule marks t) (highest rule marks t))))
     where
       turn : {test : Bool}
-          → Tells (AtLeastApart (rule .minimum) (events ++ (t ∷ [])) × ((stride (rule .lower) ≤ rule .upper) × (lowest rule marks t ≤ highest rule marks t))) test
+          → Tells (AtLeastApart (rule .minimum) (events ++ (t ∷ [])) ×
+          ((stride (rule .lower) ≤ rule .upper) × (lowest rule marks t ≤ highest rule marks t))) test
           → TurnsSporadic rule events kept t (cond test (pointAt marks t (lowest rule marks t) (highest rule marks t)) breaking)
       turn (holds (apart, some)) =
-          keeps-more (lowest rule marks t) (highest rule marks t) apart (later-places rule events t small marks n e (keeps .places n e) small-lower (some .0) (some .1))
-      turn (fails none) = λ m. let place = later-place rule events t small marks n e (keeps .places n e) small-lower (m .0 .0) (m .0 .1) in none (m .1, (place .0, omega arith))
+          keeps-more (lowest rule marks t) (highest rule marks t) apart
+          (later-places rule events t small marks n e (keeps .places n e) small-lower (some .0) (some .1))
+      turn (fails none) =
+          λ m. let place =
+          later-place rule events t small marks n e (keeps .places n e) small-lower (m .0 .0) (m .0 .1) in none (m .1, (place .0, omega arith))
 
   sporadic-event : rule .lower ≤ lastTime → (kind : ℕ) → TurnsSporadic rule events kept t (decideSporadic rule marks kept kind t)
   unfolding decideSporadic
@@ -179,12 +199,14 @@ module _ (rule : Rule) (events : List ℕ) (marks : Marks) (kept : List ℕ) (ke
       split (eqb (marks .last) 0)
       (λ x. TurnsSporadic rule events kept t (cond x (pointAt marks t (t - rule .jitter) t) (laterSporadic rule marks t)))
       (λ none. let empty : length events ≡ 0 = last-zero events (marks .last) (keeps .last-is) none in
-      keeps-more (t - rule .jitter) t (apart-more 1 (rule .minimum) noLimit events t (omega arith) (keeps .apart) (λ i e. absurd (omega arith))) (first-places rule events t small empty))
+      keeps-more (t - rule .jitter) t (apart-more 1 (rule .minimum) noLimit events t (omega arith) (keeps .apart) (λ i e. absurd (omega arith)))
+      (first-places rule events t small empty))
       (λ some. let (n, more, is) = last-some events (marks .last) (keeps .last-is) some in later-event small-lower n (omega arith))
 
 -- ---- Open
 
-sporadic-first : (lower upper jitter minimum : ℕ) (xs ys : List ℕ) → MeetsSporadic lower upper jitter minimum (xs ++ ys) → MeetsSporadic lower upper jitter minimum xs
+sporadic-first : (lower upper jitter minimum : ℕ) (xs ys : List ℕ) → MeetsSporadic lower upper jitter minimum (xs ++ ys)
+    → MeetsSporadic lower upper jitter minimum xs
 unfolding MeetsSporadic
 sporadic-first lower upper jitter minimum xs ys m =
     ((take (length xs) (m .0 .0), points-first lower upper jitter xs ys (m .0 .0) (m .0 .1)), apart-first 1 minimum noLimit xs ys (m .1))

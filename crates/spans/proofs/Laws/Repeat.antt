@@ -1,4 +1,5 @@
--- Repeat and Burst: an event adds one pair span places apart and one pair of neighbours, and the machine still has the earlier time of each, so its test tells whether the events still meet the row.
+-- Repeat and Burst: an event adds one pair span places apart and one pair of neighbours, and the machine still has the earlier time of each,
+-- so its test tells whether the events still meet the row.
 use Prim.Native.Nat.{ℕ, _+_, _-_, _≤_}
 use native.Mathlib.Omega.{arith}
 use mathlib.Core.Path.{_≡_, refl, sym, ap, subst, _∙_}
@@ -66,12 +67,14 @@ module _ (rule : Rule) (events : List ℕ) (marks : Marks) (kept : List ℕ) (ke
   module _ (t : ℕ) (some : 1 ≤ rule .span) where
     in-span : Tells (MeetsSpan rule (events ++ (t ∷ []))) (inSpan rule kept t)
     in-span =
-        tells-or (ltb (length kept) (rule .span)) (leb (front kept + rule .lower) t && (eqb (rule .upper) noLimit || leb t (front kept + rule .upper)))
+        tells-or (ltb (length kept) (rule .span))
+        (leb (front kept + rule .lower) t && (eqb (rule .upper) noLimit || leb t (front kept + rule .upper)))
         (λ few. more (λ i e. absurd (omega (arith, kept-length, ltb-true))))
         (λ full. let e : length events - rule .span + rule .span ≡ length events = omega (arith, kept-length, ltb-false) in
         tells-same (tells-apart (rule .lower) (rule .upper) (front kept) t)
         (λ a. more (λ i f. subst (λ (x : ℕ). Apart (rule .lower) (rule .upper) x t) (kept-front i f) a))
-        (λ m. rw (kept-front (length events - rule .span) e) (apart-new (rule .span) (rule .lower) (rule .upper) events t some m (length events - rule .span) e)))
+        (λ m. rw (kept-front (length events - rule .span) e)
+        (apart-new (rule .span) (rule .lower) (rule .upper) events t some m (length events - rule .span) e)))
       where
         more : ApartFromNew (rule .span) (rule .lower) (rule .upper) events t → MeetsSpan rule (events ++ (t ∷ []))
         more new = apart-more (rule .span) (rule .lower) (rule .upper) events t some (keeps .spans) new

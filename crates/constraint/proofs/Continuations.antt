@@ -8,7 +8,7 @@ use lib.ListN.{length}
 use lib.Dec.{eqb}
 use borrow.Author.Tests.{eq-eqb, ne-eqb}
 use Rattle.constraint.specs.Limits.{lastKind}
-use Rattle.constraint.specs.Steps.{Step, event, tick, close, at, timeIf, times, among, own, clockFrom, clock, closed}
+use Rattle.constraint.specs.Steps.{Step, event, tick, close, at, times, among, own, clockFrom, clock, closed}
 use Rattle.constraint.specs.Meets.{Meets, MeetsDelay, MeetsStrongDelay, MeetsRepeat, MeetsSporadic, MeetsBurst, MeetsOrder, MeetsStrongSynchronization}
 use Rattle.constraint.specs.Continuation.{EventInOrder, Continues, stop, more, Open}
 use Rattle.constraint.specs.Accepted.{kinds}
@@ -22,14 +22,14 @@ use Rattle.constraint.proofs.History.{times-append, times-own, times-ti
 -- the times of one kind among some events
 timesIn : ℕ → List (ℕ × ℕ) → List ℕ
 timesIn k [] = []
-timesIn k (e ∷ es) = timeIf (eqb (e .0) k) (e .1) (timesIn k es)
+timesIn k (e ∷ es) = cond (eqb (e .0) k) (e .1 ∷ timesIn k es) (timesIn k es)
 
 own-times : (ks : List ℕ) (k : ℕ) → among k ks ≡ true → (steps : List Step) → times k steps ≡ timesIn k (own ks steps)
 unfolding times own timesIn
 own-times ks k is [] = refl
 own-times ks k is (event j t ∷ steps) =
-    split (among j ks) (λ x. among j ks ≡ x → timeIf (eqb j k) t (times k steps) ≡ timesIn k (cond x ((j, t) ∷ own ks steps) (own ks steps)))
-    (λ e f. ap (timeIf (eqb j k) t) (own-times ks k is steps))
+    split (among j ks) (λ x. among j ks ≡ x → cond (eqb j k) (t ∷ times k steps) (times k steps) ≡ timesIn k (cond x ((j, t) ∷ own ks steps) (own ks steps)))
+    (λ e f. ap (λ (l : List ℕ). cond (eqb j k) (t ∷ l) l) (own-times ks k is steps))
     (λ e f. rw (ne-eqb j k (λ same. both (sym is ∙ ap (λ (i : ℕ). among i ks) (sym same) ∙ f))) (own-times ks k is steps))
     refl
 own-times ks k is (tick t ∷ steps) = own-times ks k is steps
@@ -77,7 +77,7 @@ unfolding times
 continues-late (stop {steps = steps}) k = each-none (λ t. clock steps ≤ t)
 continues-late (more {steps = steps} {further = further} j t o kind order rest) k =
     let later : Each (λ s. clock steps ≤ s) (times k further) = λ i h. omega (arith, clock-event j t steps, continues-late rest k i h, order .0) in
-    split (eqb j k) (λ x. Each (λ s. clock steps ≤ s) (timeIf x t (times k further)))
+    split (eqb j k) (λ x. Each (λ s. clock steps ≤ s) (cond x (t ∷ times k further) (times k further)))
     (λ e. each-cons (λ s. clock steps ≤ s) t (times k further) (order .0) later)
     (λ e. later)
 

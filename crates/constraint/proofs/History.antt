@@ -7,7 +7,7 @@ use mathlib.Core.List.{List, [], _∷_, _++_, append-nil}
 use lib.Dec.{eqb}
 use borrow.Author.Tests.{eqb-true, eq-eqb, ne-eqb}
 use Rattle.constraint.specs.Limits.{lastKind, lastTime}
-use Rattle.constraint.specs.Steps.{Step, event, tick, close, timeIf, times, among, own, clockFrom, clock, closed}
+use Rattle.constraint.specs.Steps.{Step, event, tick, close, times, among, own, clockFrom, clock, closed}
 use Rattle.constraint.specs.Continuation.{EventInOrder}
 use Rattle.constraint.proofs.Lists.{split, Each, each-none, each-append, each-cons, Rising, rising-snoc}
 
@@ -17,7 +17,8 @@ pub times-append : (k : ℕ) (a b : List Step) → times k (a ++ b) ≡ times k 
 unfolding times
 times-append k [] b = refl
 times-append k (event j t ∷ a) b =
-    split (eqb j k) (λ x. timeIf x t (times k (a ++ b)) ≡ timeIf x t (times k a) ++ times k b) (λ e. ap (λ (l : List ℕ). t ∷ l) (times-append k a b)) (λ e. times-append k a b)
+    split (eqb j k) (λ x. cond x (t ∷ times k (a ++ b)) (times k (a ++ b)) ≡ cond x (t ∷ times k a) (times k a) ++ times k b)
+    (λ e. ap (λ (l : List ℕ). t ∷ l) (times-append k a b)) (λ e. times-append k a b)
 times-append k (tick t ∷ a) b = times-append k a b
 times-append k (close ∷ a) b = times-append k a b
 

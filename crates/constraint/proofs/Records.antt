@@ -18,12 +18,12 @@ use Rattle.constraint.specs.declared.Table.{Table}
 use Rattle.constraint.proofs.Accepted.{rows-one-more}
 
 -- the rows of the entries that no row was put in
-free : ℕ → List Constraint
-free n = replicate (rowLimit - n) filler
+unused : ℕ → List Constraint
+unused n = replicate (rowLimit - n) filler
 
-free-first : (n : ℕ) → n < rowLimit → free n ≡ filler ∷ free (suc n)
-unfolding free
-free-first n h =
+unused-first : (n : ℕ) → n < rowLimit → unused n ≡ filler ∷ unused (suc n)
+unfolding unused
+unused-first n h =
     let one-less : rowLimit - n ≡ suc (rowLimit - suc n) = omega arith in
     ap (λ (k : ℕ). replicate k filler) one-less
 
@@ -33,18 +33,18 @@ unfolding tableOf
 record-count table rows e = ap (λ (t : Table). t .count) e
 
 pub record-more : (rows : List Constraint) (c : Constraint) → length rows < rowLimit → withRow (tableOf rows) c ≡ tableOf (rows ++ (c ∷ []))
-unfolding tableOf free
+unfolding tableOf unused
 record-more rows c h =
     let n = length rows in
     let long : length (rows ++ (c ∷ [])) ≡ n + 1 = length-append rows (c ∷ []) in
     let next : suc n ≡ length (rows ++ (c ∷ [])) = omega arith in
-    let entries : set (map entryOf (rows ++ free n)) n (entryOf c) ≡ map entryOf ((rows ++ (c ∷ [])) ++ free (length (rows ++ (c ∷ [])))) =
-    ap (λ (l : List Constraint). set (map entryOf (rows ++ l)) n (entryOf c)) (free-first n h)
-    ∙ ap (λ (l : List Entry). set l n (entryOf c)) (map-append entryOf rows (filler ∷ free (suc n)))
-    ∙ set-at (map entryOf rows) (entryOf filler) (map entryOf (free (suc n))) (entryOf c) n (length-map rows entryOf)
-    ∙ sym (map-append entryOf rows (c ∷ free (suc n)))
-    ∙ ap (map entryOf) (sym (append-assoc rows (c ∷ []) (free (suc n))))
-    ∙ ap (λ (k : ℕ). map entryOf ((rows ++ (c ∷ [])) ++ free k)) next in
+    let entries : set (map entryOf (rows ++ unused n)) n (entryOf c) ≡ map entryOf ((rows ++ (c ∷ [])) ++ unused (length (rows ++ (c ∷ [])))) =
+    ap (λ (l : List Constraint). set (map entryOf (rows ++ l)) n (entryOf c)) (unused-first n h)
+    ∙ ap (λ (l : List Entry). set l n (entryOf c)) (map-append entryOf rows (filler ∷ unused (suc n)))
+    ∙ set-at (map entryOf rows) (entryOf filler) (map entryOf (unused (suc n))) (entryOf c) n (length-map rows entryOf)
+    ∙ sym (map-append entryOf rows (c ∷ unused (suc n)))
+    ∙ ap (map entryOf) (sym (append-assoc rows (c ∷ []) (unused (suc n))))
+    ∙ ap (λ (k : ℕ). map entryOf ((rows ++ (c ∷ [])) ++ unused k)) next in
     λ i. record { rows = entries i; count = sym long i }
 
 entries-rows : (rows : List Constraint) → map (λ (entry : Entry). entry .constraint) (map entryOf rows) ≡ rows
@@ -52,11 +52,11 @@ entries-rows [] = refl
 entries-rows (c ∷ rows) = ap (λ (l : List Constraint). c ∷ l) (entries-rows rows)
 
 pub record-rows : (rows : List Constraint) → rowsOf (tableOf rows) ≡ rows
-unfolding tableOf rowsOf free
+unfolding tableOf rowsOf unused
 record-rows rows =
-    ap (λ (l : List Constraint). take (length rows) (l ++ replicate (length rows) filler)) (entries-rows (rows ++ free (length rows)))
-    ∙ ap (take (length rows)) (append-assoc rows (free (length rows)) (replicate (length rows) filler))
-    ∙ take-append-seam rows (free (length rows) ++ replicate (length rows) filler)
+    ap (λ (l : List Constraint). take (length rows) (l ++ replicate (length rows) filler)) (entries-rows (rows ++ unused (length rows)))
+    ∙ ap (take (length rows)) (append-assoc rows (unused (length rows)) (replicate (length rows) filler))
+    ∙ take-append-seam rows (unused (length rows) ++ replicate (length rows) filler)
 
 -- a row for which there is no entry: of 32 accepted rows the next is refused with 3
 pub record-full : (table r : Table) (c : Constraint) → Adds table c r → table .count ≡ rowLimit → Accepted (rowsOf table)

@@ -1,4 +1,4 @@
--- What the code's records hold: a table with one row more, and a row's fields as numbers. No definition of the contract rests on these.
+-- What the code's records hold: a table with one row more, and a row's fields as numbers. No definition of paper 01 rests on these.
 use Prim.Native.Nat.{ℕ, _+_, _≤_, _<_, max}
 use mathlib.Core.Path.{_≡_}
 use mathlib.Core.Bool.{cond}
@@ -7,22 +7,8 @@ use mathlib.Core.Logic.{_≢_}
 use lib.ListN.{length, set, take, drop}
 use lib.Dec.{eqb}
 use Rattle.constraint.specs.Limits.{rowLimit}
-use Rattle.constraint.specs.Types.{
-  ByteRole,
-  kind,
-  count,
-  span,
-  TimeRole,
-  plain,
-  lower,
-  upper,
-  upper-or-none,
-  Field,
-  byte,
-  time,
-  typeOf,
-  fieldsOf,
-}
+use Rattle.constraint.specs.Types.{ByteRole, kind, count, span, TimeRole, plain, lower, upper, upper-or-none}
+use Rattle.constraint.specs.Types.{Field, byte, time, typeOf, fieldsOf}
 use Rattle.constraint.specs.declared.Constraint.{Constraint}
 use Rattle.constraint.specs.declared.Entry.{Entry}
 use Rattle.constraint.specs.declared.Table.{Table}

@@ -15,14 +15,10 @@ pub data Step : Type 0 where
 abbrev pub at : List ℕ → ℕ → ℕ
 at list i = getD list i 0
 
-abbrev pub timeIf : Bool → ℕ → List ℕ → List ℕ
-timeIf true t ts = t ∷ ts
-timeIf false t ts = ts
-
 -- §2.1: the times of the events of one kind, in the order recorded
 unfoldable pub times : ℕ → List Step → List ℕ
 times k [] = []
-times k (event j t ∷ steps) = timeIf (eqb j k) t (times k steps)
+times k (event j t ∷ steps) = cond (eqb j k) (t ∷ times k steps) (times k steps)
 times k (tick t ∷ steps) = times k steps
 times k (close ∷ steps) = times k steps
 

@@ -1,6 +1,6 @@
 -- How many wait in a row (§6.1 to §6.4).
 use Prim.Native.Nat.{ℕ, _+_, _-_, max, min}
-use mathlib.Core.Bool.{Bool, true, false, not, _&&_, _||_}
+use mathlib.Core.Bool.{Bool, false, _&&_, _||_, cond}
 use mathlib.Core.List.{List, [], _∷_, map}
 use lib.ListN.{length}
 use lib.Dec.{leb}
@@ -13,14 +13,10 @@ unfoldable pub answered : ℕ → ℕ → ℕ → List ℕ → Bool
 answered lower upper s [] = false
 answered lower upper s (t ∷ ts) = (leb (s + lower) t && leb t (s + upper)) || answered lower upper s ts
 
-abbrev pub oneIf : Bool → ℕ
-oneIf true = 1
-oneIf false = 0
-
 -- §6.1: the sources that have no target in their interval so far
 unfoldable pub unanswered : ℕ → ℕ → List ℕ → List ℕ → ℕ
 unanswered lower upper [] targets = 0
-unanswered lower upper (s ∷ ss) targets = oneIf (not (answered lower upper s targets)) + unanswered lower upper ss targets
+unanswered lower upper (s ∷ ss) targets = cond (answered lower upper s targets) 0 1 + unanswered lower upper ss targets
 
 unfoldable pub largest : List ℕ → ℕ
 largest [] = 0

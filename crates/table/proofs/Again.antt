@@ -1,5 +1,4 @@
--- §4.9 and §4.10 of the two functions: what `read` accepted `write` writes back to the same bytes, and what `write` has written `read`
--- reads back to the same rows.
+-- Demand 2 of the two functions: what `read` accepted `write` writes back to the same bytes, and what `write` has written `read` reads back to the same rows.
 use Prim.Native.Nat.{ℕ, _≤_}
 use mathlib.Core.Path.{_≡_, refl, sym, ap, subst, _∙_}
 use mathlib.Core.List.{List, [], _∷_, _++_}

@@ -12,7 +12,7 @@ use Rattle.constraint.specs.declared.Table.{Table}
 use Rattle.table.specs.declared.reader.RowRead.{RowRead}
 use Rattle.table.proofs.Places.{place-taken}
 use Rattle.constraint.proofs.Records.{record-count, record-more, record-rows}
-use Rattle.table.specs.Rows.{ReadsRow}
+use Rattle.table.specs.Rows.{ReadsAt}
 
 -- what is read behind some rows
 unfoldable pub rowsThen : List Constraint → TableRead → TableRead
@@ -46,7 +46,7 @@ unfolding rowsThen
 up-to-start bytes table there none = record { rows = []; holds = none; within = there; whole = λ later reads. reads }
 
 pub up-to-more : (bytes : List ℕ) (table : Table) (place next : ℕ) (c : Constraint) → ReadUpTo bytes table place → place < length bytes
-    → ReadsRow bytes (table .count) place (RowRead.Row c next) → ReadUpTo bytes (withRow table c) next
+    → ReadsAt bytes (table .count) place (RowRead.Row c next) → ReadUpTo bytes (withRow table c) next
 up-to-more bytes table place next c before there read =
     let taken = place-taken bytes (table .count) place c (read .1) in
     let counted = record-count table (before .rows) (before .holds) in
@@ -62,7 +62,7 @@ up-to-more bytes table place next c before there read =
     }
 
 pub up-to-refused : (bytes : List ℕ) (table : Table) (place n : ℕ) → ReadUpTo bytes table place → place < length bytes
-    → ReadsRow bytes (table .count) place (RowRead.Refused n) → ReadsRows bytes 0 1 (table-refused n place)
+    → ReadsAt bytes (table .count) place (RowRead.Refused n) → ReadsRows bytes 0 1 (table-refused n place)
 up-to-refused bytes table place n before there read =
     let counted = record-count table (before .rows) (before .holds) in
     subst (ReadsRows bytes 0 1) (then-refused (before .rows) n place)

@@ -22,7 +22,7 @@ abbrev pub rowsRead : TableRead → List Constraint
 rowsRead (table-of rows) = rows
 rowsRead (table-refused n place) = []
 
--- §9.3: the answer is what reading the bytes gives, and the table holds the rows that were read, and no row after a refusal
+-- the reader's promise: its answer is what reading the bytes gives, and the table holds the rows that were read, and no row after a refusal
 pub record ReadsInto (bytes : List ℕ) (r : Reading) : Type 0 where
   pub reads : ReadsTable bytes (readOf r)
   pub holds : r .table ≡ tableOf (rowsRead (readOf r))

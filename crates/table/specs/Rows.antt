@@ -16,10 +16,10 @@ use Rattle.constraint.specs.declared.Constraint.the-variants.{StrongSynchroniza
 use Rattle.table.specs.declared.reader.RowRead.{RowRead}
 
 -- what reading the row at a place gives, with i rows before it: the row and the place of the next, or the refusal's number
-abbrev pub ReadsRow : List ℕ → ℕ → ℕ → RowRead → Type 0
-ReadsRow bytes i place (RowRead.Row c next) =
+abbrev pub ReadsAt : List ℕ → ℕ → ℕ → RowRead → Type 0
+ReadsAt bytes i place (RowRead.Row c next) =
     RowAt bytes place c × Judged (placeQuestions bytes i place c) Taken × (next ≡ place + 2 + lengthAt bytes place)
-ReadsRow bytes i place (RowRead.Refused n) = (c : Constraint) × RowAt bytes place c × Judged (placeQuestions bytes i place c) (Refused n)
+ReadsAt bytes i place (RowRead.Refused n) = (c : Constraint) × RowAt bytes place c × Judged (placeQuestions bytes i place c) (Refused n)
 
 -- the StrongSynchronization of n kinds
 unfoldable pub groupFrom : ℕ → ℕ → ℕ → ℕ → ℕ → ℕ → Constraint

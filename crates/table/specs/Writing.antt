@@ -14,7 +14,7 @@ abbrev pub answerOf : WriteAnswer → Answer
 answerOf (WriteAnswer.Written n) = Taken
 answerOf (WriteAnswer.Refused n) = Refused n
 
--- §9.8: the answer is that of the writer's questions, the buffer is what writing leaves, and the number is that of the bytes written
+-- the writer's promise: its answer is that of its questions, the buffer is what writing leaves, and the number is that of the bytes written
 pub record Writes (rows : List Constraint) (before : List ℕ) (r : WriteAnswer) (after : List ℕ) : Type 0 where
   pub judged : Judged (writerQuestions rows before) (answerOf r)
   pub buffer : after ≡ writtenTo before rows (answerOf r)

@@ -13,7 +13,7 @@ ghost use lib.ListN.{length};
 ghost use Rattle.constraint.specs.Rows.{tableOf};
 ghost use Rattle.constraint.specs.Table.{ReadsRows, table-refused};
 ghost use Rattle.table.specs.Reading.{readOf, rowsRead};
-ghost use Rattle.table.specs.Rows.{ReadsRow};
+ghost use Rattle.table.specs.Rows.{ReadsAt};
 
 // What reading one row gives: the row and the place of the next, or the number of the refusal.
 enum RowRead {
@@ -33,7 +33,7 @@ pub(crate) fn refused(number: u8, place: usize) -> Reading
 // Questions 2 to 7, put to the row at a place with some rows before it.
 fn read_row(bytes: &[u8], place: usize, before: usize) -> RowRead
     requires { ⌜ place ≤ length (now bytes) ⌝ }
-    ensures { λ r. ⌜ ReadsRow (now (bytes .entry)) before place r ⌝ }
+    ensures { λ r. ⌜ ReadsAt (now (bytes .entry)) before place r ⌝ }
 {
     let left = bytes.len() - place;
     if left < 2 {

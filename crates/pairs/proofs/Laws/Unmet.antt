@@ -10,7 +10,7 @@ use lib.Dec.{leb}
 use borrow.Author.Tests.{leb-true, le-leb}
 use Rattle.constraint.specs.Steps.{at}
 use Rattle.constraint.specs.Meets.{Between, MeetsDelay}
-use Rattle.constraint.specs.Waiting.{answered, oneIf, unanswered}
+use Rattle.constraint.specs.Waiting.{answered, unanswered}
 use Rattle.constraint.proofs.Lists.{split, Each, each-none, each-cons, each-tail, Rising}
 
 -- a target in the interval of the source at s
@@ -102,7 +102,7 @@ module _ (lower upper : ℕ) where
   unmet-count [] targets = refl
   unmet-count (s ∷ sources) targets =
       split (answered lower upper s targets)
-      (λ x. oneIf (not x) + unanswered lower upper sources targets ≡ length
+      (λ x. cond x 0 1 + unanswered lower upper sources targets ≡ length
       (cond x (unmet lower upper sources targets) (s ∷ unmet lower upper sources targets)))
       (λ e. omega (arith, unmet-count sources targets)) (λ e. omega (arith, unmet-count sources targets))
 

@@ -7,7 +7,7 @@ use denote.Ref.{now}
 use Rattle.table.specs.declared.reader.RowRead.{RowRead}
 use Rattle.table.proofs.Places.{place-taken}
 use Rattle.table.proofs.Progress.{ReadUpTo, up-to-start, up-to-more, up-to-refused, up-to-end}
-use Rattle.table.specs.Rows.{ReadsRow}
+use Rattle.table.specs.Rows.{ReadsAt}
 use Rattle.table.proofs.reader.read_rows.Statement.{statement}
 use Rattle.table.proofs.reader.read_rows.Tie as tie
 
@@ -19,7 +19,7 @@ abbrev μ-loop : tie.MeasureT-loop
 
 -- what was read of the row that is put in the record
 row : (c : tie.After-row Inv-loop μ-loop)
-    → ReadsRow (now (c .before .before .before .before .before .before .before .args .bytes)) (c .before .before .before .before .loop .table .count)
+    → ReadsAt (now (c .before .before .before .before .before .before .before .args .bytes)) (c .before .before .before .before .loop .table .count)
     (c .before .before .before .before .loop .place) (RowRead.Row (c .row .given .0 .0) (c .row .given .0 .1 .0))
 row c = rw (c .row .given .1) at (c .before .before .read-row .ensures)
 

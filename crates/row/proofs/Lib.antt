@@ -2,6 +2,7 @@
 pub mod Exact
 pub mod OwnKinds
 pub mod Steps
+pub mod Unheard
 pub mod Laws
 pub mod Engine
 mod Shared

@@ -6,6 +6,7 @@ pub mod Verdicts
 pub mod Waitings
 pub mod Counting
 pub mod Judged
+pub mod LastQuestion
 pub mod FittingKinds
 pub mod FieldByField
 pub mod Rows

@@ -23,7 +23,7 @@ use Rattle.constraint.proofs.Judged.{never}
 -- ---- the steps that a list of calls accepts
 
 -- a step whose questions are all answered "yes"
-accepts-taken : (rows : List Constraint) (steps : List Step) (s : Call) → Judged (questions rows steps s) Taken → Accepts steps (stepFor s)
+pub accepts-taken : (rows : List Constraint) (steps : List Step) (s : Call) → Judged (questions rows steps s) Taken → Accepts steps (stepFor s)
 unfolding Judged questions
 accepts-taken rows steps (Call.Event k t) (inl (a, inl (b, inl (c, inl (d, later))))) =
     record { not-closed = a; kind-small = b; time-small = c; in-order = d }

@@ -42,7 +42,7 @@ module _ (engine : (c : Constraint) → Sound c → Exact c) where
   -- ---- a step
 
   -- the kinds of a sound row
-  small-kinds : (c : Constraint) → Sound c → Each (λ j. j ≤ lastKind) (kinds c)
+  pub small-kinds : (c : Constraint) → Sound c → Each (λ j. j ≤ lastKind) (kinds c)
   unfolding KindsFit
   small-kinds c sound = sound .kinds-fit .0
 

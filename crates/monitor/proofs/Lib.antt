@@ -4,6 +4,8 @@ pub mod Following
 pub mod Demand
 pub mod Examples
 pub mod Theorem
+pub mod Beside
+pub mod Unheard
 pub mod Answers
 mod First
 pub mod Filled

@@ -47,7 +47,7 @@ reading-kept m i e = subst (Reading m i) (sym e) (reading-keeps engine m i)
 
 module _ (rows : List Constraint) (calls : List Call) (steps : List Step) (accepted : Accepted rows) (recorded : Recorded rows calls steps) (i : ℕ) (c : Constraint) (there : getElem? rows i ≡ some c) where
   -- the row has a verdict, and it reads that after the steps recorded
-  row-reads : (v : Verdict) × (verdictOf (after rows calls) i ≡ some v) × Reads c steps v
+  pub row-reads : (v : Verdict) × (verdictOf (after rows calls) i ≡ some v) × Reads c steps v
   row-reads =
       let read = reading-keeps engine (after rows calls) i .means rows calls accepted refl in
       of-row (verdictOf (after rows calls) i) (subst (λ (past : List Step). ReadsRow rows past i (verdictOf (after rows calls) i)) (run-once rows (read .1 .1) (recorded .1) .1) (read .2))

@@ -3,4 +3,5 @@ pub mod Exact
 pub mod Engine
 pub mod OwnKinds
 pub mod Steps
+pub mod Unheard
 mod Dispatch

@@ -15,6 +15,7 @@
 //! # Ok::<(), u8>(())
 //! ```
 
+pub mod beside;
 pub mod constraint;
 pub mod continuation;
 pub mod examples;

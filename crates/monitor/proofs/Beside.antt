@@ -1,0 +1,205 @@
+-- Why a row reads the same after two lists of steps that stand beside each other: step by step both make the same record of
+-- it, and what it reads is read off its record. The other rows of a table have no part in this but to have taken the steps.
+use Prim.Native.Nat.{ℕ, zero, suc, _+_}
+use native.Mathlib.Omega.{arith}
+use mathlib.Core.Path.{_≡_, refl, sym, ap, ap₂, _∙_, subst, subst₂}
+use mathlib.Core.Bool.{false}
+use mathlib.Core.List.{List, [], _∷_, _++_, map, append-nil, append-assoc}
+use mathlib.Core.Option.{some}
+use lib.ListN.{length, take, getElem?, length-append}
+use Rattle.constraint.specs.Steps.{Step, event, tick, close, clock, closed}
+use Rattle.constraint.specs.Continuation.{Reads}
+use Rattle.constraint.specs.Questions.{Judged}
+use Rattle.constraint.specs.Run.{stepFor, Room, questions, Run, done, call}
+use Rattle.constraint.specs.declared.Answer.the-variants.{Taken}
+use Rattle.constraint.specs.declared.Call.{Call}
+use Rattle.constraint.specs.declared.Constraint.{Constraint}
+use Rattle.constraint.specs.declared.Verdict.{Verdict}
+use Rattle.constraint.proofs.Lists.{split}
+use Rattle.constraint.proofs.History.{clock-event, clock-tick, clock-close, closed-event, closed-tick, closed-close}
+use Rattle.constraint.proofs.History.{Accepts, Valid, valid-none, valid-more}
+use Rattle.constraint.proofs.LastQuestion.{judged-last}
+use Rattle.constraint.proofs.Runs.{accepts-taken}
+use Rattle.machine.specs.Rule.{ruleOf}
+use Rattle.row.specs.Machine.{rowOf, tickAt, closeAt, rowStep, rowVerdict}
+use Rattle.row.specs.declared.Row.{Row}
+use Rattle.row.specs.declared.RowStep.{RowStep}
+use Rattle.row.proofs.Exact.{Sound, Exact}
+use Rattle.row.proofs.Steps.{Fits, After, seen, fits-start, fits-step, close-calm, fits-reads}
+use Rattle.row.proofs.Unheard.{event-as-tick}
+use Rattle.row.proofs.Engine.{engine}
+use Rattle.monitor.specs.Beside.{OtherAt, Beside, same-event, others, closes, EachBeside, no-more, place, allTaken, Takes}
+use Rattle.monitor.proofs.FittingRows.{small-kinds}
+
+-- ---- calls that are all taken
+
+-- their steps are those of the calls
+run-steps : (rows : List Constraint) (calls : List Call) (past end : List Step) → Run rows past calls (allTaken calls) end
+    → end ≡ past ++ map stepFor calls
+run-steps rows [] past end done = sym (append-nil past)
+run-steps rows (s ∷ calls) past end (call _ _ judged run) =
+    run-steps rows calls (past ++ (stepFor s ∷ [])) end run ∙ append-assoc past (stepFor s ∷ []) (map stepFor calls)
+
+-- so are the first n of them
+run-first : (rows : List Constraint) (n : ℕ) (calls : List Call) (past end : List Step) → Run rows past calls (allTaken calls) end
+    → Run rows past (take n calls) (allTaken (take n calls)) (past ++ take n (map stepFor calls))
+run-first rows zero calls past end run = subst (Run rows past [] []) (sym (append-nil past)) done
+run-first rows (suc n) [] past end run = subst (Run rows past [] []) (sym (append-nil past)) done
+run-first rows (suc n) (s ∷ calls) past end (call _ _ judged run) =
+    call s Taken judged
+    (subst (Run rows (past ++ (stepFor s ∷ [])) (take n calls) (allTaken (take n calls)))
+    (append-assoc past (stepFor s ∷ []) (take n (map stepFor calls)))
+    (run-first rows n calls (past ++ (stepFor s ∷ [])) end run))
+
+pub takes-first : (rows : List Constraint) (n : ℕ) (calls : List Call) (steps : List Step) → Takes rows calls steps
+    → Takes rows (take n calls) (take n steps)
+takes-first rows n calls steps taken =
+    subst (λ (all : List Step). Takes rows (take n calls) (take n all)) (sym (run-steps rows calls [] steps taken))
+    (run-first rows n calls [] steps taken)
+
+pub beside-first : (c : Constraint) (n : ℕ) {first second : List Step} → EachBeside c first second → EachBeside c (take n first) (take n second)
+beside-first c zero beside = no-more
+beside-first c (suc n) no-more = no-more
+beside-first c (suc n) (place beside later) = place beside (beside-first c n later)
+
+-- ---- one step
+
+module _ (c : Constraint) (sound : Sound c) where
+  abbrev exact : Exact c
+  exact = engine c sound
+
+  -- what a step makes of the row, which is the next after those before it
+  abbrev moved : List Step → Step → Row → RowStep
+  moved past s r = rowStep r (seen past s) (length past + 1)
+
+  -- a call that is taken does not crowd the row: question 12 says so, and the close crowds none
+  module _
+      (rows : List Constraint) (i : ℕ) (there : getElem? rows i ≡ some c)
+      (past : List Step) (valid : Valid past) (r : Row) (fit : Fits c exact past r) where
+    after-step : (s : Step) → Accepts past s → After c exact (past ++ (s ∷ [])) (moved past s r .crowded) (moved past s r .row)
+    after-step s accepts = fits-step c exact past valid (small-kinds engine c sound) s accepts r fit
+
+    has-room : (s : Step) → Accepts past s → Room rows (past ++ (s ∷ [])) → moved past s r .crowded ≡ false
+    unfolding Room
+    has-room s accepts room =
+        split (moved past s r .crowded) (λ b. After c exact (past ++ (s ∷ [])) b (moved past s r .row) → b ≡ false)
+        (λ e full. absurd (omega (arith, full .1, room i c there (full .0)))) (λ e fits. refl) (after-step s accepts)
+
+    calm : (s : Call) → Judged (questions rows past s) Taken → moved past (stepFor s) r .crowded ≡ false
+    unfolding questions
+    calm (Call.Event k t) judged =
+        let s = Call.Event k t in has-room (event k t) (accepts-taken rows past s judged) (judged-last (questions rows past s) judged)
+    calm (Call.Tick t) judged =
+        let s = Call.Tick t in has-room (tick t) (accepts-taken rows past s judged) (judged-last (questions rows past s) judged)
+    calm Call.Close judged = close-calm c exact past valid (small-kinds engine c sound) r fit (length past + 1)
+
+    pub taken-fits : (s : Call) → Judged (questions rows past s) Taken → Fits c exact (past ++ (stepFor s ∷ [])) (moved past (stepFor s) r .row)
+    taken-fits s judged =
+        subst (λ b. After c exact (past ++ (stepFor s ∷ [])) b (moved past (stepFor s) r .row)) (calm s judged)
+        (after-step (stepFor s) (accepts-taken rows past s judged))
+
+  -- a step that is none of the row's does to it what a tick does
+  other-as-tick : (past : List Step) (r : Row) → r .rule ≡ ruleOf c → (s : Step) → Accepts past s → (t number : ℕ) → OtherAt c t s
+      → rowStep r (seen past s) number ≡ rowStep r (tickAt t) number
+  other-as-tick past r rule (event k time) accepts t number (other, same) =
+      event-as-tick c (small-kinds engine c sound) r rule k time number (accepts .kind-small) other ∙ ap (λ u. rowStep r (tickAt u) number) same
+  other-as-tick past r rule (tick time) accepts t number same = ap (λ u. rowStep r (tickAt u) number) same
+  other-as-tick past r rule close accepts t number never = absurd never
+
+  -- it leaves the clock at its time, and the recording open if it was
+  clock-other : (past : List Step) (s : Step) (t : ℕ) → OtherAt c t s → clock (past ++ (s ∷ [])) ≡ t
+  clock-other past (event k time) t (other, same) = clock-event k time past ∙ same
+  clock-other past (tick time) t same = clock-tick time past ∙ same
+  clock-other past close t never = absurd never
+
+  closed-other : (past : List Step) (s : Step) (t : ℕ) → OtherAt c t s → closed (past ++ (s ∷ [])) ≡ closed past
+  closed-other past (event k time) t other = closed-event k time past
+  closed-other past (tick time) t other = closed-tick time past
+  closed-other past close t never = absurd never
+
+  -- ---- two lists
+
+  -- a record of the row that fits two lists of steps
+  record FitsBoth (past past′ : List Step) (r : Row) : Type 0 where
+    valid : Valid past
+    valid′ : Valid past′
+    fits : Fits c exact past r
+    fits′ : Fits c exact past′ r
+    clock-same : clock past ≡ clock past′
+    closed-same : closed past ≡ closed past′
+    count-same : length past ≡ length past′
+
+  module _ (past past′ : List Step) (r : Row) (both : FitsBoth past past′ r) where
+    moved-same : (a b : Step) → Accepts past a → Accepts past′ b → Beside c a b → moved past a r ≡ moved past′ b r
+    moved-same a b accepts accepts′ (same-event k t own) = ap (λ n. rowStep r (seen past a) (n + 1)) (both .count-same)
+    moved-same a b accepts accepts′ (others t p q) =
+        other-as-tick past r (both .fits .rule-is) a accepts t (length past + 1) p
+        ∙ ap (λ n. rowStep r (tickAt t) (n + 1)) (both .count-same)
+        ∙ sym (other-as-tick past′ r (both .fits .rule-is) b accepts′ t (length past′ + 1) q)
+    moved-same a b accepts accepts′ closes =
+        ap₂ (λ (now n : ℕ). rowStep r (closeAt now) (n + 1)) (both .clock-same) (both .count-same)
+
+    clock-after : (a b : Step) → Beside c a b → clock (past ++ (a ∷ [])) ≡ clock (past′ ++ (b ∷ []))
+    clock-after a b (same-event k t own) = clock-event k t past ∙ sym (clock-event k t past′)
+    clock-after a b (others t p q) = clock-other past a t p ∙ sym (clock-other past′ b t q)
+    clock-after a b closes = clock-close past ∙ both .clock-same ∙ sym (clock-close past′)
+
+    closed-after : (a b : Step) → Beside c a b → closed (past ++ (a ∷ [])) ≡ closed (past′ ++ (b ∷ []))
+    closed-after a b (same-event k t own) = closed-event k t past ∙ both .closed-same ∙ sym (closed-event k t past′)
+    closed-after a b (others t p q) = closed-other past a t p ∙ both .closed-same ∙ sym (closed-other past′ b t q)
+    closed-after a b closes = closed-close past ∙ sym (closed-close past′)
+
+  -- over two tables that share the row
+  module _ (rows rows′ : List Constraint) (i j : ℕ) (there : getElem? rows i ≡ some c) (there′ : getElem? rows′ j ≡ some c) where
+    fits-next : (past past′ : List Step) (r : Row) → FitsBoth past past′ r → (s s′ : Call)
+        → Judged (questions rows past s) Taken → Judged (questions rows′ past′ s′) Taken → Beside c (stepFor s) (stepFor s′)
+        → FitsBoth (past ++ (stepFor s ∷ [])) (past′ ++ (stepFor s′ ∷ [])) (moved past (stepFor s) r .row)
+    fits-next past past′ r both s s′ judged judged′ beside =
+        let accepts = accepts-taken rows past s judged in
+        let accepts′ = accepts-taken rows′ past′ s′ judged′ in
+        let same = moved-same past past′ r both (stepFor s) (stepFor s′) accepts accepts′ beside in
+        record {
+          valid = valid-more (stepFor s) (both .valid) accepts;
+          valid′ = valid-more (stepFor s′) (both .valid′) accepts′;
+          fits = taken-fits rows i there past (both .valid) r (both .fits) s judged;
+          fits′ = subst (λ (x : RowStep). Fits c exact (past′ ++ (stepFor s′ ∷ [])) (x .row)) (sym same)
+              (taken-fits rows′ j there′ past′ (both .valid′) r (both .fits′) s′ judged′);
+          clock-same = clock-after past past′ r both (stepFor s) (stepFor s′) beside;
+          closed-same = closed-after past past′ r both (stepFor s) (stepFor s′) beside;
+          count-same = omega (arith, length-append past (stepFor s ∷ []), length-append past′ (stepFor s′ ∷ []), both .count-same);
+        }
+
+    fits-runs : (past past′ : List Step) (r : Row) → FitsBoth past past′ r → (calls calls′ : List Call) (end end′ : List Step)
+        → Run rows past calls (allTaken calls) end → Run rows′ past′ calls′ (allTaken calls′) end′
+        → EachBeside c (map stepFor calls) (map stepFor calls′) → (last : Row) × FitsBoth end end′ last
+    fits-runs past past′ r both [] [] end end′ done done no-more = (r, both)
+    fits-runs past past′ r both (s ∷ calls) (s′ ∷ calls′) end end′ (call _ _ judged run) (call _ _ judged′ run′) (place beside later) =
+        fits-runs (past ++ (stepFor s ∷ [])) (past′ ++ (stepFor s′ ∷ [])) (moved past (stepFor s) r .row)
+        (fits-next past past′ r both s s′ judged judged′ beside) calls calls′ end end′ run run′ later
+
+    -- what the row reads after both
+    pub read-both : (calls calls′ : List Call) (steps steps′ : List Step) → Takes rows calls steps → Takes rows′ calls′ steps′
+        → EachBeside c steps steps′ → (v : Verdict) × Reads c steps v × Reads c steps′ v
+    read-both calls calls′ steps steps′ taken taken′ beside =
+        let last = fits-runs [] [] (rowOf c) start calls calls′ steps steps′ taken taken′ of-calls in
+        let both = last .1 in (
+          rowVerdict (last .0) (closed steps),
+          fits-reads c exact steps (both .valid) (last .0) (both .fits),
+          subst (λ shut. Reads c steps′ (rowVerdict (last .0) shut)) (sym (both .closed-same))
+              (fits-reads c exact steps′ (both .valid′) (last .0) (both .fits′)),
+        )
+      where
+        start : FitsBoth [] [] (rowOf c)
+        start =
+            record {
+              valid = valid-none;
+              valid′ = valid-none;
+              fits = fits-start c exact;
+              fits′ = fits-start c exact;
+              clock-same = refl;
+              closed-same = refl;
+              count-same = refl;
+            }
+
+        of-calls : EachBeside c (map stepFor calls) (map stepFor calls′)
+        of-calls = subst₂ (EachBeside c) (run-steps rows calls [] steps taken) (run-steps rows′ calls′ [] steps′ taken′) beside

@@ -1,0 +1,32 @@
+//! Steps that one row cannot tell apart (request 7, "Rows that don't hear each other").
+
+use crate::constraint::Constraint;
+use crate::steps::Step;
+
+/// Do the two steps stand beside each other for the row? "the same event of that row's kinds, or, in both, other steps
+/// that leave the clock at the same time, and a close in one stands against a close in the other"
+pub fn steps_beside(row: &Constraint, one: Step, other: Step) -> bool {
+    if one == Step::Close || other == Step::Close || is_own(row, one) || is_own(row, other) {
+        one == other
+    } else {
+        time_of(one) == time_of(other)
+    }
+}
+
+/// Do the two lists, "of equal length", stand beside each other "at each place"?
+pub fn beside(row: &Constraint, one: &[Step], other: &[Step]) -> bool {
+    one.len() == other.len() && one.iter().zip(other).all(|(&one, &other)| steps_beside(row, one, other))
+}
+
+/// Is the step an event of one of the row's kinds?
+pub fn is_own(row: &Constraint, step: Step) -> bool {
+    matches!(step, Step::Event { kind, .. } if row.kinds().contains(&kind))
+}
+
+/// The time that the step leaves the clock at, but for the close, which leaves it where it was.
+pub fn time_of(step: Step) -> Option<u64> {
+    match step {
+        Step::Event { time, .. } | Step::Tick { time } => Some(time),
+        Step::Close => None,
+    }
+}

@@ -7,6 +7,6 @@ pub mod Theorem
 pub mod Beside
 pub mod Unheard
 pub mod Answers
-mod First
+pub mod First
 pub mod Filled
 pub mod RowVerdicts

@@ -1,0 +1,2 @@
+-- What a call makes of a monitor that is lent, part by part.
+pub mod Store

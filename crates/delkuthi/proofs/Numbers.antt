@@ -24,10 +24,6 @@ use Rattle.monitor.specs.Machine.{noRow, refuses, takes, refusalBy, nextFor, cr
 use Rattle.monitor.specs.Contract.{Steps, verdictIn, stepIn}
 use Rattle.monitor.specs.Parts.{placeOf, verdictBy}
 use Rattle.delkuthi.specs.Lent.{
-  answerFrom,
-  numberOf,
-  numbered,
-  steppedFrom,
   wordOf,
   NumberOfVerdict,
   WordOfVerdict,
@@ -36,45 +32,9 @@ use Rattle.delkuthi.specs.Lent.{
 }
 use Rattle.monitor.specs.declared.Monitor.{Monitor}
 use Rattle.monitor.specs.declared.Stepped.{Stepped}
-use Rattle.delkuthi.specs.declared.lent.Numbered.{Numbered}
 use Rattle.monitor.proofs.Demand.{after-follows}
 use Rattle.monitor.proofs.RowVerdicts.{verdict-by-is}
 use Rattle.monitor.proofs.Theorem.{step-kept as steps-kept, reading-kept}
-
--- ---- answers
-
--- the number of its answer says the answer
-record Told (result : Stepped) : Type 0 where
-  back : answerFrom (numberOf (result .answer)) ≡ result .answer
-
--- a test that refuses, or what is asked later
-told-or : (m : Monitor) (n : ℕ) (test : Bool) {later : Stepped} → answerFrom n ≡ Refused n → Told later → Told (cond test (refuses n m) later)
-told-or m n true e t = record { back = e }
-told-or m n false e t = t
-
--- each number of a refusal but 12 is above 0
-refusal-told : (call : Call) (closed clock next : ℕ) → let n = refusalBy call closed clock next in 0 < n → answerFrom n ≡ Refused n
-refusal-told call closed clock next = of-number (refusalBy call closed clock next)
-  where
-    of-number : (n : ℕ) → 0 < n → answerFrom n ≡ Refused n
-    of-number zero h = absurd (omega arith)
-    of-number (suc n) h = refl
-
-step-told : (m : Monitor) (s : Call) → Told (stepOf m s)
-unfolding stepOf
-step-told m s =
-    let n = refusalBy s (m .closed) (m .clock) (nextFor m s) in
-    split (ltb 0 n) (λ x. Told (cond x (refuses n m) (cond (crowds m s) (refuses 12 m) (takes (takenCall m s)))))
-    (λ e. record { back = refusal-told s (m .closed) (m .clock) (nextFor m s) (ltb-true 0 n e) })
-    (λ e. told-or m 12 (crowds m s) refl (record { back = refl }))
-
--- a step whose answer is a number keeps the contract of a step
-pub numbered-kept : (m : Monitor) (s : Call) (stepped : Stepped) (r : Numbered) → Steps m s stepped → r ≡ numbered stepped
-    → Steps m s (steppedFrom (r .number) (r .monitor))
-numbered-kept m s stepped r steps e =
-    steps-kept m s
-    (ap (λ (x : Numbered). steppedFrom (x .number) (x .monitor)) (e ∙ ap numbered (steps .equals))
-    ∙ ap (λ a. record { answer = a; monitor = stepOf m s .monitor }) (step-told m s .back))
 
 -- ---- verdicts
 

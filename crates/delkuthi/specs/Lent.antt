@@ -17,7 +17,6 @@ use Rattle.monitor.specs.Machine.{verdictOf}
 use Rattle.monitor.specs.Contract.{after, Recorded, stepIn}
 use Rattle.monitor.specs.declared.Monitor.{Monitor}
 use Rattle.monitor.specs.declared.Stepped.{Stepped}
-use Rattle.delkuthi.specs.declared.lent.Numbered.{Numbered}
 
 -- ---- the library
 
@@ -37,24 +36,6 @@ monitorSize = 23072
 pub data Begins (bytes : List ℕ) (before : Monitor) : ℕ → Monitor → Type 0 where
   begun : (rows : List Constraint) → ReadsTable bytes (table-of rows) → Begins bytes before 0 (after rows [])
   refused : (n place : ℕ) → ReadsTable bytes (table-refused n place) → 0 < n → n < 256 → Begins bytes before (place * 256 + n) before
-
--- ---- answers
-
--- 0: taken; any other number: refused with it
-abbrev pub answerFrom : ℕ → Answer
-answerFrom zero = Taken
-answerFrom (suc n) = Refused (suc n)
-
-abbrev pub numberOf : Answer → ℕ
-numberOf Taken = 0
-numberOf (Refused n) = n
-
--- what a step gives, from its number and the monitor behind the reference
-abbrev pub steppedFrom : ℕ → Monitor → Stepped
-steppedFrom number m = record { answer = answerFrom number; monitor = m }
-
-abbrev pub numbered : Stepped → Numbered
-numbered stepped = record { number = numberOf (stepped .answer); monitor = stepped .monitor }
 
 -- ---- verdicts
 

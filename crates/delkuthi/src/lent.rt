@@ -1,16 +1,16 @@
 // The monitor lent to a host in C: functions on numbers, bytes and references alone. The numbers are those of specs/Lent.antt.
-use constraint::Answer;
+use constraint::Call;
 use constraint::Verdict;
 use monitor::Monitor;
 use monitor::RowVerdict;
-use monitor::Stepped;
 use monitor::verdicts;
 use table::ReadAnswer;
 ghost use mathlib.Core.Path.{_≡_};
 ghost use Rattle.constraint.specs.declared.Call.{Call};
 ghost use Rattle.monitor.specs.Contract.{Steps, verdictIn, stepIn};
 ghost use Rattle.monitor.specs.Parts.{verdictBy};
-ghost use Rattle.delkuthi.specs.Lent.{Begins, numbered, steppedFrom, wordOf, WordOfVerdict, StepOfVerdict, NumberOfRows, version, monitorSize};
+ghost use Rattle.inplace.specs.Store.{steppedFrom};
+ghost use Rattle.delkuthi.specs.Lent.{Begins, wordOf, WordOfVerdict, StepOfVerdict, NumberOfRows, version, monitorSize};
 
 // The version of the library: 0.2.0 as major * 1,000,000 + minor * 1,000 + patch.
 pub const VERSION: u32 = 2000;
@@ -78,45 +78,6 @@ pub const BROKEN: u8 = 2;
 
 pub const NO_ROW: u8 = 15;
 
-// The answer to a step as a number, 0 where it is taken, and the monitor after it.
-pub struct Numbered {
-    pub number: u8,
-    pub monitor: Monitor,
-}
-
-// What a step gives, with its answer as a number.
-fn with_number(stepped: Stepped) -> Numbered
-    ensures { λ r. ⌜ r ≡ numbered stepped ⌝ }
-{
-    let answer = stepped.answer;
-    let monitor = stepped.monitor;
-    match answer {
-        Answer::Taken => Numbered { number: 0, monitor },
-        Answer::Refused(number) => Numbered { number, monitor },
-    }
-}
-
-// An event, by value.
-fn event(m: Monitor, kind: u8, time: u64) -> Numbered
-    ensures { λ r. ⌜ Steps m (Call.Event kind time) (steppedFrom (r .number) (r .monitor)) ⌝ }
-{
-    with_number(m.event(kind, time))
-}
-
-// A tick, by value.
-fn tick(m: Monitor, time: u64) -> Numbered
-    ensures { λ r. ⌜ Steps m (Call.Tick time) (steppedFrom (r .number) (r .monitor)) ⌝ }
-{
-    with_number(m.tick(time))
-}
-
-// The close, by value.
-fn close(m: Monitor) -> Numbered
-    ensures { λ r. ⌜ Steps m Call.Close (steppedFrom (r .number) (r .monitor)) ⌝ }
-{
-    with_number(m.close())
-}
-
 // The word for a row's verdict, by the numbers that the verdict is read off.
 fn word_by(row: u64, len: usize, closed: u64, broken: u64) -> u8
     ensures { λ r. ⌜ r ≡ wordOf (verdictIn (verdictBy row len closed broken)) ⌝ }
@@ -150,10 +111,7 @@ fn step_by(row: u64, len: usize, closed: u64, broken: u64) -> u64
 pub extern "C" fn delkuthi_event(m: &mut Monitor, kind: u8, time: u64) -> u8
     ensures { λ r. ⌜ Steps (now (m .entry)) (Call.Event kind time) (steppedFrom r (now (m .exit))) ⌝ }
 {
-    let s = event(*m, kind, time);
-    let n = s.monitor;
-    *m = n;
-    s.number
+    inplace::take(m, Call::Event { kind, time })
 }
 
 // A tick to a time: 0 if it is taken, else the number of its refusal.
@@ -161,10 +119,7 @@ pub extern "C" fn delkuthi_event(m: &mut Monitor, kind: u8, time: u64) -> u8
 pub extern "C" fn delkuthi_tick(m: &mut Monitor, time: u64) -> u8
     ensures { λ r. ⌜ Steps (now (m .entry)) (Call.Tick time) (steppedFrom r (now (m .exit))) ⌝ }
 {
-    let s = tick(*m, time);
-    let n = s.monitor;
-    *m = n;
-    s.number
+    inplace::take(m, Call::Tick { time })
 }
 
 // The close: 0 if it is taken, else the number of its refusal.
@@ -172,10 +127,7 @@ pub extern "C" fn delkuthi_tick(m: &mut Monitor, time: u64) -> u8
 pub extern "C" fn delkuthi_close(m: &mut Monitor) -> u8
     ensures { λ r. ⌜ Steps (now (m .entry)) Call.Close (steppedFrom r (now (m .exit))) ⌝ }
 {
-    let s = close(*m);
-    let n = s.monitor;
-    *m = n;
-    s.number
+    inplace::take(m, Call::Close)
 }
 
 // The word for what a row reads: OPEN, KEPT, BROKEN, or NO_ROW.

@@ -1,0 +1,86 @@
+-- What each walk promises, and what the functions promise that it calls, as the frame has contracts.
+use Prim.Native.Nat.{ℕ, _<_, _≤_}
+use mathlib.Core.Path.{_≡_}
+use mathlib.Core.List.{[], _∷_}
+use mathlib.Core.Bool.{_||_}
+use lib.ListN.{getD}
+use Rattle.row.specs.Machine.{rowFrom, rowStep}
+use Rattle.monitor.specs.Machine.{noRow, placeFor}
+use Rattle.monitor.specs.Contract.{Steps}
+use Rattle.inplace.specs.Store.{steppedFrom, askedOf, askedBy, answerOf, rowStepped, rowsStepped, rowsCrowded, withNumbers}
+use Rattle.inplace.proofs.Plain.{truth, nothing}
+use Rattle.inplace.proofs.Types.{byte-type, word-type, call-type, rule-type, times-type, state-type, occurrence-type, monitor-type, asked-type, numbered-type}
+use Rattle.inplace.proofs.Frame.{no-demand, demand, Promise}
+use Rattle.inplace.proofs.Calls.{Callee, Pure, mut-of, shr-of}
+
+-- ---- functions on numbers
+
+abbrev pub place : Pure
+place = record { front = call-type ∷ []; result = word-type; asks = λ a. no-demand; gives = λ a r. r ≡ placeFor (a .0) }
+
+abbrev pub questions : Pure
+questions =
+    record {
+      front = call-type ∷ word-type ∷ word-type ∷ word-type ∷ word-type ∷ word-type ∷ [];
+      result = asked-type;
+      asks = λ a. no-demand;
+      gives = λ a r. r ≡ askedOf (a .0) (a .1 .0) (a .1 .1 .0) (a .1 .1 .1 .0) (a .1 .1 .1 .1 .0) (a .1 .1 .1 .1 .1 .0);
+    }
+
+abbrev pub answer-of : Pure
+answer-of = record { front = byte-type ∷ truth ∷ []; result = byte-type; asks = λ a. no-demand; gives = λ a r. r ≡ answerOf (a .0) (a .1 .0) }
+
+abbrev pub either : Pure
+either = record { front = truth ∷ truth ∷ []; result = truth; asks = λ a. no-demand; gives = λ a r. r ≡ (a .0 || a .1 .0) }
+
+abbrev pub by-value : Pure
+by-value = record { front = monitor-type ∷ call-type ∷ []; result = numbered-type; asks = λ a. no-demand; gives = λ a r. Steps (a .0) (a .1 .0) (steppedFrom (r .number) (r .monitor)) }
+
+-- ---- functions that are lent a row's times
+
+abbrev pub step : Callee (mut-of times-type)
+step =
+    record {
+      front = rule-type ∷ state-type ∷ [];
+      back = occurrence-type ∷ word-type ∷ [];
+      result = state-type;
+      asks = λ κs a. no-demand;
+      gives = λ κs a r e. rowFrom (a .0) (e .1 .1 .0 .now) r ≡ rowStep (rowFrom (a .0) (a .1 .1 .0 .now) (a .1 .0)) (a .1 .1 .1 .0) (a .1 .1 .1 .1 .0) .row;
+    }
+
+abbrev pub crowded : Callee (shr-of times-type)
+crowded =
+    record {
+      front = rule-type ∷ state-type ∷ [];
+      back = occurrence-type ∷ [];
+      result = truth;
+      asks = λ κs a. no-demand;
+      gives = λ κs a r e. (number : ℕ) → r ≡ rowStep (rowFrom (a .0) (a .1 .1 .0 .now) (a .1 .0)) (a .1 .1 .1 .0) number .crowded;
+    }
+
+-- ---- walks
+
+abbrev pub row-step : Promise monitor-type (word-type ∷ occurrence-type ∷ word-type ∷ []) nothing
+row-step = record { asks = λ κs h a. demand (a .0 < 32); gives = λ κs h a r h′. h′ ≡ rowStepped h (a .0) (a .1 .0) (a .1 .1 .0) }
+
+abbrev pub rows-step : Promise monitor-type (word-type ∷ occurrence-type ∷ word-type ∷ []) nothing
+rows-step = record { asks = λ κs h a. demand (a .0 ≤ 32); gives = λ κs h a r h′. h′ ≡ rowsStepped h (a .0) (a .1 .0) (a .1 .1 .0) }
+
+abbrev pub row-asks : Promise monitor-type (word-type ∷ occurrence-type ∷ []) truth
+row-asks =
+    record {
+      asks = λ κs h a. demand (a .0 < 32);
+      gives = λ κs h a r h′. ((number : ℕ) → r ≡ rowStep (getD (h .rows) (a .0) noRow) (a .1 .0) number .crowded) × (h′ ≡ h);
+    }
+
+abbrev pub rows-ask : Promise monitor-type (word-type ∷ occurrence-type ∷ []) truth
+rows-ask = record { asks = λ κs h a. demand (a .0 ≤ 32); gives = λ κs h a r h′. ((number : ℕ) → r ≡ rowsCrowded h (a .0) (a .1 .0) number) × (h′ ≡ h) }
+
+abbrev pub ask-at : Promise monitor-type (call-type ∷ []) asked-type
+ask-at = record { asks = λ κs h a. no-demand; gives = λ κs h a r h′. (r ≡ askedBy h (a .0)) × (h′ ≡ h) }
+
+abbrev pub put-numbers : Promise monitor-type (asked-type ∷ []) nothing
+put-numbers = record { asks = λ κs h a. demand (a .0 .place < 64); gives = λ κs h a r h′. h′ ≡ withNumbers h (a .0) }
+
+abbrev pub take : Promise monitor-type (call-type ∷ []) byte-type
+take = record { asks = λ κs h a. no-demand; gives = λ κs h a r h′. Steps h (a .0) (steppedFrom r h′) }

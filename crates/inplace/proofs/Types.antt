@@ -1,0 +1,52 @@
+-- The types that walks over a monitor move: what each owns is had for nothing.
+use mir.Syntax.{w8, w64}
+use Rattle.constraint.proofs.Call as Call
+use Rattle.constraint.proofs.Call.Laws as CallLaws
+use Rattle.machine.proofs.Rule as Rule
+use Rattle.machine.proofs.Rule.Laws as RuleLaws
+use Rattle.machine.proofs.State as State
+use Rattle.machine.proofs.State.Laws as StateLaws
+use Rattle.row.proofs.Occurrence as Occurrence
+use Rattle.row.proofs.Occurrence.Laws as OccurrenceLaws
+use Rattle.row.proofs.Row as Row
+use Rattle.row.proofs.Row.Laws as RowLaws
+use Rattle.monitor.proofs.Monitor as Monitor
+use Rattle.monitor.proofs.Monitor.Laws as MonitorLaws
+use Rattle.inplace.proofs.Asked as Asked
+use Rattle.inplace.proofs.Asked.Laws as AskedLaws
+use Rattle.inplace.proofs.Numbered as Numbered
+use Rattle.inplace.proofs.Numbered.Laws as NumberedLaws
+use Rattle.inplace.proofs.Plain.{Plain, number, struct, enum, words}
+
+abbrev pub byte-type : Plain
+byte-type = number w8
+
+abbrev pub word-type : Plain
+word-type = number w64
+
+abbrev pub call-type : Plain
+call-type = enum Call.the-type CallLaws.the-laws tt CallLaws.the-plain CallLaws.the-copy
+
+abbrev pub rule-type : Plain
+rule-type = struct Rule.the-type RuleLaws.the-laws RuleLaws.the-plain RuleLaws.the-copy
+
+abbrev pub times-type : Plain
+times-type = words 64
+
+abbrev pub state-type : Plain
+state-type = struct State.the-type StateLaws.the-laws StateLaws.the-plain StateLaws.the-copy
+
+abbrev pub occurrence-type : Plain
+occurrence-type = struct Occurrence.the-type OccurrenceLaws.the-laws OccurrenceLaws.the-plain OccurrenceLaws.the-copy
+
+abbrev pub row-type : Plain
+row-type = struct Row.the-type RowLaws.the-laws RowLaws.the-plain RowLaws.the-copy
+
+abbrev pub monitor-type : Plain
+monitor-type = struct Monitor.the-type MonitorLaws.the-laws MonitorLaws.the-plain MonitorLaws.the-copy
+
+abbrev pub asked-type : Plain
+asked-type = struct Asked.the-type AskedLaws.the-laws AskedLaws.the-plain AskedLaws.the-copy
+
+abbrev pub numbered-type : Plain
+numbered-type = struct Numbered.the-type NumberedLaws.the-laws NumberedLaws.the-plain NumberedLaws.the-copy

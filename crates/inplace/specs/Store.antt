@@ -1,0 +1,92 @@
+-- A call on a monitor that is lent: its parts, and what they leave in the monitor's place.
+use Prim.Native.Nat.{ℕ, zero, suc, min}
+use mathlib.Core.Bool.{Bool, cond}
+use lib.ListN.{getD, set}
+use lib.Dec.{ltb}
+use Rattle.constraint.specs.Limits.{rowLimit}
+use Rattle.constraint.specs.declared.Answer.{Answer}
+use Rattle.constraint.specs.declared.Answer.the-variants.{Taken, Refused}
+use Rattle.constraint.specs.declared.Call.{Call}
+use Rattle.machine.specs.Parts.{plus}
+use Rattle.row.specs.Machine.{rowStep}
+use Rattle.row.specs.declared.Occurrence.{Occurrence}
+use Rattle.row.specs.declared.Row.{Row}
+use Rattle.monitor.specs.Machine.{noRow, mapFirst, anyFirst, placeFor, refusalBy, occurrenceBy, freeAfter, closedAfter}
+use Rattle.monitor.specs.Parts.{withRows}
+use Rattle.monitor.specs.declared.Monitor.{Monitor}
+use Rattle.monitor.specs.declared.Stepped.{Stepped}
+use Rattle.inplace.specs.declared.Asked.{Asked}
+
+-- ---- answers
+
+-- 0: taken; any other number: refused with it
+abbrev pub answerFrom : ℕ → Answer
+answerFrom zero = Taken
+answerFrom (suc n) = Refused (suc n)
+
+abbrev pub numberOf : Answer → ℕ
+numberOf Taken = 0
+numberOf (Refused n) = n
+
+-- what a call gives, from its number and the monitor behind the reference
+abbrev pub steppedFrom : ℕ → Monitor → Stepped
+steppedFrom number m = record { answer = answerFrom number; monitor = m }
+
+-- ---- the questions
+
+-- how many rows a call goes to: none where it is refused, and no more than there are
+abbrev pub askedRows : ℕ → ℕ → ℕ
+askedRows number len = cond (ltb 0 number) 0 (min len rowLimit)
+
+-- all questions but 12, on numbers, and what the call goes on with
+abbrev pub askedOf : Call → ℕ → ℕ → ℕ → ℕ → ℕ → Asked
+askedOf call closed clock next count len =
+    record {
+      number = refusalBy call closed clock next;
+      rows = askedRows (refusalBy call closed clock next) len;
+      occurrence = occurrenceBy call clock;
+      step = plus count 1;
+      place = placeFor call;
+      free = freeAfter call next;
+      closed = closedAfter call closed;
+    }
+
+abbrev pub askedBy : Monitor → Call → Asked
+askedBy m call = askedOf call (m .closed) (m .clock) (getD (m .next) (placeFor call) 0) (m .count) (m .len)
+
+-- the refusal by that number; or, for 0, 12 where a row is crowded
+abbrev pub answerOf : ℕ → Bool → ℕ
+answerOf zero crowded = cond crowded 12 0
+answerOf (suc n) crowded = suc n
+
+-- ---- the rows
+
+-- the monitor with another row i
+abbrev pub withRow : Monitor → ℕ → Row → Monitor
+withRow m i r = withRows m (set (m .rows) i r)
+
+-- the monitor with row i after what occurs
+abbrev pub rowStepped : Monitor → ℕ → Occurrence → ℕ → Monitor
+rowStepped m i o number = withRow m i (rowStep (getD (m .rows) i noRow) o number .row)
+
+-- the monitor with each of the first n rows after what occurs
+abbrev pub rowsStepped : Monitor → ℕ → Occurrence → ℕ → Monitor
+rowsStepped m n o number = withRows m (mapFirst n (λ r. rowStep r o number .row) (m .rows))
+
+-- what occurs crowds one of the first n rows
+abbrev pub rowsCrowded : Monitor → ℕ → Occurrence → ℕ → Bool
+rowsCrowded m n o number = anyFirst n (λ r. rowStep r o number .crowded) (m .rows)
+
+-- ---- the other numbers
+
+-- the monitor with the numbers of a call that is taken, beside its rows
+abbrev pub withNumbers : Monitor → Asked → Monitor
+withNumbers m q =
+    record {
+      rows = m .rows;
+      next = set (m .next) (q .place) (q .free);
+      clock = q .occurrence .time;
+      count = q .step;
+      closed = q .closed;
+      len = m .len;
+    }

@@ -1,0 +1,203 @@
+// A call on a monitor that is lent, taken where the monitor lies: nothing is copied but numbers.
+use constraint::Answer;
+use constraint::Call;
+use constraint::WAITING_LIMIT;
+use machine::Rule;
+use machine::State;
+use machine::parts::plus;
+use monitor::Monitor;
+use monitor::calls;
+use row::Occurrence;
+ghost use Prim.Native.Nat.{ℕ, _<_, _≤_};
+ghost use mathlib.Core.Bool.{_||_};
+ghost use mathlib.Core.Path.{_≡_};
+ghost use lib.ListN.{getD};
+ghost use Rattle.row.specs.Machine.{rowFrom, rowStep};
+ghost use Rattle.monitor.specs.Machine.{noRow};
+ghost use Rattle.monitor.specs.Contract.{Steps};
+ghost use Rattle.inplace.specs.Store.{steppedFrom, askedRows, askedOf, askedBy, answerOf, rowStepped, rowsStepped, rowsCrowded, withNumbers};
+
+// A row with fewer waiting has room for two more words.
+const ROOMY: usize = WAITING_LIMIT - 1;
+
+// What a call is to do: the number of its refusal by all questions but 12, or 0; to how many rows it goes, what they see of it, and as which step;
+// the place of its kind, and the first free time of that kind and the mark of the close after it.
+pub struct Asked {
+    pub number: u8,
+    pub rows: usize,
+    pub occurrence: Occurrence,
+    pub step: u64,
+    pub place: usize,
+    pub free: u64,
+    pub closed: u64,
+}
+
+// How many rows a call goes to, by its refusal and the number of rows: none where it is refused, and no more than a monitor holds.
+fn asked_rows(number: u8, len: usize) -> usize
+    ensures { λ r. ⌜ r ≡ askedRows number len ⌝ }
+{
+    if 0 < number {
+        return 0;
+    }
+    if len < Monitor::ROW_LIMIT {
+        len
+    } else {
+        Monitor::ROW_LIMIT
+    }
+}
+
+// All questions but 12, on numbers, and what the call goes on with.
+fn questions(call: Call, closed: u64, clock: u64, next: u64, count: u64, len: usize) -> Asked
+    ensures { λ r. ⌜ r ≡ askedOf call closed clock next count len ⌝ }
+{
+    let number = calls::refusal(call, closed, clock, next);
+    Asked {
+        number,
+        rows: asked_rows(number, len),
+        occurrence: calls::occurrence(call, clock),
+        step: plus(count, 1),
+        place: calls::place(call),
+        free: calls::free(call, next),
+        closed: calls::closed(call, closed),
+    }
+}
+
+// The answer: the refusal, or 12 where a row is crowded, or 0.
+fn answer_of(number: u8, crowded: bool) -> u8
+    ensures { λ r. ⌜ r ≡ answerOf number crowded ⌝ }
+{
+    if 0 < number {
+        return number;
+    }
+    if crowded { 12 } else { 0 }
+}
+
+// One or the other.
+fn either(a: bool, b: bool) -> bool
+    ensures { λ r. ⌜ r ≡ (a || b) ⌝ }
+{
+    if a { true } else { b }
+}
+
+// Whether what occurs would leave the row open with more than 64 waiting: a row with room for two more words is not looked into.
+fn crowded(rule: Rule, old: State, times: &[u64; 64], o: Occurrence) -> bool
+    ensures { λ r. ⌜ ((number : ℕ) → r ≡ rowStep (rowFrom rule (now (times .entry)) old) o number .crowded) ⌝ }
+{
+    if old.len < ROOMY {
+        return false;
+    }
+    row::crowded(rule, old, times, o)
+}
+
+// Row i of a monitor that is lent, after what occurs, where the row lies.
+fn row_step(m: &mut Monitor, i: usize, o: Occurrence, number: u64)
+    requires { ⌜ i < 32 ⌝ }
+    ensures { λ _. ⌜ now (m .exit) ≡ rowStepped (now (m .entry)) i o number ⌝ }
+{
+    let r = &mut m.rows[i];
+    let rule = r.rule;
+    let old = r.now;
+    let new = row::step(rule, old, &mut r.times, o, number);
+    r.now = new;
+}
+
+// Each of the first n rows of a monitor that is lent, after what occurs.
+fn rows_step(m: &mut Monitor, n: usize, o: Occurrence, number: u64)
+    requires { ⌜ n ≤ 32 ⌝ }
+    ensures { λ _. ⌜ now (m .exit) ≡ rowsStepped (now (m .entry)) n o number ⌝ }
+{
+    let mut i = 0;
+    while i < n {
+        row_step(m, i, o, number);
+        i += 1;
+    }
+}
+
+// Whether what occurs crowds row i of a monitor that is lent.
+fn row_asks(m: &mut Monitor, i: usize, o: Occurrence) -> bool
+    requires { ⌜ i < 32 ⌝ }
+    ensures { λ r. ⌜ ((number : ℕ) → r ≡ rowStep (getD (now (m .entry) .rows) i noRow) o number .crowded) × (now (m .exit) ≡ now (m .entry)) ⌝ }
+{
+    let r = &mut m.rows[i];
+    let rule = r.rule;
+    let old = r.now;
+    crowded(rule, old, &r.times, o)
+}
+
+// Whether what occurs crowds one of the first n rows of a monitor that is lent.
+fn rows_ask(m: &mut Monitor, n: usize, o: Occurrence) -> bool
+    requires { ⌜ n ≤ 32 ⌝ }
+    ensures { λ r. ⌜ ((number : ℕ) → r ≡ rowsCrowded (now (m .entry)) n o number) × (now (m .exit) ≡ now (m .entry)) ⌝ }
+{
+    let mut any = false;
+    let mut i = 0;
+    while i < n {
+        let one = row_asks(m, i, o);
+        any = either(any, one);
+        i += 1;
+    }
+    any
+}
+
+// All questions but 12, of a monitor that is lent.
+fn ask_at(m: &mut Monitor, call: Call) -> Asked
+    ensures { λ r. ⌜ (r ≡ askedBy (now (m .entry)) call) × (now (m .exit) ≡ now (m .entry)) ⌝ }
+{
+    let at = calls::place(call);
+    let next = m.next[at];
+    questions(call, m.closed, m.clock, next, m.count, m.len)
+}
+
+// The numbers of a monitor that is lent, beside its rows, after a call that is taken.
+fn put_numbers(m: &mut Monitor, q: Asked)
+    requires { ⌜ q .place < 64 ⌝ }
+    ensures { λ _. ⌜ now (m .exit) ≡ withNumbers (now (m .entry)) q ⌝ }
+{
+    m.next[q.place] = q.free;
+    m.clock = q.occurrence.time;
+    m.count = q.step;
+    m.closed = q.closed;
+}
+
+// A call on a monitor that is lent, in place: 0 if it is taken, else the number of its refusal.
+pub fn take(m: &mut Monitor, call: Call) -> u8
+    ensures { λ r. ⌜ Steps (now (m .entry)) call (steppedFrom r (now (m .exit))) ⌝ }
+{
+    let q = ask_at(m, call);
+    let crowded = rows_ask(m, q.rows, q.occurrence);
+    let answer = answer_of(q.number, crowded);
+    if answer == 0 {
+        rows_step(m, q.rows, q.occurrence, q.step);
+        put_numbers(m, q);
+    }
+    answer
+}
+
+// The answer to a call as a number, 0 where it is taken, and the monitor after it.
+pub struct Numbered {
+    pub number: u8,
+    pub monitor: Monitor,
+}
+
+// A call, by value.
+fn by_value(m: Monitor, call: Call) -> Numbered
+    ensures { λ r. ⌜ Steps m call (steppedFrom (r .number) (r .monitor)) ⌝ }
+{
+    let stepped = m.step(call);
+    let answer = stepped.answer;
+    let monitor = stepped.monitor;
+    match answer {
+        Answer::Taken => Numbered { number: 0, monitor },
+        Answer::Refused(number) => Numbered { number, monitor },
+    }
+}
+
+// The same call by the step by value: the monitor is copied out, stepped, and stored whole.
+pub fn take_by_value(m: &mut Monitor, call: Call) -> u8
+    ensures { λ r. ⌜ Steps (now (m .entry)) call (steppedFrom r (now (m .exit))) ⌝ }
+{
+    let s = by_value(*m, call);
+    let n = s.monitor;
+    *m = n;
+    s.number
+}

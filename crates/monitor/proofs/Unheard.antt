@@ -1,4 +1,4 @@
--- Rows that do not hear each other (the buyers' request 7), in their words: what a row reads depends on the events of its own
+-- Rows that do not hear each other (paper 02, request 7), in the buyers' words: what a row reads depends on the events of its own
 -- kinds, the clock and the close alone, so two tables that share a row may differ in all others.
 use Prim.Native.Nat.{ℕ, zero, suc}
 use native.Mathlib.Omega.{arith}
@@ -86,8 +86,9 @@ module _
   -- and by the monitors: the same verdict, with the same step
   pub rows-apart : verdictOf (after rows (take n calls)) i ≡ verdictOf (after rows′ (take n calls′)) j
   rows-apart =
-      verdict-read rows (take n calls) (take n steps) accepted (allTaken (take n calls), taken-n) i c there (both-read .0) (both-read .1)
-      ∙ sym (verdict-read rows′ (take n calls′) (take n steps′) accepted′ (allTaken (take n calls′), taken-n′) j c there′ (both-read .0) (both-read .2))
+      let (v, reads, reads′) = both-read in
+      verdict-read rows (take n calls) (take n steps) accepted (allTaken (take n calls), taken-n) i c there v reads
+      ∙ sym (verdict-read rows′ (take n calls′) (take n steps′) accepted′ (allTaken (take n calls′), taken-n′) j c there′ v reads′)
 
 -- ---- one list of calls, over two tables
 
@@ -102,7 +103,8 @@ same-answer rows rows′ past (Call.Tick t) a a′ judged judged′ free free′
 same-answer rows rows′ past Call.Close a a′ judged judged′ free free′ = judged-once _ a a′ judged judged′
 
 same-runs : (rows rows′ : List Constraint) {past end end′ : List Step} {calls : List Call} {answers answers′ : List Answer}
-    → Run rows past calls answers end → Run rows′ past calls answers′ end′ → NoneFull answers → NoneFull answers′ → (answers ≡ answers′) × (end ≡ end′)
+    → Run rows past calls answers end → Run rows′ past calls answers′ end′ → NoneFull answers → NoneFull answers′
+    → (answers ≡ answers′) × (end ≡ end′)
 same-runs rows rows′ done done free free′ = (refl, refl)
 same-runs rows rows′ (call {steps = past} {end = end} {calls = calls} {answers = answers} s a judged run)
     (call {end = end′} {answers = answers′} _ a′ judged′ run′) (free, later) (free′, later′) =
@@ -117,6 +119,11 @@ run-front : (rows : List Constraint) (n : ℕ) {past end : List Step} {calls : L
 run-front rows zero {past = past} run = (past, done)
 run-front rows (suc n) (done {steps = past}) = (past, done)
 run-front rows (suc n) (call s a judged run) = let rest = run-front rows n run in (rest .0, call s a judged (rest .1))
+
+-- a list of calls that are all taken is one of these
+pub free-taken : (calls : List Call) → NoneFull (allTaken calls)
+free-taken [] = tt
+free-taken (s ∷ calls) = (λ e. never (cc), free-taken calls)
 
 free-front : (n : ℕ) (answers : List Answer) → NoneFull answers → NoneFull (take n answers)
 free-front zero answers free = tt
@@ -142,7 +149,9 @@ module _
   other-rows-unheard i j c there there′ n =
       let front = run-front rows n (run .1) in
       let front′ = run-front rows′ n (run′ .1) in
-      let same = same-runs rows rows′ (front .1) (front′ .1) (free-front n (answersTo rows calls) free) (free-front n (answersTo rows′ calls) free′) .1 in
+      let free-n = free-front n (answersTo rows calls) free in
+      let free-n′ = free-front n (answersTo rows′ calls) free′ in
+      let same = same-runs rows rows′ (front .1) (front′ .1) free-n free-n′ .1 in
       let row = row-reads rows (take n calls) (front .0) accepted (take n (answersTo rows calls), front .1) i c there in
       let reads = subst (λ (steps : List Step). Reads c steps (row .0)) same (row .2) in
       row .1 ∙ sym (verdict-read rows′ (take n calls) (front′ .0) accepted′ (take n (answersTo rows′ calls), front′ .1) j c there′ (row .0) reads)

@@ -1,10 +1,10 @@
-//! Steps that one row cannot tell apart (request 7, "Rows that don't hear each other").
+//! Steps that one row cannot tell apart (paper 02, request 7, "Rows that don't hear each other").
 
 use crate::constraint::Constraint;
 use crate::steps::Step;
 
-/// Do the two steps stand beside each other for the row? "the same event of that row's kinds, or, in both, other steps
-/// that leave the clock at the same time, and a close in one stands against a close in the other"
+/// Do the two steps stand beside each other for the row? One event of its kinds in both; or others, with the clocks at
+/// the same time after them; or the close in both.
 pub fn steps_beside(row: &Constraint, one: Step, other: Step) -> bool {
     if one == Step::Close || other == Step::Close || is_own(row, one) || is_own(row, other) {
         one == other
@@ -13,7 +13,7 @@ pub fn steps_beside(row: &Constraint, one: Step, other: Step) -> bool {
     }
 }
 
-/// Do the two lists, "of equal length", stand beside each other "at each place"?
+/// Do the two lists have one length, and stand beside each other at each place?
 pub fn beside(row: &Constraint, one: &[Step], other: &[Step]) -> bool {
     one.len() == other.len() && one.iter().zip(other).all(|(&one, &other)| steps_beside(row, one, other))
 }

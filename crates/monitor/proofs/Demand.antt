@@ -66,7 +66,7 @@ play-append m (s ∷ a) b = play-append (step m s .monitor) a b
 -- ---- fresh
 
 -- a table that is accepted has sound rows, and there is room for them
-accepted-sound : (i : ℕ) (rows : List Constraint) → Judged (rowsQuestions i rows []) Taken → SoundRows rows × ((length rows ≡ 0) ⊎ (i + length rows ≤ rowLimit))
+pub accepted-sound : (i : ℕ) (rows : List Constraint) → Judged (rowsQuestions i rows []) Taken → SoundRows rows × ((length rows ≡ 0) ⊎ (i + length rows ≤ rowLimit))
 unfolding Judged rowsQuestions
 accepted-sound i [] taken = (tt, inl refl)
 accepted-sound i (c ∷ rows) (inl (room, inl (fit, inl (range, inl (lower, later))))) =

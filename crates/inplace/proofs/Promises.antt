@@ -1,8 +1,8 @@
 -- What each walk promises, and what the functions promise that it calls, as the frame has contracts.
 use Prim.Native.Nat.{ℕ, _<_, _≤_}
 use mathlib.Core.Path.{_≡_}
-use mathlib.Core.List.{[], _∷_}
-use mathlib.Core.Bool.{_||_}
+use mathlib.Core.List.{List, [], _∷_}
+use mathlib.Core.Bool.{false, _||_}
 use lib.ListN.{getD}
 use Rattle.row.specs.Machine.{rowFrom, rowStep}
 use Rattle.monitor.specs.Machine.{noRow, placeFor}
@@ -32,6 +32,15 @@ answer-of = record { front = byte-type ∷ truth ∷ []; result = byte-type; ask
 
 abbrev pub either : Pure
 either = record { front = truth ∷ truth ∷ []; result = truth; asks = λ a. no-demand; gives = λ a r. r ≡ (a .0 || a .1 .0) }
+
+abbrev pub moves : Pure
+moves =
+    record {
+      front = rule-type ∷ state-type ∷ occurrence-type ∷ [];
+      result = truth;
+      asks = λ a. no-demand;
+      gives = λ a r. r ≡ false → (times : List ℕ) (number : ℕ) → rowStep (rowFrom (a .0) times (a .1 .0)) (a .1 .1 .0) number .row ≡ rowFrom (a .0) times (a .1 .0);
+    }
 
 abbrev pub by-value : Pure
 by-value = record { front = monitor-type ∷ call-type ∷ []; result = numbered-type; asks = λ a. no-demand; gives = λ a r. Steps (a .0) (a .1 .0) (steppedFrom (r .number) (r .monitor)) }

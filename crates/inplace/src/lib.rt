@@ -2,14 +2,16 @@
 use constraint::Answer;
 use constraint::Call;
 use constraint::WAITING_LIMIT;
-use machine::Rule;
-use machine::State;
-use machine::parts::plus;
 use monitor::Monitor;
 use monitor::calls;
 use row::Occurrence;
+use machine::Rule;
+use machine::State;
+use row::concerns;
+use machine::parts::plus;
 ghost use Prim.Native.Nat.{ℕ, _<_, _≤_};
-ghost use mathlib.Core.Bool.{_||_};
+ghost use mathlib.Core.Bool.{false, _||_};
+ghost use mathlib.Core.List.{List};
 ghost use mathlib.Core.Path.{_≡_};
 ghost use lib.ListN.{getD};
 ghost use Rattle.row.specs.Machine.{rowFrom, rowStep};
@@ -89,6 +91,22 @@ fn crowded(rule: Rule, old: State, times: &[u64; 64], o: Occurrence) -> bool
     row::crowded(rule, old, times, o)
 }
 
+// Whether what occurs may change a row: an open one that is overdue, that the event concerns, or that the close finds.
+fn moves(rule: Rule, now: State, o: Occurrence) -> bool
+    ensures { λ r. ⌜ (r ≡ false → (times : List ℕ) (number : ℕ) → rowStep (rowFrom rule times now) o number .row ≡ rowFrom rule times now) ⌝ }
+{
+    if 0 < now.broken {
+        return false;
+    }
+    if now.due < o.time {
+        return true;
+    }
+    if o.closes {
+        return true;
+    }
+    concerns(rule, o.kind)
+}
+
 // Row i of a monitor that is lent, after what occurs, where the row lies.
 fn row_step(m: &mut Monitor, i: usize, o: Occurrence, number: u64)
     requires { ⌜ i < 32 ⌝ }
@@ -97,8 +115,10 @@ fn row_step(m: &mut Monitor, i: usize, o: Occurrence, number: u64)
     let r = &mut m.rows[i];
     let rule = r.rule;
     let old = r.now;
-    let new = row::step(rule, old, &mut r.times, o, number);
-    r.now = new;
+    if moves(rule, old, o) {
+        let new = row::step(rule, old, &mut r.times, o, number);
+        r.now = new;
+    }
 }
 
 // Each of the first n rows of a monitor that is lent, after what occurs.

@@ -100,8 +100,8 @@
  *   6 Order                   source, target                                3
  *   7 StrongSynchronization   n from 2 to 4, n kinds, tolerance        10 + n
  *
- * Spans and maxima go from 1 to 64. Where the upper of type 3 or 4 is 2^64 - 1,
- * there is no upper limit.
+ * Spans and maxima go from 1 to 64. Where the upper of type 1, 3 or 4 is
+ * 2^64 - 1, there is no upper limit.
  *
  *
  * WHAT EACH ROW ASKS
@@ -113,7 +113,9 @@
  *                 later and at s + upper or earlier. One target may answer
  *                 several sources, and further targets do no harm. A source
  *                 that has no target breaks the row once the clock is past
- *                 s + upper, and at the close.
+ *                 s + upper, and at the close. Without an upper limit the
+ *                 target may come however late, and only the close breaks
+ *                 the row.
  *   2 StrongDelay The first target belongs to the first source, the second to
  *                 the second, and so on, and each comes lower to upper after
  *                 its source. A target too early, or one too many, breaks the

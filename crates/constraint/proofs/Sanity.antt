@@ -1,13 +1,17 @@
 -- What a reader would check first: a list of calls has one list of answers and one record, a row is open before any step, and each definition can be met and can be missed.
-use Prim.Native.Nat.{ℕ, zero, suc, _+_, _≤_, _<_}
+use Prim.Native.Nat.{ℕ, zero, suc, _+_, _^_, _≤_, _<_}
 use native.Mathlib.Omega.{arith}
 use mathlib.Core.Path.{_≡_, refl, sym, ap₂, subst}
 use mathlib.Core.List.{List, [], _∷_}
-use mathlib.Core.Logic.{_⊎_, inl, inr}
+use mathlib.Core.Logic.{_⊎_, inl, inr, _↔_, ⊎-elim}
+use mathlib.Core.Bool.{Bool, _&&_, _||_}
 use lib.ListN.{length}
+use lib.Dec.{leb}
+use borrow.Author.Tests.{ne-eqb}
 use Rattle.constraint.specs.Limits.{noLimit}
 use Rattle.constraint.specs.Steps.{Step, event, at, times}
-use Rattle.constraint.specs.Meets.{Meets, MeetsDelay, MeetsStrongDelay, MeetsRepeat, MeetsSporadic, MeetsBurst, MeetsOrder, MeetsStrongSynchronization}
+use Rattle.constraint.specs.Meets.{Between, Apart, Meets, MeetsDelay, MeetsStrongDelay, MeetsRepeat, MeetsSporadic, MeetsBurst, MeetsOrder, MeetsStrongSynchronization}
+use Rattle.constraint.specs.Waiting.{answered}
 use Rattle.constraint.specs.Continuation.{BrokenAt}
 use Rattle.constraint.specs.Questions.{Question, Judged}
 use Rattle.constraint.specs.Run.{questions, recorded, Run, done, call}
@@ -65,6 +69,28 @@ pub broken-counted : (c : Constraint) (steps : List Step) (n : ℕ) → BrokenAt
 broken-counted c steps zero b = absurd (b .after (open-of-meets c [] (meets-none c)))
 broken-counted c steps (suc n) b = omega arith
 
+-- ---- a Delay with a limit
+
+-- lower to upper apart is just between them, where there is a limit
+apart-between : (lower upper x y : ℕ) → ¬ (upper ≡ noLimit) → Apart lower upper x y → Between lower upper x y
+apart-between lower upper x y limit b = (b .0, ⊎-elim (λ e. absurd (limit e)) (λ h. h) (b .1))
+
+-- it asks for a target between the two, and nothing else: the mark says something only where it stands
+pub delay-as-before : (lower upper : ℕ) (sources targets : List ℕ) → ¬ (upper ≡ noLimit)
+    → MeetsDelay lower upper sources targets
+    ↔ ((i : ℕ) → i < length sources → (j : ℕ) × (j < length targets) × Between lower upper (at sources i) (at targets j))
+unfolding MeetsDelay
+delay-as-before lower upper sources targets limit = (
+  λ m i h. let a = m i h in (a .0, a .1, apart-between lower upper (at sources i) (at targets (a .0)) limit (a .2)),
+  λ m i h. let a = m i h in (a .0, a .1, (a .2 .0, inr (a .2 .1))),
+)
+
+-- and a source waits while no target is between them
+pub answered-as-before : (lower upper s t : ℕ) (targets : List ℕ) → ¬ (upper ≡ noLimit)
+    → answered lower upper s (t ∷ targets) ≡ ((leb (s + lower) t && leb t (s + upper)) || answered lower upper s targets)
+unfolding answered
+answered-as-before lower upper s t targets limit = rw (ne-eqb upper noLimit limit)
+
 -- ---- each definition can be met, by events of its kinds, and can be missed
 
 pub record Contingent (c : Constraint) (met missed : List Step) : Type 0 where
@@ -75,13 +101,27 @@ pub delay-contingent : Contingent (Delay 0 1 2 3) (event 0 10 ∷ event 1 12 ∷
 unfolding Meets MeetsDelay times
 delay-contingent = record { can-be-met = λ i h. answered i h; can-be-missed = λ m. late (m 0 (omega arith)) }
   where
-    answered : (i : ℕ) → i < 1 → (j : ℕ) × (j < 1) × ((at (10 ∷ []) i + 2 ≤ at (12 ∷ []) j) × (at (12 ∷ []) j ≤ at (10 ∷ []) i + 3))
-    answered zero h = (0, omega arith, (omega arith, omega arith))
+    answered : (i : ℕ) → i < 1 → (j : ℕ) × (j < 1) × Apart 2 3 (at (10 ∷ []) i) (at (12 ∷ []) j)
+    answered zero h = (0, omega arith, (omega arith, inr (omega arith)))
     answered (suc i) h = absurd (omega arith)
 
-    late : (j : ℕ) × (j < 1) × ((12 ≤ at (14 ∷ []) j) × (at (14 ∷ []) j ≤ 13)) → ⊥
-    late (zero, h, b) = omega arith
+    late : (j : ℕ) × (j < 1) × Apart 2 3 10 (at (14 ∷ []) j) → ⊥
+    late (zero, h, (b, inl e)) = omega arith
+    late (zero, h, (b, inr after)) = omega arith
     late (suc j, h, b) = omega arith
+
+-- without an upper limit a target may come later than every number of eight bytes
+pub unlimited-delay-contingent : Contingent (Delay 0 1 2 noLimit) (event 0 10 ∷ event 1 (2 ^ 65) ∷ []) (event 0 10 ∷ event 1 11 ∷ [])
+unfolding Meets MeetsDelay times
+unlimited-delay-contingent = record { can-be-met = λ i h. answered i h; can-be-missed = λ m. early (m 0 (omega arith)) }
+  where
+    answered : (i : ℕ) → i < 1 → (j : ℕ) × (j < 1) × Apart 2 noLimit (at (10 ∷ []) i) (at (2 ^ 65 ∷ []) j)
+    answered zero h = (0, omega arith, (omega arith, inl refl))
+    answered (suc i) h = absurd (omega arith)
+
+    early : (j : ℕ) × (j < 1) × Apart 2 noLimit 10 (at (11 ∷ []) j) → ⊥
+    early (zero, h, b) = omega (arith, b .0)
+    early (suc j, h, b) = omega arith
 
 pub strong-delay-contingent : Contingent (StrongDelay 0 1 1 3) (event 0 10 ∷ event 1 12 ∷ []) (event 1 10 ∷ [])
 unfolding Meets MeetsStrongDelay times

@@ -17,10 +17,10 @@ Between lower upper x y = (x + lower ≤ y) × (y ≤ x + upper)
 abbrev pub Apart : ℕ → ℕ → ℕ → ℕ → Type 0
 Apart lower upper x y = (x + lower ≤ y) × ((upper ≡ noLimit) ⊎ (y ≤ x + upper))
 
--- §5.1: each source has a target lower to upper after it
+-- §5.1: each source has a target lower to upper after it, or however late where upper is the mark
 unfoldable pub MeetsDelay : ℕ → ℕ → List ℕ → List ℕ → Type 0
 MeetsDelay lower upper sources targets =
-    (i : ℕ) → i < length sources → (j : ℕ) × (j < length targets) × Between lower upper (at sources i) (at targets j)
+    (i : ℕ) → i < length sources → (j : ℕ) × (j < length targets) × Apart lower upper (at sources i) (at targets j)
 
 -- §5.2: sources and targets are equal in number, and each target is lower to upper after the source of its place
 unfoldable pub MeetsStrongDelay : ℕ → ℕ → List ℕ → List ℕ → Type 0

@@ -51,7 +51,7 @@ typeOf (StrongSynchronization4 a b c d tolerance) = 7
 
 -- §4.5: the fields, in their order
 abbrev pub fieldsOf : Constraint → List Field
-fieldsOf (Delay source target low high) = byte kind source ∷ byte kind target ∷ time lower low ∷ time upper high ∷ []
+fieldsOf (Delay source target low high) = byte kind source ∷ byte kind target ∷ time lower low ∷ time upper-or-none high ∷ []
 fieldsOf (StrongDelay source target low high) = byte kind source ∷ byte kind target ∷ time lower low ∷ time upper high ∷ []
 fieldsOf (Repeat event number low high) = byte kind event ∷ byte (span spanLimit) number ∷ time lower low ∷ time upper-or-none high ∷ []
 fieldsOf (Sporadic event low high jitter minimum) =

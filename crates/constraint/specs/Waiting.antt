@@ -3,15 +3,20 @@ use Prim.Native.Nat.{ℕ, _+_, _-_, max, min}
 use mathlib.Core.Bool.{Bool, false, _&&_, _||_, cond}
 use mathlib.Core.List.{List, [], _∷_, map}
 use lib.ListN.{length}
-use lib.Dec.{leb}
+use lib.Dec.{leb, eqb}
+use Rattle.constraint.specs.Limits.{noLimit}
 use Rattle.constraint.specs.Steps.{Step, times}
 use Rattle.constraint.specs.declared.Constraint.{Constraint}
 use Rattle.constraint.specs.declared.Constraint.the-variants.{Delay, StrongDelay, Repeat, Sporadic, Burst, Order, StrongSynchronization2, StrongSynchronization3, StrongSynchronization4}
 
--- some target is lower to upper after the source at s
+-- t is lower to upper after s, where the upper may be the mark for no limit (§4.7)
+abbrev pub inInterval : ℕ → ℕ → ℕ → ℕ → Bool
+inInterval lower upper s t = leb (s + lower) t && (eqb upper noLimit || leb t (s + upper))
+
+-- some target is in the interval of the source at s
 unfoldable pub answered : ℕ → ℕ → ℕ → List ℕ → Bool
 answered lower upper s [] = false
-answered lower upper s (t ∷ ts) = (leb (s + lower) t && leb t (s + upper)) || answered lower upper s ts
+answered lower upper s (t ∷ ts) = inInterval lower upper s t || answered lower upper s ts
 
 -- §6.1: the sources that have no target in their interval so far
 unfoldable pub unanswered : ℕ → ℕ → List ℕ → List ℕ → ℕ

@@ -122,7 +122,7 @@ pub struct Table {
 const DELAY: Line = Line {
     form: 1,
     bytes: [KIND, KIND, 0, 0, 0],
-    times: [LOWER, UPPER, 0, 0],
+    times: [LOWER, UPPER_OR_NONE, 0, 0],
 };
 
 const STRONG_DELAY: Line = Line {

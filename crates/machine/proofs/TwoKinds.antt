@@ -170,7 +170,7 @@ module _ {c : Constraint} {source target : ℕ} {Meet : List ℕ → List ℕ �
 
   -- ---- Open
 
-  pair-open : (steps : List Step) → closed steps ≡ false
+  pub pair-open : (steps : List Step) → closed steps ≡ false
       → Further (clock steps) (times source steps) (λ all. Meet all (times target steps))
       ⊎ Further (clock steps) (times target steps) (λ all. Meet (times source steps) all)
       → Open c steps

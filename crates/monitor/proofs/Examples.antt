@@ -1,11 +1,13 @@
--- The contract's examples 1 to 12 read as it says: the machine computes each verdict, with every step taken, and §3.6 makes it the
--- definition's.
+-- The contract's examples 1 to 12, and those of Delays without an upper limit, read as it says: the machine computes each verdict, with
+-- every step taken, and §3.6 makes it the definition's.
+use Prim.Native.Nat.{ℕ, _≤_}
 use native.Mathlib.Omega.{arith}
 use mathlib.Core.Path.{_≡_, refl, sym, _∙_, subst}
 use mathlib.Core.Bool.{Bool, true, false}
 use mathlib.Core.List.{List, [], _∷_, _++_, map, append-nil, append-assoc}
-use mathlib.Core.Logic.{inl}
+use mathlib.Core.Logic.{inl, inr}
 use mathlib.Core.Option.{some}
+use Rattle.constraint.specs.Limits.{lastTime, noLimit}
 use Rattle.constraint.specs.Steps.{Step}
 use Rattle.constraint.specs.Continuation.{Reads}
 use Rattle.constraint.specs.Questions.{Judged}
@@ -31,7 +33,7 @@ use Rattle.row.proofs.Exact.{Sound, Exact}
 use Rattle.queue.specs.Ring.{ring, pushRing, putRing}
 use Rattle.monitor.specs.Machine.{monitorOf, mapFirst, anyFirst, takenCall, stepOf, verdictOf}
 use Rattle.monitor.specs.Contract.{step, after, Recorded}
-use Rattle.monitor.specs.Examples.{Example, examples, stepsOf, AllRead}
+use Rattle.monitor.specs.Examples.{Example, examples, unlimited-delays, stepsOf, AllRead}
 use Rattle.monitor.proofs.Demand.{start-follows, play-follows, verdict-reads}
 
 -- ---- what the machine computes
@@ -59,6 +61,12 @@ computed = (
   ((refl, refl), ((refl, refl), ((refl, refl), ((refl, refl), ((refl, refl), ((refl, refl), ((refl, refl), ((refl, refl), ((refl, refl), ((refl, refl), ((refl, refl), ((refl, refl), ((refl, refl), ((refl, refl), ((refl, refl), ((refl, refl), ((refl, refl), ((refl, refl), tt)))))))))))))))))),
 )
 
+-- the same for Delays without an upper limit
+unlimited-computed : AllComputed unlimited-delays
+unfolding AllComputed Computed allTaken play monitorOf mapFirst anyFirst takenCall stepOf verdictOf rowOf brokenRow applied changedRow rowStep rowVerdict ring pushRing putRing answeredBy decideDelay
+unlimited-computed =
+    ((refl, refl), ((refl, refl), ((refl, refl), ((refl, refl), ((refl, refl), ((refl, refl), ((refl, refl), ((refl, refl), ((refl, refl), ((refl, refl), ((refl, refl), ((refl, refl), ((refl, refl), ((refl, refl), ((refl, refl), ((refl, refl), tt))))))))))))))))
+
 -- ---- each row is accepted
 
 accepted-one : (c : Constraint) → KindsFit (kinds c) → InRange c → LowerFirst c → Accepted (c ∷ [])
@@ -78,7 +86,7 @@ AllAccepted (e ∷ later) = Accepted (e .constraint ∷ []) × AllAccepted later
 accepted : AllAccepted examples
 unfolding AllAccepted InRange LowerFirst
 accepted =
-    let late : Accepted (Delay 0 1 2 3 ∷ []) = accepted-one (Delay 0 1 2 3) pair-fits (omega arith, omega arith) (omega arith) in
+    let late : Accepted (Delay 0 1 2 3 ∷ []) = accepted-one (Delay 0 1 2 3) pair-fits (omega arith, (inl (omega arith), tt)) (omega arith) in
     let soon : Accepted (StrongDelay 0 1 0 3 ∷ []) = accepted-one (StrongDelay 0 1 0 3) pair-fits (omega arith, omega arith) (omega arith) in
     let spans : Accepted (Repeat 0 2 4 5 ∷ []) = accepted-one (Repeat 0 2 4 5) zero-fits (omega arith, omega arith, (omega arith, (inl (omega arith), tt))) (omega arith) in
     let five : Accepted (Sporadic 0 5 5 2 0 ∷ []) = accepted-one (Sporadic 0 5 5 2 0) zero-fits (omega arith, (inl (omega arith), omega arith)) (omega arith) in
@@ -93,7 +101,7 @@ accepted =
           (
             late,
             (
-              accepted-one (Delay 0 1 0 3) pair-fits (omega arith, omega arith) (omega arith),
+              accepted-one (Delay 0 1 0 3) pair-fits (omega arith, (inl (omega arith), tt)) (omega arith),
               (
                 soon,
                 (
@@ -118,6 +126,19 @@ accepted =
         ),
       ),
     )
+
+-- a Delay without an upper limit, of any lower in range
+unlimited : (low : ℕ) → low ≤ lastTime → Accepted (Delay 0 1 low noLimit ∷ [])
+unfolding InRange LowerFirst
+unlimited low small = accepted-one (Delay 0 1 low noLimit) pair-fits (small, (inr refl, tt)) (omega arith)
+
+unlimited-accepted : AllAccepted unlimited-delays
+unfolding AllAccepted
+unlimited-accepted =
+    let two : Accepted (Delay 0 1 2 noLimit ∷ []) = unlimited 2 (omega arith) in
+    let none : Accepted (Delay 0 1 0 noLimit ∷ []) = unlimited 0 (omega arith) in
+    let last : Accepted (Delay 0 1 lastTime noLimit ∷ []) = unlimited lastTime (omega arith) in
+    (two, (two, (two, (two, (two, (two, (two, (two, (two, (two, (two, (none, (none, (last, (last, (last, tt))))))))))))))))
 
 -- ---- so each reads by the definitions what the machine computes
 
@@ -154,3 +175,6 @@ module _ (engine : (c : Constraint) → Sound c → Exact c) where
 
   pub examples-read : AllRead examples
   examples-read = all-read examples accepted computed
+
+  pub unlimited-delays-read : AllRead unlimited-delays
+  unlimited-delays-read = all-read unlimited-delays unlimited-accepted unlimited-computed

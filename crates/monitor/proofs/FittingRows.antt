@@ -16,6 +16,7 @@ use Rattle.constraint.specs.Run.{Room}
 use Rattle.constraint.specs.declared.Constraint.{Constraint}
 use Rattle.constraint.proofs.Lists.{both, or-true, or-false, Each}
 use Rattle.constraint.proofs.History.{Accepts, Valid}
+use Rattle.constraint.proofs.Judged.{never}
 use Rattle.row.specs.Machine.{rowOf, closeAt, rowStep, rowVerdict}
 use Rattle.row.specs.declared.Row.{Row}
 use Rattle.row.specs.declared.RowStep.{RowStep}
@@ -27,6 +28,11 @@ use Rattle.monitor.specs.Machine.{mapFirst, anyFirst, noRow}
 abbrev pub SoundRows : List Constraint → Type 0
 SoundRows [] = Unit {0}
 SoundRows (c ∷ cs) = Sound c × SoundRows cs
+
+pub sound-at : (rows : List Constraint) → SoundRows rows → (i : ℕ) (c : Constraint) → getElem? rows i ≡ some c → Sound c
+sound-at [] sound i c there = never (cc)
+sound-at (d ∷ rows) sound zero c there = let same : d ≡ c = cc in subst Sound same (sound .0)
+sound-at (d ∷ rows) sound (suc i) c there = sound-at rows (sound .1) i c there
 
 module _ (engine : (c : Constraint) → Sound c → Exact c) where
   -- each of a table's rows fits the steps

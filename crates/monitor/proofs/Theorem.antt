@@ -1,11 +1,12 @@
 -- §3.6 to §3.8 for all seven row types: the promise over the machine, with the engine of every type put in.
 use Prim.Native.Nat.{ℕ}
 use mathlib.Core.Path.{_≡_, refl, sym, subst}
-use mathlib.Core.Bool.{true}
+use mathlib.Core.Bool.{true, false}
 use mathlib.Core.List.{List}
 use mathlib.Core.Logic.{_↔_, Iff·trans}
 use mathlib.Core.Option.{Option, some}
 use lib.ListN.{getElem?}
+use Rattle.constraint.specs.Limits.{noLimit}
 use Rattle.constraint.specs.Steps.{Step, closed}
 use Rattle.constraint.specs.Meets.{Meets}
 use Rattle.constraint.specs.Continuation.{Open, Reads}
@@ -13,19 +14,23 @@ use Rattle.constraint.specs.Accepted.{Accepted}
 use Rattle.constraint.specs.Promise.{Promise, ReadsRow, row, no-row}
 use Rattle.constraint.specs.declared.Call.{Call}
 use Rattle.constraint.specs.declared.Constraint.{Constraint}
+use Rattle.constraint.specs.declared.Constraint.the-variants.{Delay}
 use Rattle.constraint.specs.declared.Verdict.{Verdict}
-use Rattle.constraint.proofs.History.{valid-none}
+use Rattle.constraint.proofs.History.{valid-none, past-of}
 use Rattle.constraint.proofs.Judged.{never}
 use Rattle.constraint.proofs.Runs.{run-valid, broken-exactly, kept-exactly}
 use Rattle.constraint.proofs.Sanity.{run-once}
+use Rattle.pairs.proofs.Laws.Delay.{unlimited-delay-open}
+use Rattle.row.proofs.Exact.{Sound}
 use Rattle.row.proofs.Engine.{engine}
 use Rattle.monitor.specs.Machine.{monitorOf, stepOf, verdictOf}
 use Rattle.monitor.specs.Contract.{step, after, Recorded, Steps, Reading}
-use Rattle.monitor.specs.Examples.{examples, AllRead}
+use Rattle.monitor.specs.Examples.{examples, unlimited-delays, AllRead}
 use Rattle.monitor.specs.declared.Monitor.{Monitor}
 use Rattle.monitor.specs.declared.Stepped.{Stepped}
-use Rattle.monitor.proofs.Demand.{promise, steps-keep, reading-keeps}
-use Rattle.monitor.proofs.Examples.{examples-read}
+use Rattle.monitor.proofs.Demand.{promise, accepted-sound, steps-keep, reading-keeps}
+use Rattle.monitor.proofs.FittingRows.{sound-at}
+use Rattle.monitor.proofs.Examples.{examples-read, unlimited-delays-read}
 
 -- over every table, every list of calls from a fresh monitor, and every row
 pub monitor-is-exact : Promise monitorOf step verdictOf
@@ -34,6 +39,10 @@ monitor-is-exact = promise engine
 -- §10.1 to §10.12
 pub examples-hold : AllRead examples
 examples-hold = examples-read engine
+
+-- §5.1.6, §5.1.7
+pub unlimited-delays-hold : AllRead unlimited-delays
+unlimited-delays-hold = unlimited-delays-read engine
 
 -- what equals a step of the machine keeps the contract of a step
 pub step-kept : (m : Monitor) (s : Call) {result : Stepped} → result ≡ stepOf m s → Steps m s result
@@ -68,3 +77,12 @@ module _ (rows : List Constraint) (calls : List Call) (steps : List Step) (accep
   broken-while-it-runs =
       let exactly = broken-exactly c steps (run-valid (recorded .1) valid-none) (row-reads .0) (row-reads .2) in
       (λ b. exactly .0 (b .0, same-verdict (Verdict.Broken (b .0)) .0 (b .1)), λ shut. let b = exactly .1 shut in (b .0, same-verdict (Verdict.Broken (b .0)) .1 (b .1)))
+
+  -- §5.1.6: a Delay without an upper limit is not broken before the close
+  pub unlimited-delay-unbroken : (source target lower : ℕ) → c ≡ Delay source target lower noLimit → closed steps ≡ false
+      → (n : ℕ) → ¬ (verdictOf (after rows calls) i ≡ some (Verdict.Broken n))
+  unlimited-delay-unbroken source target lower is before n broken =
+      let sound : Sound (Delay source target lower noLimit) = subst Sound is (sound-at rows (accepted-sound 0 rows accepted .0) i c there) in
+      broken-while-it-runs .0 (n, broken)
+      (subst (λ (x : Constraint). Open x steps) (sym is)
+      (unlimited-delay-open source target lower sound (past-of (run-valid (recorded .1) valid-none)) before))

@@ -1,7 +1,9 @@
--- The contract's examples 1 to 12 (§10.1 to §10.12): a row, steps, and what the row reads after them.
+-- The contract's examples 1 to 12 (§10.1 to §10.12), and those of Delays without an upper limit: a row, steps, and what the row reads
+-- after them.
 use mathlib.Core.Path.{_≡_}
 use mathlib.Core.List.{List, [], _∷_, map}
 use mathlib.Core.Option.{some}
+use Rattle.constraint.specs.Limits.{lastTime, noLimit}
 use Rattle.constraint.specs.Steps.{Step}
 use Rattle.constraint.specs.Run.{stepFor}
 use Rattle.constraint.specs.Continuation.{Reads}
@@ -55,6 +57,32 @@ examples =
     -- §10.12: groups that overlap, and a group that comes too late
     ∷ reads (StrongSynchronization2 0 1 2) (Event 0 5 ∷ Event 0 6 ∷ Event 1 7 ∷ Event 1 8 ∷ Close ∷ []) Kept
     ∷ reads (StrongSynchronization2 0 1 2) (Event 0 5 ∷ Event 0 6 ∷ Tick 8 ∷ []) (Broken 3)
+    ∷ []
+
+-- §5.1.6, §5.1.7: Delays without an upper limit
+abbrev pub unlimited-delays : List Example
+unlimited-delays =
+    -- the clock alone never breaks the row, the close does, also where a target came too early
+    reads (Delay 0 1 2 noLimit) (Event 0 10 ∷ Tick 1000000 ∷ []) Open
+    ∷ reads (Delay 0 1 2 noLimit) (Event 0 10 ∷ Tick 1000000 ∷ Close ∷ []) (Broken 3)
+    ∷ reads (Delay 0 1 2 noLimit) (Event 0 10 ∷ Event 1 11 ∷ []) Open
+    ∷ reads (Delay 0 1 2 noLimit) (Event 0 10 ∷ Event 1 11 ∷ Close ∷ []) (Broken 3)
+    -- a target at lower, and one as late as a time can be; no source at all
+    ∷ reads (Delay 0 1 2 noLimit) (Event 0 10 ∷ Event 1 12 ∷ Close ∷ []) Kept
+    ∷ reads (Delay 0 1 2 noLimit) (Event 0 10 ∷ Event 1 lastTime ∷ Close ∷ []) Kept
+    ∷ reads (Delay 0 1 2 noLimit) (Close ∷ []) Kept
+    -- a target answers the sources at least lower before it, and only those
+    ∷ reads (Delay 0 1 2 noLimit) (Event 0 1 ∷ Event 0 5 ∷ Event 1 7 ∷ Close ∷ []) Kept
+    ∷ reads (Delay 0 1 2 noLimit) (Event 0 1 ∷ Event 0 6 ∷ Event 1 7 ∷ []) Open
+    ∷ reads (Delay 0 1 2 noLimit) (Event 0 1 ∷ Event 0 6 ∷ Event 1 7 ∷ Close ∷ []) (Broken 4)
+    ∷ reads (Delay 0 1 2 noLimit) (Event 0 1 ∷ Event 0 6 ∷ Event 1 7 ∷ Event 1 8 ∷ Close ∷ []) Kept
+    -- a target given before its source, at the same time and before it
+    ∷ reads (Delay 0 1 0 noLimit) (Event 1 10 ∷ Event 0 10 ∷ Close ∷ []) Kept
+    ∷ reads (Delay 0 1 0 noLimit) (Event 1 10 ∷ Event 0 11 ∷ Close ∷ []) (Broken 3)
+    -- the largest lower: past the last time that can be recorded, and at it
+    ∷ reads (Delay 0 1 lastTime noLimit) (Event 0 1 ∷ Tick lastTime ∷ []) Open
+    ∷ reads (Delay 0 1 lastTime noLimit) (Event 0 1 ∷ Tick lastTime ∷ Close ∷ []) (Broken 3)
+    ∷ reads (Delay 0 1 lastTime noLimit) (Event 0 0 ∷ Event 1 lastTime ∷ Close ∷ []) Kept
     ∷ []
 
 -- the steps of an example whose calls are all taken

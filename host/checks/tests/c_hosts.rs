@@ -176,10 +176,11 @@ fn the_monitors_memory() {
 }
 
 /// A row of each type, and of each number of kinds, that stays open for a while.
-fn one_of_each() -> [Constraint; 9] {
+fn one_of_each() -> [Constraint; 10] {
     let synchronization = |kinds: &[u8]| Constraint::StrongSynchronization { kinds: kinds.to_vec(), tolerance: 50 };
     [
         Constraint::Delay { source: 0, target: 1, lower: 2, upper: 30 },
+        Constraint::Delay { source: 0, target: 1, lower: 2, upper: NO_LIMIT },
         Constraint::StrongDelay { source: 0, target: 1, lower: 2, upper: 30 },
         Constraint::Repeat { event: 0, span: 3, lower: 0, upper: NO_LIMIT },
         Constraint::Sporadic { event: 0, lower: 0, upper: NO_LIMIT, jitter: 3, minimum: 0 },

@@ -38,7 +38,7 @@ fn by_definitions() -> BTreeMap<String, u64> {
         ("OPEN", definition(LENT_DEFINED, "wordOf (some Verdict.Open)")),
         ("KEPT", definition(LENT_DEFINED, "wordOf (some Verdict.Kept)")),
         ("BROKEN", definition(LENT_DEFINED, "wordOf (some (Verdict.Broken n))")),
-        ("TAKEN", definition(LENT_DEFINED, "numberOf Taken")),
+        ("TAKEN", definition("crates/inplace/specs/Store.antt", "numberOf Taken")),
         ("REPORT_LIMIT", definition("crates/text/proofs/Reports.antt", "reportLimit")),
     ])
 }

@@ -131,6 +131,7 @@ fn times_at_the_limit() {
         let rows = [
             delay(0, field),
             delay(field, field),
+            delay(field, u64::MAX),
             Constraint::Repeat { event: 0, span: 1, lower: field, upper: field },
             Constraint::Sporadic { event: 0, lower: field, upper: u64::MAX, jitter: field, minimum: field },
             Constraint::Burst { event: 0, maximum: 64, length: field, minimum: field },

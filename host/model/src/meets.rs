@@ -44,11 +44,11 @@ pub fn without_target(lower: u64, upper: u64, sources: &[u64], targets: &[u64]) 
     let mut left = targets.iter().peekable();
     sources.iter().copied().filter(move |&source| {
         while left.next_if(|&&target| target < source || target - source < lower).is_some() {}
-        !left.peek().is_some_and(|&&target| between(lower, upper, source, target))
+        !left.peek().is_some_and(|&&target| apart(lower, upper, source, target))
     })
 }
 
-/// Delay (§5.1): each source has a target in its interval.
+/// Delay (§5.1): each source has a target in its interval, which without an upper limit has no end.
 fn delay(lower: u64, upper: u64, sources: &[u64], targets: &[u64]) -> bool {
     without_target(lower, upper, sources, targets).next().is_none()
 }

@@ -55,9 +55,8 @@ fn in_range(row: &Constraint) -> bool {
     let upper_or_mark = |field: &u64| time(field) || *field == NO_LIMIT;
     let span_or_maximum = |field: &u8| (1..=SPAN_LIMIT).contains(field);
     match row {
-        Constraint::Delay { lower, upper, .. } | Constraint::StrongDelay { lower, upper, .. } => {
-            time(lower) && time(upper)
-        }
+        Constraint::Delay { lower, upper, .. } => time(lower) && upper_or_mark(upper),
+        Constraint::StrongDelay { lower, upper, .. } => time(lower) && time(upper),
         Constraint::Repeat { span, lower, upper, .. } => span_or_maximum(span) && time(lower) && upper_or_mark(upper),
         Constraint::Sporadic { lower, upper, jitter, minimum, .. } => {
             time(lower) && upper_or_mark(upper) && time(jitter) && time(minimum)

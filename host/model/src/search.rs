@@ -1,6 +1,6 @@
 //! Open, straight from its definition (§2.4), by trying every continuation up to a last time. For small numbers only.
 
-use crate::constraint::Constraint;
+use crate::constraint::{Constraint, NO_LIMIT};
 use crate::continuation::{Event, Together};
 use crate::meets::meets;
 use crate::steps::{Events, History};
@@ -23,7 +23,8 @@ pub fn open_within(constraint: &Constraint, recorded: &History, last: u64) -> bo
 /// A time so late that a continuation which meets the row can be chosen with no event after it.
 ///
 /// - Delay: of a continuation that meets the row keep the targets up to the newest recorded source + upper. Each
-///   recorded source still has its target, and no other source is left.
+///   recorded source still has its target, and no other source is left. Without an upper limit one target will do for
+///   all of them: at the newest source + lower, or right after the clock if that is later.
 /// - StrongDelay, Order, StrongSynchronization: drop what is beyond the larger number recorded of a kind. Each pair or
 ///   group left has a recorded member, at most at the clock, and the others are at most upper or tolerance later.
 ///   Order has no such bound, but its further targets, whose sources are all recorded, may as well be at
@@ -33,7 +34,10 @@ pub fn open_within(constraint: &Constraint, recorded: &History, last: u64) -> bo
 pub fn reach(constraint: &Constraint, recorded: &History) -> u64 {
     let clock = recorded.clock();
     match constraint {
-        Constraint::Delay { source, upper, .. } => recorded.times(*source).last().map_or(clock, |last| last + upper),
+        Constraint::Delay { source, lower, upper, .. } => recorded
+            .times(*source)
+            .last()
+            .map_or(clock, |last| if *upper == NO_LIMIT { (clock + 1).max(last + lower) } else { last + upper }),
         Constraint::StrongDelay { upper, .. } => clock + upper,
         Constraint::Order { source, target } => {
             let missing = recorded.times(*source).len().saturating_sub(recorded.times(*target).len());

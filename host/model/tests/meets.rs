@@ -34,7 +34,7 @@ fn delay_word_by_word(lower: u64, upper: u64, sources: &[u64], targets: &[u64]) 
     for s in sources {
         let mut found = false;
         for t in targets {
-            found |= s <= t && lower <= t - s && t - s <= upper;
+            found |= s <= t && lower <= t - s && (upper == NO_LIMIT || t - s <= upper);
         }
         if !found {
             return false;
@@ -64,7 +64,7 @@ fn delay_and_synchronization_in_other_words() {
             rising(random, number, Scale::Small)
         };
         let lists = [list(&mut random), list(&mut random), list(&mut random)];
-        let (lower, upper) = (random.below(3), random.below(6));
+        let (lower, upper) = (random.below(3), *random.pick(&[0, 1, 2, 3, 4, 5, NO_LIMIT]));
         let events = events_at(&lists);
         assert_eq!(events.times(1), lists[1]);
         let plain = delay_word_by_word(lower, upper, &lists[0], &lists[1]);
@@ -187,6 +187,7 @@ fn synchronization_corners() {
 fn no_number_is_too_large_for_the_definitions() {
     let text = "0@0, 1@72057594037927935, 0@72057594037927935";
     assert!(!of(&delay(NO_LIMIT, NO_LIMIT), text) && !of(&strong_delay(0, NO_LIMIT), text));
+    assert!(of(&delay(0, NO_LIMIT), text) && of(&delay(72_057_594_037_927_935, NO_LIMIT), "0@0, 1@72057594037927935"));
     assert!(of(&repeat(1, 0, NO_LIMIT - 1), text) && !of(&repeat(1, NO_LIMIT, NO_LIMIT), text));
     assert!(!of(&sporadic(NO_LIMIT, NO_LIMIT, NO_LIMIT, 0), text) && of(&sporadic(0, NO_LIMIT, NO_LIMIT, 0), text));
     assert!(!of(&burst(1, NO_LIMIT, NO_LIMIT), text) && of(&synchronization(1, 0), text));

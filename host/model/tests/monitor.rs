@@ -8,7 +8,7 @@ use model::random::calls::calls;
 use model::random::seen::Seen;
 use model::random::tables::{Scale, row};
 use model::search::open_by_search;
-use model::{Answer, Constraint, Events, History, LAST_TIME, Monitor, Step, Verdict, waiting};
+use model::{Answer, Constraint, Events, History, LAST_TIME, Monitor, NO_LIMIT, Step, Verdict, waiting};
 
 #[test]
 fn fresh_monitor() {
@@ -36,7 +36,10 @@ fn fresh_questions_in_order() {
     assert_eq!(number(&[bad_everything]), Err(5));
     assert_eq!(number(&[bad_times]), Err(6));
     assert_eq!(number(&[delay(3, 2)]), Err(7));
-    assert_eq!(number(&[delay(0, u64::MAX)]), Err(6));
+    assert_eq!(number(&[delay(0, u64::MAX)]), Ok(()));
+    assert_eq!(number(&[delay(0, u64::MAX - 1)]), Err(6));
+    assert_eq!(number(&[delay(u64::MAX, u64::MAX)]), Err(6));
+    assert_eq!(number(&[strong_delay(0, u64::MAX)]), Err(6));
     assert_eq!(number(&[repeat(0, 3, 2)]), Err(6));
     assert_eq!(
         number(&[repeat(64, 3, u64::MAX), sporadic(3, u64::MAX, 0, 0), burst(64, LAST_TIME, LAST_TIME)]),
@@ -107,6 +110,24 @@ fn a_row_that_breaks_is_not_crowded() {
     assert_eq!((monitor.waiting(0), verdicts(&monitor).as_str()), (Ok(64), "open"));
     assert_eq!(monitor.event(0, 65), Ok(()));
     assert_eq!((monitor.waiting(0), verdicts(&monitor).as_str()), (Ok(0), "broken 65"));
+}
+
+#[test]
+fn sources_without_an_upper_limit_wait_until_a_target_comes() {
+    let mut monitor = fresh(&[delay(5, NO_LIMIT)]);
+    (1..=64).for_each(|time| assert_eq!(monitor.event(0, time), Ok(())));
+    assert_eq!(
+        (monitor.event(0, 65), monitor.tick(1_000_000), monitor.event(0, 1_000_000)),
+        (Err(12), Ok(()), Err(12))
+    );
+    assert_eq!((monitor.waiting(0), verdicts(&monitor).as_str()), (Ok(64), "open"));
+    take(&mut monitor, "1@1000000, 0@1000000");
+    assert_eq!((monitor.waiting(0), verdicts(&monitor).as_str()), (Ok(1), "open"));
+    // a target leaves those waiting that are less than lower before it
+    let mut monitor = fresh(&[delay(5, NO_LIMIT)]);
+    (1..=64).for_each(|time| assert_eq!(monitor.event(0, time), Ok(())));
+    take(&mut monitor, "1@65");
+    assert_eq!((monitor.waiting(0), verdicts(&monitor).as_str()), (Ok(4), "open"));
 }
 
 #[test]

@@ -111,6 +111,7 @@ fn compare_all(row: &Constraint, recorded: &History, last: u64, steps: usize) ->
 fn every_short_history_beside_the_search() {
     let rows = [
         vec![delay(0, 0), delay(0, 1), delay(0, 2), delay(1, 1), delay(1, 2), delay(2, 2)],
+        vec![delay(0, NO_LIMIT), delay(1, NO_LIMIT), delay(3, NO_LIMIT)],
         vec![strong_delay(0, 0), strong_delay(0, 1), strong_delay(0, 2), strong_delay(1, 1), strong_delay(1, 2)],
         vec![repeat(1, 0, 0), repeat(1, 0, NO_LIMIT), repeat(1, 1, 2), repeat(2, 2, 2), repeat(2, 3, NO_LIMIT)],
         vec![sporadic(0, 0, 3, 0), sporadic(0, 1, 0, 0), sporadic(1, 1, 9, 2), sporadic(2, 2, 1, 0)],

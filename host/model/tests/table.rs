@@ -89,7 +89,9 @@ fn fields_in_order() {
     assert_eq!(number(delay(64, 1, LAST_TIME + 1, 0)), (5, 6));
     assert_eq!(number(delay(1, 1, 0, 0)), (5, 6));
     assert_eq!(number(delay(0, 1, LAST_TIME + 1, 0)), (6, 6));
-    assert_eq!(number(delay(0, 1, 0, u64::MAX)), (6, 6));
+    assert_eq!(number(delay(0, 1, 0, u64::MAX - 1)), (6, 6));
+    assert_eq!(number(delay(0, 1, u64::MAX, u64::MAX)), (6, 6));
+    assert_eq!(number(strong_delay(0, u64::MAX)), (6, 6));
     assert_eq!(number(delay(0, 1, 1, 0)), (7, 6));
     assert_eq!(number(repeat(0, 1, 0)), (6, 6));
     assert_eq!(number(repeat(65, 1, 1)), (6, 6));

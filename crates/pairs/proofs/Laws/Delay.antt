@@ -3,27 +3,29 @@
 use Prim.Native.Nat.{ℕ, suc, _+_, _≤_, _<_}
 use native.Mathlib.Omega.{arith}
 use mathlib.Core.Path.{_≡_, refl, sym, ap, _∙_, subst}
-use mathlib.Core.Bool.{Bool, true, false, cond, _&&_, _||_, true≢false, false≢true}
+use mathlib.Core.Bool.{Bool, true, false, cond, _&&_, _||_, or-true, true≢false, false≢true}
 use mathlib.Core.List.{List, [], _∷_, _++_, append-nil}
-use mathlib.Core.Logic.{inl, inr}
+use mathlib.Core.Logic.{inl, inr, ⊎-elim}
 use lib.ListN.{length, drop}
 use lib.Dec.{leb, eqb}
 use borrow.Author.Tests.{leb-true, leb-false, le-leb, lt-leb, eqb-true, eq-eqb, ne-eqb}
-use Rattle.constraint.specs.Limits.{lastTime}
-use Rattle.constraint.specs.Steps.{at}
+use Rattle.constraint.specs.Limits.{lastTime, noLimit}
+use Rattle.constraint.specs.Steps.{Step, tick, at, times, clock, closed}
 use Rattle.constraint.specs.Meets.{Meets, MeetsDelay}
+use Rattle.constraint.specs.Continuation.{Open}
 use Rattle.constraint.specs.Waiting.{answered, unanswered, waiting}
 use Rattle.constraint.specs.Accepted.{LowerFirst}
 use Rattle.constraint.specs.declared.Constraint.the-variants.{Delay}
 use Rattle.constraint.proofs.Lists.{split, Each, each-tail, each-left, Rising}
 use Rattle.constraint.proofs.Counting.{nextFree, next-above, next-least, next-snoc}
+use Rattle.constraint.proofs.History.{Accepts, Valid, valid-more, Past, past-of, closed-tick}
 use Rattle.queue.specs.declared.Edit.the-variants.{Drop, Push}
 use Rattle.machine.specs.Rule.{ruleOf}
 use Rattle.machine.specs.Parts.{noMarks, plus, withLast, waits, dueOldest, none-left}
 use Rattle.machine.specs.declared.Rule.{Rule}
 use Rattle.machine.specs.declared.Marks.{Marks}
 use Rattle.machine.proofs.Exact.{Sound, GoesOn, ByOutcome, Exact}
-use Rattle.machine.proofs.TwoKinds.{UpTo, Further, Lost, TwoKinds, target-apart, exactTwoKinds}
+use Rattle.machine.proofs.TwoKinds.{UpTo, Further, Lost, TwoKinds, OfTwoKinds, target-apart, pair-open, exactTwoKinds}
 use Rattle.machine.proofs.Oldest.{due-each, due-passed, due-pushed, due-dropped}
 use Rattle.pairs.specs.Delay.{answeredBy, answeredAtOnce, decideDelay}
 use Rattle.pairs.proofs.Laws.Answers.{answers, answers-count, answers-between, firstFree, answers-follow, answers-from-now}
@@ -59,7 +61,7 @@ module _ (source target lower upper : ℕ) (sound : Sound (Delay source target l
       → Each (λ y. y < t) targets
   earlier-unanswered targets t none past e j h =
       split (leb t (at targets j)) (λ x. at targets j < t)
-      (λ f. absurd (true≢false (sym (answered-by lower upper t targets j h (omega (arith, leb-true, past j h))) ∙ e)))
+      (λ f. absurd (true≢false (sym (answered-by lower upper t targets j h (omega (arith, leb-true), inr (omega (arith, past j h)))) ∙ e)))
       (λ f. omega (arith, leb-false))
 
   answered-at-once : (targets : List ℕ) (t : ℕ) → t ≤ lastTime → Each (λ y. y ≤ t) targets
@@ -68,9 +70,9 @@ module _ (source target lower upper : ℕ) (sound : Sound (Delay source target l
       split (answered lower upper t targets) (λ x. x ≡ answeredAtOnce lower (nextFree targets) t)
       (λ e. let a = answered-true lower upper t targets e in
       rw (
-        eq-eqb lower 0 (omega (arith, a .2, past (a .0) (a .1))),
+        eq-eqb lower 0 (omega (arith, a .2 .0, past (a .0) (a .1))),
         eq-eqb (nextFree targets) (plus t 1)
-            (omega (arith, a .2, next-above targets (a .0) (a .1), next-least targets (suc t) (λ j h. omega (arith, past j h)))),
+            (omega (arith, a .2 .0, next-above targets (a .0) (a .1), next-least targets (suc t) (λ j h. omega (arith, past j h)))),
       ))
       (λ e. split (eqb lower 0) (λ x. false ≡ (x && eqb (nextFree targets) (plus t 1)))
       (λ f. let before = earlier-unanswered targets t (eqb-true lower 0 f) past e in
@@ -89,7 +91,7 @@ module _ (source target lower upper : ℕ) (sound : Sound (Delay source target l
   unfolding answered answeredBy
   answered-oldest [] t rise in-time = refl
   answered-oldest (s ∷ times) t rise in-time =
-      rw (le-leb t (s + upper) (in-time 0 (omega arith)))
+      rw (le-leb t (s + upper) (in-time 0 (omega arith)), or-true (eqb upper noLimit))
       (split (leb (s + lower) t)
       (λ x. drop (cond x (suc (answeredBy lower t times)) 0) (s ∷ times)
       ≡ cond ((x && true) || false) (unmet lower upper times (t ∷ [])) (s ∷ unmet lower upper times (t ∷ [])))
@@ -156,7 +158,7 @@ module _ (source target lower upper : ℕ) (sound : Sound (Delay source target l
   late-oldest times t further small passed late m =
       let (some, over) = due-passed upper t times small passed in
       let a = m 0 some in
-      omega (arith, a .2, late (a .0) (a .1))
+      ⊎-elim (λ mark. omega arith) (λ soon. omega (arith, late (a .0) (a .1))) (a .2 .1)
 
   delay-late : {sources targets : List ℕ} {marks : Marks} {times : List ℕ} {t : ℕ} → LiveDelay lower upper sources targets marks times
       → dueOldest upper times < t → t ≤ lastTime → Lost t (MeetsDelay lower upper) sources targets
@@ -176,7 +178,7 @@ module _ (source target lower upper : ℕ) (sound : Sound (Delay source target l
     unfolding LowerFirst
     targets-early s waits late j h =
         split (leb (s + lower) (at targets j)) (λ x. at targets j < s + upper)
-        (λ e. absurd (waits (j, h, (leb-true (s + lower) (at targets j) e, omega (arith, r .targets-past j h)))))
+        (λ e. absurd (waits (j, h, (leb-true (s + lower) (at targets j) e, inr (omega (arith, r .targets-past j h))))))
         (λ e. omega (arith, leb-false, sound .lower-first))
 
     free-in-time : Each (λ s. firstFree now targets ≤ s + upper) times
@@ -196,7 +198,8 @@ module _ (source target lower upper : ℕ) (sound : Sound (Delay source target l
           answers-from-now lower now targets times,
           unmet-meets lower upper sources (targets ++ further)
               (rw (unmet-targets lower upper sources targets further, ← live .unmet-are)
-              (meets-unmet lower upper times further (λ i h. (i, rw (answers-count lower (firstFree now targets) times) h, between i h)))),
+              (meets-unmet lower upper times further
+              (λ i h. (i, rw (answers-count lower (firstFree now targets) times) h, (between i h .0, inr (between i h .1)))))),
         )
 
   -- ---- Waiting
@@ -234,9 +237,43 @@ module _ (source target lower upper : ℕ) (sound : Sound (Delay source target l
         not-kept = λ live. delay-not-kept _ _ _ (live .unmet-are);
       }
 
-  pub exactDelay : Exact (Delay source target lower upper) (decideDelay rule)
+  delay-of : OfTwoKinds (Delay source target lower upper) source target (MeetsDelay lower upper) (unanswered lower upper)
   unfolding Meets waiting
-  exactDelay =
-      exactTwoKinds
-      (record { kinds-are = refl; kinds-fit = sound .kinds-fit; no-words = refl; meets-are = λ steps. refl; waiting-is = λ steps. refl })
-      (decideDelay rule) delay-laws
+  delay-of = record { kinds-are = refl; kinds-fit = sound .kinds-fit; no-words = refl; meets-are = λ steps. refl; waiting-is = λ steps. refl }
+
+  pub exactDelay : Exact (Delay source target lower upper) (decideDelay rule)
+  exactDelay = exactTwoKinds delay-of (decideDelay rule) delay-laws
+
+-- ---- Without an upper limit
+
+module _ (source target lower : ℕ) (sound : Sound (Delay source target lower noLimit)) where
+  -- its due time is none
+  none-due : (sources : List ℕ) → dueOldest noLimit sources ≡ noLimit
+  none-due [] = refl
+  none-due (s ∷ sources) = omega arith
+
+  -- the sources with no target so far still can have one
+  unlimited-further : {now : ℕ} {sources targets : List ℕ} → UpTo now sources targets
+      → Further now targets (λ all. MeetsDelay lower noLimit sources all)
+  unlimited-further {now} {sources} {targets} r =
+      delay-open source target lower noLimit sound {marks = withLast noMarks (nextFree targets)} r (record { unmet-are = refl; last-is = refl })
+      (omega (arith, none-due (unmet lower noLimit sources targets), r .small))
+
+  -- before the close the row is open, whatever has come and however late it is
+  pub unlimited-delay-open : {steps : List Step} → Past steps → closed steps ≡ false → Open (Delay source target lower noLimit) steps
+  unlimited-delay-open {steps} p o =
+      let r : UpTo (clock steps) (times source steps) (times target steps) = record {
+        sources-rise = p .rising source;
+        targets-rise = p .rising target;
+        sources-past = p .past source;
+        targets-past = p .past target;
+        small = p .small;
+      } in
+      pair-open (delay-of source target lower noLimit sound) (decideDelay (ruleOf (Delay source target lower noLimit)))
+      (delay-laws source target lower noLimit sound) steps o (inr (unlimited-further r))
+
+  -- so no tick breaks it
+  pub unlimited-delay-waits : {steps : List Step} {t : ℕ} → Valid steps → Accepts steps (tick t)
+      → Open (Delay source target lower noLimit) (steps ++ (tick t ∷ []))
+  unlimited-delay-waits {steps} {t} v a =
+      unlimited-delay-open (past-of (valid-more (tick t) v a)) (closed-tick t steps ∙ a .not-closed)

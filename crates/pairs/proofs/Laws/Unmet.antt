@@ -1,21 +1,23 @@
 -- The sources with no target in their interval, as a list: it is filtered source by source and target by target, and Delay is met just where
 -- it is empty.
-use Prim.Native.Nat.{ℕ, zero, suc, _+_, _<_}
+use Prim.Native.Nat.{ℕ, zero, suc, _+_, _≤_, _<_}
 use native.Mathlib.Omega.{arith}
 use mathlib.Core.Path.{_≡_, refl, sym, ap, _∙_}
-use mathlib.Core.Bool.{Bool, true, false, cond, not, _&&_, _||_, or-true, true≢false, false≢true}
+use mathlib.Core.Bool.{Bool, true, false, cond, not, _&&_, _||_, true≢false, false≢true}
 use mathlib.Core.List.{List, [], _∷_, _++_}
+use mathlib.Core.Logic.{_⊎_, inl, inr, ⊎-elim}
 use lib.ListN.{length}
-use lib.Dec.{leb}
-use borrow.Author.Tests.{leb-true, le-leb}
+use lib.Dec.{leb, eqb}
+use borrow.Author.Tests.{leb-true, le-leb, eqb-true, eq-eqb}
+use Rattle.constraint.specs.Limits.{noLimit}
 use Rattle.constraint.specs.Steps.{at}
-use Rattle.constraint.specs.Meets.{Between, MeetsDelay}
-use Rattle.constraint.specs.Waiting.{answered, unanswered}
-use Rattle.constraint.proofs.Lists.{split, Each, each-none, each-cons, each-tail, Rising}
+use Rattle.constraint.specs.Meets.{Apart, MeetsDelay}
+use Rattle.constraint.specs.Waiting.{inInterval, answered, unanswered}
+use Rattle.constraint.proofs.Lists.{split, or-true, Each, each-none, each-cons, each-tail, Rising}
 
 -- a target in the interval of the source at s
 abbrev pub Answered : ℕ → ℕ → List ℕ → ℕ → Type 0
-Answered lower upper targets s = (j : ℕ) × (j < length targets) × Between lower upper s (at targets j)
+Answered lower upper targets s = (j : ℕ) × (j < length targets) × Apart lower upper s (at targets j)
 
 -- the sources with no target in their interval
 abbrev pub unmet : ℕ → ℕ → List ℕ → List ℕ → List ℕ
@@ -28,29 +30,43 @@ both-true true b e = (refl, e)
 both-true false b e = absurd (false≢true e)
 
 module _ (lower upper : ℕ) where
+  -- the mark, or a target in time
+  in-interval : (s t : ℕ) → inInterval lower upper s t ≡ true → Apart lower upper s t
+  in-interval s t e =
+      let h = both-true (leb (s + lower) t) (eqb upper noLimit || leb t (s + upper)) e in (
+        leb-true (s + lower) t (h .0),
+        ⊎-elim (λ f. inl (eqb-true upper noLimit f)) (λ f. inr (leb-true t (s + upper) f)) (or-true (eqb upper noLimit) (leb t (s + upper)) (h .1)),
+      )
+
+  pub interval-true : (s t : ℕ) → Apart lower upper s t → inInterval lower upper s t ≡ true
+  interval-true s t b = rw (le-leb (s + lower) t (b .0)) (limit (b .1))
+    where
+      limit : (upper ≡ noLimit) ⊎ (t ≤ s + upper) → (eqb upper noLimit || leb t (s + upper)) ≡ true
+      limit (inl e) = rw (eq-eqb upper noLimit e)
+      limit (inr h) = rw (le-leb t (s + upper) h) (mathlib.Core.Bool.or-true (eqb upper noLimit))
+
   pub answered-true : (s : ℕ) (targets : List ℕ) → answered lower upper s targets ≡ true → Answered lower upper targets s
   unfolding answered
   answered-true s [] e = absurd (false≢true e)
   answered-true s (t ∷ targets) e =
-      split (leb (s + lower) t && leb t (s + upper)) (λ x. (x || answered lower upper s targets) ≡ true → Answered lower upper (t ∷ targets) s)
-      (λ f g. let h = both-true (leb (s + lower) t) (leb t (s + upper)) f in
-      (0, omega arith, (leb-true (s + lower) t (h .0), leb-true t (s + upper) (h .1))))
+      split (inInterval lower upper s t) (λ x. (x || answered lower upper s targets) ≡ true → Answered lower upper (t ∷ targets) s)
+      (λ f g. (0, omega arith, in-interval s t f))
       (λ f g. let h = answered-true s targets g in (suc (h .0), omega (arith, h .1), h .2))
       e
 
-  pub answered-by : (s : ℕ) (targets : List ℕ) (j : ℕ) → j < length targets → Between lower upper s (at targets j)
+  pub answered-by : (s : ℕ) (targets : List ℕ) (j : ℕ) → j < length targets → Apart lower upper s (at targets j)
       → answered lower upper s targets ≡ true
   unfolding answered
   answered-by s [] j h b = absurd (omega arith)
-  answered-by s (t ∷ targets) zero h b = rw (le-leb (s + lower) t (b .0), le-leb t (s + upper) (b .1))
-  answered-by s (t ∷ targets) (suc j) h b = rw (answered-by s targets j (omega arith) b) (or-true (leb (s + lower) t && leb t (s + upper)))
+  answered-by s (t ∷ targets) zero h b = rw (interval-true s t b)
+  answered-by s (t ∷ targets) (suc j) h b = rw (answered-by s targets j (omega arith) b) (mathlib.Core.Bool.or-true (inInterval lower upper s t))
 
   answered-append : (s : ℕ) (targets more : List ℕ)
       → answered lower upper s (targets ++ more) ≡ (answered lower upper s targets || answered lower upper s more)
   unfolding answered
   answered-append s [] more = refl
   answered-append s (t ∷ targets) more =
-      split (leb (s + lower) t && leb t (s + upper))
+      split (inInterval lower upper s t)
       (λ x. (x || answered lower upper s (targets ++ more)) ≡ ((x || answered lower upper s targets) || answered lower upper s more))
       (λ e. refl) (λ e. answered-append s targets more)
 

@@ -108,7 +108,7 @@ impl Rule {
     /// The last clock at which the row is open if none of its events comes.
     pub fn due(&self) -> u64 {
         match self {
-            Rule::Delay { upper, waiting, .. } => waiting.first().map_or(NEVER, |first| first + upper),
+            Rule::Delay { upper, waiting, .. } => waiting.first().map_or(NEVER, |first| first.saturating_add(*upper)),
             Rule::StrongDelay { upper, waiting, early, .. } => waiting.first().map_or(*early, |first| first + upper),
             Rule::Order { early, .. } => *early,
             Rule::StrongSynchronization { tolerance, begun, .. } => {

@@ -77,7 +77,10 @@ pub fn row_of_type(random: &mut Random, type_byte: u8, scale: Scale, pool: &[u8]
     let (event, source, target) = (kinds[0], kinds[0], kinds[1]);
     let (lower, upper) = scale.lower_and_upper(random);
     match type_byte {
-        1 => Constraint::Delay { source, target, lower, upper },
+        1 => {
+            let (lower, upper) = scale.lower_and_upper_or_mark(random);
+            Constraint::Delay { source, target, lower, upper }
+        }
         2 => Constraint::StrongDelay { source, target, lower, upper },
         3 => {
             let (lower, upper) = scale.lower_and_upper_or_mark(random);

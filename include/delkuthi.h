@@ -75,6 +75,7 @@
  *   kinds            0 to 63              DELKUTHI_LAST_KIND
  *   rows of a table  0 to 32              DELKUTHI_ROW_LIMIT
  *   waiting in a row at most 64           DELKUTHI_WAITING_LIMIT
+ *   a table          at most 1,153 bytes  DELKUTHI_TABLE_LIMIT
  *   a report         at most 1,024 bytes  DELKUTHI_REPORT_LIMIT
  *   stack, report    at most 384 KiB      DELKUTHI_REPORT_STACK
  *   stack, others    at most 256 KiB      DELKUTHI_MONITOR_STACK
@@ -101,7 +102,20 @@
  *   7 StrongSynchronization   n from 2 to 4, n kinds, tolerance        10 + n
  *
  * Spans and maxima go from 1 to 64. Where the upper of type 1, 3 or 4 is
- * 2^64 - 1, there is no upper limit.
+ * 2^64 - 1, DELKUTHI_NO_LIMIT, there is no upper limit.
+ *
+ * A host need not count these bytes: it makes rows by their fields' names, and
+ * delkuthi_make_table writes the table. A Delay and an Order, say:
+ *
+ *     uint8_t table[DELKUTHI_TABLE_LIMIT];
+ *     const delkuthi_row rows[2] = {
+ *         delkuthi_delay(0, 1, 2, 3),
+ *         delkuthi_order(4, 5)
+ *     };
+ *     uint64_t answer = delkuthi_make_table(rows, 2, table, sizeof table);
+ *
+ *     if (DELKUTHI_NUMBER(answer) == DELKUTHI_TAKEN)
+ *         answer = delkuthi_fresh(&monitor, table, DELKUTHI_LENGTH(answer));
  *
  *
  * WHAT EACH ROW ASKS
@@ -223,9 +237,13 @@ extern "C" {
 #define DELKUTHI_LAST_KIND     63
 #define DELKUTHI_ROW_LIMIT     32
 #define DELKUTHI_WAITING_LIMIT 64
+#define DELKUTHI_TABLE_LIMIT   1153
 #define DELKUTHI_REPORT_LIMIT  1024
 #define DELKUTHI_REPORT_STACK  393216
 #define DELKUTHI_MONITOR_STACK 262144
+
+/* The upper of a Repeat or a Sporadic that has no upper limit. */
+#define DELKUTHI_NO_LIMIT UINT64_C(18446744073709551615)
 
 /*
  * A monitor: 23,072 bytes, aligned as a uint64_t is. Put it on the stack, in
@@ -259,7 +277,8 @@ uint64_t delkuthi_monitor_size(void);
  * gives the number.
  */
 enum delkuthi_refusal {
-    /* A table (delkuthi_fresh, delkuthi_report). Mend the table. */
+    /* A table (delkuthi_fresh, delkuthi_report; 3 to 7 also of
+       delkuthi_make_table). Mend the table. */
     DELKUTHI_TABLE_VERSION = 1, /* it does not begin with a byte 1 */
     DELKUTHI_ROW_CUT = 2,       /* a length field, or a row, is not whole */
     DELKUTHI_ROW_TOO_MANY = 3,  /* more than 32 rows: use two monitors */
@@ -285,12 +304,14 @@ enum delkuthi_refusal {
                                         is neither 8 nor 9 */
 
     /* A row's number (delkuthi_row_verdict). Rows are numbered from 0. */
-    DELKUTHI_NO_ROW = 15 /* the table has no row of that number */
+    DELKUTHI_NO_ROW = 15, /* the table has no row of that number */
+
+    /* A buffer (delkuthi_make_table). Lend a longer one. */
+    DELKUTHI_TABLE_ROOM = 16 /* it is too short for the table */
 
     /*
-     * Two more have no call of this header that answers them: 16, a buffer
-     * that is too short, is the table writer's; 17, a file that is too large,
-     * is the program's.
+     * One more has no call of this header that answers it: 17, a file that is
+     * too large, is the program's.
      */
 };
 
@@ -330,7 +351,7 @@ static inline const char *delkuthi_refusal_text(uint8_t number)
         return "a record is not whole, or its length is neither 8 nor 9";
     case DELKUTHI_NO_ROW:
         return "there is no row of that number";
-    case 16:
+    case DELKUTHI_TABLE_ROOM:
         return "the buffer is too short";
     case 17:
         return "a file is too large";
@@ -359,6 +380,121 @@ uint64_t delkuthi_fresh(delkuthi_monitor *monitor,
 #define DELKUTHI_NUMBER(answer) ((uint8_t)((answer) & 255))
 #endif
 #define DELKUTHI_PLACE(answer) ((answer) >> 8)
+
+/*
+ * A row for delkuthi_make_table. Make it with the function of its type, which
+ * takes the fields by their names and in the order of the list above.
+ */
+typedef struct delkuthi_row {
+    uint8_t body[34];
+} delkuthi_row;
+
+/* A row with its type and two bytes; the functions below are for hosts. */
+static inline delkuthi_row delkuthi_row_bytes(uint8_t type, uint8_t a,
+                                              uint8_t b)
+{
+    delkuthi_row row = {{0}};
+
+    row.body[0] = type;
+    row.body[1] = a;
+    row.body[2] = b;
+    return row;
+}
+
+/* The row with a time in the eight bytes from a place on. */
+static inline delkuthi_row delkuthi_row_time(delkuthi_row row, size_t place,
+                                             uint64_t time)
+{
+    size_t i;
+
+    for (i = 8; i-- > 0; time >>= 8)
+        row.body[place + i] = DELKUTHI_NUMBER(time);
+    return row;
+}
+
+static inline delkuthi_row delkuthi_delay(uint8_t source, uint8_t target,
+                                          uint64_t lower, uint64_t upper)
+{
+    delkuthi_row row = delkuthi_row_bytes(1, source, target);
+
+    return delkuthi_row_time(delkuthi_row_time(row, 3, lower), 11, upper);
+}
+
+static inline delkuthi_row delkuthi_strong_delay(uint8_t source,
+                                                 uint8_t target,
+                                                 uint64_t lower,
+                                                 uint64_t upper)
+{
+    delkuthi_row row = delkuthi_row_bytes(2, source, target);
+
+    return delkuthi_row_time(delkuthi_row_time(row, 3, lower), 11, upper);
+}
+
+static inline delkuthi_row delkuthi_repeat(uint8_t event, uint8_t span,
+                                           uint64_t lower, uint64_t upper)
+{
+    delkuthi_row row = delkuthi_row_bytes(3, event, span);
+
+    return delkuthi_row_time(delkuthi_row_time(row, 3, lower), 11, upper);
+}
+
+static inline delkuthi_row delkuthi_sporadic(uint8_t event, uint64_t lower,
+                                             uint64_t upper, uint64_t jitter,
+                                             uint64_t minimum)
+{
+    delkuthi_row row = delkuthi_row_bytes(4, event, 0);
+
+    row = delkuthi_row_time(delkuthi_row_time(row, 2, lower), 10, upper);
+    return delkuthi_row_time(delkuthi_row_time(row, 18, jitter), 26, minimum);
+}
+
+static inline delkuthi_row delkuthi_burst(uint8_t event, uint8_t maximum,
+                                          uint64_t length, uint64_t minimum)
+{
+    delkuthi_row row = delkuthi_row_bytes(5, event, maximum);
+
+    return delkuthi_row_time(delkuthi_row_time(row, 3, length), 11, minimum);
+}
+
+static inline delkuthi_row delkuthi_order(uint8_t source, uint8_t target)
+{
+    return delkuthi_row_bytes(6, source, target);
+}
+
+/* Of n kinds, 2 to 4; a row of another n is refused with 4. */
+static inline delkuthi_row delkuthi_strong_synchronization(
+    const uint8_t *kinds, uint8_t n, uint64_t tolerance)
+{
+    delkuthi_row row = delkuthi_row_bytes(7, n, 0);
+    size_t i;
+
+    for (i = 0; i < n && i < 4; i++)
+        row.body[2 + i] = kinds[i];
+    return delkuthi_row_time(row, 2 + i, tolerance);
+}
+
+/* The table writer; rows_size is in bytes. delkuthi_make_table calls it. */
+uint64_t delkuthi_table(const delkuthi_row *rows, size_t rows_size,
+                        uint8_t *table, size_t table_length);
+
+/*
+ * Writes the table of some rows, for delkuthi_fresh and delkuthi_report; a
+ * buffer of DELKUTHI_TABLE_LIMIT bytes holds any. Bytes behind the table stay
+ * as they were.
+ *
+ * DELKUTHI_NUMBER of the answer is DELKUTHI_TAKEN, and DELKUTHI_LENGTH then the
+ * length of the table; or a refusal, of number 3 to 7 or DELKUTHI_TABLE_ROOM,
+ * and the buffer stays as it was. It puts 3 to 7 to each row before the next.
+ */
+static inline uint64_t delkuthi_make_table(const delkuthi_row *rows,
+                                           size_t count, uint8_t *table,
+                                           size_t table_length)
+{
+    return delkuthi_table(rows, count * sizeof *rows, table, table_length);
+}
+
+/* The length of the table in an answer of delkuthi_make_table. */
+#define DELKUTHI_LENGTH(answer) ((answer) >> 8)
 
 /*
  * Takes an event. Its time may be the clock's or later, and has to be later

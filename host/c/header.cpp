@@ -18,6 +18,12 @@ int main()
     well = well && DELKUTHI_NUMBER(answer) == DELKUTHI_ROW_CUT && DELKUTHI_PLACE(answer) == 1;
     well = well && std::strcmp(delkuthi_refusal_text(DELKUTHI_CLOSED), "the recording is closed") == 0;
     well = well && delkuthi_fresh(&bench.monitor, table, sizeof table) == DELKUTHI_TAKEN;
+    const delkuthi_row row = delkuthi_order(0, 1);
+    uint8_t made[DELKUTHI_TABLE_LIMIT];
+    const uint64_t length = delkuthi_make_table(&row, 1, made, sizeof made);
+    well = well && DELKUTHI_NUMBER(length) == DELKUTHI_TAKEN && DELKUTHI_LENGTH(length) == sizeof table;
+    well = well && std::memcmp(made, table, sizeof table) == 0;
+    well = well && delkuthi_make_table(&row, 1, made, 5) == DELKUTHI_TABLE_ROOM;
     well = well && delkuthi_event(&bench.monitor, 1, DELKUTHI_LAST_TIME + 1) == DELKUTHI_TIME_RANGE;
     well = well && delkuthi_row_verdict(&bench.monitor, DELKUTHI_ROW_LIMIT) == DELKUTHI_NO_ROW;
     well = well && delkuthi_row_verdict(&bench.monitor, 0) == DELKUTHI_OPEN;

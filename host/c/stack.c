@@ -19,6 +19,7 @@
 static struct file table, recording;
 static delkuthi_monitor monitor;
 static uint8_t report[DELKUTHI_REPORT_LIMIT];
+static delkuthi_row rows[DELKUTHI_ROW_LIMIT];
 static uint8_t *stack;
 
 static void *nothing(void *unused)
@@ -29,6 +30,12 @@ static void *nothing(void *unused)
 static void *fresh(void *unused)
 {
     (void)delkuthi_fresh(&monitor, table.bytes, table.length);
+    return unused;
+}
+
+static void *make_table(void *unused)
+{
+    (void)delkuthi_make_table(rows, DELKUTHI_ROW_LIMIT, report, sizeof report);
     return unused;
 }
 
@@ -98,12 +105,15 @@ static int within(size_t limit, const char *name, void *(*act)(void *))
 int main(int argc, char **argv)
 {
     void *memory;
-    int well = 1;
+    int well = 1, i;
 
+    for (i = 0; i < DELKUTHI_ROW_LIMIT; i++)
+        rows[i] = delkuthi_order(0, 1);
     if (argc != 3 || !read_file(argv[1], &table) || !read_file(argv[2], &recording)
         || posix_memalign(&memory, 1 << 16, SIZE) != 0)
         return 3;
     stack = memory;
+    well &= within(DELKUTHI_MONITOR_STACK, "table", make_table);
     well &= within(DELKUTHI_MONITOR_STACK, "fresh", fresh);
     well &= within(DELKUTHI_MONITOR_STACK, "event", event);
     well &= within(DELKUTHI_MONITOR_STACK, "tick", tick);

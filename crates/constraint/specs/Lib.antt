@@ -24,5 +24,6 @@ pub mod Bytes
 pub mod Table
 pub mod Recording
 pub mod Report
+pub mod Page
 -- What the code's records hold.
 pub mod Records

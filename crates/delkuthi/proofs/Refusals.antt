@@ -1,24 +1,33 @@
 -- The refusal of a table has a number above 0 and a place close to the start: each of the rows before it, at most 32, has at most 36 bytes.
 use Prim.Native.Nat.{ℕ, zero, suc, _+_, _-_, _*_, _≤_, _<_}
-use mathlib.Core.Path.{_≡_}
+use mathlib.Core.Path.{_≡_, refl, _∙_, subst}
 use mathlib.Core.Bool.{cond}
 use mathlib.Core.List.{List, [], _∷_}
 use mathlib.Core.Logic.{inl, inr}
 use native.Mathlib.Omega.{arith}
 use borrow.Author.Tests.{eqb-true}
 use lib.Dec.{eqb}
-use lib.ListN.{length, drop, length-drop}
+use lib.ListN.{length, drop, length-drop, length-append}
 use lib.Seq.{length-take-le}
 use Rattle.constraint.specs.Limits.{rowLimit}
 use Rattle.constraint.specs.Steps.{at}
 use Rattle.constraint.specs.Questions.{Question, Judged}
 use Rattle.constraint.specs.Types.{lengths}
-use Rattle.constraint.specs.Table.{ShapeFits, lengthAt, bodyAt, placeQuestions, TableRead, table-of, table-refused, rowThen, ReadsRows, no-more, row-refused, row-taken, ReadsTable, version-refused, version-taken}
+use Rattle.constraint.specs.Accepted.{rowQuestions, rowsQuestions}
+use Rattle.constraint.specs.Table.{rowBytes, rowsBytes, tableBytes, writerQuestions, ShapeFits, lengthAt, bodyAt, placeQuestions, TableRead, table-of, table-refused, rowThen, ReadsRows, no-more, row-refused, row-taken, ReadsTable, version-refused, version-taken}
 use Rattle.constraint.specs.declared.Answer.the-variants.{Taken, Refused}
 use Rattle.constraint.specs.declared.Constraint.{Constraint}
-use Rattle.constraint.proofs.Judged.{never}
+use Rattle.constraint.proofs.Judged.{never, judged-parts}
+use Rattle.constraint.proofs.Accepted.{rows-then, rows-room}
 use Rattle.constraint.proofs.Lists.{split}
+use Rattle.constraint.specs.declared.Answer.{Answer}
+use Rattle.table.specs.Raw.{WritesRaw, known, unknown}
+use Rattle.table.specs.Writing.{Writes, answerOf}
+use Rattle.table.specs.declared.WriteAnswer.{WriteAnswer}
+use Rattle.table.proofs.Bodies.{row-length}
+use Rattle.table.proofs.Standing.{body-short}
 use Rattle.table.proofs.Places.{place-taken}
+use Rattle.delkuthi.specs.Tables.{MakesTable}
 
 -- each of a list is at most a number, and so is the 0 that stands past its end
 AllAtMost : ℕ → List ℕ → Type 0
@@ -82,3 +91,65 @@ rows-small bytes (row-taken {i} {place} {later} c there at-c judged reads) =
 pub refused-small : (bytes : List ℕ) (n place : ℕ) → ReadsTable bytes (table-refused n place) → (0 < n) × (place ≤ 1153)
 refused-small bytes n place (version-refused one) = (omega arith, omega arith)
 refused-small bytes n place (version-taken one reads) = rows-small bytes reads
+
+-- The same of the writer's refusals; and a table that is written is short
+
+rows-above : (i : ℕ) (rows : List Constraint) (later : List Question) → AllAbove later → AllAbove (rowsQuestions i rows later)
+unfolding rowsQuestions AllAbove
+rows-above i [] later above = above
+rows-above i (c ∷ rows) later above = (omega arith, (omega arith, (omega arith, (omega arith, rows-above (i + 1) rows later above))))
+
+one-above : (n : ℕ) (asked : Type 0) → 0 < n → AllAbove ((n, asked) ∷ [])
+unfolding AllAbove
+one-above n asked above = (above, tt)
+
+writer-number : (rows : List Constraint) (before after : List ℕ) (r : WriteAnswer) (n : ℕ) → r ≡ WriteAnswer.Refused n → Writes rows before r after → 0 < n
+writer-number rows before after r n e writes =
+    number-above (writerQuestions rows before) n (rows-above 0 rows _ (one-above 16 _ (omega arith)))
+    (subst (λ (w : WriteAnswer). Judged (writerQuestions rows before) (answerOf w)) e (writes .judged))
+
+raw-number : (bytes before after : List ℕ) (r : WriteAnswer) (n : ℕ) → r ≡ WriteAnswer.Refused n → WritesRaw bytes before r after → 0 < n
+raw-number bytes before after r n e (known to writes) = writer-number _ before _ _ n e writes
+raw-number bytes before after r n e (unknown i m there to judged) =
+    let same : m ≡ n = cc in
+    omega (arith, same, number-above _ m (rows-above 0 _ _ (one-above 4 _ (omega arith))) judged)
+
+rows-short : (rows : List Constraint) → length (rowsBytes rows) ≤ 40 * length rows
+unfolding rowsBytes
+rows-short [] = omega arith
+rows-short (c ∷ rows) = omega (arith, length-append (rowBytes c) (rowsBytes rows), row-length c, body-short c, rows-short rows)
+
+table-short : (rows : List Constraint) → length (tableBytes rows) ≤ 1 + 40 * length rows
+unfolding tableBytes
+table-short rows = omega (arith, rows-short rows)
+
+writer-short : (rows : List Constraint) (before after : List ℕ) (r : WriteAnswer) (n : ℕ) → r ≡ WriteAnswer.Written n → Writes rows before r after → n ≤ 1281
+writer-short rows before after r n e writes =
+    let judged = subst (λ (w : WriteAnswer). Judged (writerQuestions rows before) (answerOf w)) e (writes .judged) in
+    let parts = judged-parts (rowsQuestions 0 rows []) _ (subst (λ (qs : List Question). Judged qs Taken) (rows-then 0 rows _) judged) in
+    omega (arith, rows-room 0 rows (omega arith) (parts .0), table-short rows, writes .counted n e)
+
+pub raw-short : (bytes before after : List ℕ) (r : WriteAnswer) (n : ℕ) → r ≡ WriteAnswer.Written n → WritesRaw bytes before r after → n ≤ 1281
+raw-short bytes before after r n e (known to writes) = writer-short _ before _ _ n e writes
+raw-short bytes before after r n e (unknown i m there to judged) = never (cc)
+
+-- what the writer for a host promises
+pub makes-written : (bytes before after : List ℕ) (r : WriteAnswer) (n : ℕ) → r ≡ WriteAnswer.Written n → WritesRaw bytes before r after
+    → MakesTable bytes before (n * 256) after
+makes-written bytes before after r n e writes =
+    record {
+      answer = WriteAnswer.Written n;
+      writes = subst (λ (w : WriteAnswer). WritesRaw bytes before w after) e writes;
+      equals = refl;
+      told = λ m refused. never (cc);
+    }
+
+pub makes-refused : (bytes before after : List ℕ) (r : WriteAnswer) (n : ℕ) → n < 256 → r ≡ WriteAnswer.Refused n → WritesRaw bytes before r after
+    → MakesTable bytes before n after
+makes-refused bytes before after r n small e writes =
+    record {
+      answer = WriteAnswer.Refused n;
+      writes = subst (λ (w : WriteAnswer). WritesRaw bytes before w after) e writes;
+      equals = refl;
+      told = λ m refused. let same : n ≡ m = cc in (omega (arith, same, raw-number bytes before after r n e writes), omega (arith, same, small));
+    }

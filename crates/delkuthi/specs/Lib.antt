@@ -2,3 +2,4 @@
 pub mod Taking
 pub mod Telling
 pub mod Lent
+pub mod Tables

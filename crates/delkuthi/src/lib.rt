@@ -2,6 +2,7 @@
 pub mod lent;
 mod records;
 mod report;
+pub mod tables;
 
 use text::Text;
 ghost use Rattle.constraint.specs.Report.{Reports, Prints};

@@ -13,3 +13,4 @@ pub mod Stores
 pub mod Written
 pub mod Answers
 pub mod Again
+pub mod RawRows

@@ -1,5 +1,6 @@
 // The table's bytes: rows are read from a file's bytes, and written to a lent buffer.
 pub mod body;
+pub mod raw;
 mod reader;
 mod writer;
 

@@ -1,13 +1,8 @@
 // The table reader and writer for tests in Rust, as functions on byte slices and numbers.
-use constraint::Table;
 use table::ReadAnswer;
 use table::WriteAnswer;
 ghost use mathlib.Core.Path.{_≡_};
-ghost use Prim.Native.Nat.{min};
-ghost use Rattle.constraint.specs.Limits.{rowLimit};
-ghost use Rattle.constraint.specs.Rows.{rowsOf};
-ghost use Rattle.table_host.specs.Codes.{refusalCode, writeCode, AnswersRead, AnswersWrite, AnswersRewrite};
-ghost use Rattle.table_host.specs.Raw.{rawTable};
+ghost use Rattle.table_host.specs.Codes.{refusalCode, writeCode, AnswersRead, AnswersRewrite};
 
 // A refusal as one number.
 fn refusal_code(number: u8, place: usize) -> u64
@@ -28,35 +23,6 @@ fn write_code(answer: WriteAnswer) -> u64
         WriteAnswer::Written(count) => count as u64,
         WriteAnswer::Refused(number) => refusal_code(number, 0),
     }
-}
-
-// How many of some rows have an entry.
-fn entries_of(count: usize) -> usize
-    ensures { λ r. ⌜ r ≡ min count rowLimit ⌝ }
-{
-    if count < constraint::ROW_LIMIT {
-        return count;
-    }
-    constraint::ROW_LIMIT
-}
-
-// The table record of rows given as raw bytes, 34 for each.
-fn raw_table(bytes: &[u8]) -> Table
-    ensures { λ r. ⌜ r ≡ rawTable (now (bytes .entry)) ⌝ }
-{
-    let count = bytes.len() / 34;
-    let entries = entries_of(count);
-    let mut table = Table::new();
-    let mut i = 0;
-    while i < entries {
-        let start = i * 34;
-        let end = start + 34;
-        let row = table::body::row_of(&bytes[start..end]);
-        table = table.with_row(row);
-        i += 1;
-    }
-    table.count = count;
-    table
 }
 
 // Reads a table: the number of its rows, or the refusal.
@@ -85,13 +51,4 @@ pub extern "C" fn table_rewrite(bytes: &[u8], buffer: &mut [u8]) -> u64
         ReadAnswer::Accepted => write_code(table::write(rows, buffer)),
         ReadAnswer::Refused { number, place } => refusal_code(number, place),
     }
-}
-
-// Writes any rows, given as raw bytes, 34 for each, to a lent buffer: the number of bytes written, or the refusal.
-#[no_mangle]
-pub extern "C" fn table_write_raw(rows: &[u8], buffer: &mut [u8]) -> u64
-    ensures { λ r. ⌜ AnswersWrite (rowsOf (rawTable (now (rows .entry)))) (now (buffer .entry)) r (now (buffer .exit)) ⌝ }
-{
-    let table = raw_table(rows);
-    write_code(table::write(table, buffer))
 }

@@ -1,17 +1,32 @@
 -- Decimal digits: how the code takes them off one by one, how many there are, and what they stand for.
 use Prim.Native.Nat.{ℕ, zero, suc, _+_, _-_, _*_, _/_, _%_, _^_, _≤_, _<_}
-use mathlib.Core.Path.{_≡_, refl, ap}
+use mathlib.Core.Path.{_≡_, refl, sym, ap, _∙_}
 use mathlib.Core.List.{List, [], _∷_, _++_, append-assoc}
 use mathlib.Core.Bool.{cond}
 use native.Mathlib.Nat.{pow-succ'}
 use native.Mathlib.Omega.{arith}
 use native.Mathlib.Decide.{decLt}
-use borrow.Author.Tests.{lt-ltb, le-ltb}
-use lib.Dec.{ltb}
-use lib.ListN.{length, set, drop, length-append, length-set, List·getD-append}
-use lib.Seq.{drop-cons, getD-set-same, drop-set-lt}
+use borrow.Author.Tests.{lt-ltb, le-ltb, ne-eqb}
+use lib.Dec.{ltb, eqb}
+use lib.ListN.{
+  length,
+  set,
+  take,
+  drop,
+  replicate,
+  length-append,
+  length-set,
+  length-drop,
+  length-replicate,
+  getD-replicate,
+  take-append-drop,
+  List·getD-append,
+}
+use lib.Seq.{length-take-le, drop-cons, getD-set-same, drop-set-lt, getD-take, ext-getD}
 use Rattle.constraint.specs.Steps.{at}
-use Rattle.constraint.specs.Report.{digits, decimal}
+use Rattle.constraint.specs.Report.{digits, decimal, blank}
+use Rattle.constraint.specs.Page.{rightIn, numberFrom}
+use Rattle.constraint.proofs.Lists.{Each, each-none, each-cons, each-append}
 
 -- One by one from the last
 
@@ -49,6 +64,17 @@ drop-stored l (suc i) v some there =
     let less : suc i - 1 ≡ i = omega arith in
     rw (less, drop-cons (set l i v) i 0 (omega (arith, length-set l i v)), getD-set-same l i v 0 (omega arith), drop-set-lt (suc i) l i v (omega arith))
 
+-- blanks, and behind them the digits of a number, are the number right-aligned
+pub aligned-right : (bytes : List ℕ) (start x : ℕ) → length bytes ≡ 20 → start ≤ 20 → ((k : ℕ) → k < start → at bytes k ≡ blank)
+    → drop start bytes ≡ decimal x → bytes ≡ rightIn 20 (decimal x)
+aligned-right bytes start x size within blanks spelled =
+    let gap : 20 - length (decimal x) ≡ start = omega (arith, ap length spelled, length-drop start bytes) in
+    let kept : length (take start bytes) ≡ start = length-take-le start bytes (omega arith) in
+    let front : take start bytes ≡ replicate start blank =
+    ext-getD 0 (take start bytes) (replicate start blank) (kept ∙ sym (length-replicate start blank))
+    (λ k h. getD-take start bytes k 0 (omega arith) ∙ blanks k (omega arith) ∙ sym (getD-replicate start k blank 0 (omega arith))) in
+    rw (gap, ← front, ← spelled) (sym (take-append-drop start bytes))
+
 -- How many there are
 
 -- the last digit is taken off, or it is the only one
@@ -76,32 +102,49 @@ digits-some (suc n) x some =
 pub decimal-length : (x : ℕ) → (1 ≤ length (decimal x)) × (length (decimal x) ≤ 20)
 decimal-length x = (digits-some 20 x (omega arith), digits-length 20 x)
 
--- a number below 100 has at most 2
-pub decimal-two : (x : ℕ) → x < 100 → length (decimal x) ≤ 2
-decimal-two x small =
-    by-last (λ list. length list ≤ 2) 19 x (λ below. omega arith)
-    (λ above. omega (arith, length-append (digits 19 (x / 10)) ((48 + x % 10) ∷ []), ap length (digits-one 19 (x / 10) (omega arith) (omega arith))))
+-- a number below 10 ^ k has at most k
+digits-few : (n k x : ℕ) → x < 10 ^ suc k → length (digits n x) ≤ suc k
+unfolding digits
+digits-few zero k x fits = omega arith
+digits-few (suc n) zero x fits = by-last (λ list. length list ≤ 1) n x (λ below. omega arith) (λ above. absurd (omega arith))
+digits-few (suc n) (suc k) x fits =
+    by-last (λ list. length list ≤ suc (suc k)) n x (λ below. omega arith)
+    (λ above.
+    omega (arith, length-append (digits n (x / 10)) ((48 + x % 10) ∷ []), digits-few n k (x / 10) (omega (arith, pow-succ' 10 (suc k)))))
+
+pub decimal-few : (k x : ℕ) → x < 10 ^ suc k → length (decimal x) ≤ suc k
+decimal-few k x fits = digits-few 20 k x fits
+
+-- each is a digit: no blank, no line end
+digits-each : (n x : ℕ) → Each (λ byte. blank < byte) (digits n x)
+unfolding digits
+digits-each zero x = each-none (λ byte. blank < byte)
+digits-each (suc n) x =
+    by-last (Each (λ byte. blank < byte)) n x (λ below. one (48 + x) (omega arith))
+    (λ above. each-append (λ byte. blank < byte) (digits n (x / 10)) ((48 + x % 10) ∷ []) (digits-each n (x / 10)) (one (48 + x % 10) (omega arith)))
+  where
+    one : (digit : ℕ) → blank < digit → Each (λ byte. blank < byte) (digit ∷ [])
+    one digit above = each-cons (λ byte. blank < byte) digit [] above (each-none (λ byte. blank < byte))
+
+pub decimal-each : (x : ℕ) → Each (λ byte. blank < byte) (decimal x)
+decimal-each x = digits-each 20 x
 
 -- What they stand for
 
--- the number that digits stand for, the most significant first, behind those that stand for `high`
-pub valueBehind : ℕ → List ℕ → ℕ
-valueBehind high [] = high
-valueBehind high (digit ∷ list) = valueBehind (high * 10 + (digit - 48)) list
+-- one digit more
+number-last : (high : ℕ) (list : List ℕ) (digit : ℕ) → blank < digit → numberFrom high (list ++ (digit ∷ [])) ≡ numberFrom high list * 10 + (digit - 48)
+unfolding numberFrom
+number-last high [] digit above = rw (ne-eqb digit blank (λ e. omega arith))
+number-last high (first ∷ list) digit above = number-last (cond (eqb first blank) high (high * 10 + (first - 48))) list digit above
 
-value-last : (high : ℕ) (list : List ℕ) (digit : ℕ) → valueBehind high (list ++ (digit ∷ [])) ≡ valueBehind high list * 10 + (digit - 48)
-unfolding valueBehind
-value-last high [] digit = refl
-value-last high (first ∷ list) digit = value-last (high * 10 + (first - 48)) list digit
-
-digits-value : (n x : ℕ) → 0 < n → x < 10 ^ n → valueBehind 0 (digits n x) ≡ x
-unfolding valueBehind
+digits-value : (n x : ℕ) → 0 < n → x < 10 ^ n → numberFrom 0 (digits n x) ≡ x
+unfolding numberFrom
 digits-value zero x some fits = absurd (omega arith)
 digits-value (suc n) x some fits =
-    by-last (λ list. valueBehind 0 list ≡ x) n x (λ below. omega arith)
+    by-last (λ list. numberFrom 0 list ≡ x) n x (λ below. rw (ne-eqb (48 + x) blank (λ e. omega arith)) (omega arith))
     (λ above.
     let room = digits-left n x fits above in
-    rw (value-last 0 (digits n (x / 10)) (48 + x % 10), digits-value n (x / 10) (room .0) (room .1)) (omega arith))
+    rw (number-last 0 (digits n (x / 10)) (48 + x % 10) (omega arith), digits-value n (x / 10) (room .0) (room .1)) (omega arith))
 
 digits-first : (n x : ℕ) → 0 < n → x < 10 ^ n → 0 < x → 48 < at (digits n x) 0
 digits-first zero x some fits above = absurd (omega arith)
@@ -113,7 +156,7 @@ digits-first (suc n) x some fits positive =
     (digits-first n (x / 10) (room .0) (room .1) (omega arith)))
 
 -- 20 digits are enough: they stand for the number
-pub decimal-value : (x : ℕ) → x < 10 ^ 20 → valueBehind 0 (decimal x) ≡ x
+pub decimal-value : (x : ℕ) → x < 10 ^ 20 → numberFrom 0 (decimal x) ≡ x
 decimal-value x fits = digits-value 20 x (omega arith) fits
 
 -- no leading zeros: the first digit is 0 of the number 0 alone, which is one digit

@@ -12,7 +12,7 @@ use Rattle.constraint.specs.declared.Verdict.{Verdict}
 use Rattle.constraint.specs.declared.Verdict.the-variants.{Open, Kept, Broken}
 use Rattle.text.specs.Content.{Copied}
 use Rattle.text.specs.Lines.{closedLine, rowLine}
-use Rattle.text.proofs.Decimals.{decimal-length, decimal-two}
+use Rattle.text.proofs.Decimals.{decimal-length, decimal-few}
 
 -- Line by line
 
@@ -40,7 +40,7 @@ verdict-length Kept = omega arith
 verdict-length (Broken n) = omega (arith, decimal-length n)
 
 row-length : (i : ℕ) (v : Verdict) → i < rowLimit → length (rowLine i v) ≤ 31
-row-length i v few = simp length-append (omega (arith, decimal-two i (omega arith), verdict-length v))
+row-length i v few = simp length-append (omega (arith, decimal-few 1 i (omega arith), verdict-length v))
 
 rows-length : (i : ℕ) (verdicts : List Verdict) → i + length verdicts ≤ rowLimit → length (rowLines i verdicts) ≤ 31 * length verdicts
 unfolding rowLines

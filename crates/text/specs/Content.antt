@@ -6,14 +6,16 @@ use mathlib.Core.List.{List, [], _∷_, _++_}
 use lib.ListN.{length, getD, take, drop, set, replicate}
 use lib.Dec.{ltb}
 use Rattle.constraint.specs.Report.{decimal}
+use Rattle.constraint.specs.Page.{rightIn}
 use Rattle.text.specs.declared.Digits.{Digits}
 use Rattle.text.specs.declared.Text.{Text}
 
--- the digits of a number stand at the end of 20 bytes
+-- the digits of a number stand at the end of 20 bytes, with blanks before them
 pub record Spells (digits : Digits) (x : ℕ) : Type 0 where
   pub size : length (digits .bytes) ≡ 20
   pub within : digits .start ≤ 20
   pub spelled : drop (digits .start) (digits .bytes) ≡ decimal x
+  pub aligned : digits .bytes ≡ rightIn 20 (decimal x)
 
 -- how many bytes a text holds at most, which is more than any report has
 abbrev pub textLimit : ℕ

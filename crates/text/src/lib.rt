@@ -18,17 +18,17 @@ pub struct Text {
     pub len: usize,
 }
 
-// The decimal digits of a number: the bytes from the place start on.
-struct Digits {
-    bytes: [u8; 20],
-    start: usize,
+// The decimal digits of a number: the bytes from the place start on, with blanks before them.
+pub struct Digits {
+    pub bytes: [u8; 20],
+    pub start: usize,
 }
 
-// The decimal digits of a number, without leading zeros.
-fn digits_of(x: u64) -> Digits
+// The decimal digits of a number, without leading zeros: right-aligned in 20.
+pub fn digits_of(x: u64) -> Digits
     ensures { λ r. ⌜ Spells r x ⌝ }
 {
-    let mut bytes = [0u8; 20];
+    let mut bytes = [BLANK; 20];
     let mut start: usize = 20;
     let mut left = x;
     while 10 <= left {

@@ -8,5 +8,6 @@ pub mod places;
 pub mod program;
 pub mod release;
 pub mod reports;
+pub mod rows;
 pub mod sources;
 pub mod table_host;

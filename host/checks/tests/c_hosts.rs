@@ -2,13 +2,15 @@
 
 use checks::hosts::{Host, Ran, c_host, c_host_alone, c_host_with_header, compile_with, cpp_host, found};
 use checks::places::{Folder, archive_folder, example, example_bytes, root};
+use checks::rows::numbers_of;
 use delkuthi::Monitor;
 use model::constraint::NO_LIMIT;
 use model::examples::{Example, RECORDING, REPORT, TABLE, examples};
 use model::random::Random;
 use model::random::recordings::{recording, refused_recording};
-use model::random::tables::{any_table, damaged_table, table};
-use model::{Constraint, Step, Verdict, read_table, recording_bytes, report_text, table_bytes};
+use model::random::seen::Seen;
+use model::random::tables::{any_table, damaged_rows, damaged_table, table};
+use model::{Constraint, Step, Verdict, read_table, recording_bytes, report_text, table_bytes, write_table};
 use std::fs;
 use std::path::PathBuf;
 use std::process::Command;
@@ -163,6 +165,46 @@ fn every_cut_in_blocks_of_just_that_length() {
     }
 }
 
+/// Rows and the length of the buffer for their table, as the C host reads them, and what it is to print, by the model.
+fn made(rows: &[Constraint], length: usize, seen: &mut Seen) -> (String, String) {
+    let mut buffer = vec![0xA5; length];
+    let answer = write_table(rows, &mut buffer);
+    let told = match answer {
+        Ok(written) => format!("0 {written} "),
+        Err(number) => format!("{number} 0 "),
+    };
+    let _ = seen.answer(answer);
+    let given: String = rows.iter().map(numbers_of).collect();
+    let bytes: String = buffer.iter().map(|byte| format!("{byte:02x}")).collect();
+    (format!("{} {length}\n{given}", rows.len()), format!("{told}{bytes}\n"))
+}
+
+/// Tables of rows by their fields' names: the model's bytes, its refusals, and no byte behind the table.
+#[test]
+fn tables_made_in_c() {
+    let mut random = Random::new(407);
+    let mut seen = Seen::default();
+    let (mut given, mut expected) = (String::new(), String::new());
+    for turn in 0..1_500 {
+        let rows = if turn % 3 == 0 { any_table(&mut random) } else { damaged_rows(&mut random) };
+        let length = if turn % 2 == 0 { 1_200 } else { random.place(600) };
+        let (tables, printed) = made(&rows, length, &mut seen);
+        given += &tables;
+        expected += &printed;
+    }
+    seen.demand_refusals(3..=7);
+    seen.demand_refusals(16..=16);
+    let folder = Folder::new();
+    let file = folder.write("rows.txt", given.as_bytes());
+    for level in LEVELS {
+        let host = c_host("make_table", level);
+        assert_eq!(host.run(&[&file]), Ran::new(0, &expected));
+        if level == "-O2" {
+            assert_eq!(host.run_in_valgrind(&[&file]), Ran::new(0, &expected));
+        }
+    }
+}
+
 /// A monitor has the size and alignment that Rust knows, and any memory is safe.
 #[test]
 fn the_monitors_memory() {
@@ -235,7 +277,7 @@ fn the_stack() {
     let files = Files::new(&table_bytes(&rows), &recording(&mut Random::new(406), &rows, 100));
     let ran = host.run(&files.paths);
     println!("bytes of stack:\n{}", ran.printed);
-    assert_eq!((ran.status, ran.printed.lines().count()), (Some(0), 6));
+    assert_eq!((ran.status, ran.printed.lines().count()), (Some(0), 7));
 }
 
 #[test]
@@ -285,7 +327,10 @@ fn strict(compiler: &str, standard: &str, warnings: &[&str], files: &[&str]) -> 
 fn strict_compilers_do_not_complain() {
     let c: Vec<Host> = ["cc", "gcc", "clang"]
         .into_iter()
-        .flat_map(|compiler| [["refusals.c", "file.c"], ["bench_loop.c", "file.c"]].map(|files| (compiler, files)))
+        .flat_map(|compiler| {
+            [["refusals.c", "file.c"], ["bench_loop.c", "file.c"], ["make_table.c", "file.c"]]
+                .map(|files| (compiler, files))
+        })
         .filter_map(|(compiler, files)| strict(compiler, "-std=c99", &C_WARNINGS, &files))
         .collect();
     assert!(!c.is_empty(), "no C compiler");

@@ -21,13 +21,14 @@ fn by_code() -> BTreeMap<String, u64> {
         ("LAST_KIND", constant(CONSTRAINT, "LAST_KIND")),
         ("ROW_LIMIT", constant(CONSTRAINT, "ROW_LIMIT")),
         ("WAITING_LIMIT", constant(CONSTRAINT, "WAITING_LIMIT")),
+        ("NO_LIMIT", constant(CONSTRAINT, "NO_LIMIT")),
         ("OPEN", constant(LENT, "OPEN")),
         ("KEPT", constant(LENT, "KEPT")),
         ("BROKEN", constant(LENT, "BROKEN")),
     ])
 }
 
-/// The same by their definitions; the crates' code has no constant for the last two.
+/// The same by their definitions; the crates' code has no constant for some.
 fn by_definitions() -> BTreeMap<String, u64> {
     by_name([
         ("VERSION", definition(LENT_DEFINED, "version")),
@@ -35,12 +36,26 @@ fn by_definitions() -> BTreeMap<String, u64> {
         ("LAST_KIND", definition(LIMITS, "lastKind")),
         ("ROW_LIMIT", definition(LIMITS, "rowLimit")),
         ("WAITING_LIMIT", definition(LIMITS, "waitingLimit")),
+        ("NO_LIMIT", definition(LIMITS, "noLimit")),
+        ("TABLE_LIMIT", table_limit()),
         ("OPEN", definition(LENT_DEFINED, "wordOf (some Verdict.Open)")),
         ("KEPT", definition(LENT_DEFINED, "wordOf (some Verdict.Kept)")),
         ("BROKEN", definition(LENT_DEFINED, "wordOf (some (Verdict.Broken n))")),
         ("TAKEN", definition("crates/inplace/specs/Store.antt", "numberOf Taken")),
         ("REPORT_LIMIT", definition("crates/text/proofs/Reports.antt", "reportLimit")),
     ])
+}
+
+/// The bytes of the longest row, by the list of lengths.
+fn longest_row() -> u64 {
+    let types = text("crates/constraint/specs/Types.antt");
+    let list = types.lines().find_map(|line| line.strip_prefix("lengths = ")).expect("the list of lengths");
+    list.split(" ∷ ").filter_map(|length| length.parse().ok()).max().expect("a length")
+}
+
+/// The bytes of the longest table: the version byte, then rows with their length fields.
+fn table_limit() -> u64 {
+    1 + definition(LIMITS, "rowLimit") * (2 + longest_row())
 }
 
 /// The refusals of the header, by the questions that give them.
@@ -63,13 +78,13 @@ fn refusals() -> BTreeMap<String, u64> {
         ("RECORDING_VERSION", number_between(&all, "(recording-refused ", " 0)")),
         ("RECORD", question("RecordAt ")),
         ("NO_ROW", number_between(&all, "(RowVerdict.Refused ", ")")),
+        ("TABLE_ROOM", question("length (tableBytes ")),
     ])
 }
 
-/// The refusals that no call of the header answers with.
-fn refusals_of_others() -> [u64; 2] {
-    let all = definitions();
-    [number_between(&all, "(", ", length (tableBytes "), number_between(&all, "(refusedText ", " 0)")]
+/// The refusal that no call of the header answers with.
+fn refusal_of_program() -> u64 {
+    number_between(&definitions(), "(refusedText ", " 0)")
 }
 
 /// Of two lists of numbers by name: those that both have are the same.
@@ -94,7 +109,7 @@ fn every_number_of_the_header_is_the_crates() {
 #[test]
 fn every_limit_of_the_manual_is_the_headers() {
     let header = Header::read();
-    assert_eq!(header.limits.len(), 7, "{:?}", header.limits);
+    assert_eq!(header.limits.len(), 8, "{:?}", header.limits);
     for (name, limit) in &header.limits {
         assert_eq!(header.defined.get(name), Some(limit), "{name}");
     }
@@ -114,7 +129,7 @@ fn every_refusal_of_the_header_is_a_question_of_the_definitions() {
 
 #[test]
 fn the_refusals_of_the_crate_and_of_the_readme_are_all_there() {
-    let all: BTreeSet<u64> = refusals().into_values().chain(refusals_of_others()).collect();
+    let all: BTreeSet<u64> = refusals().into_values().chain([refusal_of_program()]).collect();
     let of_crate = text("host/delkuthi/src/refusal.rs");
     let texts = of_crate
         .lines()
@@ -140,6 +155,8 @@ fn the_rust_crates_numbers_are_the_headers() {
         ("ROW_LIMIT", delkuthi::ROW_LIMIT as u64),
         ("WAITING_LIMIT", delkuthi::WAITING_LIMIT as u64),
         ("REPORT_LIMIT", delkuthi::REPORT_LIMIT as u64),
+        ("TABLE_LIMIT", delkuthi::TABLE_LIMIT as u64),
+        ("NO_LIMIT", delkuthi::NO_LIMIT),
         ("OPEN", word("OPEN")),
         ("KEPT", word("KEPT")),
         ("BROKEN", word("BROKEN")),
@@ -182,6 +199,16 @@ fn the_size_of_a_monitor_is_the_same_everywhere() {
         assert!(file.contains(&written), "the {name} says {written}");
     }
     assert!(text("host/delkuthi/src/monitor.rs").contains(&written));
+}
+
+/// A row for the writer has as many bytes as the longest row, in the header, in the Rust crate and in the definitions.
+#[test]
+fn the_size_of_a_row_is_the_same_everywhere() {
+    let size = longest_row();
+    assert_eq!(size, number_between(&Header::read().text, "uint8_t body[", "]"));
+    assert_eq!(size, constant("host/delkuthi/src/table.rs", "ROW_SIZE"));
+    assert_eq!(size, number_between(&text("crates/table/specs/Raw.antt"), "length bytes / ", "\n"));
+    assert_eq!(size, number_between(&text("crates/table/src/raw.rt"), "rows.len() / ", ";"));
 }
 
 #[test]

@@ -5,11 +5,12 @@
 //! recording at once. `include/delkuthi.h` is the manual, with the table's bytes and what is promised.
 //!
 //! ```
-//! use delkuthi::{Monitor, Verdict};
+//! use delkuthi::{Monitor, Row, TABLE_LIMIT, Verdict, write_table};
 //!
-//! // One row: a Delay from kind 0 to kind 1, of 2 to 3.
-//! let table = [1, 0, 19, 1, 0, 1, 0, 0, 0, 0, 0, 0, 0, 2, 0, 0, 0, 0, 0, 0, 0, 3];
-//! let mut monitor = Monitor::fresh(&table)?;
+//! let rows = [Row::Delay { source: 0, target: 1, lower: 2, upper: 3 }];
+//! let mut table = [0; TABLE_LIMIT];
+//! let length = write_table(&rows, &mut table)?;
+//! let mut monitor = Monitor::fresh(&table[..length])?;
 //! monitor.event(0, 10)?;
 //! monitor.tick(13)?;
 //! assert_eq!(monitor.verdict(0), Ok(Verdict::Open));
@@ -34,11 +35,13 @@ mod ffi;
 mod monitor;
 mod refusal;
 mod report;
+mod table;
 mod version;
 
 pub use monitor::{Monitor, Verdict, WORDS};
 pub use refusal::{Refusal, refusal_text};
 pub use report::{REPORT_LIMIT, report};
+pub use table::{NO_LIMIT, Row, TABLE_LIMIT, write_table};
 pub use version::{VERSION, library_version, matches};
 
 /// The largest kind of event.

@@ -18,6 +18,11 @@ impl Refusal {
         if number == 0 { Ok(()) } else { Err(Refusal { number, place: Some(place) }) }
     }
 
+    /// What the answer of the table writer says: the number of bytes written, times 256, or the number.
+    pub(crate) fn of_writer(answer: u64) -> Result<usize, Refusal> {
+        Refusal::of_step((answer % 256) as u8).map(|()| (answer / 256) as usize)
+    }
+
     /// What the answer of a step says.
     pub(crate) fn of_step(number: u8) -> Result<(), Refusal> {
         if number == 0 { Ok(()) } else { Err(Refusal { number, place: None }) }

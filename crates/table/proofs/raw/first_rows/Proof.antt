@@ -1,31 +1,26 @@
--- The loop decodes stretch after stretch, and the count is that of all.
+-- The loop decodes stretch after stretch.
 use native.Mathlib.Omega.{arith}
-use Prim.Native.Nat.{ℕ, _*_, _/_, _-_, _≤_, min}
+use Prim.Native.Nat.{ℕ, _*_, _-_, _≤_}
 use mathlib.Core.Path.{_≡_, ap, _∙_}
-use lib.ListN.{length}
-use Rattle.constraint.specs.Limits.{rowLimit}
 use Rattle.constraint.specs.Rows.{tableOf}
 use Rattle.table.specs.Rows.{constraintOf}
-use Rattle.table_host.specs.Raw.{rawRows}
-use Rattle.table_host.proofs.Raw.{raw-more, stretch}
-use Rattle.table_host.proofs.raw_table.Statement.{statement}
-use Rattle.table_host.proofs.raw_table.Tie as tie
+use Rattle.table.specs.Raw.{rawRows}
+use Rattle.table.proofs.RawRows.{raw-more, stretch}
+use Rattle.table.proofs.raw.first_rows.Statement.{statement}
+use Rattle.table.proofs.raw.first_rows.Tie as tie
 
 abbrev Inv-loop : tie.InvT-loop
-Inv-loop bytes count entries table₀ i₀ table i = (i ≤ entries) × (entries ≡ min count rowLimit) × (table ≡ tableOf (rawRows bytes i))
+Inv-loop bytes entries table₀ i₀ table i = (i ≤ entries) × (table ≡ tableOf (rawRows bytes i))
 
 abbrev μ-loop : tie.MeasureT-loop
-μ-loop bytes count entries table₀ i₀ table i = entries - i
-
-entries-of-requires : tie.Need-entries-of-requires Inv-loop μ-loop
-entries-of-requires c κs = tt
+μ-loop bytes entries table₀ i₀ table i = entries - i
 
 new-requires : tie.Need-new-requires Inv-loop μ-loop
 new-requires c κs = tt
 
 loop-holds : tie.Need-loop-holds Inv-loop μ-loop
 unfolding rawRows
-loop-holds c = (omega arith, c .before .entries-of .ensures, c .new .ensures)
+loop-holds c = (omega arith, c .new .ensures)
 
 mul-start : tie.Need-mul-start Inv-loop μ-loop
 mul-start c = omega arith
@@ -58,28 +53,25 @@ loop-again : tie.Need-loop-again Inv-loop μ-loop
 loop-again c =
     let at-loop = c .before .before .before .before in
     let loop = at-loop .loop in
-    let bytes = at-loop .before .before .before .before .args .bytes .now in (
+    let bytes = at-loop .before .before .before .args .bytes .now in (
       omega arith,
-      loop .inv .1,
-      raw-more bytes (loop .i) (loop .table) (c .with-row .result) (c .before .row-of .result) (omega arith) (loop .inv .2)
+      raw-more bytes (loop .i) (loop .table) (c .with-row .result) (c .before .row-of .result) (omega arith) (loop .inv .1)
           (c .before .row-of .ensures ∙ ap constraintOf (stretch bytes (loop .i * 34))) (c .with-row .ensures),
     )
 
 returns : tie.Need-returns Inv-loop μ-loop
 returns c =
     let loop = c .before .loop in
-    let bytes = c .before .before .before .before .before .args .bytes .now in
-    let all : loop .i ≡ min (length bytes / 34) rowLimit = omega arith in
-    let holds = loop .inv .2 ∙ ap (λ (n : ℕ). tableOf (rawRows bytes n)) all in
-    λ k. record { rows = holds k .rows; count = length bytes / 34 }
+    let bytes = c .before .before .before .before .args .bytes .now in
+    let all : loop .i ≡ c .before .before .before .before .args .entries = omega arith in
+    loop .inv .1 ∙ ap (λ (n : ℕ). tableOf (rawRows bytes n)) all
 
-pub raw-table-spec : {M : Type 1} → statement M
-raw-table-spec =
+pub first-rows-spec : {M : Type 1} → statement M
+first-rows-spec =
     tie.close
     (tie.spec
     Inv-loop
     μ-loop
-    entries-of-requires
     new-requires
     loop-holds
     mul-start

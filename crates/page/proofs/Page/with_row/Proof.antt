@@ -1,0 +1,43 @@
+use native.Mathlib.Omega.{arith}
+use mathlib.Core.Path.{_≡_, refl, sym, _∙_}
+use lib.ListN.{length, length-map}
+use Rattle.constraint.specs.Limits.{rowLimit}
+use Rattle.page.specs.Sheet.{withRow}
+use Rattle.page.proofs.Writing.{with-none}
+-- Past the last row nothing is stored.
+use borrow.Author.Needs.{needs}
+use Rattle.page.proofs.Page.with_row.Statement.{statement}
+use Rattle.page.proofs.Page.with_row.Tie as tie
+
+types-whole : (c : tie.Start) → length (c .args .t1 .types) ≡ rowLimit
+types-whole c = sym (length-map (c .args .t1 .types) _) ∙ c .good .0 .1 .1 .0 .1 .0 .1
+
+steps-whole : (c : tie.Start) → length (c .args .t1 .steps) ≡ rowLimit
+steps-whole c = sym (length-map (c .args .t1 .steps) _) ∙ c .good .0 .1 .1 .1 .0 .1 .0 .1
+
+returns : tie.Need-returns
+returns c =
+    let start = c .before in
+    let args = start .args in
+    sym (with-none (args .t1) (args .row) (args .form) (args .step) (omega (arith, types-whole start)) (omega (arith, steps-whole start)))
+
+mul-self : tie.Need-mul-self
+mul-self c = search needs
+
+element-write-self : tie.Need-element-write-self
+element-write-self c = search needs
+
+mul-self-2 : tie.Need-mul-self-2
+mul-self-2 c = search needs
+
+element-write-self-2 : tie.Need-element-write-self-2
+element-write-self-2 c = search needs
+
+returns-2 : tie.Need-returns-2
+unfolding withRow
+returns-2 c = refl
+
+pub with-row-spec : {M : Type 1} → statement M
+with-row-spec =
+    tie.close
+    (tie.spec returns mul-self element-write-self mul-self-2 element-write-self-2 returns-2)

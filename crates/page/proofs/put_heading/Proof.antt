@@ -1,0 +1,41 @@
+use Prim.Native.Nat.{_%_}
+use native.Mathlib.Nat.{add-zero}
+use mathlib.Core.Path.{_≡_}
+use mathlib.Core.Bool.{true, false}
+use lib.Dec.{eqb}
+use borrow.Author.Tests.{eq-eqb, ne-eqb}
+use Rattle.constraint.specs.Page.{hyphens}
+-- A row is headed where its number is a multiple of 16.
+use borrow.Author.Needs.{needs}
+use Rattle.page.proofs.put_heading.Statement.{statement}
+use Rattle.page.proofs.put_heading.Tie as tie
+
+returns : tie.Need-returns
+returns c =
+    let args = c .before .before .args in
+    let plain : eqb (args .row % 16) 0 ≡ false = ne-eqb (args .row % 16) 0 (c .if1 .taken) in
+    record { stored = rw plain; behind = rw (plain, add-zero) }
+
+slice-aggregate-put : tie.Need-slice-aggregate-put
+slice-aggregate-put c = search needs
+
+put-requires : tie.Need-put-requires
+put-requires c κs = search needs
+
+add-result : tie.Need-add-result
+add-result c = search needs
+
+same-length : tie.Need-same-length
+same-length c = search needs
+
+returns-2 : tie.Need-returns-2
+unfolding hyphens
+returns-2 c =
+    let else1 = c .before .before .before .before .before in
+    let args = else1 .before .before .args in
+    let headed : eqb (args .row % 16) 0 ≡ true = eq-eqb (args .row % 16) 0 (else1 .if1 .left) in
+    record { stored = rw headed (c .before .before .put .ensures); behind = rw headed }
+
+pub put-heading-spec : {M : Type 1} → statement M
+put-heading-spec =
+    tie.close (tie.spec returns slice-aggregate-put put-requires add-result same-length returns-2)

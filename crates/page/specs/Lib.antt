@@ -1,0 +1,2 @@
+-- What the page's record says, and what is written of it.
+pub mod Sheet

@@ -1,0 +1,210 @@
+// The printed page: a line for each row, put to a lent buffer line after line.
+use constraint::Verdict;
+ghost use mathlib.Core.Path.{_≡_};
+ghost use Prim.Native.Nat.{_≤_, _<_, min};
+ghost use lib.Seq.{sets};
+ghost use Rattle.constraint.specs.Limits.{rowLimit};
+ghost use Rattle.constraint.specs.Steps.{at};
+ghost use Rattle.constraint.specs.Page.{leftIn, rightIn, nameOf, verdictWord, stepText, pageLine, pageLines, pageLength};
+ghost use Rattle.text.specs.Content.{Copied};
+ghost use Rattle.page.specs.Sheet.{verdictOf, verdictsOf, blankPage, withRow, textOf, rowColumns, verdictColumns, Headed};
+
+// How many rows a page has at most.
+const ROW_LIMIT: usize = constraint::ROW_LIMIT;
+// The bytes of a line, its end counted.
+const LINE: usize = 73;
+// The rows that stand under one heading.
+const GROUP: usize = 16;
+// The line that heads each group of rows.
+const HYPHENS: [u8; 73] =
+    *b"------------------------------------------------------------------------\n";
+// The names by the number of the type, a line for each, left-aligned in 24. 0 is no type, and is taken for 7 as in a row's step.
+const NAMES: [[u8; 24]; 11] = [
+    *b"StrongSynchronization   ",
+    *b"Delay                   ",
+    *b"StrongDelay             ",
+    *b"Repeat                  ",
+    *b"Sporadic                ",
+    *b"Burst                   ",
+    *b"Order                   ",
+    *b"StrongSynchronization   ",
+    *b"ExecutionTime           ",
+    *b"Reaction                ",
+    *b"Repetition              ",
+];
+
+// What a page says of its rows: their types, the steps that broke them (0: none did), how many there are, and the mark of the close (0: not closed).
+pub struct Page {
+    pub types: [u64; 32],
+    pub steps: [u64; 32],
+    pub rows: usize,
+    pub closed: u64,
+}
+
+// The name of a type, left-aligned in 24; a number that no table has is taken for 7 too.
+fn name(form: u64) -> [u8; 24]
+    ensures { λ r. ⌜ r ≡ leftIn 24 (nameOf form) ⌝ }
+{
+    let at = form as usize;
+    if at < NAMES.len() {
+        return NAMES[at];
+    }
+    NAMES[0]
+}
+
+// The verdict of a row, by the mark of the close and the step that broke it.
+fn verdict(closed: u64, step: u64) -> Verdict
+    ensures { λ r. ⌜ r ≡ verdictOf closed step ⌝ }
+{
+    if 0 < step {
+        return Verdict::Broken(step);
+    }
+    if 0 < closed {
+        return Verdict::Kept;
+    }
+    Verdict::Open
+}
+
+// A verdict's word, left-aligned in 8.
+fn word(verdict: Verdict) -> [u8; 8]
+    ensures { λ r. ⌜ r ≡ leftIn 8 (verdictWord verdict) ⌝ }
+{
+    match verdict {
+        Verdict::Open => *b"open    ",
+        Verdict::Kept => *b"kept    ",
+        Verdict::Broken(_) => *b"broken  ",
+    }
+}
+
+// A verdict's step, right-aligned in 20: blank unless it is broken.
+fn step(verdict: Verdict) -> [u8; 20]
+    ensures { λ r. ⌜ r ≡ rightIn 20 (stepText verdict) ⌝ }
+{
+    match verdict {
+        Verdict::Open => [32u8; 20],
+        Verdict::Kept => [32u8; 20],
+        Verdict::Broken(step) => {
+            let digits = text::digits_of(step);
+            digits.bytes
+        }
+    }
+}
+
+// How many bytes the page of so many rows has.
+fn size(rows: usize) -> usize
+    requires { ⌜ rows ≤ rowLimit ⌝ }
+    ensures { λ r. ⌜ r ≡ pageLength rows ⌝ }
+{
+    if rows == 0 {
+        return LINE;
+    }
+    LINE * (rows + (rows + 15) / GROUP)
+}
+
+// Puts a row's number and the name of its type at a place of a buffer: the first 29 bytes of its line.
+fn put_row(buffer: &mut [u8], place: usize, row: usize, form: u64)
+    requires { ⌜ (place ≤ 4096) × (row < rowLimit) ⌝ }
+    ensures { λ _. ⌜ now (buffer .exit) ≡ sets (now (buffer .entry)) place (rowColumns row form) ⌝ }
+{
+    let digits = text::digits_of(row as u64);
+    let bytes = digits.bytes;
+    number::put(buffer, place, &bytes[17..]);
+    number::put(buffer, place + 3, b"  ");
+    number::put(buffer, place + 5, &name(form));
+}
+
+// Puts a verdict's word and step at a place of a buffer, and blanks up to the line's end: the bytes of a line from 29 on.
+fn put_verdict(buffer: &mut [u8], place: usize, verdict: Verdict)
+    requires { ⌜ place ≤ 4096 ⌝ }
+    ensures { λ _. ⌜ now (buffer .exit) ≡ sets (now (buffer .entry)) place (verdictColumns verdict) ⌝ }
+{
+    number::put(buffer, place, &word(verdict));
+    number::put(buffer, place + 8, &step(verdict));
+    number::put(buffer, place + 28, b"               \n");
+}
+
+// Puts a row's line at a place of a buffer.
+fn put_line(buffer: &mut [u8], place: usize, row: usize, form: u64, verdict: Verdict)
+    requires { ⌜ (place ≤ 4000) × (row < rowLimit) ⌝ }
+    ensures { λ _. ⌜ now (buffer .exit) ≡ sets (now (buffer .entry)) place (pageLine row form verdict) ⌝ }
+{
+    put_row(buffer, place, row, form);
+    put_verdict(buffer, place + 29, verdict);
+}
+
+// Puts the heading of a row, if it has one, at a place of a buffer, and answers the place behind it.
+fn put_heading(buffer: &mut [u8], place: usize, row: usize) -> usize
+    requires { ⌜ place ≤ 4096 ⌝ }
+    ensures { λ r. ⌜ Headed (now (buffer .entry)) place row r (now (buffer .exit)) ⌝ }
+{
+    if row % GROUP != 0 {
+        return place;
+    }
+    number::put(buffer, place, &HYPHENS);
+    place + LINE
+}
+
+// Puts the lines of the first rows, one after the other, to the front of a buffer.
+fn put_rows(buffer: &mut [u8], types: &[u64; 32], steps: &[u64; 32], rows: usize, closed: u64)
+    requires { ⌜ rows ≤ rowLimit ⌝ }
+    ensures { λ _. ⌜ now (buffer .exit) ≡ sets (now (buffer .entry)) 0
+        (pageLines (at (now (types .entry))) (verdictsOf closed (now (steps .entry))) rows) ⌝ }
+{
+    let mut place = 0;
+    let mut row = 0;
+    while row < rows {
+        let behind = put_heading(buffer, place, row);
+        put_line(buffer, behind, row, types[row], verdict(closed, steps[row]));
+        place = behind + LINE;
+        row += 1;
+    }
+}
+
+impl Page {
+    // The page of so many rows, with nothing yet said of any.
+    pub fn blank(rows: usize, closed: u64) -> Self
+        ensures { λ r. ⌜ r ≡ blankPage rows closed ⌝ }
+    {
+        Page {
+            types: [0u64; 32],
+            steps: [0u64; 32],
+            rows,
+            closed,
+        }
+    }
+
+    // The page with a row's type and the step that broke it; a row past the last is left out.
+    pub fn with_row(mut self, row: usize, form: u64, step: u64) -> Self
+        ensures { λ r. ⌜ r ≡ withRow self row form step ⌝ }
+    {
+        if ROW_LIMIT <= row {
+            return self;
+        }
+        self.types[row] = form;
+        self.steps[row] = step;
+        self
+    }
+
+    // Writes the page to the front of a buffer and answers its length; where the buffer is too short, answers 0 and leaves it as it was.
+    pub fn write(self, buffer: &mut [u8]) -> usize
+        ensures { λ r. ⌜ Copied (textOf self) (now (buffer .entry)) r (now (buffer .exit)) ⌝ }
+    {
+        let types = self.types;
+        let steps = self.steps;
+        let rows = if self.rows < ROW_LIMIT {
+            self.rows
+        } else {
+            ROW_LIMIT
+        };
+        let size = size(rows);
+        if buffer.len() < size {
+            return 0;
+        }
+        if rows == 0 {
+            number::put(buffer, 0, &HYPHENS);
+            return size;
+        }
+        put_rows(buffer, &types, &steps, rows, self.closed);
+        size
+    }
+}

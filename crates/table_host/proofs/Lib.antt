@@ -1,2 +1,0 @@
--- Laws of rows given as raw bytes.
-pub mod Raw

@@ -1,0 +1,81 @@
+//! Rows by their fields' names, and the table of them.
+
+use crate::ffi;
+use crate::refusal::Refusal;
+
+/// No table is longer: a version byte, and for each of 32 rows a length field and at most 34 bytes.
+pub const TABLE_LIMIT: usize = 1153;
+/// The upper of a Repeat or a Sporadic that has no upper limit.
+pub const NO_LIMIT: u64 = u64::MAX;
+
+/// How many bytes a row has when it is given to the writer: as many as the longest has, the rest being 0.
+const ROW_SIZE: usize = 34;
+/// How many rows the writer asks at most: the one behind the last that there is room for is refused.
+const ASKED: usize = crate::ROW_LIMIT + 1;
+
+/// A row of a table. `include/delkuthi.h` says what each asks.
+#[derive(Clone, Copy, Debug, PartialEq, Eq, Hash)]
+#[allow(missing_docs)]
+pub enum Row<'a> {
+    /// After each source a target, `lower` to `upper` later.
+    Delay { source: u8, target: u8, lower: u64, upper: u64 },
+    /// The same, and the targets belong to the sources one by one.
+    StrongDelay { source: u8, target: u8, lower: u64, upper: u64 },
+    /// Of `span` + 1 events in a row the last comes `lower` to `upper` after the first.
+    Repeat { event: u8, span: u8, lower: u64, upper: u64 },
+    /// Each event is 0 to `jitter` after a hidden point; the points are `lower` to `upper` apart.
+    Sporadic { event: u8, lower: u64, upper: u64, jitter: u64, minimum: u64 },
+    /// At most `maximum` events in each stretch shorter than `length`, at least `minimum` apart.
+    Burst { event: u8, maximum: u8, length: u64, minimum: u64 },
+    /// The targets belong to the sources one by one, none before its source.
+    Order { source: u8, target: u8 },
+    /// The first events of the kinds, 2 to 4 of them, are at most `tolerance` apart, and so are the second, and so on.
+    StrongSynchronization { kinds: &'a [u8], tolerance: u64 },
+}
+
+/// Writes the table of some rows; gives the number of bytes written. Bytes after those written stay as they were. On a
+/// refusal all do.
+///
+/// # Errors
+/// 3 to 7, of the first row concerned; 16 a buffer too short. They have no place.
+pub fn write_table(rows: &[Row], table: &mut [u8]) -> Result<usize, Refusal> {
+    let mut bodies = [[0; ROW_SIZE]; ASKED];
+    for (body, row) in bodies.iter_mut().zip(rows) {
+        *body = row.body();
+    }
+    let bytes = &bodies.as_flattened()[..rows.len().min(ASKED) * ROW_SIZE];
+    // SAFETY: the pointers and lengths are slices', and the table's memory is not that of the rows.
+    Refusal::of_writer(unsafe { ffi::delkuthi_table(bytes.as_ptr(), bytes.len(), table.as_mut_ptr(), table.len()) })
+}
+
+impl Row<'_> {
+    /// The row's type byte and fields, as many bytes as the longest has.
+    fn body(&self) -> [u8; ROW_SIZE] {
+        match *self {
+            Row::Delay { source, target, lower, upper } => body(&[1, source, target], &[lower, upper]),
+            Row::StrongDelay { source, target, lower, upper } => body(&[2, source, target], &[lower, upper]),
+            Row::Repeat { event, span, lower, upper } => body(&[3, event, span], &[lower, upper]),
+            Row::Sporadic { event, lower, upper, jitter, minimum } => {
+                body(&[4, event], &[lower, upper, jitter, minimum])
+            }
+            Row::Burst { event, maximum, length, minimum } => body(&[5, event, maximum], &[length, minimum]),
+            Row::Order { source, target } => body(&[6, source, target], &[]),
+            Row::StrongSynchronization { kinds, tolerance } => {
+                let n = kinds.len().min(4);
+                let mut bytes = [7, kinds.len().min(255) as u8, 0, 0, 0, 0];
+                bytes[2..2 + n].copy_from_slice(&kinds[..n]);
+                body(&bytes[..2 + n], &[tolerance])
+            }
+        }
+    }
+}
+
+/// Bytes, then times, the most significant byte first, then zeros.
+fn body(bytes: &[u8], times: &[u64]) -> [u8; ROW_SIZE] {
+    let mut body = [0; ROW_SIZE];
+    body[..bytes.len()].copy_from_slice(bytes);
+    for (place, time) in body[bytes.len()..].chunks_exact_mut(8).zip(times) {
+        place.copy_from_slice(&time.to_be_bytes());
+    }
+    body
+}

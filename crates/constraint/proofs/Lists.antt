@@ -6,7 +6,7 @@ use mathlib.Core.Path.{_≡_, refl, sym, subst, _∙_}
 use mathlib.Core.Bool.{Bool, true, false, _||_}
 use mathlib.Core.List.{List, [], _∷_, _++_}
 use mathlib.Core.Logic.{_⊎_, inl, inr}
-use lib.ListN.{length, List·getD-append}
+use lib.ListN.{length, getD, List·getD-append}
 use lib.Seq.{getD-append-add}
 use Rattle.constraint.specs.Steps.{at}
 
@@ -38,6 +38,12 @@ at-right xs ys i = getD-append-add xs ys i 0
 -- the place just behind a list
 pub at-next : (xs : List ℕ) (y : ℕ) (ys : List ℕ) (i : ℕ) → i ≡ length xs → at (xs ++ y ∷ ys) i ≡ y
 at-next xs y ys i e = subst (λ n. at (xs ++ y ∷ ys) n ≡ y) (add-zero (length xs) ∙ sym e) (at-right xs (y ∷ ys) 0)
+
+-- a place within a list does not look past its end
+pub getD-within : {A : Type 0} (xs : List A) (i : ℕ) (a b : A) → i < length xs → getD xs i a ≡ getD xs i b
+getD-within [] i a b h = absurd (omega arith)
+getD-within (x ∷ xs) zero a b h = refl
+getD-within (x ∷ xs) (suc i) a b h = getD-within xs i a b (omega arith)
 
 -- ---- what holds of each
 

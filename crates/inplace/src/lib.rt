@@ -2,13 +2,13 @@
 use constraint::Answer;
 use constraint::Call;
 use constraint::WAITING_LIMIT;
+use machine::Rule;
+use machine::State;
+use machine::parts::plus;
 use monitor::Monitor;
 use monitor::calls;
 use row::Occurrence;
-use machine::Rule;
-use machine::State;
 use row::concerns;
-use machine::parts::plus;
 ghost use Prim.Native.Nat.{ℕ, _<_, _≤_};
 ghost use mathlib.Core.Bool.{false, _||_};
 ghost use mathlib.Core.List.{List};

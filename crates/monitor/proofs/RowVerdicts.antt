@@ -13,7 +13,7 @@ use lib.Dec.{ltb}
 use borrow.Author.Tests.{ltb-true, ltb-false, lt-ltb, le-ltb}
 use Rattle.constraint.specs.Limits.{rowLimit}
 use Rattle.constraint.specs.declared.Verdict.{Verdict}
-use Rattle.constraint.proofs.Lists.{split}
+use Rattle.constraint.proofs.Lists.{split, getD-within}
 use Rattle.constraint.proofs.Judged.{never}
 use Rattle.row.specs.Machine.{rowVerdict}
 use Rattle.row.specs.declared.Row.{Row}
@@ -26,12 +26,6 @@ use Rattle.monitor.proofs.Theorem.{reading-kept}
 
 pub place-small : (i : ℕ) → placeOf i < rowLimit
 place-small i = split (ltb i rowLimit) (λ b. cond b i 0 < rowLimit) (λ e. ltb-true i rowLimit e) (λ e. omega arith)
-
--- a place within a list does not look past its end
-getD-within : (rows : List Row) (i : ℕ) (a b : Row) → i < length rows → getD rows i a ≡ getD rows i b
-getD-within [] i a b h = absurd (omega arith)
-getD-within (r ∷ rows) zero a b h = refl
-getD-within (r ∷ rows) (suc i) a b h = getD-within rows i a b (omega arith)
 
 -- both tests say "yes", or there is no such row
 chosen : (x y : Bool) (v w : Verdict) → (y ≡ true → v ≡ w) → verdictIn (cond (x && y) (RowVerdict.Reads v) (RowVerdict.Refused 15)) ≡ cond (x && y) (some w) none

@@ -78,11 +78,13 @@
  *   a table          at most 1,153 bytes  DELKUTHI_TABLE_LIMIT
  *   a report         at most 1,024 bytes  DELKUTHI_REPORT_LIMIT
  *   stack, report    at most 384 KiB      DELKUTHI_REPORT_STACK
- *   stack, others    at most 256 KiB      DELKUTHI_MONITOR_STACK
+ *   stack, fresh     at most 256 KiB      DELKUTHI_MONITOR_STACK
+ *   stack, steps     at most 2 KiB        DELKUTHI_STEP_STACK
  *
  * What waits in a row: sources that have no target yet (Delay, StrongDelay),
  * groups begun and not complete (StrongSynchronization). In other rows nothing
- * waits. The stack that a call uses is measured, not proved.
+ * waits. The stack that a call uses is measured, not proved: a verdict uses no
+ * more than a step, and a table that is made no more than fresh.
  *
  *
  * THE TABLE
@@ -241,6 +243,7 @@ extern "C" {
 #define DELKUTHI_REPORT_LIMIT  1024
 #define DELKUTHI_REPORT_STACK  393216
 #define DELKUTHI_MONITOR_STACK 262144
+#define DELKUTHI_STEP_STACK    2048
 
 /* The upper of a Repeat or a Sporadic that has no upper limit. */
 #define DELKUTHI_NO_LIMIT UINT64_C(18446744073709551615)

@@ -115,10 +115,10 @@ int main(int argc, char **argv)
     stack = memory;
     well &= within(DELKUTHI_MONITOR_STACK, "table", make_table);
     well &= within(DELKUTHI_MONITOR_STACK, "fresh", fresh);
-    well &= within(DELKUTHI_MONITOR_STACK, "event", event);
-    well &= within(DELKUTHI_MONITOR_STACK, "tick", tick);
-    well &= within(DELKUTHI_MONITOR_STACK, "verdict", verdict);
-    well &= within(DELKUTHI_MONITOR_STACK, "close", close_it);
+    well &= within(DELKUTHI_STEP_STACK, "event", event);
+    well &= within(DELKUTHI_STEP_STACK, "tick", tick);
+    well &= within(DELKUTHI_STEP_STACK, "verdict", verdict);
+    well &= within(DELKUTHI_STEP_STACK, "close", close_it);
     well &= within(DELKUTHI_REPORT_STACK, "report", whole_report);
     free(stack);
     free_file(&table);

@@ -1,3 +1,4 @@
+-- The names stand in the order of the types, each filled up to 24, so the one at the place of the type is its column.
 use Prim.Native.Nat.{ℕ, _<_}
 use mathlib.Core.Path.{_≡_, _∙_}
 use mathlib.Core.List.{List, map}

@@ -1,3 +1,4 @@
+-- A heading is put before each sixteenth row and nowhere else.
 use Prim.Native.Nat.{_%_}
 use native.Mathlib.Nat.{add-zero}
 use mathlib.Core.Path.{_≡_}

@@ -1,3 +1,4 @@
+-- The number, the blanks and the name are put one behind the other, and together they are the first 29 columns.
 use mathlib.Core.Path.{_≡_, ap, _∙_}
 use mathlib.Core.List.{List, _++_}
 use lib.ListN.{take, drop}

@@ -1,3 +1,4 @@
+-- A row of that number that the page has is set, and any other is passed over.
 use native.Mathlib.Omega.{arith}
 use mathlib.Core.Path.{_≡_, refl, sym, _∙_}
 use lib.ListN.{length, length-map}

@@ -14,7 +14,7 @@ use Rattle.constraint.specs.Run.{Run}
 use Rattle.constraint.specs.declared.Constraint.{Constraint}
 use Rattle.constraint.specs.declared.Verdict.{Verdict}
 
--- what a call gives: the answer, and the monitor "that the last one returned or left"
+-- what a call gives: the answer, and the monitor as the call leaves it (§3.4)
 pub record Stepped (Monitor : Type 0) : Type 0 where
   pub answer : Answer
   pub monitor : Monitor

@@ -1,4 +1,4 @@
--- What the code's records hold: a table with one row more, and a row's fields as numbers. No definition of paper 01 rests on these.
+-- What the code's records hold: a table with one row more, and a row's fields as numbers. No definition of the contract rests on these.
 use Prim.Native.Nat.{ℕ, _+_, _≤_, _<_, max}
 use mathlib.Core.Path.{_≡_}
 use mathlib.Core.Bool.{cond}

@@ -1,4 +1,4 @@
--- Lists of steps that one row cannot tell apart (paper 02, request 7, "Rows that don't hear each other").
+-- Lists of steps that one row cannot tell apart (§3.10, §3.11).
 use Prim.Native.Nat.{ℕ, _<_}
 use mathlib.Core.Path.{_≡_}
 use mathlib.Core.List.{List, [], _∷_, map}

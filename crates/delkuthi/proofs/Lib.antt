@@ -5,6 +5,5 @@ pub mod RowLines
 pub mod Telling
 pub mod Refusals
 mod Numbers
-mod Elem
 mod Walk
 mod RowNumbers

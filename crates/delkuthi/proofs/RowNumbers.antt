@@ -128,7 +128,7 @@ use Rattle.monitor.specs.Parts.{placeOf}
 use Rattle.monitor.specs.declared.Monitor.{Monitor}
 use Rattle.monitor.proofs.Monitor as T
 use Rattle.monitor.proofs.Monitor.Laws as T′
-use Rattle.delkuthi.proofs.Elem.{elem, as-val}
+use Rattle.inplace.proofs.Elem.{elem, as-val}
 use Rattle.monitor.proofs.RowVerdicts.{place-small}
 use Rattle.delkuthi.proofs.Walk.{val, row-val, row-vals, rows-32, vals-32, row-at, row-is, at-fits}
 use Rattle.monitor.proofs.verdicts.place as p

@@ -22,7 +22,7 @@ use Rattle.monitor.specs.declared.Monitor.{Monitor}
 use Rattle.monitor.proofs.Monitor as T
 use Rattle.monitor.proofs.Monitor.Laws as T′
 use Rattle.delkuthi.specs.Lent.{monitorSize}
-use Rattle.delkuthi.proofs.Elem.{array-length, array-get}
+use Rattle.inplace.proofs.Elem.{array-length, array-get}
 
 abbrev pub val : Monitor → Val
 val = LL.val T.the-type T′.the-laws

@@ -25,5 +25,6 @@ pub mod Table
 pub mod Recording
 pub mod Report
 pub mod Page
+pub mod Examples
 -- What the code's records hold.
 pub mod Records

@@ -18,8 +18,8 @@ use Rattle.text.proofs.Reports.{closed-append, reportLimit, closed-length, refu
 use Rattle.monitor.specs.declared.Monitor.{Monitor}
 use Rattle.delkuthi.specs.Taking.{RecordingTakenAs}
 use Rattle.delkuthi.specs.Telling.{Tells, TellsRows, TellsRecording}
-use Rattle.delkuthi.specs.declared.records.RecordingAnswer.{RecordingAnswer}
-use Rattle.delkuthi.specs.declared.records.RecordingAnswer.the-variants.{Closed, Refused}
+use Rattle.table.specs.declared.ReadAnswer.{ReadAnswer}
+use Rattle.table.specs.declared.ReadAnswer.the-variants.{Accepted, Refused}
 use Rattle.delkuthi.proofs.Taking.{took-follows}
 use Rattle.delkuthi.proofs.RowLines.{each-length}
 
@@ -27,7 +27,7 @@ pub tells-refusal : (n place : ℕ) (text : Text) → text ≡ extended (refused
 tells-refusal n place text e = subst (λ (t : Text). Holds t (refusedText n place)) (sym e) (holds-all (refusedText n place) (omega (arith, refused-length n place)))
 
 -- the line "closed N" and those of the rows
-pub tells-closed : (m : Monitor) (before text : Text) → before ≡ extended (closedLine (m .count)) emptyText → TellsRows m before text → TellsRecording Closed m text
+pub tells-closed : (m : Monitor) (before text : Text) → before ≡ extended (closedLine (m .count)) emptyText → TellsRows m before text → TellsRecording Accepted m text
 tells-closed m before text line tells rows steps took =
     let lines = tells .means rows steps took in
     let follows = took-follows rows steps m took in
@@ -37,9 +37,9 @@ tells-closed m before text line tells rows steps took =
     (lines .0, lines .1, subst (λ (t : Text). Holds t (closedText (length steps) (lines .0))) (sym whole) (holds-all (closedText (length steps) (lines .0)) (omega (arith, short))))
 
 -- a table that was read, and what the recording gave under it
-pub tells-report : (table recording : List ℕ) (rows : List Constraint) (answer : RecordingAnswer) (m : Monitor) (text : Text) → ReadsTable table (table-of rows)
+pub tells-report : (table recording : List ℕ) (rows : List Constraint) (answer : ReadAnswer) (m : Monitor) (text : Text) → ReadsTable table (table-of rows)
     → RecordingTakenAs rows recording answer m → TellsRecording answer m text → Tells (ReportOf table recording) text
-tells-report table recording rows Closed m text read (steps, reads, took) tells =
+tells-report table recording rows Accepted m text read (steps, reads, took) tells =
     let told = tells rows (steps ++ (close ∷ [])) took in
     record { bytes = closedText (length (steps ++ (close ∷ []))) (told .0); said = all-taken rows steps (told .0) read reads (told .1); holds = told .2 }
 tells-report table recording rows (Refused n place) m text read (steps, before, took, reads) tells =

@@ -16,7 +16,7 @@ use Rattle.monitor.specs.Contract.{after, Recorded}
 use Rattle.monitor.specs.declared.Monitor.{Monitor}
 use Rattle.delkuthi.specs.declared.records.RecordTaken.{RecordTaken}
 use Rattle.delkuthi.specs.declared.records.RecordingTaken.{RecordingTaken}
-use Rattle.delkuthi.specs.declared.records.RecordingAnswer.{RecordingAnswer}
+use Rattle.table.specs.declared.ReadAnswer.{ReadAnswer}
 
 -- a monitor over an accepted table after calls that have recorded just these steps
 pub record Took (rows : List Constraint) (steps : List Step) (m : Monitor) : Type 0 where
@@ -42,10 +42,10 @@ pub data StepsBefore (rows : List Constraint) (bytes : List ℕ) : ℕ → List 
       → StepsBefore rows bytes (place + 2 + lengthAt bytes place) (steps ++ (stepFor (callOf (bodyAt bytes place)) ∷ []))
 
 -- what each answer says of the recording and of the monitor beside it; on a refusal the monitor is as it was before the refused record
-abbrev pub RecordingTakenAs : List Constraint → List ℕ → RecordingAnswer → Monitor → Type 0
-RecordingTakenAs rows bytes RecordingAnswer.Closed m =
+abbrev pub RecordingTakenAs : List Constraint → List ℕ → ReadAnswer → Monitor → Type 0
+RecordingTakenAs rows bytes ReadAnswer.Accepted m =
     (steps : List Step) × ReadsRecording rows bytes (recording-of steps) × Took rows (steps ++ (close ∷ [])) m
-RecordingTakenAs rows bytes (RecordingAnswer.Refused n place) m =
+RecordingTakenAs rows bytes (ReadAnswer.Refused n place) m =
     (steps : List Step) × StepsBefore rows bytes place steps × Took rows steps m × ReadsRecording rows bytes (recording-refused n place)
 
 -- a whole recording, put to a fresh monitor

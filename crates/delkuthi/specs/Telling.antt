@@ -11,7 +11,7 @@ use Rattle.text.specs.Content.{extended, Holds}
 use Rattle.text.specs.declared.Text.{Text}
 use Rattle.monitor.specs.declared.Monitor.{Monitor}
 use Rattle.delkuthi.specs.Taking.{Took}
-use Rattle.delkuthi.specs.declared.records.RecordingAnswer.{RecordingAnswer}
+use Rattle.table.specs.declared.ReadAnswer.{ReadAnswer}
 
 -- the text holds bytes of which something is said
 pub record Tells (Said : List ℕ → Type 0) (text : Text) : Type 0 where
@@ -25,8 +25,8 @@ pub record TellsRows (m : Monitor) (before text : Text) : Type 0 where
       → (verdicts : List Verdict) × EachReads steps rows verdicts × (text ≡ extended (rowLines 0 verdicts) before)
 
 -- the report on what a recording gave: its steps counted and the rows' lines, or the refusal
-abbrev pub TellsRecording : RecordingAnswer → Monitor → Text → Type 0
-TellsRecording RecordingAnswer.Closed m text =
+abbrev pub TellsRecording : ReadAnswer → Monitor → Text → Type 0
+TellsRecording ReadAnswer.Accepted m text =
     (rows : List Constraint) (steps : List Step) → Took rows steps m
     → (verdicts : List Verdict) × EachReads steps rows verdicts × Holds text (closedText (length steps) verdicts)
-TellsRecording (RecordingAnswer.Refused n place) m text = Holds text (refusedText n place)
+TellsRecording (ReadAnswer.Refused n place) m text = Holds text (refusedText n place)

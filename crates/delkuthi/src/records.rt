@@ -3,6 +3,7 @@ use constraint::Answer;
 use monitor::Monitor;
 use monitor::Stepped;
 use recording::Record;
+use table::ReadAnswer;
 ghost use Prim.Native.Nat.{_≤_};
 ghost use lib.ListN.{length};
 ghost use Rattle.delkuthi.specs.Taking.{TakesRecord, TakesRecording};
@@ -13,15 +14,10 @@ pub struct RecordTaken {
     pub next: usize,
 }
 
-// The answer to a recording: every record was taken, and the close; or the number of a refusal, and its place.
-pub enum RecordingAnswer {
-    Closed,
-    Refused { number: u8, place: usize },
-}
-
-// What a whole recording gives: the answer to it, and the monitor after the last step taken.
+// What a whole recording gives: the answer to it, which is accepted where every record was taken, and the close; and the monitor
+// after the last step taken.
 pub struct RecordingTaken {
-    pub answer: RecordingAnswer,
+    pub answer: ReadAnswer,
     pub monitor: Monitor,
 }
 
@@ -66,7 +62,7 @@ pub(crate) fn take_recording(fresh: Monitor, bytes: &[u8]) -> RecordingTaken
     let mut place = 1;
     if !recording::version_one(bytes) {
         return RecordingTaken {
-            answer: RecordingAnswer::Refused {
+            answer: ReadAnswer::Refused {
                 number: 13,
                 place: 0,
             },
@@ -84,7 +80,7 @@ pub(crate) fn take_recording(fresh: Monitor, bytes: &[u8]) -> RecordingTaken
             }
             Answer::Refused(number) => {
                 return RecordingTaken {
-                    answer: RecordingAnswer::Refused { number, place },
+                    answer: ReadAnswer::Refused { number, place },
                     monitor,
                 };
             }
@@ -93,7 +89,7 @@ pub(crate) fn take_recording(fresh: Monitor, bytes: &[u8]) -> RecordingTaken
     let closed = monitor.close();
     let last = closed.monitor;
     RecordingTaken {
-        answer: RecordingAnswer::Closed,
+        answer: ReadAnswer::Accepted,
         monitor: last,
     }
 }

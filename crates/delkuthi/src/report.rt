@@ -1,5 +1,4 @@
 // The text of a report.
-use crate::records::RecordingAnswer;
 use crate::records::RecordingTaken;
 use crate::records::take_recording;
 use monitor::Monitor;
@@ -36,8 +35,8 @@ fn recording_text(taken: RecordingTaken) -> Text
     let answer = taken.answer;
     let monitor = taken.monitor;
     match answer {
-        RecordingAnswer::Closed => row_lines(Text::new().closed_line(monitor.count), monitor),
-        RecordingAnswer::Refused { number, place } => Text::new().refused_line(number, place),
+        ReadAnswer::Accepted => row_lines(Text::new().closed_line(monitor.count), monitor),
+        ReadAnswer::Refused { number, place } => Text::new().refused_line(number, place),
     }
 }
 

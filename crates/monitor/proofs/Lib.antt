@@ -2,7 +2,6 @@
 pub mod FittingRows
 pub mod Following
 pub mod Demand
-pub mod Examples
 pub mod Theorem
 pub mod Beside
 pub mod Unheard

@@ -2,5 +2,4 @@
 pub mod Machine
 pub mod Contract
 pub mod Parts
-pub mod Examples
 pub mod Beside

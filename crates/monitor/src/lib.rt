@@ -28,13 +28,8 @@ pub struct Monitor {
     pub len: usize,
 }
 
-// The answer to a table, and the monitor over it: on a refusal the one over no rows.
-pub struct Fresh {
-    pub answer: Answer,
-    pub monitor: Monitor,
-}
-
-// The answer to a call, and the monitor after it: on a refusal the monitor as it was.
+// The answer to a table and the monitor over it, on a refusal the one over no rows; or the answer to a call and the monitor after
+// it, on a refusal as it was.
 pub struct Stepped {
     pub answer: Answer,
     pub monitor: Monitor,
@@ -55,15 +50,15 @@ impl Monitor {
     pub const LAST_TIME: u64 = constraint::LAST_TIME;
 
     // A monitor over a table, with clock 0, or the refusal: questions 3 to 7, row by row.
-    pub fn fresh(table: Table) -> Fresh
+    pub fn fresh(table: Table) -> Stepped
         ensures { λ r. ⌜ Freshly table (r .answer) (r .monitor) ⌝ }
     {
         match table.judge() {
-            Answer::Refused(number) => Fresh {
+            Answer::Refused(number) => Stepped {
                 answer: Answer::Refused(number),
                 monitor: rows::over(table, 0),
             },
-            Answer::Taken => Fresh {
+            Answer::Taken => Stepped {
                 answer: Answer::Taken,
                 monitor: rows::over(table, table.count),
             },

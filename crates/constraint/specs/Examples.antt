@@ -1,20 +1,13 @@
--- The contract's examples 1 to 12 (§10.1 to §10.12), and those of Delays without an upper limit: a row, steps, and what the row reads
--- after them.
-use mathlib.Core.Path.{_≡_}
-use mathlib.Core.List.{List, [], _∷_, map}
-use mathlib.Core.Option.{some}
+-- The contract's examples 1 to 12 (§10.1 to §10.12), and those of Delays without an upper limit: a row, calls that are all taken, and what
+-- the row reads after them.
+use mathlib.Core.List.{List, [], _∷_}
 use Rattle.constraint.specs.Limits.{lastTime, noLimit}
-use Rattle.constraint.specs.Steps.{Step}
-use Rattle.constraint.specs.Run.{stepFor}
-use Rattle.constraint.specs.Continuation.{Reads}
 use Rattle.constraint.specs.declared.Call.{Call}
 use Rattle.constraint.specs.declared.Call.the-variants.{Event, Tick, Close}
 use Rattle.constraint.specs.declared.Constraint.{Constraint}
 use Rattle.constraint.specs.declared.Constraint.the-variants.{Delay, StrongDelay, Repeat, Sporadic, Order, StrongSynchronization2}
 use Rattle.constraint.specs.declared.Verdict.{Verdict}
 use Rattle.constraint.specs.declared.Verdict.the-variants.{Open, Kept, Broken}
-use Rattle.monitor.specs.Machine.{verdictOf}
-use Rattle.monitor.specs.Contract.{after, Recorded}
 
 pub record Example : Type 0 where
   pub constraint : Constraint
@@ -84,14 +77,3 @@ unlimited-delays =
     ∷ reads (Delay 0 1 lastTime noLimit) (Event 0 1 ∷ Tick lastTime ∷ Close ∷ []) (Broken 3)
     ∷ reads (Delay 0 1 lastTime noLimit) (Event 0 0 ∷ Event 1 lastTime ∷ Close ∷ []) Kept
     ∷ []
-
--- the steps of an example whose calls are all taken
-abbrev pub stepsOf : Example → List Step
-stepsOf e = map stepFor (e .calls)
-
--- the questions take every call; the row reads so by the definitions, and by the monitor
-abbrev pub AllRead : List Example → Type 0
-AllRead [] = Unit {0}
-AllRead (e ∷ later) =
-    (Recorded (e .constraint ∷ []) (e .calls) (stepsOf e) × Reads (e .constraint) (stepsOf e) (e .verdict) × (verdictOf (after (e .constraint ∷ []) (e .calls)) 0 ≡ some (e .verdict)))
-    × AllRead later

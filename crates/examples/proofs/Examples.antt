@@ -1,0 +1,130 @@
+-- The contract's examples read as it says: the machine computes each verdict, with every call taken, and §3.6 makes it the definition's.
+use mathlib.Core.Path.{_≡_, refl, sym, _∙_, ap, subst}
+use mathlib.Core.Bool.{Bool, true, false, _&&_}
+use mathlib.Core.List.{List, [], _∷_, _++_, map, append-nil, append-assoc}
+use mathlib.Core.Option.{Option, none, some}
+use lib.Dec.{eqb}
+use borrow.Author.Tests.{eqb-true}
+use Rattle.constraint.specs.Steps.{Step}
+use Rattle.constraint.specs.Continuation.{Reads}
+use Rattle.constraint.specs.Run.{stepFor, Run, done, call}
+use Rattle.constraint.specs.Promise.{ReadsRow, row, play, Played}
+use Rattle.constraint.specs.Examples.{Example, examples, unlimited-delays}
+use Rattle.constraint.specs.declared.Answer.{Answer}
+use Rattle.constraint.specs.declared.Answer.the-variants.{Taken, Refused}
+use Rattle.constraint.specs.declared.Call.{Call}
+use Rattle.constraint.specs.declared.Constraint.{Constraint}
+use Rattle.constraint.specs.declared.Verdict.{Verdict}
+use Rattle.constraint.specs.declared.Verdict.the-variants.{Open, Kept, Broken}
+use Rattle.constraint.proofs.Judged.{never}
+use Rattle.constraint.proofs.Lists.{both}
+use Rattle.pairs.specs.Delay.{answeredBy, decideDelay}
+use Rattle.pairs.specs.StrongDelay.{sourceStrongDelay, targetStrongDelay, decideStrongDelay}
+use Rattle.spans.specs.Repeat.{decideRepeat}
+use Rattle.points.specs.Sporadic.{laterSporadic, decideSporadic}
+use Rattle.pairs.specs.Order.{changesTo, decideOrder}
+use Rattle.groups.specs.StrongSynchronization.{decideStrongSynchronization}
+use Rattle.row.specs.Machine.{rowOf, brokenRow, applied, changedRow, rowStep, rowVerdict}
+use Rattle.queue.specs.Ring.{ring, pushRing, putRing}
+use Rattle.monitor.specs.Machine.{monitorOf, mapFirst, anyFirst, takenCall, stepOf, verdictOf}
+use Rattle.monitor.specs.Contract.{step, after}
+use Rattle.monitor.specs.declared.Monitor.{Monitor}
+use Rattle.monitor.proofs.Theorem.{monitor-is-exact}
+use Rattle.examples.specs.Reading.{stepsOf, ReadsSo, AllRead}
+use Rattle.examples.proofs.Fitting.{and-true, fits, accepted-by}
+
+-- ---- what the machine computes
+
+-- every call is taken
+allTaken : List Answer → Bool
+allTaken [] = true
+allTaken (Taken ∷ answers) = allTaken answers
+allTaken (Refused n ∷ answers) = false
+
+-- there is a verdict, and it is this one
+isVerdict : Option Verdict → Verdict → Bool
+isVerdict none v = false
+isVerdict (some Open) Open = true
+isVerdict (some Kept) Kept = true
+isVerdict (some (Broken m)) (Broken n) = eqb m n
+isVerdict (some Open) Kept = false
+isVerdict (some Open) (Broken n) = false
+isVerdict (some Kept) Open = false
+isVerdict (some Kept) (Broken n) = false
+isVerdict (some (Broken m)) Open = false
+isVerdict (some (Broken m)) Kept = false
+
+is-verdict : (o : Option Verdict) (v : Verdict) → isVerdict o v ≡ true → o ≡ some v
+unfolding isVerdict
+is-verdict none v e = both (sym e)
+is-verdict (some Open) Open e = refl
+is-verdict (some Kept) Kept e = refl
+is-verdict (some (Broken m)) (Broken n) e = ap (λ x. some (Broken x)) (eqb-true m n e)
+is-verdict (some Open) Kept e = both (sym e)
+is-verdict (some Open) (Broken n) e = both (sym e)
+is-verdict (some Kept) Open e = both (sym e)
+is-verdict (some Kept) (Broken n) e = both (sym e)
+is-verdict (some (Broken m)) Open e = both (sym e)
+is-verdict (some (Broken m)) Kept e = both (sym e)
+
+-- the machine over the example's row alone, after its calls
+playOf : Example → Played Monitor
+playOf e = play step (monitorOf (e .constraint ∷ [])) (e .calls)
+
+-- the row is accepted, the machine takes every call, and reads the verdict
+computes : Example → Bool
+computes e = fits (e .constraint) && (allTaken (playOf e .answers) && isVerdict (verdictOf (playOf e .monitor) 0) (e .verdict))
+
+allCompute : List Example → Bool
+allCompute [] = true
+allCompute (e ∷ later) = computes e && allCompute later
+
+examples-computed : allCompute examples ≡ true
+unfolding allCompute computes playOf allTaken isVerdict play monitorOf mapFirst anyFirst takenCall stepOf verdictOf rowOf brokenRow applied changedRow rowStep rowVerdict ring pushRing putRing answeredBy decideDelay sourceStrongDelay targetStrongDelay decideStrongDelay decideRepeat laterSporadic decideSporadic changesTo decideOrder decideStrongSynchronization
+examples-computed = refl
+
+unlimited-computed : allCompute unlimited-delays ≡ true
+unfolding allCompute computes playOf allTaken isVerdict play monitorOf mapFirst anyFirst takenCall stepOf verdictOf rowOf brokenRow applied changedRow rowStep rowVerdict ring pushRing putRing answeredBy decideDelay
+unlimited-computed = refl
+
+-- ---- so each reads by the definitions what the machine computes
+
+-- calls that are all taken are the steps accepted
+run-taken : {rows : List Constraint} {steps end : List Step} {calls : List Call} {answers : List Answer}
+    → Run rows steps calls answers end → allTaken answers ≡ true → end ≡ steps ++ map stepFor calls
+unfolding allTaken
+run-taken (done {steps = steps}) e = sym (append-nil steps)
+run-taken (call {steps = steps} {calls = calls} s Taken judged rest) e = run-taken rest e ∙ append-assoc steps (stepFor s ∷ []) (map stepFor calls)
+run-taken (call s (Refused n) judged rest) e = never (cc)
+
+only-row : (c : Constraint) (steps : List Step) (v : Verdict) → ReadsRow (c ∷ []) steps 0 (some v) → Reads c steps v
+only-row c steps v (row d w e r) = let same : d ≡ c = cc in subst (λ x. Reads x steps w) same r
+
+reads-so : (e : Example) → computes e ≡ true → ReadsSo e
+unfolding computes playOf after
+reads-so e computed =
+    let rows = e .constraint ∷ [] in
+    let parts = and-true (fits (e .constraint)) _ computed in
+    let later = and-true (allTaken (playOf e .answers)) _ (parts .1) in
+    let reads : verdictOf (playOf e .monitor) 0 ≡ some (e .verdict) = is-verdict _ (e .verdict) (later .1) in
+    let exact = monitor-is-exact .exact rows (accepted-by (e .constraint) (parts .0)) (e .calls) in
+    let all = run-taken (exact .1) (later .0) in
+    let row-reads : ReadsRow rows (exact .0) 0 (some (e .verdict)) = subst (ReadsRow rows (exact .0) 0) reads (exact .2 0) in
+    record {
+      taken = (playOf e .answers, subst (λ steps. Run rows [] (e .calls) (playOf e .answers) steps) all (exact .1));
+      defined = only-row (e .constraint) (stepsOf e) (e .verdict) (subst (λ steps. ReadsRow rows steps 0 (some (e .verdict))) all row-reads);
+      monitored = reads;
+    }
+
+all-read : (list : List Example) → allCompute list ≡ true → AllRead list
+unfolding allCompute
+all-read [] computed = tt
+all-read (e ∷ later) computed = let parts = and-true (computes e) (allCompute later) computed in (reads-so e (parts .0), all-read later (parts .1))
+
+-- §10.1 to §10.12
+pub examples-hold : AllRead examples
+examples-hold = all-read examples examples-computed
+
+-- §5.1.6, §5.1.7
+pub unlimited-delays-hold : AllRead unlimited-delays
+unlimited-delays-hold = all-read unlimited-delays unlimited-computed

@@ -1,0 +1,107 @@
+-- A row whose numbers are written out is accepted by computation: a test goes through its fields as questions 5 to 7 do.
+use Prim.Native.Nat.{ℕ, _≤_}
+use native.Mathlib.Omega.{arith}
+use mathlib.Core.Path.{_≡_, refl, sym}
+use mathlib.Core.Bool.{Bool, true, false, not, _&&_, _||_}
+use mathlib.Core.List.{List, [], _∷_}
+use mathlib.Core.Logic.{_⊎_, inl, inr}
+use lib.Dec.{leb, eqb}
+use borrow.Author.Tests.{leb-true, eqb-true, eqb-false, not-true}
+use Rattle.constraint.specs.Limits.{lastKind, lastTime, noLimit}
+use Rattle.constraint.specs.Questions.{Judged}
+use Rattle.constraint.specs.Types.{kind, count, span, plain, lower, upper, upper-or-none, Field, byte, time, fieldsOf}
+use Rattle.constraint.specs.Accepted.{kinds, KindsFit, UpperInRange, FieldsInRange, InRange, NotBelow, LowerFirst, rowsQuestions, Accepted}
+use Rattle.constraint.specs.Records.{Absent}
+use Rattle.constraint.specs.declared.Constraint.{Constraint}
+use Rattle.constraint.proofs.FittingKinds.{kinds-none, kinds-more}
+use Rattle.constraint.proofs.Lists.{both, or-true}
+
+-- both of two tests
+pub and-true : (a b : Bool) → (a && b) ≡ true → (a ≡ true) × (b ≡ true)
+and-true true b e = (refl, e)
+and-true false b e = both (sym e)
+
+-- ---- the tests
+
+abbrev absentBy : ℕ → List ℕ → Bool
+absentBy k [] = true
+absentBy k (j ∷ ks) = not (eqb k j) && absentBy k ks
+
+abbrev kindsBy : List ℕ → Bool
+kindsBy [] = true
+kindsBy (k ∷ ks) = (leb k lastKind && absentBy k ks) && kindsBy ks
+
+abbrev rangeBy : List Field → Bool
+rangeBy [] = true
+rangeBy (byte kind x ∷ fields) = rangeBy fields
+rangeBy (byte count x ∷ fields) = rangeBy fields
+rangeBy (byte (span limit) x ∷ fields) = leb 1 x && (leb x limit && rangeBy fields)
+rangeBy (time plain x ∷ fields) = leb x lastTime && rangeBy fields
+rangeBy (time lower x ∷ fields) = leb x lastTime && rangeBy fields
+rangeBy (time upper x ∷ fields) = leb x lastTime && rangeBy fields
+rangeBy (time upper-or-none x ∷ fields) = (leb x lastTime || eqb x noLimit) && rangeBy fields
+
+abbrev lowerBy : ℕ → List Field → Bool
+lowerBy low [] = true
+lowerBy low (byte role x ∷ fields) = lowerBy low fields
+lowerBy low (time plain x ∷ fields) = lowerBy low fields
+lowerBy low (time lower x ∷ fields) = lowerBy x fields
+lowerBy low (time upper x ∷ fields) = leb low x
+lowerBy low (time upper-or-none x ∷ fields) = leb low x
+
+-- questions 5 to 7
+abbrev pub fits : Constraint → Bool
+fits c = kindsBy (kinds c) && (rangeBy (fieldsOf c) && lowerBy 0 (fieldsOf c))
+
+-- ---- what they say
+
+absent-by : (k : ℕ) (ks : List ℕ) → absentBy k ks ≡ true → Absent k ks
+absent-by k [] e = tt
+absent-by k (j ∷ ks) e =
+    let parts = and-true (not (eqb k j)) (absentBy k ks) e in
+    (eqb-false k j (not-true (eqb k j) (parts .0)), absent-by k ks (parts .1))
+
+kinds-by : (ks : List ℕ) → kindsBy ks ≡ true → KindsFit ks
+kinds-by [] e = kinds-none
+kinds-by (k ∷ ks) e =
+    let parts = and-true (leb k lastKind && absentBy k ks) (kindsBy ks) e in
+    let first = and-true (leb k lastKind) (absentBy k ks) (parts .0) in
+    kinds-more k ks (leb-true k lastKind (first .0), absent-by k ks (first .1)) (kinds-by ks (parts .1))
+
+upper-by : (x : ℕ) → (leb x lastTime ≡ true) ⊎ (eqb x noLimit ≡ true) → UpperInRange x
+upper-by x (inl low) = inl (leb-true x lastTime low)
+upper-by x (inr mark) = inr (eqb-true x noLimit mark)
+
+range-by : (fields : List Field) → rangeBy fields ≡ true → FieldsInRange fields
+range-by [] e = tt
+range-by (byte kind x ∷ fields) e = range-by fields e
+range-by (byte count x ∷ fields) e = range-by fields e
+range-by (byte (span limit) x ∷ fields) e =
+    let parts = and-true (leb 1 x) (leb x limit && rangeBy fields) e in
+    let later = and-true (leb x limit) (rangeBy fields) (parts .1) in
+    (leb-true 1 x (parts .0), leb-true x limit (later .0), range-by fields (later .1))
+range-by (time plain x ∷ fields) e =
+    let parts = and-true (leb x lastTime) (rangeBy fields) e in (leb-true x lastTime (parts .0), range-by fields (parts .1))
+range-by (time lower x ∷ fields) e =
+    let parts = and-true (leb x lastTime) (rangeBy fields) e in (leb-true x lastTime (parts .0), range-by fields (parts .1))
+range-by (time upper x ∷ fields) e =
+    let parts = and-true (leb x lastTime) (rangeBy fields) e in (leb-true x lastTime (parts .0), range-by fields (parts .1))
+range-by (time upper-or-none x ∷ fields) e =
+    let parts = and-true (leb x lastTime || eqb x noLimit) (rangeBy fields) e in
+    (upper-by x (or-true (leb x lastTime) (eqb x noLimit) (parts .0)), range-by fields (parts .1))
+
+lower-by : (low : ℕ) (fields : List Field) → lowerBy low fields ≡ true → NotBelow low fields
+lower-by low [] e = tt
+lower-by low (byte role x ∷ fields) e = lower-by low fields e
+lower-by low (time plain x ∷ fields) e = lower-by low fields e
+lower-by low (time lower x ∷ fields) e = lower-by x fields e
+lower-by low (time upper x ∷ fields) e = leb-true low x e
+lower-by low (time upper-or-none x ∷ fields) e = leb-true low x e
+
+-- a table of this row alone is accepted
+pub accepted-by : (c : Constraint) → fits c ≡ true → Accepted (c ∷ [])
+unfolding Judged rowsQuestions InRange LowerFirst
+accepted-by c e =
+    let parts = and-true (kindsBy (kinds c)) (rangeBy (fieldsOf c) && lowerBy 0 (fieldsOf c)) e in
+    let later = and-true (rangeBy (fieldsOf c)) (lowerBy 0 (fieldsOf c)) (parts .1) in
+    inl (omega arith, inl (kinds-by (kinds c) (parts .0), inl (range-by (fieldsOf c) (later .0), inl (lower-by 0 (fieldsOf c) (later .1), refl))))

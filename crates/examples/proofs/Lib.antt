@@ -1,0 +1,3 @@
+-- Why the examples read as they say.
+pub mod Fitting
+pub mod Examples

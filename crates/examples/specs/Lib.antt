@@ -1,0 +1,2 @@
+-- What is promised of the contract's examples (crate constraint, Examples).
+pub mod Reading

@@ -1,0 +1,1 @@
+// The contract's examples as theorems over the monitor: no code.

@@ -13,8 +13,9 @@ use Rattle.constraint.specs.declared.Answer.the-variants.{Taken}
 use Rattle.constraint.specs.Run.{stepFor}
 use Rattle.constraint.specs.declared.Call.{Call}
 use Rattle.constraint.specs.declared.Constraint.{Constraint}
-use Rattle.monitor.specs.Contract.{after, Recorded}
+use Rattle.monitor.specs.Contract.{after, Recorded, Steps}
 use Rattle.monitor.specs.declared.Monitor.{Monitor}
+use Rattle.inplace.specs.Store.{steppedFrom}
 use Rattle.recording.specs.Record.{CallAt}
 use Rattle.delkuthi.specs.declared.records.Turn.{Turn}
 use Rattle.delkuthi.specs.declared.records.RecordingTaken.{RecordingTaken}
@@ -74,10 +75,28 @@ pub record UpTo (fresh : Monitor) (bytes : List ℕ) (place : ℕ) (m : Monitor)
 
 -- the call of a turn is that of the record at its place; behind the last record it is the close
 pub data TurnCall (bytes : List ℕ) : Call → ℕ → ℕ → Type 0 where
-  of-record : {place : ℕ} (call : Call) (size : ℕ) → place < length bytes → CallAt bytes place call size → TurnCall bytes call place (place + size)
+  of-record : {place : ℕ} (call : Call) (size : ℕ) → place < length bytes → CallAt bytes place call size
+      → TurnCall bytes call place (place + size)
   of-close : {place : ℕ} → length bytes ≤ place → TurnCall bytes Call.Close place place
 
 -- a turn, and the monitor before it
 pub data Turns (fresh : Monitor) (bytes : List ℕ) : Turn → Monitor → Type 0 where
-  on : {call : Call} {place next : ℕ} {m : Monitor} → TurnCall bytes call place next → UpTo fresh bytes place m → Turns fresh bytes (goesOn call place next) m
-  over : {answer : RecordingAnswer} {m : Monitor} → TakesRecording fresh bytes (record { answer = answer; monitor = m }) → Turns fresh bytes (endsWith answer) m
+  on : {call : Call} {place next : ℕ} {m : Monitor} → TurnCall bytes call place next → UpTo fresh bytes place m
+      → Turns fresh bytes (goesOn call place next) m
+  over : {answer : RecordingAnswer} {m : Monitor} → TakesRecording fresh bytes (record { answer = answer; monitor = m })
+      → Turns fresh bytes (endsWith answer) m
+
+-- what is next at the start (§9.4)
+abbrev pub NextAtStart : List ℕ → Turn → Type 0
+NextAtStart bytes turn = (fresh : Monitor) → Turns fresh bytes turn fresh
+
+-- what is next from a place on
+abbrev pub NextFrom : List ℕ → ℕ → Turn → Type 0
+NextFrom bytes place turn =
+    ((fresh m : Monitor) → UpTo fresh bytes place m → Turns fresh bytes turn m) × (left bytes turn ≤ left bytes (goesOn Call.Close place place))
+
+-- what is next after a turn whose call a monitor answered with a number
+abbrev pub NextAfter : List ℕ → Turn → ℕ → Turn → Type 0
+NextAfter bytes before number turn =
+    (fresh m m′ : Monitor) → before .more ≡ true → Turns fresh bytes before m → Steps m (before .call) (steppedFrom number m′)
+    → Turns fresh bytes turn m′ × (left bytes turn < left bytes before)

@@ -2,13 +2,8 @@
 use constraint::Call;
 use monitor::Monitor;
 use recording::Record;
-ghost use Prim.Native.Nat.{_<_, _≤_};
-ghost use mathlib.Core.Bool.{true};
 ghost use mathlib.Core.Path.{_≡_};
-ghost use Rattle.monitor.specs.Contract.{Steps};
-ghost use Rattle.monitor.specs.declared.Monitor.{Monitor};
-ghost use Rattle.inplace.specs.Store.{steppedFrom};
-ghost use Rattle.delkuthi.specs.Taking.{goesOn, endsWith, left, UpTo, Turns, TakesRecording};
+ghost use Rattle.delkuthi.specs.Taking.{goesOn, endsWith, NextAtStart, NextFrom, NextAfter, TakesRecording};
 
 // The answer to a recording: every record was taken, and the close; or the number of a refusal, and its place.
 pub enum RecordingAnswer {
@@ -60,7 +55,7 @@ fn ending_with(answer: RecordingAnswer) -> Turn
 
 // What is next from a place on: the record there, which is read from its own part of the bytes, or the close behind the last.
 fn turn_at(bytes: &[u8], place: usize) -> Turn
-    ensures { λ r. ⌜ ((fresh m : Monitor) → UpTo fresh (now (bytes .entry)) place m → Turns fresh (now (bytes .entry)) r m) × (left (now (bytes .entry)) r ≤ left (now (bytes .entry)) (goesOn Call.Close place place)) ⌝ }
+    ensures { λ r. ⌜ NextFrom (now (bytes .entry)) place r ⌝ }
 {
     if bytes.len() <= place {
         return going_on(Call::Close, place, place);
@@ -76,7 +71,7 @@ fn turn_at(bytes: &[u8], place: usize) -> Turn
 
 // What is next at the start: question 13, then the first record.
 fn first_turn(bytes: &[u8]) -> Turn
-    ensures { λ r. ⌜ ((fresh : Monitor) → Turns fresh (now (bytes .entry)) r fresh) ⌝ }
+    ensures { λ r. ⌜ NextAtStart (now (bytes .entry)) r ⌝ }
 {
     if !recording::version_one(bytes) {
         return ending_with(RecordingAnswer::Refused {
@@ -89,7 +84,7 @@ fn first_turn(bytes: &[u8]) -> Turn
 
 // What is next after a turn, by the number that its call was answered with.
 fn next_turn(bytes: &[u8], turn: Turn, number: u8) -> Turn
-    ensures { λ r. ⌜ ((fresh m m′ : Monitor) → turn .more ≡ true → Turns fresh (now (bytes .entry)) turn m → Steps m (turn .call) (steppedFrom number m′) → Turns fresh (now (bytes .entry)) r m′ × (left (now (bytes .entry)) r < left (now (bytes .entry)) turn)) ⌝ }
+    ensures { λ r. ⌜ NextAfter (now (bytes .entry)) turn number r ⌝ }
 {
     let place = turn.place;
     if bytes.len() <= place {

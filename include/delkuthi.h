@@ -77,9 +77,9 @@
  *   waiting in a row at most 64           DELKUTHI_WAITING_LIMIT
  *   a table          at most 1,153 bytes  DELKUTHI_TABLE_LIMIT
  *   a report         at most 1,024 bytes  DELKUTHI_REPORT_LIMIT
- *   stack, report    at most 384 KiB      DELKUTHI_REPORT_STACK
+ *   stack, report    at most 256 KiB      DELKUTHI_REPORT_STACK
  *   stack, fresh     at most 256 KiB      DELKUTHI_MONITOR_STACK
- *   stack, steps     at most 2 KiB        DELKUTHI_STEP_STACK
+ *   stack, steps     at most 1 KiB        DELKUTHI_STEP_STACK
  *
  * What waits in a row: sources that have no target yet (Delay, StrongDelay),
  * groups begun and not complete (StrongSynchronization). In other rows nothing
@@ -241,9 +241,9 @@ extern "C" {
 #define DELKUTHI_WAITING_LIMIT 64
 #define DELKUTHI_TABLE_LIMIT   1153
 #define DELKUTHI_REPORT_LIMIT  1024
-#define DELKUTHI_REPORT_STACK  393216
+#define DELKUTHI_REPORT_STACK  262144
 #define DELKUTHI_MONITOR_STACK 262144
-#define DELKUTHI_STEP_STACK    2048
+#define DELKUTHI_STEP_STACK    1024
 
 /* The upper of a Repeat or a Sporadic that has no upper limit. */
 #define DELKUTHI_NO_LIMIT UINT64_C(18446744073709551615)

@@ -1,17 +1,17 @@
 -- Records are taken one after the other: what reading gives from a place on, over the steps taken before it, is what it gives from the start.
-use Prim.Native.Nat.{ℕ, _+_, _≤_, _<_}
+use Prim.Native.Nat.{ℕ, zero, suc, _+_, _≤_, _<_}
 use mathlib.Core.Path.{_≡_, refl, sym, ap, subst, _∙_}
 use mathlib.Core.Bool.{Bool, true, false, cond}
 use mathlib.Core.List.{List, [], _∷_, _++_}
 use native.Mathlib.Omega.{arith}
 use lib.ListN.{length}
 use lib.Dec.{eqb}
-use Rattle.constraint.specs.Steps.{Step, event, tick, close, at, closed}
+use Rattle.constraint.specs.Steps.{Step, at, closed}
 use Rattle.constraint.specs.Questions.{Judged}
 use Rattle.constraint.specs.Run.{stepFor, questions}
 use Rattle.constraint.specs.Bytes.{numberAt}
-use Rattle.constraint.specs.Table.{bodyAt}
-use Rattle.constraint.specs.Recording.{callOf, RecordAt, RecordingRead, recording-of, recording-refused, ReadsRecords, no-more, record-refused, record-taken}
+use Rattle.constraint.specs.Table.{lengthAt, bodyAt, VersionOne}
+use Rattle.constraint.specs.Recording.{version-refused, callOf, RecordAt, recordQuestions, recording-of, recording-refused, ReadsRecords, no-more, record-refused, record-taken, version-taken}
 use Rattle.constraint.specs.declared.Call.{Call}
 use Rattle.constraint.specs.declared.Answer.the-variants.{Taken, Refused}
 use Rattle.constraint.specs.declared.Constraint.{Constraint}
@@ -19,12 +19,14 @@ use Rattle.constraint.proofs.History.{closed-event, closed-tick}
 use Rattle.constraint.proofs.Judged.{never, judged-yes, judged-once}
 use Rattle.recording.specs.Record.{CallAt}
 use Rattle.recording.proofs.Records.{record-judged, record-refused as record-not-there}
-use Rattle.monitor.specs.Machine.{refuses, stepOf as machineStep}
+use Rattle.monitor.specs.Machine.{stepOf as machineStep}
 use Rattle.monitor.specs.Contract.{Steps}
 use Rattle.monitor.specs.declared.Monitor.{Monitor}
 use Rattle.monitor.specs.declared.Stepped.{Stepped}
-use Rattle.delkuthi.specs.Taking.{Took, TakesRecord, StepsBefore, at-first, behind}
-use Rattle.delkuthi.specs.declared.records.RecordTaken.{RecordTaken}
+use Rattle.inplace.specs.Store.{steppedFrom}
+use Rattle.delkuthi.specs.Taking.{Took, TakenUpTo, RecordingTakenAs, StepsBefore, at-version, at-first, behind, goesOn, endsWith, left, UpTo, of-record, of-close, Turns, on, over, TakesRecording}
+use Rattle.delkuthi.specs.declared.records.Turn.{Turn}
+use Rattle.table.specs.declared.ReadAnswer.{ReadAnswer}
 use Rattle.monitor.proofs.Theorem.{monitor-is-exact}
 use Rattle.delkuthi.proofs.Taking.{took-judged, took-more}
 
@@ -35,37 +37,12 @@ step-untouched : (m : Monitor) (s : Call) (result : Stepped) (n : ℕ) → resul
 step-untouched m s result n e f =
     ap (λ (r : Stepped). r .monitor) e ∙ monitor-is-exact .untouched m s n (sym (ap (λ (r : Stepped). r .answer) e) ∙ f)
 
--- a record that stands for a step, which the monitor was given
-pub step-takes : (m : Monitor) (bytes : List ℕ) (place : ℕ) (s : Call) (size : ℕ) (result : Stepped) → CallAt bytes place s size → Steps m s result
-    → TakesRecord m bytes place (record { stepped = result; next = place + size })
-step-takes m bytes place s size result read kept =
-    record {
-      judged = λ rows steps took. record-judged rows steps bytes place s size (result .answer) read (took-judged rows steps m took s result kept);
-      taken = λ rows steps took e. rw (read .call-read) (took-more rows steps m took s result kept e);
-      next-is = λ e. (omega (arith, read .size-read), omega (arith, read .size-read, read .there .0 .1));
-      untouched = λ n e. step-untouched m s result n (kept .equals) e;
-    }
-
--- question 14 is answered "no"
-pub none-takes : (m : Monitor) (bytes : List ℕ) (place : ℕ) → ¬ RecordAt bytes place → TakesRecord m bytes place (record { stepped = refuses 14 m; next = place })
-none-takes m bytes place not-there =
-    record {
-      judged = λ rows steps took. record-not-there rows steps bytes place not-there;
-      taken = λ rows steps took e. never (cc);
-      next-is = λ e. never (cc);
-      untouched = λ n e. refl;
-    }
+-- the answer to a record that stands for a step, which the monitor was given
+step-judged : (rows : List Constraint) (steps : List Step) (m : Monitor) (bytes : List ℕ) (place : ℕ) (s : Call) (size : ℕ) (result : Stepped) → CallAt bytes place s size → Steps m s result → Took rows steps m
+    → Judged (recordQuestions rows steps bytes place) (result .answer)
+step-judged rows steps m bytes place s size result read kept took = record-judged rows steps bytes place s size (result .answer) read (took-judged rows steps m took s result kept)
 
 -- Record by record
-
--- the monitor has taken the records before a place, which is not that of the version byte, and what is read from there on is the whole
-pub record TakenUpTo (rows : List Constraint) (bytes : List ℕ) (m : Monitor) (place : ℕ) : Type 0 where
-  pub steps : List Step
-  pub took : Took rows steps m
-  pub behind-version : 0 < place
-  pub steps-before : StepsBefore rows bytes place steps
-  pub not-closed : closed steps ≡ false
-  pub whole : (read : RecordingRead) → ReadsRecords rows bytes steps place read → ReadsRecords rows bytes [] 1 read
 
 -- no record is a close
 unclosed-more : (body : List ℕ) (steps : List Step) → closed steps ≡ false → closed (steps ++ (stepFor (callOf body) ∷ [])) ≡ false
@@ -82,33 +59,97 @@ module _ (rows : List Constraint) (bytes : List ℕ) where
       record { steps = []; took = took; behind-version = omega arith; steps-before = at-first; not-closed = refl; whole = λ read reads. reads }
 
   module _ (m : Monitor) (place : ℕ) (before : TakenUpTo rows bytes m place) where
-    pub up-to-more : (result : RecordTaken) → place < length bytes → TakesRecord m bytes place result → result .stepped .answer ≡ Taken
-        → TakenUpTo rows bytes (result .stepped .monitor) (result .next)
-    up-to-more result there takes e =
-        record {
-          steps = before .steps ++ (stepFor (callOf (bodyAt bytes place)) ∷ []);
-          took = takes .taken rows (before .steps) (before .took) e;
-          behind-version = omega (arith, takes .next-is e .0, before .behind-version);
-          steps-before =
-              subst (λ (next : ℕ). StepsBefore rows bytes next (before .steps ++ (stepFor (callOf (bodyAt bytes place)) ∷ []))) (sym (takes .next-is e .0))
-              (behind (before .behind-version) (before .steps-before) (subst (Judged _) e (takes .judged rows (before .steps) (before .took))));
-          not-closed = unclosed-more (bodyAt bytes place) (before .steps) (before .not-closed);
-          whole = λ read reads.
-              before .whole read
-              (record-taken there (subst (Judged _) e (takes .judged rows (before .steps) (before .took)))
-              (subst (λ (next : ℕ). ReadsRecords rows bytes (before .steps ++ (stepFor (callOf (bodyAt bytes place)) ∷ [])) next read) (takes .next-is e .0) reads));
-        }
+    module _ (there : place < length bytes) where
+      module _ (s : Call) (size : ℕ) (read : CallAt bytes place s size) (result : Stepped) (kept : Steps m s result) where
+        -- the record is taken
+        pub up-to-more : result .answer ≡ Taken → TakenUpTo rows bytes (result .monitor) (place + size)
+        up-to-more e =
+            let judged : Judged (recordQuestions rows (before .steps) bytes place) Taken = subst (Judged _) e (step-judged rows (before .steps) m bytes place s size result read kept (before .took)) in
+            let next-is : place + size ≡ place + 2 + lengthAt bytes place = omega (arith, read .size-read) in
+            record {
+              steps = before .steps ++ (stepFor (callOf (bodyAt bytes place)) ∷ []);
+              took = rw (read .call-read) (took-more rows (before .steps) m (before .took) s result kept e);
+              behind-version = omega (arith, before .behind-version);
+              steps-before =
+                  subst (λ (next : ℕ). StepsBefore rows bytes next (before .steps ++ (stepFor (callOf (bodyAt bytes place)) ∷ []))) (sym next-is)
+                  (behind (before .behind-version) (before .steps-before) judged);
+              not-closed = unclosed-more (bodyAt bytes place) (before .steps) (before .not-closed);
+              whole = λ read reads.
+                  before .whole read
+                  (record-taken there judged (subst (λ (next : ℕ). ReadsRecords rows bytes (before .steps ++ (stepFor (callOf (bodyAt bytes place)) ∷ [])) next read) next-is reads));
+            }
 
-    pub up-to-refused : (result : RecordTaken) (n : ℕ) → place < length bytes → TakesRecord m bytes place result → result .stepped .answer ≡ Refused n
-        → ReadsRecords rows bytes [] 1 (recording-refused n place)
-    up-to-refused result n there takes e =
-        before .whole (recording-refused n place) (record-refused n there (subst (Judged _) e (takes .judged rows (before .steps) (before .took))))
+        -- it is refused, and the monitor is as it was
+        pub up-to-refused : (n : ℕ) → VersionOne bytes → result .answer ≡ Refused n → RecordingTakenAs rows bytes (ReadAnswer.Refused n place) (result .monitor)
+        up-to-refused n one e = (
+          before .steps,
+          before .steps-before,
+          subst (Took rows (before .steps)) (sym (step-untouched m s result n (kept .equals) e)) (before .took),
+          version-taken one (before .whole (recording-refused n place) (record-refused n there (subst (Judged _) e (step-judged rows (before .steps) m bytes place s size result read kept (before .took))))),
+        )
+
+      -- question 14 is answered "no"
+      pub up-to-none : VersionOne bytes → ¬ RecordAt bytes place → RecordingTakenAs rows bytes (ReadAnswer.Refused 14 place) m
+      up-to-none one not-there = (
+        before .steps,
+        before .steps-before,
+        before .took,
+        version-taken one (before .whole (recording-refused 14 place) (record-refused 14 there (record-not-there rows (before .steps) bytes place not-there))),
+      )
 
     -- the close is taken
-    pub up-to-end : (result : Stepped) → length bytes ≤ place → Steps m Call.Close result
-        → (steps : List Step) × ReadsRecords rows bytes [] 1 (recording-of steps) × Took rows (steps ++ (close ∷ [])) (result .monitor)
+    pub up-to-end : (result : Stepped) → VersionOne bytes → length bytes ≤ place → Steps m Call.Close result → RecordingTakenAs rows bytes ReadAnswer.Accepted (result .monitor)
     unfolding questions Judged
-    up-to-end result end kept =
+    up-to-end result one end kept =
         let asked = took-judged rows (before .steps) m (before .took) Call.Close result kept in
         let taken = judged-once (questions rows (before .steps) Call.Close) (result .answer) Taken asked (judged-yes 8 _ [] Taken (before .not-closed) refl) in
-        (before .steps, before .whole (recording-of (before .steps)) (no-more end), took-more rows (before .steps) m (before .took) Call.Close result kept taken)
+        (before .steps, version-taken one (before .whole (recording-of (before .steps)) (no-more end)), took-more rows (before .steps) m (before .took) Call.Close result kept taken)
+
+-- Turn by turn
+
+module _ (fresh : Monitor) (bytes : List ℕ) where
+  pub turn-start : VersionOne bytes → UpTo fresh bytes 1 fresh
+  turn-start one = record { version = one; taken = λ rows took. up-to-start rows bytes fresh took }
+
+  -- question 13 is answered "no"
+  pub turn-version : ¬ VersionOne bytes → Turns fresh bytes (endsWith (ReadAnswer.Refused 13 0)) fresh
+  turn-version refused = over {answer = ReadAnswer.Refused 13 0} (record { means = λ rows took. ([], at-version, took, version-refused refused) })
+
+  module _ (m : Monitor) (place : ℕ) (before : UpTo fresh bytes place m) where
+    pub turn-record : (call : Call) (size : ℕ) → place < length bytes → CallAt bytes place call size → Turns fresh bytes (goesOn call place (place + size)) m
+    turn-record call size there read = on (of-record call size there read) before
+
+    pub turn-close : length bytes ≤ place → Turns fresh bytes (goesOn Call.Close place place) m
+    turn-close end = on (of-close end) before
+
+    pub turn-none : place < length bytes → ¬ RecordAt bytes place → Turns fresh bytes (endsWith (ReadAnswer.Refused 14 place)) m
+    turn-none there not-there = over {answer = ReadAnswer.Refused 14 place} (record { means = λ rows took. up-to-none rows bytes m place (before .taken rows took) there (before .version) not-there })
+
+  -- what follows a turn whose call was answered with a number: the close was taken; a record was refused; or a record was taken
+  pub next-closed : (turn : Turn) (m m′ : Monitor) (number : ℕ) → length bytes ≤ turn .place → turn .more ≡ true → Turns fresh bytes turn m → Steps m (turn .call) (steppedFrom number m′)
+      → Turns fresh bytes (endsWith ReadAnswer.Accepted) m′ × (left bytes (endsWith ReadAnswer.Accepted) < left bytes turn)
+  next-closed turn m m′ number end e (on (of-record {place} call size there read) before) kept = never (omega (arith, there, end))
+  next-closed turn m m′ number end e (on (of-close {place} end′) before) kept =
+      (over {answer = ReadAnswer.Accepted} (record { means = λ rows took. up-to-end rows bytes m place (before .taken rows took) (steppedFrom number m′) (before .version) end kept }), omega arith)
+  next-closed turn m m′ number end e (over taken) kept = never (cc)
+
+  pub next-refused : (turn : Turn) (m m′ : Monitor) (number : ℕ) → 0 < number → turn .place < length bytes → turn .more ≡ true → Turns fresh bytes turn m → Steps m (turn .call) (steppedFrom number m′)
+      → Turns fresh bytes (endsWith (ReadAnswer.Refused number (turn .place))) m′ × (left bytes (endsWith (ReadAnswer.Refused number (turn .place))) < left bytes turn)
+  next-refused turn m m′ zero above there e turns kept = never (omega (arith, above))
+  next-refused turn m m′ (suc n) above there e (on (of-record {place} call size there′ read) before) kept =
+      (over {answer = ReadAnswer.Refused (suc n) place} (record { means = λ rows took. up-to-refused rows bytes m place (before .taken rows took) there call size read (steppedFrom (suc n) m′) kept (suc n) (before .version) refl }), omega arith)
+  next-refused turn m m′ (suc n) above there e (on (of-close end) before) kept = never (omega (arith, there, end))
+  next-refused turn m m′ (suc n) above there e (over taken) kept = never (cc)
+
+  pub next-taken : (turn : Turn) (m m′ : Monitor) (number : ℕ) → number ≤ 0 → turn .place < length bytes → turn .more ≡ true → Turns fresh bytes turn m → Steps m (turn .call) (steppedFrom number m′)
+      → UpTo fresh bytes (turn .next) m′ × (left bytes (goesOn Call.Close (turn .next) (turn .next)) < left bytes turn)
+  next-taken turn m m′ (suc n) none there e turns kept = never (omega (arith, none))
+  next-taken turn m m′ zero none there e (on (of-record {place} call size there′ read) before) kept =
+      (record { version = before .version; taken = λ rows took. up-to-more rows bytes m place (before .taken rows took) there call size read (steppedFrom 0 m′) kept refl }, omega (arith, there, read .size-read))
+  next-taken turn m m′ zero none there e (on (of-close end) before) kept = never (omega (arith, there, end))
+  next-taken turn m m′ zero none there e (over taken) kept = never (cc)
+
+  -- where there is no more, the recording is taken as the turn says
+  pub turns-over : (turn : Turn) (m : Monitor) → turn .more ≡ false → Turns fresh bytes turn m → TakesRecording fresh bytes (record { answer = turn .answer; monitor = m })
+  turns-over turn m e (on call before) = never (cc)
+  turns-over turn m e (over taken) = taken

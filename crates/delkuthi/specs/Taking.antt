@@ -1,20 +1,23 @@
 -- What taking a recording gives: each record is put to the monitor that has taken those before it, and then the close.
-use Prim.Native.Nat.{ℕ, _+_, _≤_, _<_}
+use Prim.Native.Nat.{ℕ, suc, _+_, _-_, _≤_, _<_}
 use mathlib.Core.Path.{_≡_}
+use mathlib.Core.Bool.{true, false, cond}
 use mathlib.Core.List.{List, [], _∷_, _++_}
 use lib.ListN.{length}
-use Rattle.constraint.specs.Steps.{Step, close}
+use Rattle.constraint.specs.Steps.{Step, close, closed}
 use Rattle.constraint.specs.Questions.{Judged}
 use Rattle.constraint.specs.Accepted.{Accepted}
-use Rattle.constraint.specs.Table.{lengthAt, bodyAt}
-use Rattle.constraint.specs.Recording.{callOf, recordQuestions, recording-of, recording-refused, ReadsRecording}
-use Rattle.constraint.specs.declared.Answer.the-variants.{Taken, Refused}
+use Rattle.constraint.specs.Table.{lengthAt, bodyAt, VersionOne}
+use Rattle.constraint.specs.Recording.{callOf, recordQuestions, RecordingRead, recording-of, recording-refused, ReadsRecords, ReadsRecording}
+use Rattle.constraint.specs.declared.Answer.the-variants.{Taken}
 use Rattle.constraint.specs.Run.{stepFor}
 use Rattle.constraint.specs.declared.Call.{Call}
 use Rattle.constraint.specs.declared.Constraint.{Constraint}
-use Rattle.monitor.specs.Contract.{after, Recorded}
+use Rattle.monitor.specs.Contract.{after, Recorded, Steps}
 use Rattle.monitor.specs.declared.Monitor.{Monitor}
-use Rattle.delkuthi.specs.declared.records.RecordTaken.{RecordTaken}
+use Rattle.inplace.specs.Store.{steppedFrom}
+use Rattle.recording.specs.Record.{CallAt}
+use Rattle.delkuthi.specs.declared.records.Turn.{Turn}
 use Rattle.delkuthi.specs.declared.records.RecordingTaken.{RecordingTaken}
 use Rattle.table.specs.declared.ReadAnswer.{ReadAnswer}
 
@@ -25,21 +28,21 @@ pub record Took (rows : List Constraint) (steps : List Step) (m : Monitor) : Typ
   pub recorded : Recorded rows calls steps
   pub made : m ≡ after rows calls
 
--- the record at a place, put to a monitor: the answer is that to its questions; where it is taken, the monitor has taken its step too,
--- and the next record stands behind it; where it is refused, the monitor is as it was
-pub record TakesRecord (m : Monitor) (bytes : List ℕ) (place : ℕ) (result : RecordTaken) : Type 0 where
-  pub judged : (rows : List Constraint) (steps : List Step) → Took rows steps m → Judged (recordQuestions rows steps bytes place) (result .stepped .answer)
-  pub taken : (rows : List Constraint) (steps : List Step) → Took rows steps m → result .stepped .answer ≡ Taken
-      → Took rows (steps ++ (stepFor (callOf (bodyAt bytes place)) ∷ [])) (result .stepped .monitor)
-  pub next-is : result .stepped .answer ≡ Taken → (result .next ≡ place + 2 + lengthAt bytes place) × (result .next ≤ length bytes)
-  pub untouched : (n : ℕ) → result .stepped .answer ≡ Refused n → result .stepped .monitor ≡ m
-
 -- the steps of the records before a place: none before the version byte and before the first record, which stands behind it
 pub data StepsBefore (rows : List Constraint) (bytes : List ℕ) : ℕ → List Step → Type 0 where
   at-version : StepsBefore rows bytes 0 []
   at-first : StepsBefore rows bytes 1 []
   behind : {place : ℕ} {steps : List Step} → 0 < place → StepsBefore rows bytes place steps → Judged (recordQuestions rows steps bytes place) Taken
       → StepsBefore rows bytes (place + 2 + lengthAt bytes place) (steps ++ (stepFor (callOf (bodyAt bytes place)) ∷ []))
+
+-- the monitor has taken the records before a place, which is not that of the version byte, and what is read from there on is the whole
+pub record TakenUpTo (rows : List Constraint) (bytes : List ℕ) (m : Monitor) (place : ℕ) : Type 0 where
+  pub steps : List Step
+  pub took : Took rows steps m
+  pub behind-version : 0 < place
+  pub steps-before : StepsBefore rows bytes place steps
+  pub not-closed : closed steps ≡ false
+  pub whole : (read : RecordingRead) → ReadsRecords rows bytes steps place read → ReadsRecords rows bytes [] 1 read
 
 -- what each answer says of the recording and of the monitor beside it; on a refusal the monitor is as it was before the refused record
 abbrev pub RecordingTakenAs : List Constraint → List ℕ → ReadAnswer → Monitor → Type 0
@@ -51,3 +54,49 @@ RecordingTakenAs rows bytes (ReadAnswer.Refused n place) m =
 -- a whole recording, put to a fresh monitor
 pub record TakesRecording (m : Monitor) (bytes : List ℕ) (result : RecordingTaken) : Type 0 where
   pub means : (rows : List Constraint) → Took rows [] m → RecordingTakenAs rows bytes (result .answer) (result .monitor)
+
+-- ---- turn by turn
+
+-- a call is next, whose record stands at a place and ends before another; or nothing more is
+abbrev pub goesOn : Call → ℕ → ℕ → Turn
+goesOn call place next = record { more = true; call = call; place = place; next = next; answer = ReadAnswer.Accepted }
+
+abbrev pub endsWith : ReadAnswer → Turn
+endsWith answer = record { more = false; call = Call.Close; place = 0; next = 0; answer = answer }
+
+-- how many turns are left at most
+abbrev pub left : List ℕ → Turn → ℕ
+left bytes turn = cond (turn .more) (suc (length bytes - turn .place)) 0
+
+-- the version is 1, and a monitor that was fresh has taken the records before a place
+pub record UpTo (fresh : Monitor) (bytes : List ℕ) (place : ℕ) (m : Monitor) : Type 0 where
+  pub version : VersionOne bytes
+  pub taken : (rows : List Constraint) → Took rows [] fresh → TakenUpTo rows bytes m place
+
+-- the call of a turn is that of the record at its place; behind the last record it is the close
+pub data TurnCall (bytes : List ℕ) : Call → ℕ → ℕ → Type 0 where
+  of-record : {place : ℕ} (call : Call) (size : ℕ) → place < length bytes → CallAt bytes place call size
+      → TurnCall bytes call place (place + size)
+  of-close : {place : ℕ} → length bytes ≤ place → TurnCall bytes Call.Close place place
+
+-- a turn, and the monitor before it
+pub data Turns (fresh : Monitor) (bytes : List ℕ) : Turn → Monitor → Type 0 where
+  on : {call : Call} {place next : ℕ} {m : Monitor} → TurnCall bytes call place next → UpTo fresh bytes place m
+      → Turns fresh bytes (goesOn call place next) m
+  over : {answer : ReadAnswer} {m : Monitor} → TakesRecording fresh bytes (record { answer = answer; monitor = m })
+      → Turns fresh bytes (endsWith answer) m
+
+-- what is next at the start (§9.4)
+abbrev pub NextAtStart : List ℕ → Turn → Type 0
+NextAtStart bytes turn = (fresh : Monitor) → Turns fresh bytes turn fresh
+
+-- what is next from a place on
+abbrev pub NextFrom : List ℕ → ℕ → Turn → Type 0
+NextFrom bytes place turn =
+    ((fresh m : Monitor) → UpTo fresh bytes place m → Turns fresh bytes turn m) × (left bytes turn ≤ left bytes (goesOn Call.Close place place))
+
+-- what is next after a turn whose call a monitor answered with a number
+abbrev pub NextAfter : List ℕ → Turn → ℕ → Turn → Type 0
+NextAfter bytes before number turn =
+    (fresh m m′ : Monitor) → before .more ≡ true → Turns fresh bytes before m → Steps m (before .call) (steppedFrom number m′)
+    → Turns fresh bytes turn m′ × (left bytes turn < left bytes before)

@@ -1,18 +1,10 @@
-// Takes a recording: record by record, and then the close.
-use constraint::Answer;
+// Takes a recording: call by call, those of its records and then the close, on one monitor where it lies.
+use constraint::Call;
 use monitor::Monitor;
-use monitor::Stepped;
 use recording::Record;
 use table::ReadAnswer;
-ghost use Prim.Native.Nat.{_≤_};
-ghost use lib.ListN.{length};
-ghost use Rattle.delkuthi.specs.Taking.{TakesRecord, TakesRecording};
-
-// What one record gives: the answer to it and the monitor after it, and the place of the next record.
-pub struct RecordTaken {
-    pub stepped: Stepped,
-    pub next: usize,
-}
+ghost use mathlib.Core.Path.{_≡_};
+ghost use Rattle.delkuthi.specs.Taking.{goesOn, endsWith, NextAtStart, NextFrom, NextAfter, TakesRecording};
 
 // What a whole recording gives: the answer to it, which is accepted where every record was taken, and the close; and the monitor
 // after the last step taken.
@@ -21,75 +13,94 @@ pub struct RecordingTaken {
     pub monitor: Monitor,
 }
 
-// What a monitor gives to the record at a place, which is read from its own part of the bytes.
-fn take_record(m: Monitor, bytes: &[u8], place: usize) -> RecordTaken
-    requires { ⌜ place ≤ length (now bytes) ⌝ }
-    ensures { λ r. ⌜ TakesRecord m (now (bytes .entry)) place r ⌝ }
+// What is next in a recording: a call, the place of its record and the place behind it (the close's are both the end); or
+// nothing more, and the answer to the recording.
+pub struct Turn {
+    pub more: bool,
+    pub call: Call,
+    pub place: usize,
+    pub next: usize,
+    pub answer: ReadAnswer,
+}
+
+// A call is next.
+fn going_on(call: Call, place: usize, next: usize) -> Turn
+    ensures { λ r. ⌜ r ≡ goesOn call place next ⌝ }
 {
-    match recording::read_record(&bytes[place..]) {
-        Record::Event { kind, time, size } => {
-            let stepped = m.event(kind, time);
-            RecordTaken {
-                stepped,
-                next: place + size,
-            }
-        }
-        Record::Tick { time, size } => {
-            let stepped = m.tick(time);
-            RecordTaken {
-                stepped,
-                next: place + size,
-            }
-        }
-        Record::Refused(number) => {
-            let stepped = Stepped {
-                answer: Answer::Refused(number),
-                monitor: m,
-            };
-            RecordTaken {
-                stepped,
-                next: place,
-            }
-        }
+    Turn {
+        more: true,
+        call,
+        place,
+        next,
+        answer: ReadAnswer::Accepted,
     }
 }
 
-// What a fresh monitor gives to a whole recording: question 13, then record by record, then the close.
-pub(crate) fn take_recording(fresh: Monitor, bytes: &[u8]) -> RecordingTaken
-    ensures { λ r. ⌜ TakesRecording fresh (now (bytes .entry)) r ⌝ }
+// Nothing more is next.
+fn ending_with(answer: ReadAnswer) -> Turn
+    ensures { λ r. ⌜ r ≡ endsWith answer ⌝ }
 {
-    let mut monitor = fresh;
-    let mut place = 1;
-    if !recording::version_one(bytes) {
-        return RecordingTaken {
-            answer: ReadAnswer::Refused {
-                number: 13,
-                place: 0,
-            },
-            monitor,
-        };
+    Turn {
+        more: false,
+        call: Call::Close,
+        place: 0,
+        next: 0,
+        answer,
     }
-    while place < bytes.len() {
-        let taken = take_record(monitor, bytes, place);
-        let stepped = taken.stepped;
-        let answer = stepped.answer;
-        match answer {
-            Answer::Taken => {
-                monitor = stepped.monitor;
-                place = taken.next;
-            }
-            Answer::Refused(number) => {
-                return RecordingTaken {
-                    answer: ReadAnswer::Refused { number, place },
-                    monitor,
-                };
-            }
+}
+
+// What is next from a place on: the record there, which is read from its own part of the bytes, or the close behind the last.
+fn turn_at(bytes: &[u8], place: usize) -> Turn
+    ensures { λ r. ⌜ NextFrom (now (bytes .entry)) place r ⌝ }
+{
+    if bytes.len() <= place {
+        return going_on(Call::Close, place, place);
+    }
+    match recording::read_record(&bytes[place..]) {
+        Record::Event { kind, time, size } => {
+            going_on(Call::Event { kind, time }, place, place + size)
         }
+        Record::Tick { time, size } => going_on(Call::Tick { time }, place, place + size),
+        Record::Refused(number) => ending_with(ReadAnswer::Refused { number, place }),
     }
-    let closed = monitor.close();
-    let last = closed.monitor;
-    RecordingTaken {
-        answer: ReadAnswer::Accepted,
-        monitor: last,
+}
+
+// What is next at the start: question 13, then the first record.
+fn first_turn(bytes: &[u8]) -> Turn
+    ensures { λ r. ⌜ NextAtStart (now (bytes .entry)) r ⌝ }
+{
+    if !recording::version_one(bytes) {
+        return ending_with(ReadAnswer::Refused {
+            number: 13,
+            place: 0,
+        });
     }
+    turn_at(bytes, 1)
+}
+
+// What is next after a turn, by the number that its call was answered with.
+fn next_turn(bytes: &[u8], turn: Turn, number: u8) -> Turn
+    ensures { λ r. ⌜ NextAfter (now (bytes .entry)) turn number r ⌝ }
+{
+    let place = turn.place;
+    if bytes.len() <= place {
+        return ending_with(ReadAnswer::Accepted);
+    }
+    if 0 < number {
+        return ending_with(ReadAnswer::Refused { number, place });
+    }
+    turn_at(bytes, turn.next)
+}
+
+// What a fresh monitor gives to a whole recording; it takes each call where it lies.
+pub(crate) fn take_recording(mut monitor: Monitor, bytes: &[u8]) -> RecordingTaken
+    ensures { λ r. ⌜ TakesRecording monitor (now (bytes .entry)) r ⌝ }
+{
+    let mut turn = first_turn(bytes);
+    while turn.more {
+        let number = inplace::take(&mut monitor, turn.call);
+        turn = next_turn(bytes, turn, number);
+    }
+    let answer = turn.answer;
+    RecordingTaken { answer, monitor }
 }

@@ -115,31 +115,31 @@ module _ {s : Slot 1} (g : Callee s) where
     abbrev pub triple : Contract 𝓤
     triple = tripleOf 𝓤 H A signature (closing 𝓤 H A ended clauses)
 
-    -- at a lifetime that is made for the call, the reference having the machine values us
-    module _ (α : ℕ) (a : Denots (rows 1 (α ∷ [], tt) (g .front))) (x : s .row (α ∷ [], tt) .Denot) (us : List Val) (c : Denots (rows 1 (α ∷ [], tt) (g .back))) where
+    -- at a lifetime of which the caller has a share, the reference having the machine values us
+    module _ (κ : Lft) (q : Share) (a : Denots (rows 1 (κ, tt) (g .front))) (x : s .row (κ, tt) .Denot) (us : List Val) (c : Denots (rows 1 (κ, tt) (g .back))) where
       abbrev κs : Lfts 1
-      κs = (α ∷ [], tt)
+      κs = (κ, tt)
 
       abbrev pub passed : triple .Ghost
-      passed = ((κs, (fullShare, tt), tt, args κs a x c, vals-before κs (g .front) (s ∷ slots 1 (g .back)) a (us, valss (rows 1 κs (g .back)) (spells 1 κs (g .back)) c)), tt)
+      passed = ((κs, (q, tt), tt, args κs a x c, vals-before κs (g .front) (s ∷ slots 1 (g .back)) a (us, valss (rows 1 κs (g .back)) (spells 1 κs (g .back)) c)), tt)
 
-      asked-so : Given 𝓤 H A → AllKnown 1 κs (g .front) a → AllKnown 1 κs (g .back) c → Holds (g .asks κs (args κs a x c))
-          → ent 𝓤 (sep 𝓤 (A .lft (α ∷ []) fullShare) (sem 𝓤 H A (s .row κs .own x us))) (triple .pre passed)
+      pub asked-so : Given 𝓤 H A → AllKnown 1 κs (g .front) a → AllKnown 1 κs (g .back) c → Holds (g .asks κs (args κs a x c))
+          → ent 𝓤 (sep 𝓤 (A .lft κ q) (sem 𝓤 H A (s .row κs .own x us))) (triple .pre passed)
       asked-so W a-is c-is holds =
           let Back : List RattleType = rows 1 κs (g .back) in
           let Machine : Valss Back = valss Back (spells 1 κs (g .back)) c in
-          qed W (‵ (flft (α ∷ []) fullShare) ∷ ‵ (s .row κs .own x us) ∷ []) ∵ empty ! $ move ! (1 ∷ 0 ∷ []) $ join ! $
+          qed W (‵ (flft κ q) ∷ ‵ (s .row κs .own x us) ∷ []) ∵ empty ! $ move ! (1 ∷ 0 ∷ []) $ join ! $
           use0 W (‵ (owns Back c Machine)) (owns-make 𝓤 H A Back (Ises Back) (all-make 1 κs 𝓤 H A W (g .back)) c Machine c-is) $ move ! (2 ∷ 0 ∷ []) $ fjoin ! $
           use1 W (‵ (owns (typesAt (signature .params) κs) (args κs a x c) (passed .0 .4))) (owns-before κs 𝓤 H A W (g .front) (s ∷ slots 1 (g .back)) a (x, c) (us, Machine) a-is) $ move ! (1 ∷ 0 ∷ []) $ join ! $
           use0 W (raw (asked 𝓤 (g .asks κs (args κs a x c)))) (met 𝓤 (g .asks κs (args κs a x c)) holds) $ move ! (1 ∷ 0 ∷ []) $ done !
 
       -- what the callee has said, once it has returned
-      returned : {K : Type 0} {W : Given 𝓤 H A} {Γ : List (Item 𝓤)} → K → (G : Val → Goal 𝓤 H) → ((u : Val) → Soaks (G u)) → (v : Val)
+      pub returned : {K : Type 0} {W : Given 𝓤 H A} {Γ : List (Item 𝓤)} → K → (G : Val → Goal 𝓤 H) → ((u : Val) → Soaks (G u)) → (v : Val)
           → ((r : g .result .row .Denot) (ws : Lasts ended κs (args κs a x c)) → Known (g .result) r → Given-back κs a x c r ws
-          → Seq K W (‵ (flft (α ∷ []) fullShare) ∷ ‵ (left (s .row κs .exit yes) x (bound κs a x c ws)) ∷ Γ) (G (g .result .val r)))
+          → Seq K W (‵ (flft κ q) ∷ ‵ (left (s .row κs .exit yes) x (bound κs a x c ws)) ∷ Γ) (G (g .result .val r)))
           → Seq K W (raw (triple .post passed v) ∷ Γ) (G v)
       returned {K} {W} {Γ} t G z v k =
-          use1 W (later (some (λ (r : g .result .row .Denot). ((‵ (flft (α ∷ []) fullShare) ⊛ ‵ ftrue) ⊛ ‵ (g .result .row .own r (v ∷ []))) ⊛ raw (ensured 𝓤 H A ended clauses κs (args κs a x c) tt r)))) (id⊢ 𝓤 _) $
+          use1 W (later (some (λ (r : g .result .row .Denot). ((‵ (flft κ q) ⊛ ‵ ftrue) ⊛ ‵ (g .result .row .own r (v ∷ []))) ⊛ raw (ensured 𝓤 H A ended clauses κs (args κs a x c) tt r)))) (id⊢ 𝓤 _) $
           await t (z v) $ pick t (λ r. split t $ move t (1 ∷ []) $
           use1 W (some (λ (ws : Lasts ended κs (args κs a x c)). ‵ (lasts ended κs (args κs a x c) ws) ⊛ raw (fact 𝓤 (Given-back κs a x c r ws)))) (id⊢ 𝓤 _) $ pick t (λ ws.
           split t $ move t (1 ∷ []) $ heard t (Given-back κs a x c r ws) (λ said.
@@ -147,7 +147,7 @@ module _ {s : Slot 1} (g : Callee s) where
           (lasts-after κs 𝓤 H A W (g .front) (s ∷ slots 1 (g .back)) (yes, kepts 1 (g .back)) a (x, c) ws) $
           fsplit t $ move t (1 ∷ []) $ drop t $ move t (1 ∷ []) $ split t $ move t (1 ∷ []) $
           peeks t (g .result .row) (Is (g .result .row)) (shows 𝓤 H A (g .result .row)) r (v ∷ []) (λ is. drop t $ split t $ move t (1 ∷ []) $ drop t $
-          subst (λ (u : Val). Seq K W (‵ (flft (α ∷ []) fullShare) ∷ ‵ (left (s .row κs .exit yes) x (bound κs a x c ws)) ∷ Γ) (G u)) (sym (ap only (g .result .tells r (v ∷ []) is)))
+          subst (λ (u : Val). Seq K W (‵ (flft κ q) ∷ ‵ (left (s .row κs .exit yes) x (bound κs a x c ws)) ∷ Γ) (G u)) (sym (ap only (g .result .tells r (v ∷ []) is)))
           (k r ws (known (g .result) r v is) said)))))
 
 -- ---- a cell, and the value that lies there
@@ -181,8 +181,8 @@ module _ {M : Type 1} {𝓤 : URA M} {H : Heap 𝓤} {A : Atoms 𝓤} {K : Type 
   pub calls-mut : K → FmC 𝓤 H (W .laws) C → (Y : Plain) (g : Callee (mut-of Y)) → Triple 𝓤 (C f) (triple g 𝓤 H A) → {rest : Body} (b o : ℕ) (y : Y .row .Denot) → Known Y y
       → (a : (κs : Lfts 1) → Denots (rows 1 κs (g .front))) → ((κs : Lfts 1) → AllKnown 1 κs (g .front) (a κs)) → (c : (κs : Lfts 1) → Denots (rows 1 κs (g .back))) → ((κs : Lfts 1) → AllKnown 1 κs (g .back) (c κs))
       → ((κs : Lfts 1) (δ : GName) → Holds (g .asks κs (args g κs (a κs) (ref-to b o y δ) (c κs))))
-      → ((α : ℕ) (δ : GName) → Opds K W (raw (triple g 𝓤 H A .pre (passed g 𝓤 H A α (a (α ∷ [], tt)) (ref-to b o y δ) (vptr b o ∷ []) (c (α ∷ [], tt)))) ∷ ‵ (flent (α ∷ []) (Behind (mem (Y .row)) b o δ)) ∷ Γ) E xs
-      (triple g 𝓤 H A .args (passed g 𝓤 H A α (a (α ∷ [], tt)) (ref-to b o y δ) (vptr b o ∷ []) (c (α ∷ [], tt)))))
+      → ((α : ℕ) (δ : GName) → Opds K W (raw (triple g 𝓤 H A .pre (passed g 𝓤 H A (α ∷ []) fullShare (a (α ∷ [], tt)) (ref-to b o y δ) (vptr b o ∷ []) (c (α ∷ [], tt)))) ∷ ‵ (flent (α ∷ []) (Behind (mem (Y .row)) b o δ)) ∷ Γ) E xs
+      (triple g 𝓤 H A .args (passed g 𝓤 H A (α ∷ []) fullShare (a (α ∷ [], tt)) (ref-to b o y δ) (vptr b o ∷ []) (c (α ∷ [], tt)))))
       → ((κs : Lfts 1) (δ : GName) (r : g .result .row .Denot) (ws : Lasts (ended g) κs (args g κs (a κs) (ref-to b o y δ) (c κs))) → Known (g .result) r → Given-back g κs (a κs) (ref-to b o y δ) (c κs) r ws
       → Known Y (bound g κs (a κs) (ref-to b o y δ) (c κs) ws) → Seq K W (‵ (fat fullShare (Y .ty) b o (Y .val (bound g κs (a κs) (ref-to b o y δ) (c κs) ws))) ∷ Γ) (lands C Λ E d (g .result .val r) rest q))
       → Seq K W (‵ (fat fullShare (Y .ty) b o (Y .val y)) ∷ Γ) (runs C Λ E (seq (call f xs d) rest) q)
@@ -190,10 +190,10 @@ module _ {M : Type 1} {𝓤 : URA M} {H : Heap 𝓤} {A : Atoms 𝓤} {K : Type 
       use1 W (‵ (mem (Y .row) .lies y b o)) (lies-in 𝓤 H A W Y b o y y-is) $ lft-new t tt (λ α. move t (1 ∷ []) $
       use1 W (later (some (λ (δ : GName). ‵ (MutRef (named 0) (α ∷ []) (Y .row) .own (ref-to b o y δ) (vptr b o ∷ [])) ⊛ ‵ (flent (α ∷ []) (Behind (mem (Y .row)) b o δ))))) (lends-ref 𝓤 H A W (Y .row) (named 0) (α ∷ []) y b o) $
       await t tt $ pick t (λ δ. split t $ move t (2 ∷ 0 ∷ []) $
-      use2 W (raw (triple g 𝓤 H A .pre (passed g 𝓤 H A α (a (α ∷ [], tt)) (ref-to b o y δ) (vptr b o ∷ []) (c (α ∷ [], tt)))))
-      (asked-so g 𝓤 H A α (a (α ∷ [], tt)) (ref-to b o y δ) (vptr b o ∷ []) (c (α ∷ [], tt)) W (a-is (α ∷ [], tt)) (c-is (α ∷ [], tt)) (holds (α ∷ [], tt) δ)) $
-      calls-at t fm (triple g 𝓤 H A) known (passed g 𝓤 H A α (a (α ∷ [], tt)) (ref-to b o y δ) (vptr b o ∷ []) (c (α ∷ [], tt))) (os α δ) (λ v.
-      returned g 𝓤 H A α (a (α ∷ [], tt)) (ref-to b o y δ) (vptr b o ∷ []) (c (α ∷ [], tt)) t (λ u. lands C Λ E d u rest q) (λ u. tt) v (λ r ws r-is said.
+      use2 W (raw (triple g 𝓤 H A .pre (passed g 𝓤 H A (α ∷ []) fullShare (a (α ∷ [], tt)) (ref-to b o y δ) (vptr b o ∷ []) (c (α ∷ [], tt)))))
+      (asked-so g 𝓤 H A (α ∷ []) fullShare (a (α ∷ [], tt)) (ref-to b o y δ) (vptr b o ∷ []) (c (α ∷ [], tt)) W (a-is (α ∷ [], tt)) (c-is (α ∷ [], tt)) (holds (α ∷ [], tt) δ)) $
+      calls-at t fm (triple g 𝓤 H A) known (passed g 𝓤 H A (α ∷ []) fullShare (a (α ∷ [], tt)) (ref-to b o y δ) (vptr b o ∷ []) (c (α ∷ [], tt))) (os α δ) (λ v.
+      returned g 𝓤 H A (α ∷ []) fullShare (a (α ∷ [], tt)) (ref-to b o y δ) (vptr b o ∷ []) (c (α ∷ [], tt)) t (λ u. lands C Λ E d u rest q) (λ u. tt) v (λ r ws r-is said.
       let y′ : Y .row .Denot = bound g (α ∷ [], tt) (a (α ∷ [], tt)) (ref-to b o y δ) (c (α ∷ [], tt)) ws in
       lft-end t tt $ move t (0 ∷ 2 ∷ 1 ∷ []) $ use3 W (later (‵ (mem (Y .row) .lies y′ b o))) (ref-back 𝓤 H A W (Y .row) (α ∷ []) δ y′ b o) $ await t tt $
       use1 W (given (Known Y y′) (‵ (fat fullShare (Y .ty) b o (Y .val y′)))) (lies-out 𝓤 H A W Y b o y′) $ learn t (λ is. k (α ∷ [], tt) δ r ws r-is said is)))))
@@ -201,8 +201,8 @@ module _ {M : Type 1} {𝓤 : URA M} {H : Heap 𝓤} {A : Atoms 𝓤} {K : Type 
   pub calls-shr : K → FmC 𝓤 H (W .laws) C → (Y : Plain) (g : Callee (shr-of Y)) → Triple 𝓤 (C f) (triple g 𝓤 H A) → {rest : Body} (b o : ℕ) (y : Y .row .Denot) → Known Y y
       → (a : (κs : Lfts 1) → Denots (rows 1 κs (g .front))) → ((κs : Lfts 1) → AllKnown 1 κs (g .front) (a κs)) → (c : (κs : Lfts 1) → Denots (rows 1 κs (g .back))) → ((κs : Lfts 1) → AllKnown 1 κs (g .back) (c κs))
       → ((κs : Lfts 1) (δ : GName) → Holds (g .asks κs (args g κs (a κs) (ref-to b o y δ) (c κs))))
-      → ((α : ℕ) (δ : GName) → Opds K W (raw (triple g 𝓤 H A .pre (passed g 𝓤 H A α (a (α ∷ [], tt)) (ref-to b o y δ) (vptr b o ∷ []) (c (α ∷ [], tt)))) ∷ ‵ (flent (α ∷ []) (partAt (Y .row) fullShare y b o)) ∷ Γ) E xs
-      (triple g 𝓤 H A .args (passed g 𝓤 H A α (a (α ∷ [], tt)) (ref-to b o y δ) (vptr b o ∷ []) (c (α ∷ [], tt)))))
+      → ((α : ℕ) (δ : GName) → Opds K W (raw (triple g 𝓤 H A .pre (passed g 𝓤 H A (α ∷ []) fullShare (a (α ∷ [], tt)) (ref-to b o y δ) (vptr b o ∷ []) (c (α ∷ [], tt)))) ∷ ‵ (flent (α ∷ []) (partAt (Y .row) fullShare y b o)) ∷ Γ) E xs
+      (triple g 𝓤 H A .args (passed g 𝓤 H A (α ∷ []) fullShare (a (α ∷ [], tt)) (ref-to b o y δ) (vptr b o ∷ []) (c (α ∷ [], tt)))))
       → ((κs : Lfts 1) (δ : GName) (r : g .result .row .Denot) (ws : Lasts (ended g) κs (args g κs (a κs) (ref-to b o y δ) (c κs))) → Known (g .result) r → Given-back g κs (a κs) (ref-to b o y δ) (c κs) r ws
       → Seq K W (‵ (fat fullShare (Y .ty) b o (Y .val y)) ∷ Γ) (lands C Λ E d (g .result .val r) rest q))
       → Seq K W (‵ (fat fullShare (Y .ty) b o (Y .val y)) ∷ Γ) (runs C Λ E (seq (call f xs d) rest) q)
@@ -210,10 +210,10 @@ module _ {M : Type 1} {𝓤 : URA M} {H : Heap 𝓤} {A : Atoms 𝓤} {K : Type 
       use1 W (‵ (partAt (Y .row) fullShare y b o)) (lies-in 𝓤 H A W Y b o y y-is) $ lft-new t tt (λ α. move t (1 ∷ []) $
       use1 W (later (some (λ (δ : GName). ‵ (ShrRef (named 0) (α ∷ []) (Y .row) .own (ref-to b o y δ) (vptr b o ∷ [])) ⊛ ‵ (flent (α ∷ []) (partAt (Y .row) fullShare y b o))))) (lends-shr 𝓤 H A W (Y .row) (named 0) (α ∷ []) fullShare y b o) $
       await t tt $ pick t (λ δ. split t $ move t (2 ∷ 0 ∷ []) $
-      use2 W (raw (triple g 𝓤 H A .pre (passed g 𝓤 H A α (a (α ∷ [], tt)) (ref-to b o y δ) (vptr b o ∷ []) (c (α ∷ [], tt)))))
-      (asked-so g 𝓤 H A α (a (α ∷ [], tt)) (ref-to b o y δ) (vptr b o ∷ []) (c (α ∷ [], tt)) W (a-is (α ∷ [], tt)) (c-is (α ∷ [], tt)) (holds (α ∷ [], tt) δ)) $
-      calls-at t fm (triple g 𝓤 H A) known (passed g 𝓤 H A α (a (α ∷ [], tt)) (ref-to b o y δ) (vptr b o ∷ []) (c (α ∷ [], tt))) (os α δ) (λ v.
-      returned g 𝓤 H A α (a (α ∷ [], tt)) (ref-to b o y δ) (vptr b o ∷ []) (c (α ∷ [], tt)) t (λ u. lands C Λ E d u rest q) (λ u. tt) v (λ r ws r-is said.
+      use2 W (raw (triple g 𝓤 H A .pre (passed g 𝓤 H A (α ∷ []) fullShare (a (α ∷ [], tt)) (ref-to b o y δ) (vptr b o ∷ []) (c (α ∷ [], tt)))))
+      (asked-so g 𝓤 H A (α ∷ []) fullShare (a (α ∷ [], tt)) (ref-to b o y δ) (vptr b o ∷ []) (c (α ∷ [], tt)) W (a-is (α ∷ [], tt)) (c-is (α ∷ [], tt)) (holds (α ∷ [], tt) δ)) $
+      calls-at t fm (triple g 𝓤 H A) known (passed g 𝓤 H A (α ∷ []) fullShare (a (α ∷ [], tt)) (ref-to b o y δ) (vptr b o ∷ []) (c (α ∷ [], tt))) (os α δ) (λ v.
+      returned g 𝓤 H A (α ∷ []) fullShare (a (α ∷ [], tt)) (ref-to b o y δ) (vptr b o ∷ []) (c (α ∷ [], tt)) t (λ u. lands C Λ E d u rest q) (λ u. tt) v (λ r ws r-is said.
       lft-end t tt $ move t (0 ∷ 2 ∷ []) $ lent-back t tt $ move t (1 ∷ []) $ drop t $
       use1 W (given (Known Y y) (‵ (fat fullShare (Y .ty) b o (Y .val y)))) (lies-out 𝓤 H A W Y b o y) $ learn t (λ is. k (α ∷ [], tt) δ r ws r-is said)))))
 
@@ -227,7 +227,7 @@ module _ {X : Plain} {Ps : List Plain} {R : Plain} (p : Promise X Ps R) {M : Typ
 
   -- what is passed, and what is kept meanwhile
   abbrev pub lent-passed : Loan → X .row .Denot → ((κs : Lfts 1) → Denots (rows 1 κs Ps)) → ℕ → GName → lent-triple .Ghost
-  lent-passed L h a α δ = passed (lent-callee p) 𝓤 H A α tt (ref-to (L .block) (L .offset) h δ) (vptr (L .block) (L .offset) ∷ []) (a (α ∷ [], tt))
+  lent-passed L h a α δ = passed (lent-callee p) 𝓤 H A (α ∷ []) fullShare tt (ref-to (L .block) (L .offset) h δ) (vptr (L .block) (L .offset) ∷ []) (a (α ∷ [], tt))
 
   abbrev pub again : Loan → X .row .Denot → ℕ → GName → Fml
   again L h α δ = LentAgain (X .row) (L .lft) (α ∷ []) (L .share) (L .name) (L .block) (L .offset) δ h
@@ -240,13 +240,13 @@ module _ {X : Plain} {Ps : List Plain} {R : Plain} (p : Promise X Ps R) {M : Typ
         use2 W (later (some (λ (δ : GName). ‵ (MutRef (named 0) (α ∷ []) (X .row) .own (ref-to (L .block) (L .offset) h δ) (vptr (L .block) (L .offset) ∷ [])) ⊛ ‵ (again L h α δ))))
         (lends-again 𝓤 H A W (X .row) (named 0) (L .lft) (α ∷ []) (L .share) (L .name) (L .block) (L .offset) (named 0) h) $ await t z $ pick t (λ δ. split t $ move t (2 ∷ 0 ∷ []) $
         use2 W (raw (lent-triple .pre (lent-passed L h a α δ)))
-        (asked-so (lent-callee p) 𝓤 H A α tt (ref-to (L .block) (L .offset) h δ) (vptr (L .block) (L .offset) ∷ []) (a (α ∷ [], tt)) W tt (a-is (α ∷ [], tt)) (holds (α ∷ [], tt))) $ k α δ))
+        (asked-so (lent-callee p) 𝓤 H A (α ∷ []) fullShare tt (ref-to (L .block) (L .offset) h δ) (vptr (L .block) (L .offset) ∷ []) (a (α ∷ [], tt)) W tt (a-is (α ∷ [], tt)) (holds (α ∷ [], tt))) $ k α δ))
 
     comes : K → (G : Val → Goal 𝓤 H) → ((u : Val) → Soaks (G u)) → (α : ℕ) (δ : GName) (v : Val)
         → ((κs : Lfts 1) (r : R .row .Denot) (h′ : X .row .Denot) → Known R r → p .gives κs h (a κs) r h′ → Seq K W (‵ (own-at X L h′) ∷ ‵ (token L) ∷ Γ) (G (R .val r)))
         → Seq K W (raw (lent-triple .post (lent-passed L h a α δ) v) ∷ ‵ (again L h α δ) ∷ Γ) (G v)
     comes t G z α δ v k =
-        returned (lent-callee p) 𝓤 H A α tt (ref-to (L .block) (L .offset) h δ) (vptr (L .block) (L .offset) ∷ []) (a (α ∷ [], tt)) t G z v (λ r ws r-is said.
+        returned (lent-callee p) 𝓤 H A (α ∷ []) fullShare tt (ref-to (L .block) (L .offset) h δ) (vptr (L .block) (L .offset) ∷ []) (a (α ∷ [], tt)) t G z v (λ r ws r-is said.
         lft-end t (z (R .val r)) $ move t (0 ∷ 2 ∷ 1 ∷ []) $ use3 W (later (‵ (own-at X L (ws .0)) ⊛ ‵ (token L)))
         (comes-back 𝓤 H A W (X .row) (named 0) (L .lft) (α ∷ []) (L .share) (L .name) (L .block) (L .offset) δ h (ws .0)) $ await t (z (R .val r)) $ split t $ k (α ∷ [], tt) r (ws .0) r-is said)
 

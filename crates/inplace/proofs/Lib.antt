@@ -4,6 +4,7 @@ pub mod Plain
 pub mod Frame
 pub mod Loans
 pub mod Calls
+pub mod Bytes
 pub mod Loop
 pub mod Elem
 pub mod Types

@@ -113,9 +113,9 @@ fn row_step(m: &mut Monitor, i: usize, o: Occurrence, number: u64)
     ensures { λ _. ⌜ now (m .exit) ≡ rowStepped (now (m .entry)) i o number ⌝ }
 {
     let r = &mut m.rows[i];
-    let rule = r.rule;
-    let old = r.now;
-    if moves(rule, old, o) {
+    if moves(r.rule, r.now, o) {
+        let rule = r.rule;
+        let old = r.now;
         let new = row::step(rule, old, &mut r.times, o, number);
         r.now = new;
     }

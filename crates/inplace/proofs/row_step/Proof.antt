@@ -55,22 +55,26 @@ module _
       sets ! (bin ! (copies ! 12 refl) (copies ! 11 refl) tt) 13 refl (tt, tt) $
       sets ! (addr ! (from ! (hop ! (look ! 13 refl) (stop !)))) 7 refl (tt, tt) $
       row-out ! L i h was small $
-      sets ! (of-opd ! (load ! (from ! (hop ! (look ! 8 refl) (fld ! refl (stop !)))) (look-in ! 0 (sub ! 0 refl (whole !))))) 9 refl
+      sets ! (of-opd ! (load ! (from ! (hop ! (look ! 8 refl) (fld ! refl (stop !)))) (look-in ! 0 (sub ! 0 refl (whole !))))) 16 refl
       (typed 𝓤 H A W rule-type (row .rule) (rule-known row row-is)) $
-      sets ! (of-opd ! (load ! (from ! (hop ! (look ! 8 refl) (fld ! refl (stop !)))) (look-in ! 0 (sub ! 2 refl (whole !))))) 10 refl
+      sets ! (of-opd ! (load ! (from ! (hop ! (look ! 8 refl) (fld ! refl (stop !)))) (look-in ! 0 (sub ! 2 refl (whole !))))) 17 refl
       (typed 𝓤 H A W state-type (row .now) (now-known row row-is)) $
       calls-plain ! (fmOf 𝓤 H (W .laws) 𝓣) moves cites-moves (row .rule, (row .now, (a .1 .0, tt))) (rule-known row row-is, (now-known row row-is, (a-is .1 .0, tt))) tt
-      (and-then ! (copies ! 10 refl) (and-then ! (copies ! 11 refl) (and-then ! (copies ! 7 refl) (no-more !)))) (λ b b-is still.
+      (and-then ! (copies ! 17 refl) (and-then ! (copies ! 18 refl) (and-then ! (copies ! 7 refl) (no-more !)))) (λ b b-is still.
       lands-in ! 15 refl (tt, tt) $
       first ! $ branches ! (copies ! 15 refl)
       -- it may change: its times are lent to its step, and what the step gives is stored
       (λ _.
-      sets ! (addr ! (from ! (hop ! (look ! 8 refl) (fld ! refl (stop !))))) 16 refl (tt, tt) $
+      sets ! (of-opd ! (load ! (from ! (hop ! (look ! 8 refl) (fld ! refl (stop !)))) (look-in ! 0 (sub ! 0 refl (whole !))))) 9 refl
+      (typed 𝓤 H A W rule-type (row .rule) (rule-known row row-is)) $
+      sets ! (of-opd ! (load ! (from ! (hop ! (look ! 8 refl) (fld ! refl (stop !)))) (look-in ! 0 (sub ! 2 refl (whole !))))) 10 refl
+      (typed 𝓤 H A W state-type (row .now) (now-known row row-is)) $
+      sets ! (addr ! (from ! (hop ! (look ! 8 refl) (fld ! refl (stop !))))) 18 refl (tt, tt) $
       times-out ! L i row $
       calls-mut ! (fmOf 𝓤 H (W .laws) 𝓣) times-type step cites (L .block) (times-at L i) (row .times) (times-known row row-is)
       (λ _. (row .rule, (row .now, tt))) (λ _. (rule-known row row-is, (now-known row row-is, tt)))
       (λ _. (a .1 .0, (a .1 .1 .0, tt))) (λ _. (a-is .1 .0, (a-is .1 .1 .0, tt))) (λ _ δ. tt)
-      (λ α δ. and-then ! (copies ! 11 refl) (and-then ! (copies ! 12 refl) (and-then ! (copies ! 18 refl)
+      (λ α δ. and-then ! (copies ! 11 refl) (and-then ! (copies ! 12 refl) (and-then ! (copies ! 20 refl)
       (and-then ! (copies ! 8 refl) (and-then ! (copies ! 9 refl) (no-more !)))))) (λ κs δ now ws now-is e times-is.
       lands-in ! 12 refl (typed 𝓤 H A W state-type now now-is) $
       times-in ! L i row (ws .1 .1 .0) $

@@ -1,0 +1,89 @@
+-- What is read from the record's own part is the record of the whole at that place; behind the last record comes the close.
+use native.Mathlib.Omega.{arith}
+use borrow.Author.Needs.{needs}
+use mathlib.Core.Path.{_≡_}
+use denote.Ref.{now}
+use Rattle.queue.proofs.Shared.{free}
+use Rattle.recording.specs.Record.{ReadsRecord}
+use Rattle.recording.specs.declared.Record.{Record}
+use Rattle.recording.proofs.Records.{read-of-stretch}
+use Rattle.delkuthi.proofs.Progress.{turn-record, turn-close, turn-none}
+use Rattle.delkuthi.proofs.records.turn_at.Statement.{statement}
+use Rattle.delkuthi.proofs.records.turn_at.Tie as tie
+
+-- what was read of the record at the place
+read : (c : tie.After-read-record) (r : Record) → c .read-record .result ≡ r
+    → ReadsRecord (now (c .before .before .before .before .args .bytes)) (c .before .before .before .before .args .place) r
+read c r e =
+    let args = c .before .before .before .before .args in
+    read-of-stretch (now (args .bytes)) (args .place) r (rw e at (c .read-record .ensures))
+
+returns : tie.Need-returns
+returns c =
+    let args = c .before .before .before .args in
+    rw (c .going-on .ensures) ((λ fresh m before. turn-close fresh (now (args .bytes)) m (args .place) before (c .before .if1 .taken)), omega arith)
+
+sub-read-record : tie.Need-sub-read-record
+sub-read-record c = search needs
+
+part-read-record-start : tie.Need-part-read-record-start
+part-read-record-start c = search needs
+
+part-read-record-end : tie.Need-part-read-record-end
+part-read-record-end c = search needs
+
+enum-known-kind : tie.Need-enum-known-kind
+enum-known-kind c = search needs
+
+add-going-on : tie.Need-add-going-on
+add-going-on c =
+    let at-kind = c .before in
+    let there = read (at-kind .before .before) _ (at-kind .kind .given .1) in
+    omega (arith, there .size-read, there .there .0 .1)
+
+enum-known-time : tie.Need-enum-known-time
+enum-known-time c = search needs
+
+add-going-on-2 : tie.Need-add-going-on-2
+add-going-on-2 c =
+    let at-time = c .before in
+    let there = read (at-time .before .before) _ (at-time .time .given .1) in
+    omega (arith, there .size-read, there .there .0 .1)
+
+enum-known-number : tie.Need-enum-known-number
+enum-known-number c = search needs
+
+returns-2 : tie.Need-returns-2
+returns-2 c =
+    let at-kind = c .before .before in
+    let at-record = at-kind .before .before in
+    let behind = at-record .before .before in
+    let args = behind .before .before .args in
+    rw (c .going-on2 .ensures)
+    ((λ fresh m before. turn-record fresh (now (args .bytes)) m (args .place) before _ _ (behind .if1 .left) (read at-record _ (at-kind .kind .given .1))), omega arith)
+
+returns-3 : tie.Need-returns-3
+returns-3 c =
+    let at-time = c .before .before in
+    let at-record = at-time .before .before in
+    let behind = at-record .before .before in
+    let args = behind .before .before .args in
+    rw (c .going-on3 .ensures)
+    ((λ fresh m before. turn-record fresh (now (args .bytes)) m (args .place) before _ _ (behind .if1 .left) (read at-record _ (at-time .time .given .1))), omega arith)
+
+returns-4 : tie.Need-returns-4
+returns-4 c =
+    let at-number = c .before .before in
+    let at-record = at-number .before .before in
+    let behind = at-record .before .before in
+    let args = behind .before .before .args in
+    let refused = read at-record _ (at-number .number .given .1) in
+    rw (c .ending-with .ensures, refused .1)
+    ((λ fresh m before. turn-none fresh (now (args .bytes)) m (args .place) before (behind .if1 .left) (refused .0)), omega arith)
+
+pub turn-at-spec : {M : Type 1} → statement M
+turn-at-spec =
+    tie.close
+    (tie.spec
+    free returns sub-read-record part-read-record-start part-read-record-end free enum-known-kind add-going-on free enum-known-time add-going-on-2 free
+    enum-known-number free returns-2 returns-3 returns-4)

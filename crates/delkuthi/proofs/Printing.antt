@@ -5,10 +5,10 @@ use native.Mathlib.Decide.{decLt}
 use native.Mathlib.Numerals.{add-one}
 use native.Mathlib.Omega.{arith}
 use mathlib.Core.Path.{_≡_, refl, sym, ap, _∙_, subst}
-use mathlib.Core.Bool.{Bool, true, false, cond, _&&_}
+use mathlib.Core.Bool.{cond}
 use mathlib.Core.List.{List, [], _∷_, map}
 use mathlib.Core.Logic.{by-cases}
-use mathlib.Core.Option.{Option, none, some}
+use mathlib.Core.Option.{none, some}
 use lib.ListN.{length, getD, set, getElem?, length-set, length-replicate}
 use lib.Seq.{getD-set-same, getD-set-other}
 use lib.Dec.{ltb}
@@ -25,7 +25,6 @@ use Rattle.constraint.specs.declared.Constraint.{Constraint}
 use Rattle.constraint.specs.declared.Constraint.the-variants.{Delay, StrongDelay, Repeat, Sporadic, Burst, Order}
 use Rattle.constraint.specs.declared.Constraint.the-variants.{StrongSynchronization2, StrongSynchronization3, StrongSynchronization4}
 use Rattle.constraint.specs.declared.Verdict.{Verdict}
-use Rattle.constraint.proofs.Judged.{never}
 use Rattle.constraint.proofs.Lists.{getD-within}
 use Rattle.text.specs.Content.{Copied}
 use Rattle.machine.specs.Rule.{ruleOf}
@@ -41,6 +40,7 @@ use Rattle.monitor.proofs.Theorem.{row-reads as monitor-reads}
 use Rattle.page.specs.Sheet.{verdictOf as madeOf, verdictsOf, blankPage, withRow, textOf}
 use Rattle.page.specs.declared.Page.{Page}
 use Rattle.page.proofs.Pages.{same-rows}
+use Rattle.delkuthi.proofs.Numbers.{within}
 use Rattle.delkuthi.specs.Printed.{printedRows, typeIn, brokenIn, filled, printed, WritesPage}
 
 -- ---- what the page is filled with
@@ -117,8 +117,8 @@ listed-at v zero i h = absurd (omega arith)
 listed-at v (suc n) zero h = refl
 listed-at v (suc n) (suc i) h = listed-at (λ j. v (suc j)) n i (omega arith)
 
-each-listed : (steps : List Step) (rows : List Constraint) (v : ℕ → Verdict) → ((i : ℕ) (c : Constraint) → getElem? rows i ≡ some c → Reads c steps (v i))
-    → EachReads steps rows (listed v (length rows))
+each-listed : (steps : List Step) (rows : List Constraint) (v : ℕ → Verdict)
+    → ((i : ℕ) (c : Constraint) → getElem? rows i ≡ some c → Reads c steps (v i)) → EachReads steps rows (listed v (length rows))
 unfolding listed
 each-listed steps [] v reads = no-row
 each-listed steps (c ∷ rows) v reads = row-reads (reads 0 c refl) (each-listed steps rows (λ i. v (suc i)) (λ i d e. reads (suc i) d e))
@@ -141,11 +141,6 @@ types-fit steps [] rows fit i h = absurd (omega arith)
 types-fit steps (c ∷ cs) [] fit i h = absurd fit
 types-fit steps (c ∷ cs) (r ∷ rows) fit zero h = rw (fit .0 .1 .rule-is) (form-is c)
 types-fit steps (c ∷ cs) (r ∷ rows) fit (suc i) h = types-fit steps cs rows (fit .1) i (omega arith)
-
-within : (rows : List Constraint) (i : ℕ) (c : Constraint) → getElem? rows i ≡ some c → i < length rows
-within [] i c e = never (cc)
-within (r ∷ rows) zero c e = omega arith
-within (r ∷ rows) (suc i) c e = omega (arith, within rows i c e)
 
 -- the verdict of a row that is there is made of what the monitor holds of it
 verdict-made : (m : Monitor) (i : ℕ) → i < m .len → i < rowLimit → verdictOf m i ≡ some (madeOf (m .closed) (brokenIn m i))
@@ -177,19 +172,22 @@ module _ (rows : List Constraint) (calls : List Call) (accepted : Accepted rows)
         steps,
         followed .1,
         subst (λ (page : List ℕ). PageOf rows steps page)
-            (same-rows (at (map typeOf rows)) (typeIn m) (verdictAt verdicts) v (length rows) (λ i h. sym (types-fit steps rows (m .rows) (f .fit) i h)) (listed-at v (length rows))
+            (same-rows (at (map typeOf rows)) (typeIn m) (verdictAt verdicts) v (length rows)
+            (λ i h. sym (types-fit steps rows (m .rows) (f .fit) i h)) (listed-at v (length rows))
             ∙ ap (pageText (typeIn m) v) (sym count)) (page-of verdicts reads),
       )
 
 -- a page that is copied to a buffer is the call's
-copied-pages : (rows : List Constraint) (steps : List Step) (text before : List ℕ) (answer : ℕ) (left : List ℕ) → PageOf rows steps text → Copied text before answer left
-    → Pages rows steps before answer left
+copied-pages : (rows : List Constraint) (steps : List Step) (text before : List ℕ) (answer : ℕ) (left : List ℕ)
+    → PageOf rows steps text → Copied text before answer left → Pages rows steps before answer left
 copied-pages rows steps text before answer left page copied =
-    by-cases (decLt (length before) (length text)) (λ short. rw (copied .too-short short .0, copied .too-short short .1) (page-too-short text page short))
+    by-cases (decLt (length before) (length text))
+    (λ short. rw (copied .too-short short .0, copied .too-short short .1) (page-too-short text page short))
     (λ long. let fits : length text ≤ length before = omega arith in rw (copied .fits fits .0, copied .fits fits .1) (page-written text page fits))
 
 -- what was copied to the buffer of the page that a monitor fills is the monitor's page
-pub page-kept : (m : Monitor) (before : List ℕ) (answer : ℕ) (left : List ℕ) → Copied (textOf (filled m (printedRows m))) before answer left → WritesPage m before answer left
+pub page-kept : (m : Monitor) (before : List ℕ) (answer : ℕ) (left : List ℕ)
+    → Copied (textOf (filled m (printedRows m))) before answer left → WritesPage m before answer left
 page-kept m before answer left copied =
     let equal = subst (λ (text : List ℕ). Copied text before answer left) (filled-text m) copied in
     record {

@@ -9,7 +9,6 @@ use Rattle.constraint.specs.Accepted.{Accepted}
 use Rattle.constraint.specs.Page.{pageText, Pages}
 use Rattle.constraint.specs.declared.Call.{Call}
 use Rattle.constraint.specs.declared.Constraint.{Constraint}
-use Rattle.constraint.specs.declared.Verdict.{Verdict}
 use Rattle.text.specs.Content.{Copied}
 use Rattle.monitor.specs.Machine.{noRow}
 use Rattle.monitor.specs.Contract.{after, Recorded}

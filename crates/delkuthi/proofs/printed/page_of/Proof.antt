@@ -51,7 +51,8 @@ loop-again c =
     let start = at-loop .before .before .before in (
       omega arith,
       c .with-row .ensures
-          ∙ filled-next (start .args .t1) (at-loop .loop .i) _ (at-loop .loop .page) (omega (arith, size start, at-loop .before .before .held .ensures)) (at-loop .loop .inv .1),
+          ∙ filled-next (start .args .t1) (at-loop .loop .i) _ (at-loop .loop .page)
+          (omega (arith, size start, at-loop .before .before .held .ensures)) (at-loop .loop .inv .1),
     )
 
 returns : tie.Need-returns Inv-loop μ-loop

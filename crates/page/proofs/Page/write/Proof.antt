@@ -1,5 +1,5 @@
 -- The length is known from the number of rows alone: the buffer is tested against it first, and then the lines are put one after the other.
-use Prim.Native.Nat.{ℕ, _≤_, _<_, min}
+use Prim.Native.Nat.{ℕ, min}
 use native.Mathlib.Omega.{arith}
 use mathlib.Core.Path.{_≡_, sym, ap, _∙_}
 use mathlib.Core.List.{List}
@@ -8,8 +8,8 @@ use borrow.Author.Needs.{needs}
 use denote.Ref.{now}
 use Rattle.constraint.specs.Limits.{rowLimit}
 use Rattle.constraint.specs.Steps.{at}
-use Rattle.constraint.specs.Page.{hyphens, pageText, pageLines, pageLength}
-use Rattle.page.specs.Sheet.{verdictsOf, textOf}
+use Rattle.constraint.specs.Page.{hyphens, pageLines, pageLength}
+use Rattle.page.specs.Sheet.{verdictsOf}
 use Rattle.page.specs.declared.Page.{Page}
 use Rattle.page.proofs.Writing.{some-rows, copied-nothing, copied-page}
 use Rattle.page.proofs.Page.write.Statement.{statement}
@@ -69,7 +69,8 @@ returns-3 c =
     copied-page page (now (start .buffer)) (size .size .result) (counted size) _ (some .before .if1 .left)
     (put .put-rows .ensures
     ∙ ap (λ (list : List ℕ). sets (now (start .buffer)) 0 list)
-    (ap (λ (k : ℕ). pageLines types verdicts k) (size .before .held .ensures) ∙ sym (some-rows types verdicts n (λ e. some .if2 .left (size .before .held .ensures ∙ e)))))
+    (ap (λ (k : ℕ). pageLines types verdicts k) (size .before .held .ensures)
+    ∙ sym (some-rows types verdicts n (λ e. some .if2 .left (size .before .held .ensures ∙ e)))))
 
 pub write-spec : {M : Type 1} → statement M
 write-spec =

@@ -80,13 +80,12 @@
  *   a page           at most 2,482 bytes  DELKUTHI_PAGE_LIMIT
  *   stack, report    at most 384 KiB      DELKUTHI_REPORT_STACK
  *   stack, fresh     at most 256 KiB      DELKUTHI_MONITOR_STACK
- *   stack, page      at most 4 KiB        DELKUTHI_PAGE_STACK
  *   stack, steps     at most 2 KiB        DELKUTHI_STEP_STACK
  *
  * What waits in a row: sources that have no target yet (Delay, StrongDelay),
  * groups begun and not complete (StrongSynchronization). In other rows nothing
- * waits. The stack that a call uses is measured, not proved: a verdict uses no
- * more than a step, and a table that is made no more than fresh.
+ * waits. The stack that a call uses is measured, not proved: a verdict and a
+ * page use no more than a step may, a table that is made no more than fresh.
  *
  *
  * THE TABLE
@@ -246,7 +245,6 @@ extern "C" {
 #define DELKUTHI_PAGE_LIMIT    2482
 #define DELKUTHI_REPORT_STACK  393216
 #define DELKUTHI_MONITOR_STACK 262144
-#define DELKUTHI_PAGE_STACK    4096
 #define DELKUTHI_STEP_STACK    2048
 
 /* The upper of a Repeat or a Sporadic that has no upper limit. */

@@ -16,15 +16,17 @@ use borrow.Author.Tests.{lt-ltb}
 use Rattle.constraint.specs.Limits.{rowLimit}
 use Rattle.constraint.specs.Steps.{Step, at}
 use Rattle.constraint.specs.Types.{typeOf}
-use Rattle.constraint.specs.Continuation.{Reads}
+use Rattle.constraint.specs.Continuation.{Reads, reads-open, reads-kept, reads-broken}
 use Rattle.constraint.specs.Accepted.{Accepted}
 use Rattle.constraint.specs.Report.{EachReads, no-row, row-reads}
-use Rattle.constraint.specs.Page.{verdictAt, pageText, PageOf, page-of, Pages, page-written, page-too-short}
+use Rattle.constraint.specs.Page.{nameOf, verdictAt, pageText, PageOf, page-of, Pages, page-written, page-too-short, lineRead}
 use Rattle.constraint.specs.declared.Call.{Call}
 use Rattle.constraint.specs.declared.Constraint.{Constraint}
 use Rattle.constraint.specs.declared.Constraint.the-variants.{Delay, StrongDelay, Repeat, Sporadic, Burst, Order}
 use Rattle.constraint.specs.declared.Constraint.the-variants.{StrongSynchronization2, StrongSynchronization3, StrongSynchronization4}
 use Rattle.constraint.specs.declared.Verdict.{Verdict}
+use Rattle.constraint.proofs.History.{Valid}
+use Rattle.constraint.proofs.Counting.{count-fits}
 use Rattle.constraint.proofs.Lists.{getD-within}
 use Rattle.text.specs.Content.{Copied}
 use Rattle.machine.specs.Rule.{ruleOf}
@@ -35,11 +37,13 @@ use Rattle.monitor.specs.Machine.{noRow, verdictOf}
 use Rattle.monitor.specs.Contract.{after, Recorded}
 use Rattle.monitor.specs.declared.Monitor.{Monitor}
 use Rattle.monitor.proofs.FittingRows.{FitRows}
+use Rattle.monitor.proofs.Following.{Follows}
 use Rattle.monitor.proofs.Demand.{after-follows}
 use Rattle.monitor.proofs.Theorem.{row-reads as monitor-reads}
 use Rattle.page.specs.Sheet.{verdictOf as madeOf, verdictsOf, blankPage, withRow, textOf}
 use Rattle.page.specs.declared.Page.{Page}
 use Rattle.page.proofs.Pages.{same-rows}
+use Rattle.page.proofs.ReadBack.{StepFits, page-reads-back, equal-pages}
 use Rattle.delkuthi.proofs.Numbers.{within}
 use Rattle.delkuthi.specs.Printed.{printedRows, typeIn, brokenIn, filled, printed, WritesPage}
 
@@ -147,6 +151,17 @@ verdict-made : (m : Monitor) (i : ℕ) → i < m .len → i < rowLimit → verdi
 unfolding verdictOf rowVerdict
 verdict-made m i h small = rw (lt-ltb i (m .len) h, lt-ltb i rowLimit small)
 
+-- a step that a row reads is one of those taken, of which there are fewer than 2^64
+reads-fits : (c : Constraint) (steps : List Step) (v : Verdict) → Valid steps → Reads c steps v → StepFits v
+reads-fits c steps v valid (reads-open e o) = tt
+reads-fits c steps v valid (reads-kept e o) = tt
+reads-fits c steps v valid (reads-broken n b) = omega (arith, b .counted, count-fits valid)
+
+row-in : (rows : List Constraint) (i : ℕ) → i < length rows → (c : Constraint) × (getElem? rows i ≡ some c)
+row-in [] i h = absurd (omega arith)
+row-in (c ∷ rows) zero h = (c, refl)
+row-in (c ∷ rows) (suc i) h = row-in rows i (omega arith)
+
 module _ (rows : List Constraint) (calls : List Call) (accepted : Accepted rows) where
   abbrev m : Monitor
   m = after rows calls
@@ -154,28 +169,68 @@ module _ (rows : List Constraint) (calls : List Call) (accepted : Accepted rows)
   abbrev v : ℕ → Verdict
   v i = madeOf (m .closed) (brokenIn m i)
 
+  abbrev followed : (steps : List Step) × Recorded rows calls steps × Follows engine rows steps m
+  followed = after-follows engine rows calls accepted
+
+  count-is : printedRows m ≡ length rows
+  count-is = omega (arith, followed .2 .len-is, followed .2 .few)
+
+  type-is : (i : ℕ) → i < length rows → typeIn m i ≡ at (map typeOf rows) i
+  type-is i h = types-fit (followed .0) rows (m .rows) (followed .2 .fit) i h
+
+  verdict-is : (i : ℕ) → i < length rows → verdictOf m i ≡ some (v i)
+  verdict-is i h = verdict-made m i (omega (arith, followed .2 .len-is)) (omega (arith, followed .2 .few))
+
+  row-says : (i : ℕ) (c : Constraint) → getElem? rows i ≡ some c → Reads c (followed .0) (v i)
+  row-says i c there =
+      let read = monitor-reads rows calls (followed .0) accepted (followed .1) i c there in
+      let same : some (read .0) ≡ some (v i) = sym (read .1) ∙ verdict-is i (within rows i c there) in
+      let equal : read .0 ≡ v i = cc in
+      subst (λ (w : Verdict). Reads c (followed .0) w) equal (read .2)
+
   -- the page of a monitor that calls have made is that of what its rows read
   printed-reads : (steps : List Step) × Recorded rows calls steps × PageOf rows steps (printed m)
   printed-reads =
-      let followed = after-follows engine rows calls accepted in
-      let steps = followed .0 in
-      let f = followed .2 in
-      let count : printedRows m ≡ length rows = omega (arith, f .len-is, f .few) in
-      let verdicts = listed v (length rows) in
-      let reads : EachReads steps rows verdicts =
-      each-listed steps rows v (λ i c there.
-      let i-in = within rows i c there in
-      let read = monitor-reads rows calls steps accepted (followed .1) i c there in
-      let same : some (read .0) ≡ some (v i) = sym (read .1) ∙ verdict-made m i (omega (arith, f .len-is)) (omega (arith, f .few)) in
-      let equal : read .0 ≡ v i = cc in
-      subst (λ (w : Verdict). Reads c steps w) equal (read .2)) in (
-        steps,
+      let verdicts = listed v (length rows) in (
+        followed .0,
         followed .1,
-        subst (λ (page : List ℕ). PageOf rows steps page)
-            (same-rows (at (map typeOf rows)) (typeIn m) (verdictAt verdicts) v (length rows)
-            (λ i h. sym (types-fit steps rows (m .rows) (f .fit) i h)) (listed-at v (length rows))
-            ∙ ap (pageText (typeIn m) v) (sym count)) (page-of verdicts reads),
+        subst (λ (page : List ℕ). PageOf rows (followed .0) page)
+            (same-rows (at (map typeOf rows)) (typeIn m) (verdictAt verdicts) v (length rows) (λ i h. sym (type-is i h)) (listed-at v (length rows))
+            ∙ ap (pageText (typeIn m) v) (sym count-is)) (page-of verdicts (each-listed (followed .0) rows v row-says)),
       )
+
+  -- ---- what is read off
+
+  printed-few : printedRows m ≤ 1000
+  printed-few = omega arith
+
+  printed-fits : (i : ℕ) → i < printedRows m → StepFits (v i)
+  printed-fits i h =
+      let there = row-in rows i (omega (arith, count-is)) in
+      reads-fits (there .0) (followed .0) (v i) (followed .2 .valid) (row-says i (there .0) (there .1))
+
+  -- a row's line gives back its number, the name of its type, and what the call for its verdict answers
+  pub printed-back : (i : ℕ) → i < length rows
+      → lineRead (printed m) i ≡ record { number = i; name = nameOf (at (map typeOf rows) i); verdict = verdictOf m i }
+  printed-back i h =
+      let there : i < printedRows m = omega (arith, count-is) in
+      rw (← type-is i h, verdict-is i h) (page-reads-back (typeIn m) v (printedRows m) i printed-few there (printed-fits i there))
+
+-- two pages of the same bytes: as many rows, and the same verdict of each
+pub printed-alike : (rows others : List Constraint) (calls more : List Call) (accepted : Accepted rows) (accepted′ : Accepted others)
+    → printed (after rows calls) ≡ printed (after others more)
+    → (length rows ≡ length others) × ((i : ℕ) → i < length rows → verdictOf (after rows calls) i ≡ verdictOf (after others more) i)
+printed-alike rows others calls more accepted accepted′ e =
+    let m = after rows calls in
+    let n = after others more in
+    let alike = equal-pages (typeIn m) (typeIn n) (v rows calls accepted) (v others more accepted′) (printedRows m) (printedRows n)
+    (printed-few rows calls accepted) (printed-few others more accepted′) (printed-fits rows calls accepted) (printed-fits others more accepted′) e in
+    let one = count-is rows calls accepted in
+    let other = count-is others more accepted′ in (
+      omega (arith, alike .0, one, other),
+      λ i h. verdict-is rows calls accepted i h ∙ ap some (alike .1 i (omega (arith, one)))
+          ∙ sym (verdict-is others more accepted′ i (omega (arith, alike .0, one, other))),
+    )
 
 -- a page that is copied to a buffer is the call's
 copied-pages : (rows : List Constraint) (steps : List Step) (text before : List ℕ) (answer : ℕ) (left : List ℕ)

@@ -36,7 +36,8 @@ filled m (suc i) = withRow (filled m i) i (typeIn m i) (brokenIn m i)
 abbrev pub printed : Monitor → List ℕ
 printed m = pageText (typeIn m) (λ i. verdictOf (m .closed) (brokenIn m i)) (printedRows m)
 
--- §7.9: the page, or 0 in a buffer that is too short: of a monitor that calls have made, what each row reads after what they have recorded
+-- §7.14, §7.19: the page, or 0 in a buffer that is too short: of a monitor that calls have made, what each row reads after what they
+-- have recorded
 pub record WritesPage (m : Monitor) (before : List ℕ) (answer : ℕ) (left : List ℕ) : Type 0 where
   pub equals : Copied (printed m) before answer left
   pub means : (rows : List Constraint) (calls : List Call) → Accepted rows → m ≡ after rows calls

@@ -77,14 +77,15 @@
  *   waiting in a row at most 64           DELKUTHI_WAITING_LIMIT
  *   a table          at most 1,153 bytes  DELKUTHI_TABLE_LIMIT
  *   a report         at most 1,024 bytes  DELKUTHI_REPORT_LIMIT
+ *   a page           at most 2,482 bytes  DELKUTHI_PAGE_LIMIT
  *   stack, report    at most 256 KiB      DELKUTHI_REPORT_STACK
  *   stack, fresh     at most 256 KiB      DELKUTHI_MONITOR_STACK
  *   stack, steps     at most 1 KiB        DELKUTHI_STEP_STACK
  *
  * What waits in a row: sources that have no target yet (Delay, StrongDelay),
  * groups begun and not complete (StrongSynchronization). In other rows nothing
- * waits. The stack that a call uses is measured, not proved: a verdict uses no
- * more than a step, and a table that is made no more than fresh.
+ * waits. The stack that a call uses is measured, not proved: a verdict and a
+ * page use no more than a step may, a table that is made no more than fresh.
  *
  *
  * THE TABLE
@@ -242,6 +243,7 @@ extern "C" {
 #define DELKUTHI_TABLE_LIMIT   1153
 #define DELKUTHI_REPORT_LIMIT  1024
 #define DELKUTHI_REPORT_STACK  262144
+#define DELKUTHI_PAGE_LIMIT    2482
 #define DELKUTHI_MONITOR_STACK 262144
 #define DELKUTHI_STEP_STACK    1024
 
@@ -551,6 +553,27 @@ uint64_t delkuthi_row_step(const delkuthi_monitor *monitor, uint64_t row);
 
 /* Returns the number of rows of the monitor's table, 0 to 32. */
 uint64_t delkuthi_rows(const delkuthi_monitor *monitor);
+
+/*
+ * Writes a page to be printed: what each row of a monitor, closed or not, reads
+ * now. It changes nothing in the monitor and can be asked at any time. Each
+ * line has 72 bytes, in ASCII, and byte 10 behind them. 72 hyphens stand before
+ * row 0, before row 16, and alone where the table has no rows. Else a line has
+ *
+ *   columns 0 to 2    the row's number, at their right
+ *   columns 5 to 28   its type's name as in the table above, at their left
+ *   columns 29 to 36  open, kept or broken, at their left
+ *   columns 37 to 56  if it is broken, the step that broke it, at their right
+ *
+ * and blanks elsewhere. Row i's line begins at byte 73 * (i + i / 16 + 1).
+ *
+ * Returns how many bytes were written, at most DELKUTHI_PAGE_LIMIT: 73 for each
+ * line. If the page is longer than page_length it returns 0, and the memory
+ * stays as it was. Bytes behind the page stay as they were; no byte 0 is put
+ * there.
+ */
+size_t delkuthi_page(const delkuthi_monitor *monitor,
+                     uint8_t *page, size_t page_length);
 
 /*
  * Reports on a whole recording: gives its records to a fresh monitor over the

@@ -53,7 +53,7 @@ int memcmp(const void *one, const void *other, size_t length)
 void start(void)
 {
     static delkuthi_monitor monitor;
-    static uint8_t bytes[1], report[DELKUTHI_REPORT_LIMIT];
+    static uint8_t bytes[1], report[DELKUTHI_REPORT_LIMIT], page[DELKUTHI_PAGE_LIMIT];
 
     (void)DELKUTHI_MATCHES();
     (void)delkuthi_fresh(&monitor, bytes, sizeof bytes);
@@ -62,5 +62,6 @@ void start(void)
     (void)delkuthi_close(&monitor);
     (void)delkuthi_row_verdict(&monitor, delkuthi_rows(&monitor));
     (void)delkuthi_row_step(&monitor, delkuthi_rows(&monitor));
+    (void)delkuthi_page(&monitor, page, sizeof page);
     (void)delkuthi_report(bytes, sizeof bytes, bytes, sizeof bytes, report, sizeof report);
 }

@@ -72,6 +72,7 @@ static void begins(const char *name)
 static void every_call(const delkuthi_monitor *forged)
 {
     static delkuthi_monitor monitor;
+    static uint8_t page[DELKUTHI_PAGE_LIMIT];
     size_t i, j;
 
     for (i = 0; i < COUNT(times); i++) {
@@ -93,6 +94,8 @@ static void every_call(const delkuthi_monitor *forged)
         begins("delkuthi_row_step");
         (void)delkuthi_row_step(forged, rows[i]);
     }
+    begins("delkuthi_page");
+    (void)delkuthi_page(forged, page, sizeof page);
     begins("delkuthi_rows");
     (void)delkuthi_rows(forged);
 }

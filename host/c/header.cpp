@@ -5,6 +5,7 @@
 struct Bench {
     delkuthi_monitor monitor;
     uint8_t report[DELKUTHI_REPORT_LIMIT];
+    uint8_t page[DELKUTHI_PAGE_LIMIT];
 };
 
 static Bench bench;
@@ -33,6 +34,9 @@ int main()
     well = well && delkuthi_row_step(&bench.monitor, 0) == 2;
     well = well && delkuthi_close(&bench.monitor) == DELKUTHI_TAKEN;
     well = well && delkuthi_rows(&bench.monitor) == 1;
+    well = well && delkuthi_page(&bench.monitor, bench.page, 2 * 73 - 1) == 0;
+    well = well && delkuthi_page(&bench.monitor, bench.page, sizeof bench.page) == 2 * 73;
+    well = well && std::memcmp(bench.page + 73, "  0  Order", 10) == 0;
     well = well && delkuthi_report(table, 6, recording, 1, bench.report, sizeof bench.report) == 16;
     return well ? 0 : 1;
 }

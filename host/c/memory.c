@@ -50,6 +50,7 @@ static void fill(delkuthi_monitor *monitor)
 /* Calls of every sort, on whatever the memory holds. */
 static void calls(delkuthi_monitor *monitor)
 {
+    uint8_t page[DELKUTHI_PAGE_LIMIT];
     int i;
 
     for (i = 0; i < 16; i++) {
@@ -62,6 +63,7 @@ static void calls(delkuthi_monitor *monitor)
         (void)delkuthi_row_step(monitor, number() % 40);
         (void)delkuthi_row_step(monitor, number());
         (void)delkuthi_rows(monitor);
+        (void)delkuthi_page(monitor, page, number() % (sizeof page + 1));
         if (i % 8 == 7)
             (void)delkuthi_close(monitor);
         if (number() % 8 == 0)

@@ -19,6 +19,7 @@
 static struct file table, recording;
 static delkuthi_monitor monitor;
 static uint8_t report[DELKUTHI_REPORT_LIMIT];
+static uint8_t page[DELKUTHI_PAGE_LIMIT];
 static delkuthi_row rows[DELKUTHI_ROW_LIMIT];
 static uint8_t *stack;
 
@@ -58,6 +59,12 @@ static void *verdict(void *unused)
 {
     (void)delkuthi_row_verdict(&monitor, delkuthi_rows(&monitor) - 1);
     (void)delkuthi_row_step(&monitor, delkuthi_rows(&monitor) - 1);
+    return unused;
+}
+
+static void *printed(void *unused)
+{
+    (void)delkuthi_page(&monitor, page, sizeof page);
     return unused;
 }
 
@@ -119,6 +126,7 @@ int main(int argc, char **argv)
     well &= within(DELKUTHI_STEP_STACK, "tick", tick);
     well &= within(DELKUTHI_STEP_STACK, "verdict", verdict);
     well &= within(DELKUTHI_STEP_STACK, "close", close_it);
+    well &= within(DELKUTHI_STEP_STACK, "page", printed);
     well &= within(DELKUTHI_REPORT_STACK, "report", whole_report);
     free(stack);
     free_file(&table);

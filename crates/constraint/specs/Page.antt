@@ -15,14 +15,14 @@ use Rattle.constraint.specs.declared.Verdict.the-variants.{Open, Kept, B
 
 -- ---- a line
 
--- text to the left of a width, or to its right: blanks behind it, or before it
+-- §7.16: text to the left of a width, or to its right: blanks behind it, or before it
 abbrev pub leftIn : ℕ → List ℕ → List ℕ
 leftIn width text = text ++ replicate (width - length text) blank
 
 abbrev pub rightIn : ℕ → List ℕ → List ℕ
 rightIn width text = replicate (width - length text) blank ++ text
 
--- the names of the types, as TADL2 has them without their last word: StrongSynchronization, the name of type 7
+-- §7.16: the names of the types, as TADL2 has them without their last word: StrongSynchronization, the name of type 7
 abbrev pub synchronizationName : List ℕ
 synchronizationName =
     83 ∷ 116 ∷ 114 ∷ 111 ∷ 110 ∷ 103 ∷ 83 ∷ 121 ∷ 110 ∷ 99 ∷ 104 ∷ 114 ∷ 111 ∷ 110 ∷ 105 ∷ 122 ∷ 97 ∷ 116 ∷ 105 ∷ 111 ∷ 110 ∷ []
@@ -57,28 +57,28 @@ typeNames =
 abbrev pub nameOf : ℕ → List ℕ
 nameOf type = getD typeNames type synchronizationName
 
--- the word open, beside the report's kept and broken
+-- §7.16: the word open, beside the report's kept and broken
 abbrev pub openWord : List ℕ
 openWord = 111 ∷ 112 ∷ 101 ∷ 110 ∷ []
 
--- the word for a verdict
+-- §7.16: the word for a verdict
 abbrev pub verdictWord : Verdict → List ℕ
 verdictWord Open = openWord
 verdictWord Kept = keptWord
 verdictWord (Broken n) = brokenWord
 
--- the step of a row that is broken; nothing for any other
+-- §7.16: the step of a row that is broken; nothing for any other
 abbrev pub stepText : Verdict → List ℕ
 stepText Open = []
 stepText Kept = []
 stepText (Broken n) = decimal n
 
--- the bytes of a line before its end
+-- §7.15: the bytes of a line before its end
 abbrev pub pageWidth : ℕ
 pageWidth = 72
 
--- a row's line by columns: the number in 3 to the right, two blanks, the name in 24 and the verdict in 8 to the left, the step in 20 to
--- the right, and blanks up to 72
+-- §7.16: a row's line by columns: the number in 3 to the right, two blanks, the name in 24 and the verdict in 8 to the left, the step in
+-- 20 to the right, and blanks up to 72
 unfoldable pub lineText : ℕ → ℕ → Verdict → List ℕ
 lineText i type v =
     leftIn pageWidth
@@ -89,14 +89,14 @@ pageLine i type v = lineText i type v ++ lineEnd ∷ []
 
 -- ---- the page
 
--- a heading: 72 hyphens
+-- §7.17: a heading: 72 hyphens
 abbrev pub hyphen : ℕ
 hyphen = 45
 
 unfoldable pub hyphens : List ℕ
 hyphens = replicate pageWidth hyphen ++ lineEnd ∷ []
 
--- a heading stands before every sixteenth row, from row 0 on: what stands before row i's line
+-- §7.17: a heading stands before every sixteenth row, from row 0 on: what stands before row i's line
 abbrev pub pageGroup : ℕ
 pageGroup = 16
 
@@ -108,20 +108,20 @@ unfoldable pub pageLines : (ℕ → ℕ) → (ℕ → Verdict) → ℕ → List 
 pageLines types verdicts zero = []
 pageLines types verdicts (suc i) = pageLines types verdicts i ++ heading i ++ pageLine i (types i) (verdicts i)
 
--- the page of n rows; of none, one heading
+-- §7.17: the page of n rows; of none, one heading
 abbrev pub pageText : (ℕ → ℕ) → (ℕ → Verdict) → ℕ → List ℕ
 pageText types verdicts zero = hyphens
 pageText types verdicts (suc n) = pageLines types verdicts (suc n)
 
--- how many lines the page of n rows has: theirs, and one for each 16 or fewer (`page-width`)
+-- §7.15: how many lines the page of n rows has: theirs, and one for each 16 or fewer (`page-width`)
 abbrev pub linesOf : ℕ → ℕ
 linesOf n = n + max 1 ((n + 15) / pageGroup)
 
--- how many bytes (`page-length`)
+-- §7.15: how many bytes (`page-length`)
 abbrev pub pageLength : ℕ → ℕ
 pageLength n = 73 * linesOf n
 
--- n lines, each of 72 bytes and byte 10
+-- §7.15: n lines, each of 72 bytes and byte 10
 pub data Lines : ℕ → List ℕ → Type 0 where
   no-line : Lines 0 []
   one-more : {n : ℕ} (line later : List ℕ) → length line ≡ pageWidth → ((k : ℕ) → k < length line → ¬ (at line k ≡ lineEnd)) → Lines n later
@@ -133,11 +133,11 @@ pub data Lines : ℕ → List ℕ → Type 0 where
 abbrev pub verdictAt : List Verdict → ℕ → Verdict
 verdictAt verdicts i = getD verdicts i Open
 
--- the page of a table's rows: what each reads after the steps, closed or not
+-- §7.14: the page of a table's rows: what each reads after the steps, closed or not
 pub data PageOf (rows : List Constraint) (steps : List Step) : List ℕ → Type 0 where
   page-of : (verdicts : List Verdict) → EachReads steps rows verdicts → PageOf rows steps (pageText (at (map typeOf rows)) (verdictAt verdicts) (length rows))
 
--- in a buffer that is too short nothing is written, and 0 is answered; bytes behind the page stay
+-- §7.19: in a buffer that is too short nothing is written, and 0 is answered; bytes behind the page stay
 pub data Pages (rows : List Constraint) (steps : List Step) (before : List ℕ) : ℕ → List ℕ → Type 0 where
   page-written : (page : List ℕ) → PageOf rows steps page → length page ≤ length before
       → Pages rows steps before (length page) (page ++ drop (length page) before)
@@ -145,7 +145,7 @@ pub data Pages (rows : List Constraint) (steps : List Step) (before : List ℕ) 
 
 -- ---- what is read off a page
 
--- where row i's line begins: behind the lines of the rows before it, and the headings
+-- §7.18: where row i's line begins: behind the lines of the rows before it, and the headings
 abbrev pub lineStart : ℕ → ℕ
 lineStart i = 73 * (i + i / pageGroup + 1)
 
@@ -170,18 +170,18 @@ same [] (y ∷ ys) = false
 same (x ∷ xs) [] = false
 same (x ∷ xs) (y ∷ ys) = eqb x y && same xs ys
 
--- the verdict of a word and a step; none where it is no verdict's word
+-- §7.18: the verdict of a word and a step; none where it is no verdict's word
 abbrev pub verdictFrom : List ℕ → ℕ → Option Verdict
 verdictFrom word step =
     cond (same word openWord) (some Open) (cond (same word keptWord) (some Kept) (cond (same word brokenWord) (some (Broken step)) none))
 
--- what a row's line says: the row's number, its type's name, its verdict
+-- §7.18: what a row's line says: the row's number, its type's name, its verdict
 pub record LineRead : Type 0 where
   pub number : ℕ
   pub name : List ℕ
   pub verdict : Option Verdict
 
--- row i's line, by its columns (`page-reads-back`)
+-- §7.18: row i's line, by its columns (`page-reads-back`)
 unfoldable pub lineRead : List ℕ → ℕ → LineRead
 lineRead page i =
     record {

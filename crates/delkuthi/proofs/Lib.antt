@@ -7,3 +7,4 @@ pub mod Refusals
 mod Numbers
 mod Walk
 mod RowNumbers
+pub mod Printing

@@ -39,7 +39,7 @@ use Rattle.monitor.proofs.Theorem.{step-kept as steps-kept, reading-kept}
 -- ---- verdicts
 
 -- the row at a number is within the table, and where there is none the number is past it
-within : (rows : List Constraint) (i : ℕ) (c : Constraint) → getElem? rows i ≡ some c → i < length rows
+pub within : (rows : List Constraint) (i : ℕ) (c : Constraint) → getElem? rows i ≡ some c → i < length rows
 within [] i c e = never (cc)
 within (r ∷ rows) zero c e = omega arith
 within (r ∷ rows) (suc i) c e = omega (arith, within rows i c e)

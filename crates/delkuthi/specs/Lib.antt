@@ -3,3 +3,4 @@ pub mod Taking
 pub mod Telling
 pub mod Lent
 pub mod Tables
+pub mod Printed

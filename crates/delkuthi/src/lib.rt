@@ -1,5 +1,6 @@
 // The report on a recording: what the rows of a table read after it. It is also offered to a host in C.
 pub mod lent;
+pub mod printed;
 mod records;
 mod report;
 pub mod tables;

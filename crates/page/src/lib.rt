@@ -160,6 +160,13 @@ fn put_rows(buffer: &mut [u8], types: &[u64; 32], steps: &[u64; 32], rows: usize
     }
 }
 
+// How many rows a page of so many has: no more than 32.
+pub fn held(rows: usize) -> usize
+    ensures { λ r. ⌜ r ≡ min rows rowLimit ⌝ }
+{
+    if rows < ROW_LIMIT { rows } else { ROW_LIMIT }
+}
+
 impl Page {
     // The page of so many rows, with nothing yet said of any.
     pub fn blank(rows: usize, closed: u64) -> Self
@@ -191,11 +198,7 @@ impl Page {
     {
         let types = self.types;
         let steps = self.steps;
-        let rows = if self.rows < ROW_LIMIT {
-            self.rows
-        } else {
-            ROW_LIMIT
-        };
+        let rows = held(self.rows);
         let size = size(rows);
         if buffer.len() < size {
             return 0;

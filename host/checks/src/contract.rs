@@ -148,6 +148,24 @@ fn in_full(step: &str) -> Vec<String> {
     }
 }
 
+/// A page of the contract: the rows of a table, the steps of a recording, and what is printed after them.
+pub struct Page {
+    pub rows: Vec<Constraint>,
+    pub steps: Vec<Step>,
+    pub printed: String,
+}
+
+/// The contract's pages. Blanks at the end of a line are left out there.
+pub fn pages(text: &str) -> Vec<Page> {
+    let page = |lines: Vec<&str>| {
+        let rows: Vec<Constraint> = lines.iter().map_while(|line| row(line)).collect();
+        let steps = recording(lines[rows.len()]).into_iter().map(|(step, _)| step).collect();
+        let printed = lines[rows.len() + 1..].iter().map(|line| format!("{line:<72}\n")).collect();
+        Page { rows, steps, printed }
+    };
+    blocks(text, "page").into_iter().map(page).collect()
+}
+
 /// The files of the contract: a table, a recording, and the report on them.
 pub fn files(text: &str) -> Vec<(Vec<u8>, Vec<u8>, String)> {
     let file = |lines: Vec<&str>| {

@@ -4,6 +4,7 @@ pub mod beside;
 pub mod contract;
 pub mod documents;
 pub mod hosts;
+pub mod pages;
 pub mod places;
 pub mod program;
 pub mod release;

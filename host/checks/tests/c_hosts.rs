@@ -10,7 +10,7 @@ use model::random::Random;
 use model::random::recordings::{recording, refused_recording};
 use model::random::seen::Seen;
 use model::random::tables::{any_table, damaged_rows, damaged_table, table};
-use model::{Constraint, Step, Verdict, read_table, recording_bytes, report_text, table_bytes, write_table};
+use model::{Constraint, Step, Verdict, page_text, read_table, recording_bytes, report_text, table_bytes, write_table};
 use std::fs;
 use std::path::PathBuf;
 use std::process::Command;
@@ -165,6 +165,41 @@ fn every_cut_in_blocks_of_just_that_length() {
     }
 }
 
+/// What the host with pages is to print, by the model: fresh, after every tenth record, before the close and after it.
+fn pages(rows: &[Constraint], recording: &[u8]) -> String {
+    let mut monitor = model::Monitor::fresh(rows).expect("an accepted table");
+    let mut printed = page_text(&monitor);
+    for (number, step) in steps_of(recording).into_iter().enumerate() {
+        let _ = monitor.step(step);
+        if (number + 1) % 10 == 0 {
+            printed += &page_text(&monitor);
+        }
+    }
+    printed += &page_text(&monitor);
+    monitor.close().expect("a recording not yet closed");
+    printed + &page_text(&monitor)
+}
+
+#[test]
+fn the_page_host() {
+    let drive = String::from_utf8(example_bytes("page.txt")).expect("ASCII");
+    let mut random = Random::new(408);
+    for level in LEVELS {
+        let host = c_host("page", level);
+        let files = [example("table.bin"), example("recording.bin")];
+        for ran in [host.run(&files), host.run_in_valgrind(&files)] {
+            assert!(ran.status == Some(0) && ran.printed.ends_with(&drive), "{ran:?}");
+        }
+        for number in [0, 1, 15, 16, 17, 32] {
+            let rows = table(&mut random, number);
+            let bytes = refused_recording(&mut random, &rows, 40);
+            let (files, expected) = (Files::new(&table_bytes(&rows), &bytes), pages(&rows, &bytes));
+            assert_eq!(host.run(&files.paths), Ran::new(0, &expected));
+            assert_eq!(host.run_in_valgrind(&files.paths), Ran::new(0, &expected));
+        }
+    }
+}
+
 /// Rows and the length of the buffer for their table, as the C host reads them, and what it is to print, by the model.
 fn made(rows: &[Constraint], length: usize, seen: &mut Seen) -> (String, String) {
     let mut buffer = vec![0xA5; length];
@@ -277,7 +312,7 @@ fn the_stack() {
     let files = Files::new(&table_bytes(&rows), &recording(&mut Random::new(406), &rows, 100));
     let ran = host.run(&files.paths);
     println!("bytes of stack:\n{}", ran.printed);
-    assert_eq!((ran.status, ran.printed.lines().count()), (Some(0), 7));
+    assert_eq!((ran.status, ran.printed.lines().count()), (Some(0), 8));
 }
 
 #[test]
@@ -328,7 +363,7 @@ fn strict_compilers_do_not_complain() {
     let c: Vec<Host> = ["cc", "gcc", "clang"]
         .into_iter()
         .flat_map(|compiler| {
-            [["refusals.c", "file.c"], ["bench_loop.c", "file.c"], ["make_table.c", "file.c"]]
+            [["refusals.c", "file.c"], ["bench_loop.c", "file.c"], ["make_table.c", "file.c"], ["page.c", "file.c"]]
                 .map(|files| (compiler, files))
         })
         .filter_map(|(compiler, files)| strict(compiler, "-std=c99", &C_WARNINGS, &files))

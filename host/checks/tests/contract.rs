@@ -1,9 +1,10 @@
 //! The contract in words, `docs/CONTRACT.md`: every example in it is what library and model do.
 
-use checks::beside::{fresh, take, verdict};
-use checks::contract::{Example, clauses, examples, files, text};
+use checks::beside::{fresh, take, take_all, verdict};
+use checks::contract::{Example, clauses, examples, files, pages, text};
+use checks::pages::page_in;
 use checks::reports::report_in;
-use model::{Constraint, report_text};
+use model::{Constraint, page_text, report_text};
 use std::collections::HashSet;
 
 /// What the rows read, as the contract writes it.
@@ -52,6 +53,20 @@ fn the_files_are_so() {
         assert_eq!(report_text(&table, &recording), report);
         let written = report_in(&table, &recording, delkuthi::REPORT_LIMIT).expect("a report");
         assert_eq!(String::from_utf8(written).expect("ASCII"), report);
+    }
+}
+
+#[test]
+fn the_pages_are_so() {
+    let pages = pages(&text());
+    assert!(pages.len() >= 2);
+    for page in pages {
+        let mut model = model::Monitor::fresh(&page.rows).expect("an accepted table");
+        page.steps.iter().for_each(|step| model.step(*step).expect("a step that is taken"));
+        assert_eq!(page_text(&model), page.printed);
+        let mut library = fresh(&page.rows);
+        assert!(take_all(&mut library, &page.steps).iter().all(Result::is_ok));
+        assert_eq!(page_in(&library, delkuthi::PAGE_LIMIT), Some(page.printed.into_bytes()));
     }
 }
 

@@ -43,6 +43,7 @@ fn by_definitions() -> BTreeMap<String, u64> {
         ("BROKEN", definition(LENT_DEFINED, "wordOf (some (Verdict.Broken n))")),
         ("TAKEN", definition("crates/inplace/specs/Store.antt", "numberOf Taken")),
         ("REPORT_LIMIT", definition("crates/text/proofs/Reports.antt", "reportLimit")),
+        ("PAGE_LIMIT", page_limit()),
     ])
 }
 
@@ -56,6 +57,13 @@ fn longest_row() -> u64 {
 /// The bytes of the longest table: the version byte, then rows with their length fields.
 fn table_limit() -> u64 {
     1 + definition(LIMITS, "rowLimit") * (2 + longest_row())
+}
+
+/// The bytes of the longest page: a line for each row, and one for each group of them.
+fn page_limit() -> u64 {
+    const PAGE: &str = "crates/constraint/specs/Page.antt";
+    let rows = definition(LIMITS, "rowLimit");
+    (definition(PAGE, "pageWidth") + 1) * (rows + rows.div_ceil(definition(PAGE, "pageGroup")))
 }
 
 /// The refusals of the header, by the questions that give them.
@@ -109,7 +117,7 @@ fn every_number_of_the_header_is_the_crates() {
 #[test]
 fn every_limit_of_the_manual_is_the_headers() {
     let header = Header::read();
-    assert_eq!(header.limits.len(), 9, "{:?}", header.limits);
+    assert_eq!(header.limits.len(), 10, "{:?}", header.limits);
     for (name, limit) in &header.limits {
         assert_eq!(header.defined.get(name), Some(limit), "{name}");
     }
@@ -155,6 +163,7 @@ fn the_rust_crates_numbers_are_the_headers() {
         ("ROW_LIMIT", delkuthi::ROW_LIMIT as u64),
         ("WAITING_LIMIT", delkuthi::WAITING_LIMIT as u64),
         ("REPORT_LIMIT", delkuthi::REPORT_LIMIT as u64),
+        ("PAGE_LIMIT", delkuthi::PAGE_LIMIT as u64),
         ("TABLE_LIMIT", delkuthi::TABLE_LIMIT as u64),
         ("NO_LIMIT", delkuthi::NO_LIMIT),
         ("OPEN", word("OPEN")),

@@ -16,6 +16,7 @@ unsafe extern "C" {
     pub safe fn delkuthi_row_verdict(monitor: &Monitor, row: u64) -> u8;
     pub safe fn delkuthi_row_step(monitor: &Monitor, row: u64) -> u64;
     pub safe fn delkuthi_rows(monitor: &Monitor) -> u64;
+    pub fn delkuthi_page(monitor: &Monitor, page: *mut u8, page_length: usize) -> usize;
     pub fn delkuthi_report(
         table: *const u8,
         table_length: usize,

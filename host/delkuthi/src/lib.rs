@@ -33,12 +33,14 @@
 
 mod ffi;
 mod monitor;
+mod page;
 mod refusal;
 mod report;
 mod table;
 mod version;
 
 pub use monitor::{Monitor, Verdict, WORDS};
+pub use page::PAGE_LIMIT;
 pub use refusal::{Refusal, refusal_text};
 pub use report::{REPORT_LIMIT, report};
 pub use table::{NO_LIMIT, Row, TABLE_LIMIT, write_table};

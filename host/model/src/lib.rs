@@ -24,6 +24,7 @@ pub mod meets;
 pub mod monitor;
 pub mod notation;
 pub mod open;
+pub mod page;
 pub mod questions;
 pub mod random;
 pub mod recording;
@@ -37,6 +38,7 @@ pub use constraint::{Constraint, LAST_KIND, LAST_TIME, NO_LIMIT, ROW_LIMIT, SPAN
 pub use meets::meets;
 pub use monitor::{Monitor, Verdict};
 pub use open::open;
+pub use page::{page_of, page_text};
 pub use questions::{Answer, Refusal};
 pub use recording::{read_recording, recording_bytes};
 pub use report::{program_output, report, report_text};

@@ -1,10 +1,11 @@
-//! The drive of `examples/`: its table and recording are what is written down here, and its report is the stored one.
+//! The drive of `examples/`: its table and recording are what is written down here, and its report and its page are
+//! the stored ones.
 //! Times are microseconds. To write the files anew after a change here: `DRIVE=write cargo test --test drive`.
 
 use std::fs;
 use std::path::{Path, PathBuf};
 
-use model::{Constraint, NO_LIMIT, Step, report_text};
+use model::{Constraint, Monitor, NO_LIMIT, Step, page_text, read_recording, report_text};
 
 const MILLISECOND: u64 = 1_000;
 
@@ -79,4 +80,8 @@ fn the_stored_drive_is_this_one() {
     stored("table.bin", &table);
     stored("recording.bin", &recording);
     stored("report.txt", report_text(&table, &recording).as_bytes());
+    let fresh = Monitor::fresh(&rows()).expect("an accepted table");
+    let mut monitor = read_recording(fresh, &recording).expect("records that are all taken");
+    monitor.close().expect("a recording not yet closed");
+    stored("page.txt", page_text(&monitor).as_bytes());
 }

@@ -1,7 +1,6 @@
 -- The length is known from the number of rows alone: the buffer is tested against it first, and then the lines are put one after the other.
-use Prim.Native.Nat.{ℕ, _≤_, _<_, min}
+use Prim.Native.Nat.{ℕ, min}
 use native.Mathlib.Omega.{arith}
-use mathlib.Core.Logic.{⊎-elim}
 use mathlib.Core.Path.{_≡_, sym, ap, _∙_}
 use mathlib.Core.List.{List}
 use lib.Seq.{sets}
@@ -9,29 +8,28 @@ use borrow.Author.Needs.{needs}
 use denote.Ref.{now}
 use Rattle.constraint.specs.Limits.{rowLimit}
 use Rattle.constraint.specs.Steps.{at}
-use Rattle.constraint.specs.Page.{hyphens, pageText, pageLines, pageLength}
-use Rattle.page.specs.Sheet.{verdictsOf, textOf}
+use Rattle.constraint.specs.Page.{hyphens, pageLines, pageLength}
+use Rattle.page.specs.Sheet.{verdictsOf}
 use Rattle.page.specs.declared.Page.{Page}
 use Rattle.page.proofs.Writing.{some-rows, copied-nothing, copied-page}
 use Rattle.page.proofs.Page.write.Statement.{statement}
 use Rattle.page.proofs.Page.write.Tie as tie
 
--- how many rows are written
-held : (c : tie.Joined1) → c .if1 .rows ≡ min (c .before .before .before .before .before .args .self .rows) rowLimit
-held c = ⊎-elim (λ w. omega arith) (λ w. omega arith) (c .if1 .came)
-
 -- the length that was tested
-counted : (c : tie.After-size) → c .size .result ≡ pageLength (min (c .before .before .before .before .before .before .args .self .rows) rowLimit)
-counted c = c .size .ensures ∙ ap pageLength (held (c .before))
+counted : (c : tie.After-size) → c .size .result ≡ pageLength (min (c .before .before .before .before .before .args .self .rows) rowLimit)
+counted c = c .size .ensures ∙ ap pageLength (c .before .held .ensures)
+
+held-requires : tie.Need-held-requires
+held-requires c κs = search needs
 
 size-requires : tie.Need-size-requires
-size-requires c κs = omega (arith, held c)
+size-requires c κs = omega (arith, c .held .ensures)
 
 returns : tie.Need-returns
 returns c =
     let size = c .before in
-    let start = size .before .before .before .before .before .before .args in
-    copied-nothing (start .self) (now (start .buffer)) (size .size .result) (counted size) (c .if2 .taken)
+    let start = size .before .before .before .before .before .args in
+    copied-nothing (start .self) (now (start .buffer)) (size .size .result) (counted size) (c .if1 .taken)
 
 slice-aggregate-put : tie.Need-slice-aggregate-put
 slice-aggregate-put c = search needs
@@ -48,12 +46,12 @@ returns-2 c =
     let put = c .before .before in
     let none = put .before .before .before in
     let size = none .before .before in
-    let start = size .before .before .before .before .before .before .args in
-    let rows : min (start .self .rows) rowLimit ≡ 0 = omega (arith, held (size .before)) in
-    copied-page (start .self) (now (start .buffer)) (size .size .result) (counted size) _ (none .before .if2 .left) (rw rows (put .put .ensures))
+    let start = size .before .before .before .before .before .args in
+    let rows : min (start .self .rows) rowLimit ≡ 0 = omega (arith, size .before .held .ensures) in
+    copied-page (start .self) (now (start .buffer)) (size .size .result) (counted size) _ (none .before .if1 .left) (rw rows (put .put .ensures))
 
 put-rows-requires : tie.Need-put-rows-requires
-put-rows-requires c κs = omega (arith, held (c .before .before .before .before .before .before))
+put-rows-requires c κs = omega (arith, c .before .before .before .before .before .before .held .ensures)
 
 same-length-2 : tie.Need-same-length-2
 same-length-2 c = search needs
@@ -63,20 +61,22 @@ returns-3 c =
     let put = c .before .before in
     let some = put .before .before .before .before in
     let size = some .before .before in
-    let start = size .before .before .before .before .before .before .args in
+    let start = size .before .before .before .before .before .args in
     let page = start .self in
     let types = at (page .types) in
     let verdicts = verdictsOf (page .closed) (page .steps) in
     let n = min (page .rows) rowLimit in
-    copied-page page (now (start .buffer)) (size .size .result) (counted size) _ (some .before .if2 .left)
+    copied-page page (now (start .buffer)) (size .size .result) (counted size) _ (some .before .if1 .left)
     (put .put-rows .ensures
     ∙ ap (λ (list : List ℕ). sets (now (start .buffer)) 0 list)
-    (ap (λ (k : ℕ). pageLines types verdicts k) (held (size .before)) ∙ sym (some-rows types verdicts n (λ e. some .if3 .left (held (size .before) ∙ e)))))
+    (ap (λ (k : ℕ). pageLines types verdicts k) (size .before .held .ensures)
+    ∙ sym (some-rows types verdicts n (λ e. some .if2 .left (size .before .held .ensures ∙ e)))))
 
 pub write-spec : {M : Type 1} → statement M
 write-spec =
     tie.close
     (tie.spec
+    held-requires
     size-requires
     returns
     slice-aggregate-put

@@ -1,0 +1,44 @@
+-- What the calls for a printed page promise.
+use Prim.Native.Nat.{ℕ, zero, suc, min}
+use mathlib.Core.Path.{_≡_}
+use mathlib.Core.List.{List}
+use lib.ListN.{getD}
+use Rattle.constraint.specs.Limits.{rowLimit}
+use Rattle.constraint.specs.Steps.{Step}
+use Rattle.constraint.specs.Accepted.{Accepted}
+use Rattle.constraint.specs.Page.{pageText, Pages}
+use Rattle.constraint.specs.declared.Call.{Call}
+use Rattle.constraint.specs.declared.Constraint.{Constraint}
+use Rattle.text.specs.Content.{Copied}
+use Rattle.monitor.specs.Machine.{noRow}
+use Rattle.monitor.specs.Contract.{after, Recorded}
+use Rattle.monitor.specs.declared.Monitor.{Monitor}
+use Rattle.page.specs.Sheet.{verdictOf, blankPage, withRow}
+use Rattle.page.specs.declared.Page.{Page}
+
+-- how many rows a page has: a monitor's, and no more than 32
+abbrev pub printedRows : Monitor → ℕ
+printedRows m = min (m .len) rowLimit
+
+-- the number of row i's type, and its verdict, as the monitor holds them
+abbrev pub typeIn : Monitor → ℕ → ℕ
+typeIn m i = getD (m .rows) i noRow .rule .form
+
+abbrev pub brokenIn : Monitor → ℕ → ℕ
+brokenIn m i = getD (m .rows) i noRow .now .broken
+
+-- the page after its first i rows
+unfoldable pub filled : Monitor → ℕ → Page
+filled m zero = blankPage (printedRows m) (m .closed)
+filled m (suc i) = withRow (filled m i) i (typeIn m i) (brokenIn m i)
+
+-- the page's bytes, for any monitor
+abbrev pub printed : Monitor → List ℕ
+printed m = pageText (typeIn m) (λ i. verdictOf (m .closed) (brokenIn m i)) (printedRows m)
+
+-- §7.14, §7.19: the page, or 0 in a buffer that is too short: of a monitor that calls have made, what each row reads after what they
+-- have recorded
+pub record WritesPage (m : Monitor) (before : List ℕ) (answer : ℕ) (left : List ℕ) : Type 0 where
+  pub equals : Copied (printed m) before answer left
+  pub means : (rows : List Constraint) (calls : List Call) → Accepted rows → m ≡ after rows calls
+      → (steps : List Step) × Recorded rows calls steps × Pages rows steps before answer left

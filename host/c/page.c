@@ -1,0 +1,95 @@
+/*
+ * The page of a monitor after each length of a recording: page TABLE RECORDING
+ *
+ * Gives the records to a fresh monitor, one after the other, and closes it; a
+ * record that is refused is passed over. Prints the page that it has fresh,
+ * after every tenth record, before the close and after it. Each page is asked
+ * for in blocks of its very length, of one byte less and of one more; the exit
+ * status is 1 where an answer, or a byte behind a page, is not as it has to be.
+ */
+#include "delkuthi.h"
+#include "file.h"
+#include <stdio.h>
+#include <string.h>
+
+#define FILL 0xA5
+
+static delkuthi_monitor monitor;
+
+/* The bytes of the page of so many rows. */
+static size_t page_size(uint64_t rows)
+{
+    return 73 * (size_t)(rows + (rows == 0 ? 1 : (rows + 15) / 16));
+}
+
+/* Whether bytes are as they were. */
+static int untouched(const uint8_t *bytes, size_t length)
+{
+    while (length > 0 && bytes[length - 1] == FILL)
+        length--;
+    return length == 0;
+}
+
+/* Asks for the page in a block of some bytes more or less than it has, and prints it; returns whether all is well. */
+static int asked(size_t size, size_t length, int print)
+{
+    uint8_t *block = block_of(length);
+    size_t written, expected = length < size ? 0 : size;
+    int well;
+
+    memset(block, FILL, length);
+    written = delkuthi_page(&monitor, block, length);
+    well = written == expected && untouched(block + expected, length - expected);
+    if (well && print)
+        (void)fwrite(block, 1, written, stdout);
+    free_block(block);
+    return well;
+}
+
+/* Prints the page; returns whether all is well. */
+static int page(void)
+{
+    size_t size = page_size(delkuthi_rows(&monitor));
+
+    return asked(size, size, 1) && asked(size, size - 1, 0) && asked(size, size + 1, 0) && asked(size, 1, 0);
+}
+
+/* Makes a time of eight bytes, the highest first. */
+static uint64_t time_of(const uint8_t *bytes)
+{
+    uint64_t time = 0;
+    int i;
+
+    for (i = 0; i < 8; i++)
+        time = time << 8 | bytes[i];
+    return time;
+}
+
+int main(int argc, char **argv)
+{
+    struct file table, recording;
+    size_t place, count = 0;
+    int well;
+
+    if (argc != 3 || !read_file(argv[1], &table) || !read_file(argv[2], &recording))
+        return 3;
+    if (delkuthi_fresh(&monitor, table.bytes, table.length) != DELKUTHI_TAKEN)
+        return 2;
+    well = page();
+    for (place = 1; place < recording.length; place += 2u + recording.bytes[place + 1]) {
+        const uint8_t *record = recording.bytes + place;
+
+        if (record[1] == 9)
+            (void)delkuthi_event(&monitor, record[2], time_of(record + 3));
+        else
+            (void)delkuthi_tick(&monitor, time_of(record + 2));
+        if (++count % 10 == 0)
+            well &= page();
+    }
+    well &= page();
+    (void)delkuthi_close(&monitor);
+    well &= page();
+    free_file(&table);
+    free_file(&recording);
+    return well ? 0 : 1;
+}

@@ -1,15 +1,16 @@
 -- What is true of continuations for every row type: a row's definition looks only at its own events and the clock, and what may still follow after a step might have followed before it, so a row that is open after a step was open before it.
-use Prim.Native.Nat.{ℕ, zero, suc, _≤_, _<_}
+use Prim.Native.Nat.{ℕ, zero, suc, _+_, _≤_, _<_}
 use native.Mathlib.Omega.{arith}
 use mathlib.Core.Path.{_≡_, refl, sym, ap, _∙_, subst, subst₂}
 use mathlib.Core.Bool.{true, false, cond, or-true}
 use mathlib.Core.List.{List, [], _∷_, _++_, map, append-nil, append-assoc}
+use mathlib.Core.Logic.{inl, inr}
 use lib.ListN.{length}
 use lib.Dec.{eqb}
 use borrow.Author.Tests.{eq-eqb, ne-eqb}
 use Rattle.constraint.specs.Limits.{lastKind}
 use Rattle.constraint.specs.Steps.{Step, event, tick, close, at, times, among, own, clockFrom, clock, closed}
-use Rattle.constraint.specs.Meets.{Meets, MeetsDelay, MeetsStrongDelay, MeetsRepeat, MeetsSporadic, MeetsBurst, MeetsOrder, MeetsStrongSynchronization}
+use Rattle.constraint.specs.Meets.{Meets, MeetsDelay, MeetsStrongDelay, NotLater, MeetsRepeat, MeetsSporadic, MeetsBurst, MeetsOrder, MeetsStrongSynchronization}
 use Rattle.constraint.specs.Continuation.{EventInOrder, Continues, stop, more, Open}
 use Rattle.constraint.specs.Accepted.{kinds}
 use Rattle.constraint.specs.declared.Constraint.{Constraint}
@@ -53,21 +54,40 @@ synchronized-same : (ks : List ℕ) (tolerance : ℕ) (a b : List Step) → Same
 unfolding MeetsStrongSynchronization
 synchronized-same ks tolerance a b same m j k h g = rw (← same j h, ← same k g) (m j k h g)
 
-meets-same-times : (c : Constraint) (a b : List Step) → SameTimes (kinds c) a b → Meets c a → Meets c b
-unfolding Meets
-meets-same-times (Delay source target lower upper) a b same m = subst₂ (MeetsDelay lower upper) (same 0 (omega arith)) (same 1 (omega arith)) m
-meets-same-times (StrongDelay source target lower upper) a b same m = subst₂ (MeetsStrongDelay lower upper) (same 0 (omega arith)) (same 1 (omega arith)) m
-meets-same-times (Repeat kind span lower upper) a b same m = subst (MeetsRepeat span lower upper) (same 0 (omega arith)) m
-meets-same-times (Sporadic kind lower upper jitter minimum) a b same m = subst (MeetsSporadic lower upper jitter minimum) (same 0 (omega arith)) m
-meets-same-times (Burst kind maximum len minimum) a b same m = subst (MeetsBurst maximum len minimum) (same 0 (omega arith)) m
-meets-same-times (Order source target) a b same m = subst₂ MeetsOrder (same 0 (omega arith)) (same 1 (omega arith)) m
-meets-same-times (StrongSynchronization2 x y tolerance) a b same m = synchronized-same (x ∷ y ∷ []) tolerance a b same m
-meets-same-times (StrongSynchronization3 x y z tolerance) a b same m = synchronized-same (x ∷ y ∷ z ∷ []) tolerance a b same m
-meets-same-times (StrongSynchronization4 x y z w tolerance) a b same m = synchronized-same (x ∷ y ∷ z ∷ w ∷ []) tolerance a b same m
+-- what is met at a clock is met at every earlier one
+pub not-later-earlier : {upper : ℕ} (x now later : ℕ) → now ≤ later → NotLater upper x later → NotLater upper x now
+not-later-earlier x now later h (inl e) = inl e
+not-later-earlier x now later h (inr soon) = inr (omega arith)
+
+repeat-earlier : (span lower upper : ℕ) (events : List ℕ) (now later : ℕ) → now ≤ later → MeetsRepeat span lower upper events later
+    → MeetsRepeat span lower upper events now
+unfolding MeetsRepeat
+repeat-earlier span lower upper events now later h m = (m .0, λ i g end. not-later-earlier (at events i) now later h (m .1 i g end))
+
+sporadic-earlier : (lower upper jitter minimum : ℕ) (events : List ℕ) (now later : ℕ) → now ≤ later
+    → MeetsSporadic lower upper jitter minimum events later → MeetsSporadic lower upper jitter minimum events now
+unfolding MeetsSporadic
+sporadic-earlier lower upper jitter minimum events now later h ((points, hidden, last), apart) =
+    ((points, hidden, λ i e. not-later-earlier (at points i + jitter) now later h (last i e)), apart)
 
 -- what a row says of some events and a clock it says of the same events and every earlier clock
+meets-same-times : (c : Constraint) (a b : List Step) → SameTimes (kinds c) a b → clock b ≤ clock a → Meets c a → Meets c b
+unfolding Meets
+meets-same-times (Delay source target lower upper) a b same earlier m = subst₂ (MeetsDelay lower upper) (same 0 (omega arith)) (same 1 (omega arith)) m
+meets-same-times (StrongDelay source target lower upper) a b same earlier m = subst₂ (MeetsStrongDelay lower upper) (same 0 (omega arith)) (same 1 (omega arith)) m
+meets-same-times (Repeat kind span lower upper) a b same earlier m =
+    subst (λ (ts : List ℕ). MeetsRepeat span lower upper ts (clock b)) (same 0 (omega arith)) (repeat-earlier span lower upper _ (clock b) (clock a) earlier m)
+meets-same-times (Sporadic kind lower upper jitter minimum) a b same earlier m =
+    subst (λ (ts : List ℕ). MeetsSporadic lower upper jitter minimum ts (clock b)) (same 0 (omega arith))
+    (sporadic-earlier lower upper jitter minimum _ (clock b) (clock a) earlier m)
+meets-same-times (Burst kind maximum len minimum) a b same earlier m = subst (MeetsBurst maximum len minimum) (same 0 (omega arith)) m
+meets-same-times (Order source target) a b same earlier m = subst₂ MeetsOrder (same 0 (omega arith)) (same 1 (omega arith)) m
+meets-same-times (StrongSynchronization2 x y tolerance) a b same earlier m = synchronized-same (x ∷ y ∷ []) tolerance a b same m
+meets-same-times (StrongSynchronization3 x y z tolerance) a b same earlier m = synchronized-same (x ∷ y ∷ z ∷ []) tolerance a b same m
+meets-same-times (StrongSynchronization4 x y z w tolerance) a b same earlier m = synchronized-same (x ∷ y ∷ z ∷ w ∷ []) tolerance a b same m
+
 pub meets-same : (c : Constraint) (a b : List Step) → own (kinds c) a ≡ own (kinds c) b → clock b ≤ clock a → Meets c a → Meets c b
-meets-same c a b same earlier m = meets-same-times c a b (same-times (kinds c) a b same) m
+meets-same c a b same earlier m = meets-same-times c a b (same-times (kinds c) a b same) earlier m
 
 -- ---- what a continuation is made of
 
@@ -80,6 +100,14 @@ continues-late (more {steps = steps} {further = further} j t o kind order rest) 
     split (eqb j k) (λ x. Each (λ s. clock steps ≤ s) (cond x (t ∷ times k further) (times k further)))
     (λ e. each-cons (λ s. clock steps ≤ s) t (times k further) (order .0) later)
     (λ e. later)
+
+-- nor is the clock that it closes at
+pub continues-clock : {steps further : List Step} → Continues steps further → clock steps ≤ clock (steps ++ further)
+continues-clock (stop {steps = steps}) = rw (append-nil steps) (omega arith)
+continues-clock (more {steps = steps} {further = further} j t o kind order rest) =
+    let on : clock (steps ++ (event j t ∷ [])) ≤ clock (steps ++ (event j t ∷ further)) =
+        subst (λ (all : List Step). clock (steps ++ (event j t ∷ [])) ≤ clock all) (append-assoc steps (event j t ∷ []) further) (continues-clock rest) in
+    omega (arith, clock-event j t steps, order .0)
 
 -- with those recorded, its times of a kind rise strictly
 pub continues-rising : {steps further : List Step} → Continues steps further → (k : ℕ) → Rising (times k steps) → Rising (times k steps ++ times k further)

@@ -9,8 +9,8 @@ use lib.ListN.{length}
 use lib.Dec.{leb}
 use borrow.Author.Tests.{ne-eqb}
 use Rattle.constraint.specs.Limits.{noLimit}
-use Rattle.constraint.specs.Steps.{Step, event, at, times}
-use Rattle.constraint.specs.Meets.{Between, Apart, Meets, MeetsDelay, MeetsStrongDelay, MeetsRepeat, MeetsSporadic, MeetsBurst, MeetsOrder, MeetsStrongSynchronization}
+use Rattle.constraint.specs.Steps.{Step, event, tick, at, times, clockFrom}
+use Rattle.constraint.specs.Meets.{Between, NotLater, Apart, Meets, MeetsDelay, MeetsStrongDelay, SpansApart, AtLeastApart, HiddenPoints, MeetsRepeat, MeetsSporadic, MeetsBurst, MeetsOrder, MeetsStrongSynchronization}
 use Rattle.constraint.specs.Waiting.{answered}
 use Rattle.constraint.specs.Continuation.{BrokenAt}
 use Rattle.constraint.specs.Questions.{Question, Judged}
@@ -52,12 +52,14 @@ run-some rows (s ∷ calls) steps none =
 
 -- no event at all meets every definition
 pub meets-none : (c : Constraint) → Meets c []
-unfolding Meets MeetsDelay MeetsStrongDelay MeetsRepeat MeetsSporadic MeetsBurst MeetsOrder MeetsStrongSynchronization times
+unfolding Meets MeetsDelay MeetsStrongDelay SpansApart MeetsRepeat MeetsSporadic MeetsBurst MeetsOrder MeetsStrongSynchronization times
 meets-none (Delay source target lower upper) = λ i h. absurd (omega arith)
 meets-none (StrongDelay source target lower upper) = (refl, λ i h. absurd (omega arith))
-meets-none (Repeat kind span lower upper) = λ i h. absurd (omega arith)
-meets-none (Sporadic kind lower upper jitter minimum) =
-    (([], record { one-each = refl; near = λ i h. absurd (omega arith); rise = λ i h. absurd (omega arith); apart = λ i h. absurd (omega arith) }), λ i h. absurd (omega arith))
+meets-none (Repeat kind span lower upper) = (λ i h. absurd (omega arith), λ i h end. absurd (omega arith))
+meets-none (Sporadic kind lower upper jitter minimum) = (
+  ([], record { one-each = refl; near = λ i h. absurd (omega arith); rise = λ i h. absurd (omega arith); apart = λ i h. absurd (omega arith) }, λ i e. absurd (omega arith)),
+  λ i h. absurd (omega arith),
+)
 meets-none (Burst kind maximum len minimum) = (λ i h. absurd (omega arith), λ i h. absurd (omega arith))
 meets-none (Order source target) = (refl, λ i h. absurd (omega arith))
 meets-none (StrongSynchronization2 a b tolerance) = λ j k h g. (refl, λ i l. absurd (omega arith))
@@ -90,6 +92,28 @@ pub answered-as-before : (lower upper s t : ℕ) (targets : List ℕ) → ¬ (up
     → answered lower upper s (t ∷ targets) ≡ ((leb (s + lower) t && leb t (s + upper)) || answered lower upper s targets)
 unfolding answered
 answered-as-before lower upper s t targets limit = rw (ne-eqb upper noLimit limit)
+
+-- ---- rows that silence does not break
+
+-- without an upper limit a Repeat and a Sporadic ask of the events alone, at every clock
+pub unlimited-repeat-as-before : (span lower : ℕ) (events : List ℕ) (now : ℕ) → MeetsRepeat span lower noLimit events now ↔ SpansApart span lower noLimit events
+unfolding MeetsRepeat
+unlimited-repeat-as-before span lower events now = (λ m. m .0, λ m. (m, λ i h end. inl refl))
+
+pub unlimited-sporadic-as-before : (lower jitter minimum : ℕ) (events : List ℕ) (now : ℕ)
+    → MeetsSporadic lower noLimit jitter minimum events now
+    ↔ (((points : List ℕ) × HiddenPoints lower noLimit jitter events points) × AtLeastApart minimum events)
+unfolding MeetsSporadic
+unlimited-sporadic-as-before lower jitter minimum events now = (
+  λ m. ((m .0 .0, m .0 .1), m .1),
+  λ m. ((m .0 .0, m .0 .1, λ i e. inl refl), m .1),
+)
+
+-- and so does a Burst
+pub burst-as-before : (kind maximum len minimum : ℕ) (a b : List Step) → times kind a ≡ times kind b
+    → Meets (Burst kind maximum len minimum) a → Meets (Burst kind maximum len minimum) b
+unfolding Meets
+burst-as-before kind maximum len minimum a b same m = subst (MeetsBurst maximum len minimum) same m
 
 -- ---- each definition can be met, by events of its kinds, and can be missed
 
@@ -132,18 +156,40 @@ strong-delay-contingent = record { can-be-met = (refl, λ i h. paired i h); can-
     paired (suc i) h = absurd (omega arith)
 
 pub repeat-contingent : Contingent (Repeat 0 1 4 4) (event 0 0 ∷ event 0 4 ∷ []) (event 0 0 ∷ event 0 3 ∷ [])
-unfolding Meets MeetsRepeat times
-repeat-contingent = record { can-be-met = λ i h. apart i h; can-be-missed = λ m. let early = m 0 (omega arith) .0 in omega (arith, early) }
+unfolding Meets SpansApart MeetsRepeat times clockFrom
+repeat-contingent =
+    record { can-be-met = (λ i h. apart i h, λ i h end. still i h end); can-be-missed = λ m. let early = m .0 0 (omega arith) .0 in omega (arith, early) }
   where
+    still : (i : ℕ) → i < 2 → 2 ≤ i + 1 → NotLater 4 (at (0 ∷ 4 ∷ []) i) 4
+    still zero h end = absurd (omega arith)
+    still (suc zero) h end = inr (omega arith)
+    still (suc (suc i)) h end = absurd (omega arith)
+
     apart : (i : ℕ) → i + 1 < 2 → (at (0 ∷ 4 ∷ []) i + 4 ≤ at (0 ∷ 4 ∷ []) (i + 1)) × ((4 ≡ noLimit) ⊎ (at (0 ∷ 4 ∷ []) (i + 1) ≤ at (0 ∷ 4 ∷ []) i + 4))
     apart zero h = (omega arith, inr (omega arith))
     apart (suc i) h = absurd (omega arith)
 
+-- silence alone, one step of the clock later, misses it
+pub silent-repeat-contingent : Contingent (Repeat 0 1 4 4) (event 0 0 ∷ tick 4 ∷ []) (event 0 0 ∷ tick 5 ∷ [])
+unfolding Meets SpansApart MeetsRepeat times clockFrom
+silent-repeat-contingent =
+    record {
+      can-be-met = (λ i h. absurd (omega arith), λ i h end. last i h);
+      can-be-missed = λ m. ⊎-elim (λ e. omega arith) (λ h. omega arith) (m .1 0 (omega arith) (omega arith));
+    }
+  where
+    last : (i : ℕ) → i < 1 → NotLater 4 (at (0 ∷ []) i) 4
+    last zero h = inr (omega arith)
+    last (suc i) h = absurd (omega arith)
+
 pub sporadic-contingent : Contingent (Sporadic 0 5 5 2 0) (event 0 2 ∷ event 0 9 ∷ []) (event 0 2 ∷ event 0 10 ∷ [])
-unfolding Meets MeetsSporadic MeetsRepeat times
+unfolding Meets SpansApart MeetsSporadic times clockFrom
 sporadic-contingent =
     record {
-      can-be-met = ((2 ∷ 7 ∷ [], record { one-each = refl; near = λ i h. near i h; rise = λ i h. rise i h; apart = λ i h. apart i h }), λ i h. minimum i h);
+      can-be-met = (
+        (2 ∷ 7 ∷ [], record { one-each = refl; near = λ i h. near i h; rise = λ i h. rise i h; apart = λ i h. apart i h }, λ i e. last i e),
+        λ i h. minimum i h,
+      );
       can-be-missed = λ m. let points = m .0 .1 in omega (arith, points .near 0 (omega arith), points .near 1 (omega arith), far (at (m .0 .0) 0) (at (m .0 .0) 1) (points .apart 0 (omega arith) .1));
     }
   where
@@ -160,6 +206,11 @@ sporadic-contingent =
     apart zero h = (omega arith, inr (omega arith))
     apart (suc i) h = absurd (omega arith)
 
+    last : (i : ℕ) → i + 1 ≡ 2 → NotLater 5 (at (2 ∷ 7 ∷ []) i + 2) 9
+    last zero e = absurd (omega arith)
+    last (suc zero) e = inr (omega arith)
+    last (suc (suc i)) e = absurd (omega arith)
+
     minimum : (i : ℕ) → i + 1 < 2 → (at (2 ∷ 9 ∷ []) i + 0 ≤ at (2 ∷ 9 ∷ []) (i + 1)) × ((noLimit ≡ noLimit) ⊎ (at (2 ∷ 9 ∷ []) (i + 1) ≤ at (2 ∷ 9 ∷ []) i + noLimit))
     minimum zero h = (omega arith, inl refl)
     minimum (suc i) h = absurd (omega arith)
@@ -169,7 +220,7 @@ sporadic-contingent =
     far x y (inr h) = h
 
 pub burst-contingent : Contingent (Burst 0 1 5 0) (event 0 0 ∷ event 0 5 ∷ []) (event 0 0 ∷ event 0 4 ∷ [])
-unfolding Meets MeetsBurst MeetsRepeat times
+unfolding Meets MeetsBurst SpansApart times
 burst-contingent = record { can-be-met = (λ i h. apart 5 (omega arith) i h, λ i h. apart 0 (omega arith) i h); can-be-missed = λ m. omega (arith, m .0 0 (omega arith) .0) }
   where
     apart : (lower : ℕ) → lower ≤ 5 → (i : ℕ) → i + 1 < 2 → (at (0 ∷ 5 ∷ []) i + lower ≤ at (0 ∷ 5 ∷ []) (i + 1)) × ((noLimit ≡ noLimit) ⊎ (at (0 ∷ 5 ∷ []) (i + 1) ≤ at (0 ∷ 5 ∷ []) i + noLimit))

@@ -1,11 +1,11 @@
--- What each row asks of all events together (§2.2, §5.1 to §5.7).
+-- What each row asks of all events together, some of the clock too (§2.2, §5.1 to §5.7).
 use Prim.Native.Nat.{ℕ, _+_, _≤_, _<_}
 use mathlib.Core.Path.{_≡_}
 use mathlib.Core.List.{List, [], _∷_}
 use mathlib.Core.Logic.{_⊎_}
 use lib.ListN.{length}
 use Rattle.constraint.specs.Limits.{noLimit}
-use Rattle.constraint.specs.Steps.{Step, at, times}
+use Rattle.constraint.specs.Steps.{Step, at, times, clock}
 use Rattle.constraint.specs.declared.Constraint.{Constraint}
 use Rattle.constraint.specs.declared.Constraint.the-variants.{Delay, StrongDelay, Repeat, Sporadic, Burst, Order, StrongSynchronization2, StrongSynchronization3, StrongSynchronization4}
 
@@ -13,9 +13,13 @@ use Rattle.constraint.specs.declared.Constraint.the-variants.{Delay, Str
 abbrev pub Between : ℕ → ℕ → ℕ → ℕ → Type 0
 Between lower upper x y = (x + lower ≤ y) × (y ≤ x + upper)
 
--- the same, where the upper may be the mark for no limit (§4.7)
+-- y is at most upper after x, or however late where upper is the mark for no limit (§4.7)
+abbrev pub NotLater : ℕ → ℕ → ℕ → Type 0
+NotLater upper x y = (upper ≡ noLimit) ⊎ (y ≤ x + upper)
+
+-- y is lower to upper after x, where upper may be the mark
 abbrev pub Apart : ℕ → ℕ → ℕ → ℕ → Type 0
-Apart lower upper x y = (x + lower ≤ y) × ((upper ≡ noLimit) ⊎ (y ≤ x + upper))
+Apart lower upper x y = (x + lower ≤ y) × NotLater upper x y
 
 -- §5.1: each source has a target lower to upper after it, or however late where upper is the mark
 unfoldable pub MeetsDelay : ℕ → ℕ → List ℕ → List ℕ → Type 0
@@ -27,13 +31,18 @@ unfoldable pub MeetsStrongDelay : ℕ → ℕ → List ℕ → List ℕ → Type
 MeetsStrongDelay lower upper sources targets =
     (length targets ≡ length sources) × ((i : ℕ) → i < length sources → Between lower upper (at sources i) (at targets i))
 
--- §5.3: an event and the one span places after it are lower to upper apart
-unfoldable pub MeetsRepeat : ℕ → ℕ → ℕ → List ℕ → Type 0
-MeetsRepeat span lower upper events = (i : ℕ) → i + span < length events → Apart lower upper (at events i) (at events (i + span))
+-- an event and the one span places after it are lower to upper apart
+unfoldable pub SpansApart : ℕ → ℕ → ℕ → List ℕ → Type 0
+SpansApart span lower upper events = (i : ℕ) → i + span < length events → Apart lower upper (at events i) (at events (i + span))
+
+-- §5.3: so are a Repeat's, and at the clock now an event that has none span places after it is at most upper ago
+unfoldable pub MeetsRepeat : ℕ → ℕ → ℕ → List ℕ → ℕ → Type 0
+MeetsRepeat span lower upper events now =
+    SpansApart span lower upper events × ((i : ℕ) → i < length events → length events ≤ i + span → NotLater upper (at events i) now)
 
 -- neighbours are at least minimum apart
 abbrev pub AtLeastApart : ℕ → List ℕ → Type 0
-AtLeastApart minimum events = MeetsRepeat 1 minimum noLimit events
+AtLeastApart minimum events = SpansApart 1 minimum noLimit events
 
 -- §5.4: a point for each event, at most jitter before it; the points rise, and neighbours among them are lower to upper apart
 pub record HiddenPoints (lower upper jitter : ℕ) (events points : List ℕ) : Type 0 where
@@ -42,13 +51,18 @@ pub record HiddenPoints (lower upper jitter : ℕ) (events points : List ℕ) : 
   pub rise : (i : ℕ) → i + 1 < length events → at points i < at points (i + 1)
   pub apart : (i : ℕ) → i + 1 < length events → Apart lower upper (at points i) (at points (i + 1))
 
-unfoldable pub MeetsSporadic : ℕ → ℕ → ℕ → ℕ → List ℕ → Type 0
-MeetsSporadic lower upper jitter minimum events =
-    ((points : List ℕ) × HiddenPoints lower upper jitter events points) × AtLeastApart minimum events
+-- §5.4: at the clock now the last point, where there is one, is at most upper and jitter ago
+abbrev pub LastNotLater : ℕ → ℕ → List ℕ → ℕ → Type 0
+LastNotLater upper jitter points now = (i : ℕ) → i + 1 ≡ length points → NotLater upper (at points i + jitter) now
+
+-- §5.4: the same points do both; neighbours among the events are at least minimum apart
+unfoldable pub MeetsSporadic : ℕ → ℕ → ℕ → ℕ → List ℕ → ℕ → Type 0
+MeetsSporadic lower upper jitter minimum events now =
+    ((points : List ℕ) × HiddenPoints lower upper jitter events points × LastNotLater upper jitter points now) × AtLeastApart minimum events
 
 -- §5.5: events maximum places apart are at least len apart, and neighbours at least minimum
 unfoldable pub MeetsBurst : ℕ → ℕ → ℕ → List ℕ → Type 0
-MeetsBurst maximum len minimum events = MeetsRepeat maximum len noLimit events × AtLeastApart minimum events
+MeetsBurst maximum len minimum events = SpansApart maximum len noLimit events × AtLeastApart minimum events
 
 -- §5.6: sources and targets are equal in number, and no source is after the target of its place
 unfoldable pub MeetsOrder : List ℕ → List ℕ → Type 0
@@ -61,12 +75,12 @@ MeetsStrongSynchronization kinds tolerance steps =
     (length (times (at kinds j) steps) ≡ length (times (at kinds k) steps))
     × ((i : ℕ) → i < length (times (at kinds j) steps) → at (times (at kinds j) steps) i ≤ at (times (at kinds k) steps) i + tolerance)
 
--- what a row asks of all events together (§2.2)
+-- what a row asks of all events together, with the clock that they close at (§2.2)
 unfoldable pub Meets : Constraint → List Step → Type 0
 Meets (Delay source target lower upper) steps = MeetsDelay lower upper (times source steps) (times target steps)
 Meets (StrongDelay source target lower upper) steps = MeetsStrongDelay lower upper (times source steps) (times target steps)
-Meets (Repeat event span lower upper) steps = MeetsRepeat span lower upper (times event steps)
-Meets (Sporadic event lower upper jitter minimum) steps = MeetsSporadic lower upper jitter minimum (times event steps)
+Meets (Repeat event span lower upper) steps = MeetsRepeat span lower upper (times event steps) (clock steps)
+Meets (Sporadic event lower upper jitter minimum) steps = MeetsSporadic lower upper jitter minimum (times event steps) (clock steps)
 Meets (Burst event maximum len minimum) steps = MeetsBurst maximum len minimum (times event steps)
 Meets (Order source target) steps = MeetsOrder (times source steps) (times target steps)
 Meets (StrongSynchronization2 a b tolerance) steps = MeetsStrongSynchronization (a ∷ b ∷ []) tolerance steps

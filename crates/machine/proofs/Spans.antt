@@ -11,14 +11,14 @@ use lib.Dec.{leb, eqb}
 use borrow.Author.Tests.{eqb-true, eqb-false}
 use Rattle.constraint.specs.Limits.{noLimit}
 use Rattle.constraint.specs.Steps.{at}
-use Rattle.constraint.specs.Meets.{Apart, MeetsRepeat, AtLeastApart}
+use Rattle.constraint.specs.Meets.{Apart, SpansApart, AtLeastApart}
 use Rattle.constraint.proofs.Lists.{at-left, at-next, Rising, rising-by}
 use Rattle.machine.specs.Parts.{farEnough}
 use Rattle.machine.proofs.Tests.{Tells, tells-leb, tells-same, tells-or}
 
 module _ (span lower upper : ℕ) where
-  pub apart-first : (xs ys : List ℕ) → MeetsRepeat span lower upper (xs ++ ys) → MeetsRepeat span lower upper xs
-  unfolding MeetsRepeat
+  pub apart-first : (xs ys : List ℕ) → SpansApart span lower upper (xs ++ ys) → SpansApart span lower upper xs
+  unfolding SpansApart
   apart-first xs ys m i h = rw (at-left xs ys i (omega arith), at-left xs ys (i + span) h) at (m i (omega (arith, length-append xs ys)))
 
   module _ (events : List ℕ) (t : ℕ) where
@@ -26,13 +26,13 @@ module _ (span lower upper : ℕ) where
     abbrev pub ApartFromNew : Type 0
     ApartFromNew = (i : ℕ) → i + span ≡ length events → Apart lower upper (at events i) t
 
-    pub apart-new : 1 ≤ span → MeetsRepeat span lower upper (events ++ (t ∷ [])) → ApartFromNew
-    unfolding MeetsRepeat
+    pub apart-new : 1 ≤ span → SpansApart span lower upper (events ++ (t ∷ [])) → ApartFromNew
+    unfolding SpansApart
     apart-new some m i e =
         rw (at-left events (t ∷ []) i (omega arith), at-next events t [] (i + span) e) at (m i (omega (arith, length-append events (t ∷ []))))
 
-    pub apart-more : 1 ≤ span → MeetsRepeat span lower upper events → ApartFromNew → MeetsRepeat span lower upper (events ++ (t ∷ []))
-    unfolding MeetsRepeat
+    pub apart-more : 1 ≤ span → SpansApart span lower upper events → ApartFromNew → SpansApart span lower upper (events ++ (t ∷ []))
+    unfolding SpansApart
     apart-more some m new i h =
         rw (at-left events (t ∷ []) i (omega (arith, length-append events (t ∷ []))))
         (by-cases (decLt (i + span) (length events))
@@ -40,7 +40,7 @@ module _ (span lower upper : ℕ) where
         (λ end. let e : i + span ≡ length events = omega (arith, length-append events (t ∷ [])) in rw (at-next events t [] (i + span) e) (new i e)))
 
 pub rising-apart : (events : List ℕ) → Rising events → AtLeastApart 0 events
-unfolding MeetsRepeat
+unfolding SpansApart
 rising-apart events r i h = (omega (arith, rising-by events r i 1 h), inl refl)
 
 -- ---- the last event

@@ -1,18 +1,33 @@
--- Burst: the machine is that of a Repeat with no upper, and so are the laws.
-use Prim.Native.Nat.{ℕ}
-use mathlib.Core.Path.{refl}
-use Rattle.constraint.specs.Limits.{noLimit}
+-- Burst: the machine is that of a Repeat with no upper, and so are the laws; without an upper no clock is past its due time.
+use Prim.Native.Nat.{ℕ, _≤_}
+use native.Mathlib.Omega.{arith}
+use mathlib.Core.Path.{_≡_, refl}
+use mathlib.Core.List.{List}
+use mathlib.Core.Logic.{_↔_}
+use Rattle.constraint.specs.Limits.{lastTime, noLimit}
 use Rattle.constraint.specs.Meets.{Meets, MeetsBurst}
 use Rattle.constraint.specs.Waiting.{waiting}
 use Rattle.constraint.specs.Accepted.{InRange}
 use Rattle.constraint.specs.declared.Constraint.the-variants.{Burst}
 use Rattle.machine.specs.Rule.{ruleOf}
 use Rattle.machine.specs.declared.Rule.{Rule}
+use Rattle.machine.specs.declared.Marks.{Marks}
 use Rattle.machine.proofs.Exact.{Sound, Exact}
+use Rattle.machine.proofs.Oldest.{due-reached}
 use Rattle.machine.proofs.OneKind.{exactOneKind}
 use Rattle.machine.proofs.Spans.{apart-first}
 use Rattle.spans.specs.Repeat.{decideRepeat}
-use Rattle.spans.proofs.Laws.Repeat.{KeepsRepeat, repeat-none, repeat-event, repeat-few}
+use Rattle.spans.proofs.Laws.Repeat.{KeepsRepeat, dueRepeat, repeat-none, repeat-event, repeat-few}
+
+-- ---- Open
+
+burst-says : (rule : Rule) → rule .upper ≡ noLimit → (events : List ℕ) (marks : Marks) (kept : List ℕ) (now : ℕ) → now ≤ lastTime
+    → KeepsRepeat rule events marks kept → MeetsBurst (rule .span) (rule .lower) (rule .minimum) events ↔ (now ≤ dueRepeat rule marks kept)
+unfolding MeetsBurst
+burst-says rule none events marks kept now small keeps = (
+  λ m. due-reached (rule .upper) now kept small (λ some. omega arith),
+  λ soon. (rw none at (keeps .spans), keeps .apart),
+)
 
 -- ---- Exact
 
@@ -23,18 +38,20 @@ exactBurst kind maximum len minimum sound =
     exactOneKind (Burst kind maximum len minimum) (decideRepeat rule)
     (record {
       kind = kind;
-      Says = MeetsBurst maximum len minimum;
+      Says = λ events now. MeetsBurst maximum len minimum events;
       Keeps = KeepsRepeat rule;
+      due = dueRepeat rule;
       one-kind = refl;
       no-words = refl;
       meets = λ steps. (λ m. m, λ m. m);
       waits-none = λ steps. refl;
-      says-first = λ xs ys m. (apart-first maximum len noLimit xs ys (m .0), apart-first 1 minimum noLimit xs ys (m .1));
+      says-first = λ xs ys now later h after m. (apart-first maximum len noLimit xs ys (m .0), apart-first 1 minimum noLimit xs ys (m .1));
       keeps-none = repeat-none rule;
-      keeps-says = λ keeps. (keeps .spans, keeps .apart);
+      due-none = refl;
+      keeps-says = λ now rises small keeps. burst-says rule refl _ _ _ now small keeps;
       keeps-few = repeat-few rule (sound .in-range .1);
-      keeps-event = λ t rises small keeps.
-          repeat-event rule _ _ _ keeps t (sound .in-range .0) kind (MeetsBurst maximum len minimum) small (λ m. m);
+      keeps-event = λ t rises small keeps soon.
+          repeat-event rule _ _ _ keeps t (sound .in-range .0) small rises soon kind (λ events now. MeetsBurst maximum len minimum events) (λ m. m);
     })
   where
     rule : Rule

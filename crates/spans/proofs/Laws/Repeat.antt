@@ -1,37 +1,44 @@
 -- Repeat and Burst: an event adds one pair span places apart and one pair of neighbours, and the machine still has the earlier time of each,
--- so its test tells whether the events still meet the row.
-use Prim.Native.Nat.{ℕ, _+_, _-_, _≤_}
+-- so its test tells whether the events still meet the row; the events without one span places after them are those whose times it has, and
+-- the oldest of them is the first that the clock leaves too far behind.
+use Prim.Native.Nat.{ℕ, _+_, _-_, _≤_, _<_}
 use native.Mathlib.Omega.{arith}
+use native.Mathlib.Decide.{decLt}
 use mathlib.Core.Path.{_≡_, refl, sym, ap, subst, _∙_}
-use mathlib.Core.Bool.{Bool, true, cond, _&&_, _||_}
+use mathlib.Core.Bool.{Bool, true, cond, _&&_}
 use mathlib.Core.List.{List, [], _∷_, _++_}
-use mathlib.Core.Logic.{inl, inr, ⊎-elim}
-use lib.ListN.{length, drop, length-append, length-drop}
+use mathlib.Core.Logic.{_↔_, inr, ⊎-elim, by-cases}
+use lib.ListN.{length, take, drop, length-append, length-drop, take-append-drop}
 use lib.Seq.{drop-nil, getD-drop, drop-drop, drop-append-le}
-use lib.Dec.{leb, ltb, eqb}
-use borrow.Author.Tests.{ltb-true, ltb-false, eqb-true, eqb-false}
-use Rattle.constraint.specs.Limits.{lastTime, noLimit, spanLimit, waitingLimit}
+use lib.Dec.{leb, ltb}
+use borrow.Author.Tests.{ltb-true, ltb-false}
+use Rattle.constraint.specs.Limits.{lastTime, spanLimit, waitingLimit}
 use Rattle.constraint.specs.Steps.{at}
-use Rattle.constraint.specs.Meets.{Meets, Apart, MeetsRepeat, AtLeastApart}
+use Rattle.constraint.specs.Meets.{Meets, SpansApart, MeetsRepeat, AtLeastApart}
 use Rattle.constraint.specs.Waiting.{waiting}
 use Rattle.constraint.specs.Accepted.{InRange}
 use Rattle.constraint.specs.declared.Constraint.the-variants.{Repeat}
-use Rattle.constraint.proofs.Lists.{split}
+use Rattle.constraint.proofs.Lists.{split, at-left, at-right, Each, Rising, rising-left, rising-right, rising-at}
+use Rattle.constraint.proofs.Continuations.{not-later-earlier}
 use Rattle.queue.specs.declared.Edit.the-variants.{Push}
 use Rattle.machine.specs.Rule.{ruleOf}
-use Rattle.machine.specs.Parts.{noMarks, plus, withLast, goesOn, breaking, front}
+use Rattle.machine.specs.Parts.{noMarks, plus, withLast, goesOn, breaking, front, dueOldest}
 use Rattle.machine.specs.declared.Rule.{Rule}
 use Rattle.machine.specs.declared.Marks.{Marks}
 use Rattle.machine.proofs.Exact.{Sound, Exact}
 use Rattle.machine.proofs.Tests.{Tells, holds, fails, tells-leb, tells-same, tells-and, tells-or}
 use Rattle.machine.proofs.OneKind.{Turns, exactOneKind}
-use Rattle.machine.proofs.Oldest.{front-at}
+use Rattle.machine.proofs.Oldest.{front-at, due-or-pushed, due-within, due-reached, due-pushed, due-dropped}
 use Rattle.machine.proofs.Spans.{apart-first, ApartFromNew, apart-new, apart-more, rising-apart, LastIs, last-none, last-new, far-enough}
-use Rattle.spans.specs.Repeat.{inSpan, leaving, decideRepeat}
+use Rattle.spans.specs.Repeat.{spanReached, leaving, dueWith, decideRepeat}
 
 -- of any span + 1 consecutive events, last minus first is from lower to upper
 abbrev pub MeetsSpan : Rule → List ℕ → Type 0
-MeetsSpan rule events = MeetsRepeat (rule .span) (rule .lower) (rule .upper) events
+MeetsSpan rule events = SpansApart (rule .span) (rule .lower) (rule .upper) events
+
+-- the row waits until upper after the oldest time that it keeps
+abbrev pub dueRepeat : Rule → Marks → List ℕ → ℕ
+dueRepeat rule marks kept = dueOldest (rule .upper) kept
 
 -- what the row keeps of its events: the times of the last span, and the last
 pub record KeepsRepeat (rule : Rule) (events : List ℕ) (marks : Marks) (kept : List ℕ) : Type 0 where
@@ -43,38 +50,38 @@ pub record KeepsRepeat (rule : Rule) (events : List ℕ) (marks : Marks) (kept :
 -- ---- Start
 
 pub repeat-none : (rule : Rule) → KeepsRepeat rule [] noMarks []
-unfolding MeetsRepeat
+unfolding SpansApart
 repeat-none rule =
     record { spans = λ i h. absurd (omega arith); apart = λ i h. absurd (omega arith); newest = sym (drop-nil (0 - rule .span)); last-is = last-none }
 
 -- ---- Events
 
-tells-apart : (lower upper x y : ℕ) → Tells (Apart lower upper x y) (leb (x + lower) y && (eqb upper noLimit || leb y (x + upper)))
-tells-apart lower upper x y =
-    tells-and (tells-leb (x + lower) y)
-    (tells-or (eqb upper noLimit) (leb y (x + upper)) (λ e. inl (eqb-true upper noLimit e))
-    (λ e. tells-same (tells-leb y (x + upper)) inr (⊎-elim (λ f. absurd (eqb-false upper noLimit e f)) (λ h. h))))
+rising-drop : (n : ℕ) (xs : List ℕ) → Rising xs → Rising (drop n xs)
+rising-drop n xs r = rising-right (take n xs) (drop n xs) (subst Rising (sym (take-append-drop n xs)) r)
 
 module _ (rule : Rule) (events : List ℕ) (marks : Marks) (kept : List ℕ) (keeps : KeepsRepeat rule events marks kept) where
   kept-length : length kept ≡ length events - (length events - rule .span)
   kept-length = ap length (keeps .newest) ∙ length-drop (length events - rule .span) events
 
-  kept-front : (i : ℕ) → i + rule .span ≡ length events → front kept ≡ at events i
-  kept-front i e =
+  kept-oldest : (i : ℕ) → i ≡ length events - rule .span → at kept 0 ≡ at events i
+  kept-oldest i e =
       let place : length events - rule .span + 0 ≡ i = omega arith in
-      front-at kept ∙ ap (λ l. at l 0) (keeps .newest) ∙ getD-drop (length events - rule .span) events 0 0 ∙ ap (at events) place
+      ap (λ l. at l 0) (keeps .newest) ∙ getD-drop (length events - rule .span) events 0 0 ∙ ap (at events) place
 
-  module _ (t : ℕ) (some : 1 ≤ rule .span) where
-    in-span : Tells (MeetsSpan rule (events ++ (t ∷ []))) (inSpan rule kept t)
+  kept-front : (i : ℕ) → i + rule .span ≡ length events → front kept ≡ at events i
+  kept-front i e = front-at kept ∙ kept-oldest i (omega arith)
+
+  module _ (t : ℕ) (some : 1 ≤ rule .span) (small : t ≤ lastTime) (rises : Rising (events ++ (t ∷ []))) (soon : t ≤ dueOldest (rule .upper) kept) where
+    in-span : Tells (MeetsSpan rule (events ++ (t ∷ []))) (spanReached rule kept t)
     in-span =
-        tells-or (ltb (length kept) (rule .span))
-        (leb (front kept + rule .lower) t && (eqb (rule .upper) noLimit || leb t (front kept + rule .upper)))
+        tells-or (ltb (length kept) (rule .span)) (leb (front kept + rule .lower) t)
         (λ few. more (λ i e. absurd (omega (arith, kept-length, ltb-true))))
         (λ full. let e : length events - rule .span + rule .span ≡ length events = omega (arith, kept-length, ltb-false) in
-        tells-same (tells-apart (rule .lower) (rule .upper) (front kept) t)
-        (λ a. more (λ i f. subst (λ (x : ℕ). Apart (rule .lower) (rule .upper) x t) (kept-front i f) a))
-        (λ m. rw (kept-front (length events - rule .span) e)
-        (apart-new (rule .span) (rule .lower) (rule .upper) events t some m (length events - rule .span) e)))
+        let within : t ≤ at kept 0 + rule .upper = due-within (rule .upper) t kept soon (omega (arith, ltb-false)) in
+        tells-same (tells-leb (front kept + rule .lower) t)
+        (λ far. more (λ i f. (omega (arith, kept-front i f), inr (omega (arith, kept-front i f, front-at kept)))))
+        (λ m. omega (arith, kept-front (length events - rule .span) e,
+        apart-new (rule .span) (rule .lower) (rule .upper) events t some m (length events - rule .span) e .0)))
       where
         more : ApartFromNew (rule .span) (rule .lower) (rule .upper) events t → MeetsSpan rule (events ++ (t ∷ []))
         more new = apart-more (rule .span) (rule .lower) (rule .upper) events t some (keeps .spans) new
@@ -95,24 +102,78 @@ module _ (rule : Rule) (events : List ℕ) (marks : Marks) (kept : List ℕ) (ke
             (λ e. omega (arith, kept-length, ltb-true, length-append events (t ∷ [])))
             (λ e. omega (arith, kept-length, ltb-false, length-append events (t ∷ [])))
 
-    pub repeat-event : (kind : ℕ) (Says : List ℕ → Type 0) → t ≤ lastTime
-        → (Says (events ++ (t ∷ [])) → MeetsSpan rule (events ++ (t ∷ [])) × AtLeastApart (rule .minimum) (events ++ (t ∷ [])))
-        → Turns Says (KeepsRepeat rule) events kept t (decideRepeat rule marks kept kind t)
+    due-new : dueWith rule kept t ≡ dueOldest (rule .upper) (drop (leaving rule (length kept)) kept ++ (t ∷ []))
+    due-new = due-or-pushed (rule .upper) t (drop (leaving rule (length kept)) kept)
+
+    still-soon : t ≤ dueWith rule kept t
+    still-soon =
+        rw due-new (due-pushed (rule .upper) t (drop (leaving rule (length kept)) kept) small
+        (due-dropped (rule .upper) t (leaving rule (length kept)) kept small
+        (subst Rising (sym (keeps .newest)) (rising-drop (length events - rule .span) events (rising-left events (t ∷ []) rises))) soon))
+
+    pub repeat-event : (kind : ℕ) (Says : List ℕ → ℕ → Type 0)
+        → (Says (events ++ (t ∷ [])) t → MeetsSpan rule (events ++ (t ∷ [])) × AtLeastApart (rule .minimum) (events ++ (t ∷ [])))
+        → Turns Says (KeepsRepeat rule) (dueRepeat rule) events kept t (decideRepeat rule marks kept kind t)
     unfolding decideRepeat
-    repeat-event kind Says small both =
+    repeat-event kind Says both =
         turn (tells-and (far-enough (rule .minimum) events t (marks .last) (keeps .last-is) (keeps .apart)) in-span)
       where
         turn : {test : Bool} → Tells (AtLeastApart (rule .minimum) (events ++ (t ∷ [])) × MeetsSpan rule (events ++ (t ∷ []))) test
-            → Turns Says (KeepsRepeat rule) events kept t
-            (cond test (goesOn (Push (leaving rule (length kept)) t) (withLast marks (plus t 1)) noLimit true) breaking)
+            → Turns Says (KeepsRepeat rule) (dueRepeat rule) events kept t
+            (cond test (goesOn (Push (leaving rule (length kept)) t) (withLast marks (plus t 1)) (dueWith rule kept t) true) breaking)
         turn (holds m) =
             record {
               live = record { spans = m .1; apart = m .0; newest = kept-new; last-is = last-new events t (plus t 1) (omega arith) };
-              due-is = refl;
+              due-is = due-new;
               kept-is = refl;
-              in-time = omega arith;
+              in-time = still-soon;
             }
         turn (fails n) = λ s. n (both s .1, both s .0)
+
+-- ---- Open
+
+-- an event that is the last but fewer than span has one span places after it among further events, or the clock that they close at is early
+repeat-first : (span lower upper : ℕ) (xs ys : List ℕ) (now later : ℕ) → now ≤ later → Each (λ y. now ≤ y) ys
+    → MeetsRepeat span lower upper (xs ++ ys) later → MeetsRepeat span lower upper xs now
+unfolding SpansApart MeetsRepeat
+repeat-first span lower upper xs ys now later h after m = (
+  apart-first span lower upper xs ys (m .0),
+  λ i g end. rw (at-left xs ys i g) at
+      (by-cases (decLt (i + span) (length (xs ++ ys)))
+      (λ there. not-later-earlier (at (xs ++ ys) i) now (at (xs ++ ys) (i + span)) (behind (i + span) end there) (m .0 i there .1))
+      (λ none. not-later-earlier (at (xs ++ ys) i) now later h (m .1 i (omega (arith, length-append xs ys)) (omega arith)))),
+)
+  where
+    behind : (j : ℕ) → length xs ≤ j → j < length (xs ++ ys) → now ≤ at (xs ++ ys) j
+    behind j past there =
+        let place : length xs + (j - length xs) ≡ j = omega arith in
+        subst (λ (n : ℕ). now ≤ at (xs ++ ys) n) place (rw (at-right xs ys (j - length xs)) (after (j - length xs) (omega (arith, length-append xs ys))))
+
+repeat-spans : (span lower upper : ℕ) (events : List ℕ) (now : ℕ) → MeetsRepeat span lower upper events now → SpansApart span lower upper events
+unfolding MeetsRepeat
+repeat-spans span lower upper events now m = m .0
+
+repeat-says : (rule : Rule) (events : List ℕ) (marks : Marks) (kept : List ℕ) (now : ℕ) → Rising events → now ≤ lastTime
+    → KeepsRepeat rule events marks kept
+    → MeetsRepeat (rule .span) (rule .lower) (rule .upper) events now ↔ (now ≤ dueRepeat rule marks kept)
+unfolding MeetsRepeat
+repeat-says rule events marks kept now rises small keeps = (
+  λ m. due-reached (rule .upper) now kept small (λ some. ⊎-elim (λ e. omega arith) (λ h. omega (arith, oldest))
+      (m .1 first (omega (arith, count)) (omega arith))),
+  λ soon. (keeps .spans, λ i h end. inr (by-cases (decLt first i)
+      (λ l. omega (arith, due-within (rule .upper) now kept soon (omega (arith, count)), oldest, rising-at events rises first i l h))
+      (λ l. let e : first ≡ i = omega arith in
+      omega (arith, due-within (rule .upper) now kept soon (omega (arith, count)), kept-oldest rule events marks kept keeps i (sym e))))),
+)
+  where
+    first : ℕ
+    first = length events - rule .span
+
+    oldest : at kept 0 ≡ at events first
+    oldest = kept-oldest rule events marks kept keeps first refl
+
+    count : length kept ≡ length events - (length events - rule .span)
+    count = kept-length rule events marks kept keeps
 
 -- ---- Waiting
 
@@ -131,16 +192,19 @@ exactRepeat kind span lower upper sound =
       kind = kind;
       Says = MeetsRepeat span lower upper;
       Keeps = KeepsRepeat rule;
+      due = dueRepeat rule;
       one-kind = refl;
       no-words = refl;
       meets = λ steps. (λ m. m, λ m. m);
       waits-none = λ steps. refl;
-      says-first = apart-first span lower upper;
+      says-first = repeat-first span lower upper;
       keeps-none = repeat-none rule;
-      keeps-says = λ keeps. keeps .spans;
+      due-none = refl;
+      keeps-says = λ now rises small keeps. repeat-says rule _ _ _ now rises small keeps;
       keeps-few = repeat-few rule (sound .in-range .1);
-      keeps-event = λ t rises small keeps.
-          repeat-event rule _ _ _ keeps t (sound .in-range .0) kind (MeetsRepeat span lower upper) small (λ m. (m, rising-apart _ rises));
+      keeps-event = λ t rises small keeps soon.
+          repeat-event rule _ _ _ keeps t (sound .in-range .0) small rises soon kind (MeetsRepeat span lower upper)
+          (λ m. (repeat-spans span lower upper _ t m, rising-apart _ rises));
     })
   where
     rule : Rule

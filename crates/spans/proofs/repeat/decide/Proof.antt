@@ -1,4 +1,4 @@
--- The row goes on where both tests hold, and its oldest time leaves where it has span of them.
+-- The row goes on where both tests hold; its oldest time leaves where it has span of them, and the oldest that is left gives the due time.
 use mathlib.Core.Logic.{⊎-elim}
 use Rattle.queue.proofs.Laws.{ring-length}
 use Rattle.queue.proofs.Shared.{free}
@@ -9,17 +9,19 @@ use Rattle.spans.proofs.repeat.decide.Tie as tie
 returns : tie.Need-returns
 unfolding decideRepeat
 returns c kind =
-    let b = c .before .before .before in
+    let b = c .before .before .before .before .before in
     let d = b .before .before in
     rw (
       ← d .before .before .far-enough .ensures,
       d .before .if1 .taken,
-      ← d .in-span .ensures,
+      ← d .span-reached .ensures,
       b .before .if2 .taken,
       ring-length,
       c .goes-on .ensures,
       c .before .with-last .ensures,
-      c .before .before .plus .ensures,
+      c .before .before .plus2 .ensures,
+      c .before .before .before .due-after .ensures,
+      c .before .before .before .before .plus .ensures,
       b .leaving .ensures,
     )
 
@@ -30,4 +32,4 @@ returns-2 c kind =
     (⊎-elim (λ w. rw (w .0 .taken, ← w .1 .ensures, w .2 .left)) (λ w. rw (w .left)) (c .before .if1 .came))
 
 pub decide-spec : {M : Type 1} → statement M
-decide-spec = tie.close (tie.spec free free free free free free returns free returns-2)
+decide-spec = tie.close (tie.spec free free free free free free free free returns free returns-2)

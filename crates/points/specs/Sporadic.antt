@@ -10,9 +10,14 @@ use Rattle.machine.specs.declared.Rule.{Rule}
 use Rattle.machine.specs.declared.Marks.{Marks}
 use Rattle.machine.specs.declared.Change.{Change}
 
+-- the due time of a row whose last point can be as late as high: the next point comes by upper after it, and its event by jitter after that
+abbrev pub duePoint : Rule → ℕ → ℕ
+duePoint rule high = plus (plus high (rule .upper)) (rule .jitter)
+
 -- the row goes on with an event at t, whose point can be at each place from low to high
-abbrev pub pointAt : Marks → ℕ → ℕ → ℕ → Change
-pointAt marks t low high = goesOn (Drop 0) (marksOf (plus t 1) (marks .early) (marks .ahead) low high marks) noLimit true
+abbrev pub pointAt : Rule → Marks → ℕ → ℕ → ℕ → Change
+pointAt rule marks t low high =
+    goesOn (Drop 0) (marksOf (plus t 1) (marks .early) (marks .ahead) low high marks) (duePoint rule high) true
 
 -- how far the next point is from the last at least: points rise strictly
 abbrev pub stride : ℕ → ℕ
@@ -28,9 +33,9 @@ highest rule marks t = cond (eqb (rule .upper) noLimit) t (min (plus (marks .hig
 unfoldable pub laterSporadic : Rule → Marks → ℕ → Change
 laterSporadic rule marks t =
     cond (farEnough (rule .minimum) (marks .last) t && (leb (stride (rule .lower)) (rule .upper) && leb (lowest rule marks t) (highest rule marks t)))
-    (pointAt marks t (lowest rule marks t) (highest rule marks t))
+    (pointAt rule marks t (lowest rule marks t) (highest rule marks t))
     breaking
 
 unfoldable pub decideSporadic : Rule → Marks → List ℕ → ℕ → ℕ → Change
 decideSporadic rule marks times kind t =
-    cond (eqb (marks .last) 0) (pointAt marks t (t - rule .jitter) t) (laterSporadic rule marks t)
+    cond (eqb (marks .last) 0) (pointAt rule marks t (t - rule .jitter) t) (laterSporadic rule marks t)

@@ -10,14 +10,14 @@ use queue::minus;
 ghost use mathlib.Core.Path.{_≡_};
 ghost use mathlib.Core.List.{List};
 ghost use Prim.Native.Nat.{ℕ};
-ghost use Rattle.points.specs.Sporadic.{pointAt, stride, lowest, highest, laterSporadic, decideSporadic};
+ghost use Rattle.points.specs.Sporadic.{duePoint, pointAt, stride, lowest, highest, laterSporadic, decideSporadic};
 
 // What an event makes of the row.
 pub fn decide(rule: Rule, marks: Marks, t: u64) -> Change
     ensures { λ r. ⌜ ((times : List ℕ) (kind : ℕ) → r ≡ decideSporadic rule marks times kind t) ⌝ }
 {
     if marks.last == 0 {
-        return point_at(marks, t, minus(t, rule.jitter), t);
+        return point_at(rule, marks, t, minus(t, rule.jitter), t);
     }
     later(rule, marks, t)
 }
@@ -32,7 +32,7 @@ fn later(rule: Rule, marks: Marks, t: u64) -> Change
         && stride(rule.lower) <= rule.upper
         && low <= high
     {
-        return point_at(marks, t, low, high);
+        return point_at(rule, marks, t, low, high);
     }
     parts::breaking()
 }
@@ -65,11 +65,18 @@ fn highest(rule: Rule, marks: Marks, t: u64) -> u64
 }
 
 // The row goes on with an event at t, whose point can be at each place from low to high.
-fn point_at(marks: Marks, t: u64, low: u64, high: u64) -> Change
-    ensures { λ r. ⌜ r ≡ pointAt marks t low high ⌝ }
+fn point_at(rule: Rule, marks: Marks, t: u64, low: u64, high: u64) -> Change
+    ensures { λ r. ⌜ r ≡ pointAt rule marks t low high ⌝ }
 {
     let mut m = parts::with_last(marks, parts::plus(t, 1));
     m.low = low;
     m.high = high;
-    parts::goes_on(Edit::Drop { dropped: 0 }, m, NO_LIMIT, true)
+    parts::goes_on(Edit::Drop { dropped: 0 }, m, due_point(rule, high), true)
+}
+
+// The due time of a row whose last point can be as late as high.
+fn due_point(rule: Rule, high: u64) -> u64
+    ensures { λ r. ⌜ r ≡ duePoint rule high ⌝ }
+{
+    parts::plus(parts::plus(high, rule.upper), rule.jitter)
 }

@@ -1,25 +1,27 @@
 -- Sporadic: the places where the last hidden point can be are the numbers from low to high, since each place of the next point has a place of
--- the last one before it, so the machine's test tells whether an event has a point.
-use Prim.Native.Nat.{ℕ, _+_, _-_, _≤_, min}
+-- the last one before it, so the machine's test tells whether an event has a point; and the latest place allows the latest clock.
+use Prim.Native.Nat.{ℕ, _+_, _-_, _≤_, _<_, min}
 use native.Mathlib.Omega.{arith}
+use native.Mathlib.Decide.{decLt}
 use mathlib.Core.Path.{_≡_, refl, sym, ap, subst, _∙_}
 use mathlib.Core.Bool.{Bool, cond}
 use mathlib.Core.List.{List, [], _∷_, _++_}
-use mathlib.Core.Logic.{_⊎_, inl, inr, ⊎-elim}
-use lib.ListN.{length, take, length-append}
+use mathlib.Core.Logic.{_⊎_, inl, inr, _↔_, ⊎-elim, by-cases}
+use lib.ListN.{length, take, length-append, length-take}
 use lib.Seq.{getD-take}
 use lib.Dec.{eqb}
-use borrow.Author.Tests.{eqb-true, eqb-false}
+use borrow.Author.Tests.{eqb-true, eqb-false, ne-eqb}
 use Rattle.constraint.specs.Limits.{lastTime, noLimit}
 use Rattle.constraint.specs.Steps.{at}
-use Rattle.constraint.specs.Meets.{Meets, Between, HiddenPoints, MeetsRepeat, MeetsSporadic, AtLeastApart}
+use Rattle.constraint.specs.Meets.{Meets, Between, SpansApart, HiddenPoints, LastNotLater, MeetsSporadic, AtLeastApart}
 use Rattle.constraint.specs.Waiting.{waiting}
 use Rattle.constraint.specs.Accepted.{InRange}
 use Rattle.constraint.specs.declared.Constraint.the-variants.{Sporadic}
-use Rattle.constraint.proofs.Lists.{split, at-next}
+use Rattle.constraint.proofs.Lists.{split, at-next, at-right, Each}
+use Rattle.constraint.proofs.Continuations.{not-later-earlier}
 use Rattle.machine.specs.Rule.{ruleOf}
 use Rattle.machine.specs.Parts.{noMarks, plus, breaking}
-use Rattle.points.specs.Sporadic.{pointAt, stride, lowest, highest, laterSporadic, decideSporadic}
+use Rattle.points.specs.Sporadic.{duePoint, pointAt, stride, lowest, highest, laterSporadic, decideSporadic}
 use Rattle.machine.specs.declared.Rule.{Rule}
 use Rattle.machine.specs.declared.Marks.{Marks}
 use Rattle.machine.specs.declared.Change.{Change}
@@ -45,15 +47,19 @@ record KeepsSporadic (rule : Rule) (events : List ℕ) (marks : Marks) (kept : L
   last-is : LastIs events (marks .last)
   places : (n : ℕ) → n + 1 ≡ length events → Places rule events n (marks .low) (marks .high)
 
+-- nothing is due before the first event; then the last point's latest place gives the due time
+abbrev dueSporadic : Rule → Marks → List ℕ → ℕ
+dueSporadic rule marks kept = cond (eqb (marks .last) 0) noLimit (duePoint rule (marks .high))
+
 -- what an event at t makes of the row
 abbrev TurnsSporadic : Rule → List ℕ → List ℕ → ℕ → Change → Type 0
 TurnsSporadic rule events kept t change =
-    Turns (MeetsSporadic (rule .lower) (rule .upper) (rule .jitter) (rule .minimum)) (KeepsSporadic rule) events kept t change
+    Turns (MeetsSporadic (rule .lower) (rule .upper) (rule .jitter) (rule .minimum)) (KeepsSporadic rule) (dueSporadic rule) events kept t change
 
 -- ---- Start
 
 sporadic-none : (rule : Rule) → KeepsSporadic rule [] noMarks []
-unfolding MeetsRepeat
+unfolding SpansApart
 sporadic-none rule =
     record { no-times = refl; apart = λ i h. absurd (omega arith); last-is = last-none; places = λ n e. absurd (omega arith) }
 
@@ -160,8 +166,8 @@ module _ (rule : Rule) (events : List ℕ) (marks : Marks) (kept : List ℕ) (ke
     (small : t ≤ lastTime) where
   -- what it keeps with the event
   keeps-more : (low high : ℕ) → AtLeastApart (rule .minimum) (events ++ (t ∷ [])) → Places rule (events ++ (t ∷ [])) (length events) low high
-      → TurnsSporadic rule events kept t (pointAt marks t low high)
-  keeps-more low high apart places =
+      → t - rule .jitter ≤ high → TurnsSporadic rule events kept t (pointAt rule marks t low high)
+  keeps-more low high apart places near =
       record {
         live = record {
           no-times = keeps .no-times;
@@ -170,7 +176,7 @@ module _ (rule : Rule) (events : List ℕ) (marks : Marks) (kept : List ℕ) (ke
           places = λ n e. let last : length events ≡ n = omega (arith, length-append events (t ∷ [])) in
               subst (λ (m : ℕ). Places rule (events ++ (t ∷ [])) m low high) last places;
         };
-        due-is = refl;
+        due-is = rw (ne-eqb (plus t 1) 0 (λ e. omega arith));
         kept-is = refl;
         in-time = omega arith;
       }
@@ -185,10 +191,10 @@ module _ (rule : Rule) (events : List ℕ) (marks : Marks) (kept : List ℕ) (ke
       turn : {test : Bool}
           → Tells (AtLeastApart (rule .minimum) (events ++ (t ∷ [])) ×
           ((stride (rule .lower) ≤ rule .upper) × (lowest rule marks t ≤ highest rule marks t))) test
-          → TurnsSporadic rule events kept t (cond test (pointAt marks t (lowest rule marks t) (highest rule marks t)) breaking)
+          → TurnsSporadic rule events kept t (cond test (pointAt rule marks t (lowest rule marks t) (highest rule marks t)) breaking)
       turn (holds (apart, some)) =
           keeps-more (lowest rule marks t) (highest rule marks t) apart
-          (later-places rule events t small marks n e (keeps .places n e) small-lower (some .0) (some .1))
+          (later-places rule events t small marks n e (keeps .places n e) small-lower (some .0) (some .1)) (omega arith)
       turn (fails none) =
           λ m. let place =
           later-place rule events t small marks n e (keeps .places n e) small-lower (m .0 .0) (m .0 .1) in none (m .1, (place .0, omega arith))
@@ -197,28 +203,75 @@ module _ (rule : Rule) (events : List ℕ) (marks : Marks) (kept : List ℕ) (ke
   unfolding decideSporadic
   sporadic-event small-lower kind =
       split (eqb (marks .last) 0)
-      (λ x. TurnsSporadic rule events kept t (cond x (pointAt marks t (t - rule .jitter) t) (laterSporadic rule marks t)))
+      (λ x. TurnsSporadic rule events kept t (cond x (pointAt rule marks t (t - rule .jitter) t) (laterSporadic rule marks t)))
       (λ none. let empty : length events ≡ 0 = last-zero events (marks .last) (keeps .last-is) none in
       keeps-more (t - rule .jitter) t (apart-more 1 (rule .minimum) noLimit events t (omega arith) (keeps .apart) (λ i e. absurd (omega arith)))
-      (first-places rule events t small empty))
+      (first-places rule events t small empty) (omega arith))
       (λ some. let (n, more, is) = last-some events (marks .last) (keeps .last-is) some in later-event small-lower n (omega arith))
 
 -- ---- Open
 
-sporadic-first : (lower upper jitter minimum : ℕ) (xs ys : List ℕ) → MeetsSporadic lower upper jitter minimum (xs ++ ys)
-    → MeetsSporadic lower upper jitter minimum xs
-unfolding MeetsSporadic
-sporadic-first lower upper jitter minimum xs ys m =
-    ((take (length xs) (m .0 .0), points-first lower upper jitter xs ys (m .0 .0) (m .0 .1)), apart-first 1 minimum noLimit xs ys (m .1))
+-- the last of the first points has another behind it, whose event is not before now, or the clock that all close at is early
+last-first : (lower upper jitter : ℕ) (xs ys points : List ℕ) (now later : ℕ) → now ≤ later → Each (λ y. now ≤ y) ys
+    → HiddenPoints lower upper jitter (xs ++ ys) points → LastNotLater upper jitter points later
+    → LastNotLater upper jitter (take (length xs) points) now
+last-first lower upper jitter xs ys points now later h after hidden last i e =
+    rw (getD-take (length xs) points i 0 (omega (arith, count)))
+    (by-cases (decLt (i + 1) (length points))
+    (λ there. let next : now ≤ at (xs ++ ys) (i + 1) = behind (omega (arith, hidden .one-each)) in
+    let near = hidden .near (i + 1) (omega (arith, hidden .one-each)) in
+    ⊎-elim inl (λ reach. inr (omega arith)) (hidden .apart i (omega (arith, hidden .one-each)) .1))
+    (λ none. not-later-earlier (at points i + jitter) now later h (last i (omega (arith, count, hidden .one-each, length-append xs ys)))))
+  where
+    count : i + 1 ≡ length xs
+    count = e ∙ length-take (length xs) points ∙ omega (arith, hidden .one-each, length-append xs ys)
 
-sporadic-says : (rule : Rule) (events : List ℕ) (marks : Marks) (kept : List ℕ) → KeepsSporadic rule events marks kept
-    → MeetsSporadic (rule .lower) (rule .upper) (rule .jitter) (rule .minimum) events
+    behind : i + 1 < length (xs ++ ys) → now ≤ at (xs ++ ys) (i + 1)
+    behind there =
+        let place : length xs + 0 ≡ i + 1 = omega (arith, count) in
+        subst (λ (n : ℕ). now ≤ at (xs ++ ys) n) place (rw (at-right xs ys 0) (after 0 (omega (arith, count, length-append xs ys))))
+
+sporadic-first : (lower upper jitter minimum : ℕ) (xs ys : List ℕ) (now later : ℕ) → now ≤ later → Each (λ y. now ≤ y) ys
+    → MeetsSporadic lower upper jitter minimum (xs ++ ys) later → MeetsSporadic lower upper jitter minimum xs now
 unfolding MeetsSporadic
-sporadic-says rule [] marks kept keeps = (([], points-none (rule .lower) (rule .upper) (rule .jitter) [] refl), keeps .apart)
-sporadic-says rule (x ∷ xs) marks kept keeps =
-    let places : Places rule (x ∷ xs) (length xs) (marks .low) (marks .high) = keeps .places (length xs) (omega arith) in
-    let (points, hidden, is) = places .each (marks .low) (omega arith) (places .ordered) in
-    ((points, hidden), keeps .apart)
+sporadic-first lower upper jitter minimum xs ys now later h after ((points, hidden, last), apart) = (
+  (
+    take (length xs) points,
+    points-first lower upper jitter xs ys points hidden,
+    last-first lower upper jitter xs ys points now later h after hidden last,
+  ),
+  apart-first 1 minimum noLimit xs ys apart,
+)
+
+module _ (rule : Rule) (events : List ℕ) (marks : Marks) (kept : List ℕ) (keeps : KeepsSporadic rule events marks kept) (now : ℕ)
+    (small : now ≤ lastTime) where
+  abbrev SaysNow : Type 0
+  SaysNow = MeetsSporadic (rule .lower) (rule .upper) (rule .jitter) (rule .minimum) events now
+
+  -- before the first event
+  none-says : length events ≡ 0 → SaysNow
+  unfolding MeetsSporadic
+  none-says e = (([], points-none (rule .lower) (rule .upper) (rule .jitter) events e, λ i f. absurd (omega arith)), keeps .apart)
+
+  -- the point at its latest place allows each clock up to the due time, and no place allows a later one
+  some-says : (n : ℕ) → n + 1 ≡ length events → SaysNow ↔ (now ≤ duePoint rule (marks .high))
+  unfolding MeetsSporadic
+  some-says n e = (
+    λ m. ⊎-elim (λ f. omega arith) (λ h. omega (arith, places .no-other (m .0 .0) (m .0 .1) .1)) (m .0 .2 n (omega (arith, m .0 .1 .one-each))),
+    λ soon. let (points, hidden, is) = places .each (marks .high) (places .ordered) (omega arith) in (
+      (points, hidden, λ i f. let same : i ≡ n = omega (arith, hidden .one-each) in inr (omega (arith, ap (at points) same))),
+      keeps .apart,
+    ),
+  )
+    where
+      places : Places rule events n (marks .low) (marks .high)
+      places = keeps .places n e
+
+  sporadic-says : SaysNow ↔ (now ≤ dueSporadic rule marks kept)
+  sporadic-says =
+      split (eqb (marks .last) 0) (λ x. SaysNow ↔ (now ≤ cond x noLimit (duePoint rule (marks .high))))
+      (λ none. (λ m. omega arith, λ soon. none-says (last-zero events (marks .last) (keeps .last-is) none)))
+      (λ some. let (n, more, is) = last-some events (marks .last) (keeps .last-is) some in some-says n (omega arith))
 
 -- ---- Exact
 
@@ -231,15 +284,17 @@ exactSporadic kind lower upper jitter minimum sound =
       kind = kind;
       Says = MeetsSporadic lower upper jitter minimum;
       Keeps = KeepsSporadic rule;
+      due = dueSporadic rule;
       one-kind = refl;
       no-words = refl;
       meets = λ steps. (λ m. m, λ m. m);
       waits-none = λ steps. refl;
       says-first = sporadic-first lower upper jitter minimum;
       keeps-none = sporadic-none rule;
-      keeps-says = λ keeps. sporadic-says rule _ _ _ keeps;
+      due-none = refl;
+      keeps-says = λ now rises small keeps. sporadic-says rule _ _ _ keeps now small;
       keeps-few = λ keeps. omega (arith, ap length (keeps .no-times));
-      keeps-event = λ t rises small keeps. sporadic-event rule _ _ _ keeps t small (sound .in-range .0) kind;
+      keeps-event = λ t rises small keeps soon. sporadic-event rule _ _ _ keeps t small (sound .in-range .0) kind;
     })
   where
     rule : Rule

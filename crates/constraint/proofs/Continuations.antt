@@ -106,7 +106,7 @@ pub continues-clock : {steps further : List Step} → Continues steps further �
 continues-clock (stop {steps = steps}) = rw (append-nil steps) (omega arith)
 continues-clock (more {steps = steps} {further = further} j t o kind order rest) =
     let on : clock (steps ++ (event j t ∷ [])) ≤ clock (steps ++ (event j t ∷ further)) =
-        subst (λ (all : List Step). clock (steps ++ (event j t ∷ [])) ≤ clock all) (append-assoc steps (event j t ∷ []) further) (continues-clock rest) in
+    subst (λ (all : List Step). clock (steps ++ (event j t ∷ [])) ≤ clock all) (append-assoc steps (event j t ∷ []) further) (continues-clock rest) in
     omega (arith, clock-event j t steps, order .0)
 
 -- with those recorded, its times of a kind rise strictly

@@ -1,11 +1,11 @@
--- The contract's examples 1 to 12 (§10.1 to §10.12), and those of Delays without an upper limit: a row, calls that are all taken, and what
--- the row reads after them.
+-- The contract's examples 1 to 12 (§10.1 to §10.12), those of Delays without an upper limit and those of signals that stop: a row, calls
+-- that are all taken, and what the row reads after them.
 use mathlib.Core.List.{List, [], _∷_}
 use Rattle.constraint.specs.Limits.{lastTime, noLimit}
 use Rattle.constraint.specs.declared.Call.{Call}
 use Rattle.constraint.specs.declared.Call.the-variants.{Event, Tick, Close}
 use Rattle.constraint.specs.declared.Constraint.{Constraint}
-use Rattle.constraint.specs.declared.Constraint.the-variants.{Delay, StrongDelay, Repeat, Sporadic, Order, StrongSynchronization2}
+use Rattle.constraint.specs.declared.Constraint.the-variants.{Delay, StrongDelay, Repeat, Sporadic, Burst, Order, StrongSynchronization2}
 use Rattle.constraint.specs.declared.Verdict.{Verdict}
 use Rattle.constraint.specs.declared.Verdict.the-variants.{Open, Kept, Broken}
 
@@ -37,7 +37,7 @@ examples =
     ∷ reads (Repeat 0 2 4 5) (Event 0 1 ∷ Event 0 3 ∷ Event 0 6 ∷ Event 0 7 ∷ []) Open
     ∷ reads (Repeat 0 2 4 5) (Event 0 1 ∷ Event 0 3 ∷ Event 0 6 ∷ Event 0 7 ∷ Event 0 9 ∷ []) (Broken 5)
     -- §10.8: silence, in a Repeat
-    ∷ reads (Repeat 0 1 4 4) (Event 0 0 ∷ Tick 100 ∷ Close ∷ []) Kept
+    ∷ reads (Repeat 0 1 4 4) (Event 0 0 ∷ Tick 100 ∷ Close ∷ []) (Broken 2)
     -- §10.9: hidden points that drift no further than they may
     ∷ reads (Sporadic 0 5 5 2 0) (Event 0 2 ∷ Event 0 9 ∷ Event 0 14 ∷ []) Open
     ∷ reads (Sporadic 0 5 5 2 0) (Event 0 2 ∷ Event 0 9 ∷ Event 0 16 ∷ []) (Broken 3)
@@ -76,4 +76,40 @@ unlimited-delays =
     ∷ reads (Delay 0 1 lastTime noLimit) (Event 0 1 ∷ Tick lastTime ∷ []) Open
     ∷ reads (Delay 0 1 lastTime noLimit) (Event 0 1 ∷ Tick lastTime ∷ Close ∷ []) (Broken 3)
     ∷ reads (Delay 0 1 lastTime noLimit) (Event 0 0 ∷ Event 1 lastTime ∷ Close ∷ []) Kept
+    ∷ []
+
+-- §5.3.2, §5.4.4: signals that stop
+abbrev pub silences : List Example
+silences =
+    -- the clock at upper after the last event, and past it, by a tick or by an event of another kind
+    reads (Repeat 0 1 4 4) (Event 0 0 ∷ Tick 4 ∷ []) Open
+    ∷ reads (Repeat 0 1 4 4) (Event 0 0 ∷ Tick 4 ∷ Close ∷ []) Kept
+    ∷ reads (Repeat 0 1 4 4) (Event 0 0 ∷ Tick 5 ∷ []) (Broken 2)
+    ∷ reads (Repeat 0 1 4 4) (Event 0 0 ∷ Event 9 5 ∷ []) (Broken 2)
+    ∷ reads (Repeat 0 1 4 4) (Event 0 0 ∷ Tick 4 ∷ Event 0 4 ∷ Tick 8 ∷ []) Open
+    ∷ reads (Repeat 0 1 4 4) (Event 0 0 ∷ Tick 4 ∷ Event 0 4 ∷ Tick 8 ∷ Tick 9 ∷ []) (Broken 5)
+    -- nothing is due before the first event
+    ∷ reads (Repeat 0 1 4 4) (Tick 100 ∷ Close ∷ []) Kept
+    -- no limit, and the smallest one
+    ∷ reads (Repeat 0 1 4 noLimit) (Event 0 0 ∷ Tick 100 ∷ Close ∷ []) Kept
+    ∷ reads (Repeat 0 1 0 0) (Event 0 7 ∷ Close ∷ []) Kept
+    ∷ reads (Repeat 0 1 0 0) (Event 0 7 ∷ Tick 8 ∷ []) (Broken 2)
+    -- the oldest event that has none span places after it counts, also among the first ones
+    ∷ reads (Repeat 0 2 4 5) (Event 0 1 ∷ Event 0 3 ∷ Tick 6 ∷ []) Open
+    ∷ reads (Repeat 0 2 4 5) (Event 0 1 ∷ Event 0 3 ∷ Tick 6 ∷ Tick 7 ∷ []) (Broken 4)
+    ∷ reads (Repeat 0 2 4 5) (Event 0 1 ∷ Event 0 3 ∷ Event 0 6 ∷ Tick 8 ∷ []) Open
+    ∷ reads (Repeat 0 2 4 5) (Event 0 1 ∷ Event 0 3 ∷ Event 0 6 ∷ Tick 8 ∷ Tick 9 ∷ []) (Broken 5)
+    ∷ reads (Repeat 0 3 0 5) (Event 0 1 ∷ Event 0 6 ∷ []) Open
+    ∷ reads (Repeat 0 3 0 5) (Event 0 1 ∷ Event 0 7 ∷ []) (Broken 2)
+    -- a Burst has no limit
+    ∷ reads (Burst 0 1 4 0) (Event 0 0 ∷ Tick 100 ∷ Close ∷ []) Kept
+    -- the last point can be as late as its event, or earlier where the points before it leave it no choice
+    ∷ reads (Sporadic 0 5 5 2 0) (Event 0 2 ∷ Tick 9 ∷ []) Open
+    ∷ reads (Sporadic 0 5 5 2 0) (Event 0 2 ∷ Tick 9 ∷ Tick 10 ∷ []) (Broken 3)
+    ∷ reads (Sporadic 0 5 5 2 0) (Event 0 2 ∷ Event 0 9 ∷ Tick 14 ∷ []) Open
+    ∷ reads (Sporadic 0 5 5 2 0) (Event 0 2 ∷ Event 0 9 ∷ Tick 14 ∷ Tick 15 ∷ []) (Broken 4)
+    ∷ reads (Sporadic 0 5 noLimit 2 0) (Event 0 2 ∷ Tick 1000000 ∷ Close ∷ []) Kept
+    ∷ reads (Sporadic 0 0 0 3 0) (Event 0 7 ∷ Tick 10 ∷ []) Open
+    ∷ reads (Sporadic 0 0 0 3 0) (Event 0 7 ∷ Tick 10 ∷ Tick 11 ∷ []) (Broken 3)
+    ∷ reads (Sporadic 0 0 0 3 0) (Event 0 7 ∷ Event 0 8 ∷ []) (Broken 2)
     ∷ []

@@ -9,7 +9,7 @@ use Rattle.constraint.specs.Steps.{Step}
 use Rattle.constraint.specs.Continuation.{Reads}
 use Rattle.constraint.specs.Run.{stepFor, Run, done, call}
 use Rattle.constraint.specs.Promise.{ReadsRow, row, play, Played}
-use Rattle.constraint.specs.Examples.{Example, examples, unlimited-delays}
+use Rattle.constraint.specs.Examples.{Example, examples, unlimited-delays, silences}
 use Rattle.constraint.specs.declared.Answer.{Answer}
 use Rattle.constraint.specs.declared.Answer.the-variants.{Taken, Refused}
 use Rattle.constraint.specs.declared.Call.{Call}
@@ -87,6 +87,10 @@ unlimited-computed : allCompute unlimited-delays ≡ true
 unfolding allCompute computes playOf allTaken isVerdict play monitorOf mapFirst anyFirst takenCall stepOf verdictOf rowOf brokenRow applied changedRow rowStep rowVerdict ring pushRing putRing answeredBy decideDelay
 unlimited-computed = refl
 
+silences-computed : allCompute silences ≡ true
+unfolding allCompute computes playOf allTaken isVerdict play monitorOf mapFirst anyFirst takenCall stepOf verdictOf rowOf brokenRow applied changedRow rowStep rowVerdict ring pushRing putRing decideRepeat laterSporadic decideSporadic
+silences-computed = refl
+
 -- ---- so each reads by the definitions what the machine computes
 
 -- calls that are all taken are the steps accepted
@@ -128,3 +132,7 @@ examples-hold = all-read examples examples-computed
 -- §5.1.6, §5.1.7
 pub unlimited-delays-hold : AllRead unlimited-delays
 unlimited-delays-hold = all-read unlimited-delays unlimited-computed
+
+-- §5.3.2, §5.4.4
+pub silences-hold : AllRead silences
+silences-hold = all-read silences silences-computed

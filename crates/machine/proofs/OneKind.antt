@@ -114,7 +114,7 @@ module _ (c : Constraint) (decide : Marks → List ℕ → ℕ → ℕ → Chang
       → ¬ Open c (steps ++ (tick t ∷ []))
   late steps marks held t p live passed small o =
       let says : r .Says (times (r .kind) steps) t =
-          rw (times-tick (r .kind) t steps) at (says-now (steps ++ (tick t ∷ [])) t (clock-tick t steps) o) in
+      rw (times-tick (r .kind) t steps) at (says-now (steps ++ (tick t ∷ [])) t (clock-tick t steps) o) in
       omega (arith, r .keeps-says t (p .rising (r .kind)) small live .0 says)
 
   -- ---- Open

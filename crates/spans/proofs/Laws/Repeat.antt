@@ -80,8 +80,11 @@ module _ (rule : Rule) (events : List ℕ) (marks : Marks) (kept : List ℕ) (ke
         let within : t ≤ at kept 0 + rule .upper = due-within (rule .upper) t kept soon (omega (arith, ltb-false)) in
         tells-same (tells-leb (front kept + rule .lower) t)
         (λ far. more (λ i f. (omega (arith, kept-front i f), inr (omega (arith, kept-front i f, front-at kept)))))
-        (λ m. omega (arith, kept-front (length events - rule .span) e,
-        apart-new (rule .span) (rule .lower) (rule .upper) events t some m (length events - rule .span) e .0)))
+        (λ m. omega (
+          arith,
+          kept-front (length events - rule .span) e,
+          apart-new (rule .span) (rule .lower) (rule .upper) events t some m (length events - rule .span) e .0,
+        )))
       where
         more : ApartFromNew (rule .span) (rule .lower) (rule .upper) events t → MeetsSpan rule (events ++ (t ∷ []))
         more new = apart-more (rule .span) (rule .lower) (rule .upper) events t some (keeps .spans) new
@@ -160,10 +163,13 @@ unfolding MeetsRepeat
 repeat-says rule events marks kept now rises small keeps = (
   λ m. due-reached (rule .upper) now kept small (λ some. ⊎-elim (λ e. omega arith) (λ h. omega (arith, oldest))
       (m .1 first (omega (arith, count)) (omega arith))),
-  λ soon. (keeps .spans, λ i h end. inr (by-cases (decLt first i)
-      (λ l. omega (arith, due-within (rule .upper) now kept soon (omega (arith, count)), oldest, rising-at events rises first i l h))
-      (λ l. let e : first ≡ i = omega arith in
-      omega (arith, due-within (rule .upper) now kept soon (omega (arith, count)), kept-oldest rule events marks kept keeps i (sym e))))),
+  λ soon. (
+    keeps .spans,
+    λ i h end. inr (by-cases (decLt first i)
+        (λ l. omega (arith, due-within (rule .upper) now kept soon (omega (arith, count)), oldest, rising-at events rises first i l h))
+        (λ l. let e : first ≡ i = omega arith in
+        omega (arith, due-within (rule .upper) now kept soon (omega (arith, count)), kept-oldest rule events marks kept keeps i (sym e)))),
+  ),
 )
   where
     first : ℕ

@@ -137,15 +137,22 @@
  *                 its source. A target too early, or one too many, breaks the
  *                 row at once, a source without its target as in Delay.
  *   3 Repeat      Of span + 1 events in a row the last comes lower to upper
- *                 after the first. Silence breaks nothing.
+ *                 after the first. Silence counts from the first event on:
+ *                 the row breaks once the clock is past (the oldest event that
+ *                 has none span places after it) + upper. Without an upper
+ *                 limit silence breaks nothing. The close breaks nothing.
  *   4 Sporadic    Each event is 0 to jitter after a hidden point of its own.
  *                 The points are at least 0, rise, and are lower to upper
  *                 apart; the events are at least minimum apart. With lower =
- *                 upper it is a periodic signal. Silence breaks nothing.
+ *                 upper it is a periodic signal. Silence counts from the first
+ *                 event on: the row breaks once the clock is past (the last
+ *                 place that the last point can have) + upper + jitter.
+ *                 Without an upper limit silence breaks nothing. The close
+ *                 breaks nothing.
  *   5 Burst       The event maximum places after another is at least length
  *                 after it, so that shorter stretches have at most maximum
- *                 events; neighbours are at least minimum apart. Silence
- *                 breaks nothing.
+ *                 events; neighbours are at least minimum apart. Silence and
+ *                 the close break nothing.
  *   6 Order       The first target belongs to the first source, the second to
  *                 the second, and so on, and none is before its source. A
  *                 source may wait for its target as long as it likes, until
@@ -558,7 +565,7 @@ uint64_t delkuthi_rows(const delkuthi_monitor *monitor);
  *
  *   closed N         N: the number of steps, the close included
  *   0 kept           then a line for each row: its number, and kept,
- *   1 broken 33      or broken and the step that broke it
+ *   1 broken 38      or broken and the step that broke it
  *
  * or, if the table, a record or a step was refused, only
  *

@@ -17,10 +17,14 @@ fn lists_of_calls_beside_the_model() {
         while let Some((call, answer)) = play.call() {
             assert_eq!(seen.answer(plain.step(call)), answer, "{call}, {rows:?}");
             assert_eq!(plain.verdicts(), play.monitor().verdicts(), "{call}, {rows:?}");
+            if answer.is_ok() {
+                seen.silence(play.monitor());
+            }
             rows.iter().zip(plain.verdicts()).for_each(|(row, verdict)| seen.verdict(row, verdict));
         }
         assert_eq!(plain.count(), play.monitor().recorded().count());
     }
     seen.demand_refusals(8..=12);
     seen.demand_verdicts();
+    seen.demand_silences();
 }

@@ -62,6 +62,9 @@ impl Beside {
         assert_eq!(answer, expected, "{}", self.told(&call.to_string()));
         assert!(answer.is_ok() || self.monitor == before, "a refusal changed the monitor: {call}");
         self.compare(&call.to_string(), seen);
+        if answer.is_ok() {
+            seen.silence(self.play.monitor());
+        }
         true
     }
 

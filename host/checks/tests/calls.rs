@@ -20,6 +20,7 @@ fn thousands_of_lists() {
     seen.demand_refusals(8..=12);
     seen.demand_refusals(15..=15);
     seen.demand_verdicts();
+    seen.demand_silences();
 }
 
 #[test]

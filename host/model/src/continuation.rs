@@ -64,4 +64,10 @@ impl Events for Together<'_> {
         let joined = self.joined.iter().find(|(joined, _)| *joined == kind);
         joined.map_or_else(|| self.recorded.times(kind), |(_, times)| times)
     }
+
+    /// A continuation closes at its last event or, if it is empty, at the present clock.
+    fn clock(&self) -> u64 {
+        let last = self.joined.iter().filter_map(|(_, times)| times.last()).max();
+        last.map_or(self.recorded.clock(), |last| self.recorded.clock().max(*last))
+    }
 }

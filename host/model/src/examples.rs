@@ -48,7 +48,7 @@ pub fn examples() -> Vec<Example> {
         example(5, strong_delay(0, 3), "1@10, tick 11", Broken(2)),
         example(6, strong_delay(1, 3), "1@10", Broken(1)),
         example(7, repeat(2, 4, 5), "0@1, 0@3, 0@6, 0@7, 0@9", Broken(5)),
-        example(8, repeat(1, 4, 4), "0@0, tick 100, close", Kept),
+        example(8, repeat(1, 4, 4), "0@0, tick 100", Broken(2)),
         example(9, sporadic(5, 5, 2, 0), "0@2, 0@9, 0@14", Open),
         example(9, sporadic(5, 5, 2, 0), "0@2, 0@9, 0@16", Broken(3)),
         example(10, sporadic(10, 10, 5, 0), "0@2, 0@10", Open),

@@ -1,10 +1,10 @@
-//! What each row asks of all events together (§5.1 to §5.7).
+//! What each row asks of all events together, some of the clock too (§5.1 to §5.7).
 
 use crate::constraint::{Constraint, NO_LIMIT};
 use crate::hidden_points::Spacing;
 use crate::steps::Events;
 
-/// Is the row's definition true of all these events together?
+/// Is the row's definition true of all these events together, at the clock that they close at?
 pub fn meets(constraint: &Constraint, events: &impl Events) -> bool {
     let times = |kind: &u8| events.times(*kind);
     match constraint {
@@ -12,10 +12,13 @@ pub fn meets(constraint: &Constraint, events: &impl Events) -> bool {
         Constraint::StrongDelay { source, target, lower, upper } => {
             strong_delay(*lower, *upper, times(source), times(target))
         }
-        Constraint::Repeat { event, span, lower, upper } => repeat(*span, *lower, *upper, times(event)),
+        Constraint::Repeat { event, span, lower, upper } => {
+            let (events, clock) = (times(event), events.clock());
+            spans_apart(*span, *lower, *upper, events) && not_silent(*span, *upper, events, clock)
+        }
         Constraint::Sporadic { event, lower, upper, jitter, minimum } => {
             let spacing = Spacing { lower: *lower, upper: *upper, jitter: *jitter };
-            spacing.has_hidden_points(times(event)) && at_least_apart(*minimum, times(event))
+            spacing.has_hidden_points(times(event), events.clock()) && at_least_apart(*minimum, times(event))
         }
         Constraint::Burst { event, maximum, length, minimum } => burst(*maximum, *length, *minimum, times(event)),
         Constraint::Order { source, target } => order(times(source), times(target)),
@@ -31,9 +34,14 @@ pub fn between(lower: u64, upper: u64, s: u64, t: u64) -> bool {
     s <= t && lower <= t - s && t - s <= upper
 }
 
-/// The same, where the upper may be the mark for no limit (§4.7).
+/// Is t at most upper after s, or however late where upper is the mark for no limit (§4.7)?
+pub fn not_later(upper: u64, s: u64, t: u64) -> bool {
+    upper == NO_LIMIT || t <= s.saturating_add(upper)
+}
+
+/// Is t lower to upper after s, where upper may be the mark?
 pub fn apart(lower: u64, upper: u64, s: u64, t: u64) -> bool {
-    s <= t && lower <= t - s && (upper == NO_LIMIT || t - s <= upper)
+    s <= t && lower <= t - s && not_later(upper, s, t)
 }
 
 /// The sources with no target in their interval.
@@ -59,10 +67,16 @@ fn strong_delay(lower: u64, upper: u64, sources: &[u64], targets: &[u64]) -> boo
     targets.len() == sources.len() && sources.iter().zip(targets).all(right)
 }
 
-/// Repeat (§5.3): events span places apart are lower to upper apart.
-fn repeat(span: u8, lower: u64, upper: u64, events: &[u64]) -> bool {
+/// Repeat (§5.3): events span places apart are lower to upper apart,
+fn spans_apart(span: u8, lower: u64, upper: u64, events: &[u64]) -> bool {
     let span = usize::from(span);
     events.windows(span + 1).all(|consecutive| apart(lower, upper, consecutive[0], consecutive[span]))
+}
+
+/// and those that have none span places after them are at most upper before the clock.
+fn not_silent(span: u8, upper: u64, events: &[u64], clock: u64) -> bool {
+    let has_none = |(place, _): &(usize, &u64)| place + usize::from(span) >= events.len();
+    events.iter().enumerate().filter(has_none).all(|(_, event)| not_later(upper, *event, clock))
 }
 
 /// Are neighbours at least minimum apart?
@@ -70,9 +84,9 @@ fn at_least_apart(minimum: u64, events: &[u64]) -> bool {
     events.windows(2).all(|pair| apart(minimum, NO_LIMIT, pair[0], pair[1]))
 }
 
-/// Burst (§5.5): a Repeat without an upper limit, and a least distance.
+/// Burst (§5.5): what a Repeat without an upper limit asks, and a least distance.
 fn burst(maximum: u8, length: u64, minimum: u64, events: &[u64]) -> bool {
-    repeat(maximum, length, NO_LIMIT, events) && at_least_apart(minimum, events)
+    spans_apart(maximum, length, NO_LIMIT, events) && at_least_apart(minimum, events)
 }
 
 /// Order (§5.6): sources and targets pair up, and no target is before its source.

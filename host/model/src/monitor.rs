@@ -34,7 +34,7 @@ pub struct Monitor {
     /// What the steps have recorded.
     recorded: History,
     /// For each row the count after the first step which left it not open. Broken is for ever, since a continuation
-    /// after more steps is, put behind those, one from before them.
+    /// after more steps is, put behind those, one from before them, which closes no later.
     broken: Vec<Option<u64>>,
 }
 

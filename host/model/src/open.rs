@@ -19,8 +19,9 @@ pub fn open(constraint: &Constraint, recorded: &History) -> bool {
 /// The earliest continuation that the row can use: if any continuation meets the row, this one does.
 ///
 /// - After the close it is the empty one (§2.3).
-/// - Repeat, Sporadic and Burst speak of each event together with earlier ones only. What is true with a continuation
-///   is true without it, so the empty one will do.
+/// - Repeat, Sporadic and Burst speak of each event together with earlier ones, or with the clock where a later one
+///   is wanted. What is true with a continuation, at the clock that it closes at, is true without it at the clock
+///   now: a later event that was in time is no earlier than now. So the empty one will do.
 /// - Delay needs a target for each source that has none, and a continuation's own sources only ask for more.
 /// - StrongDelay and Order pair by index. Of the events beyond the larger recorded number both members would be
 ///   further ones: without them the rest still fits. So only partners of recorded events are wanted.

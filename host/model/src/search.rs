@@ -12,8 +12,8 @@ pub fn open_by_search(constraint: &Constraint, recorded: &History) -> bool {
 
 /// The same, of the continuations whose events are at most at the time `last`.
 ///
-/// Events of other kinds than the row's are not tried: its definition does not speak of them, and a continuation
-/// without them is one still. A list of times for each kind, put together by time, is a continuation, in whatever
+/// Events of other kinds than the row's are not tried: its definition speaks of them only through the clock, which they
+/// make later, and a continuation without them is one still. A list of times for each kind, put together by time, is a continuation, in whatever
 /// order events of one time stand; and every continuation gives such lists.
 pub fn open_within(constraint: &Constraint, recorded: &History, last: u64) -> bool {
     let kinds = if recorded.closed() { Vec::new() } else { constraint.kinds() };
@@ -29,8 +29,8 @@ pub fn open_within(constraint: &Constraint, recorded: &History, last: u64) -> bo
 ///   group left has a recorded member, at most at the clock, and the others are at most upper or tolerance later.
 ///   Order has no such bound, but its further targets, whose sources are all recorded, may as well be at
 ///   clock + 1, clock + 2 and so on; its further sources are not after recorded targets.
-/// - Repeat, Sporadic, Burst: drop all; what is said of the recorded events alone stays true. A few more places are
-///   searched to see that they change nothing.
+/// - Repeat, Sporadic, Burst: drop all; what is said of the recorded events alone, at the clock now, stays true. A few
+///   more places are searched to see that they change nothing.
 pub fn reach(constraint: &Constraint, recorded: &History) -> u64 {
     let clock = recorded.clock();
     match constraint {

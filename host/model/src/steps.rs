@@ -44,10 +44,12 @@ impl FromStr for Step {
     }
 }
 
-/// All events together, by kind: what a row's definition speaks of.
+/// All events together, by kind, and the clock that they close at: what a row's definition speaks of.
 pub trait Events {
     /// The times of the events of one kind. They rise strictly.
     fn times(&self, kind: u8) -> &[u64];
+    /// The clock after all of them.
+    fn clock(&self) -> u64;
 }
 
 /// What a list of accepted steps has recorded: the events, the clock, the count, and whether it was closed.
@@ -116,5 +118,9 @@ impl History {
 impl Events for History {
     fn times(&self, kind: u8) -> &[u64] {
         self.times.get(usize::from(kind)).map_or(&[], Vec::as_slice)
+    }
+
+    fn clock(&self) -> u64 {
+        self.clock
     }
 }

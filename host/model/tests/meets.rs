@@ -89,8 +89,9 @@ fn hidden_points_beside_the_search() {
         }
         let upper = *random.pick(&[0, 1, 2, 3, 4, 5, NO_LIMIT]);
         let spacing = Spacing { lower: random.below(4).min(upper), upper, jitter: random.below(7) };
-        let searched = spacing.has_hidden_points_by_search(&events);
-        assert_eq!(spacing.has_hidden_points(&events), searched, "{spacing:?} of {events:?}");
+        let clock = events.last().map_or(0, |last| last + random.below(8));
+        let searched = spacing.has_hidden_points_by_search(&events, clock);
+        assert_eq!(spacing.has_hidden_points(&events, clock), searched, "{spacing:?} of {events:?} at {clock}");
         found += u64::from(searched);
     }
     assert!((2_000..18_000).contains(&found), "{found}");
@@ -123,7 +124,8 @@ fn no_hidden_points_has_a_contradiction() {
         let any = scale.time(&mut random);
         let upper = *random.pick(&[NO_LIMIT, gap, gap + 1, gap / 2 + 2, any]);
         let spacing = Spacing { lower: scale.time(&mut random).min(upper), upper, jitter: gap / (1 + random.below(4)) };
-        let points = spacing.has_hidden_points(&events);
+        // at the last event's own time the clock asks nothing that the point there does not
+        let points = spacing.has_hidden_points(&events, events.last().copied().unwrap_or(0));
         assert_eq!(points, !contradiction(&spacing, &events), "{spacing:?} of {events:?}");
         found += u64::from(points);
     }
@@ -168,10 +170,26 @@ fn sporadic_corners() {
 #[test]
 fn repeat_and_burst_corners() {
     assert!(of(&repeat(1, 0, 0), "0@5") && !of(&repeat(1, 0, 0), "0@5, 0@6"));
-    assert!(of(&repeat(64, 1, 1), "0@5, 0@6, 0@7"));
+    assert!(of(&repeat(64, 1, 2), "0@5, 0@6, 0@7") && !of(&repeat(64, 1, 1), "0@5, 0@6, 0@7"));
     assert!(of(&repeat(2, 4, NO_LIMIT), "0@0, 0@1, 0@4, 0@5000"));
     assert!(of(&burst(2, 4, 1), "0@0, 0@1, 0@4") && !of(&burst(2, 4, 2), "0@0, 0@1, 0@4"));
     assert!(!of(&burst(2, 4, 0), "0@0, 0@1, 0@3") && of(&burst(1, 0, 0), "0@0, 0@1, 0@2"));
+}
+
+#[test]
+fn signals_that_stop() {
+    // the last event, and with a larger span the oldest that has none so many places after it
+    assert!(of(&repeat(1, 4, 4), "0@0, 0@4, tick 8") && !of(&repeat(1, 4, 4), "0@0, 0@4, tick 9"));
+    assert!(of(&repeat(2, 4, 5), "0@1, 0@3, tick 6") && !of(&repeat(2, 4, 5), "0@1, 0@3, tick 7"));
+    assert!(of(&repeat(2, 4, 5), "0@1, 0@3, 0@6, 9@8") && !of(&repeat(2, 4, 5), "0@1, 0@3, 0@6, 9@9"));
+    // a point as late as it may be; the second one here can only be at 7
+    assert!(of(&sporadic(5, 5, 2, 0), "0@2, tick 9") && !of(&sporadic(5, 5, 2, 0), "0@2, tick 10"));
+    assert!(of(&sporadic(5, 5, 2, 0), "0@2, 0@9, tick 14") && !of(&sporadic(5, 5, 2, 0), "0@2, 0@9, tick 15"));
+    // nothing is due before the first event, without a limit, or in a Burst
+    let late = "tick 72057594037927935";
+    assert!(of(&repeat(1, 0, 0), late) && of(&sporadic(0, 0, 0, 0), late));
+    let late = "0@3, tick 72057594037927935";
+    assert!(of(&repeat(1, 9, NO_LIMIT), late) && of(&sporadic(9, NO_LIMIT, 0, 0), late) && of(&burst(1, 9, 0), late));
 }
 
 #[test]

@@ -14,8 +14,10 @@ use model::{Constraint, Monitor, read_recording, read_table, report, table_bytes
 fn play(random: &mut Random, rows: &[Constraint], number: usize, seen: &mut Seen) {
     let mut play = Play::new(random.fork(), rows, number);
     while let Some((_, answer)) = play.call() {
-        let _ = seen.answer(answer);
         let monitor = play.monitor();
+        if seen.answer(answer).is_ok() {
+            seen.silence(monitor);
+        }
         monitor.verdicts().iter().zip(rows).for_each(|(verdict, row)| seen.verdict(row, *verdict));
     }
     let row = random.place(40);
@@ -61,6 +63,7 @@ fn many_long_lists() {
     }
     seen.demand_refusals(8..=12);
     seen.demand_verdicts();
+    seen.demand_silences();
 }
 
 #[test]

@@ -69,12 +69,12 @@ impl Rule {
             Rule::StrongDelay { source, lower, waiting, early, .. } => {
                 strong_delay_event(kind == *source, *lower, waiting, early, time)
             }
-            Rule::Repeat { span, lower, upper, minimum, events, last } => {
+            Rule::Repeat { span, lower, minimum, events, last, .. } => {
                 let far_enough = *last == NEVER || time - *last >= *minimum;
                 *last = time;
                 let gap = if events.length() == *span { events.pop().map(|first| time - first) } else { None };
                 events.push(time);
-                far_enough && gap.is_none_or(|gap| *lower <= gap && gap <= *upper)
+                far_enough && gap.is_none_or(|gap| *lower <= gap)
             }
             Rule::Sporadic { .. } => self.sporadic_event(time),
             Rule::Order { source, ahead, early } => {
@@ -114,7 +114,9 @@ impl Rule {
             Rule::StrongSynchronization { tolerance, begun, .. } => {
                 begun.first().map_or(NEVER, |first| first + tolerance)
             }
-            Rule::Repeat { .. } | Rule::Sporadic { .. } => NEVER,
+            Rule::Repeat { upper, events, .. } => events.first().map_or(NEVER, |first| first.saturating_add(*upper)),
+            Rule::Sporadic { last: NEVER, .. } => NEVER,
+            Rule::Sporadic { upper, jitter, high, .. } => high.saturating_add(*upper).saturating_add(*jitter),
         }
     }
 

@@ -1,7 +1,9 @@
 //! What a random test has come across, so that a test which never saw a case fails.
 
 use crate::constraint::{Constraint, LAST_TYPE};
-use crate::monitor::Verdict;
+use crate::meets::meets;
+use crate::monitor::{Monitor, Verdict};
+use crate::steps::Step;
 use std::collections::BTreeMap;
 use std::ops::RangeInclusive;
 
@@ -11,6 +13,8 @@ pub struct Seen {
     refusals: BTreeMap<u8, u64>,
     /// By type byte: open, kept, broken.
     verdicts: BTreeMap<u8, [u64; 3]>,
+    /// By type byte: broken by silence at a tick, at an event of another kind; kept with the clock at the last moment.
+    silences: BTreeMap<u8, [u64; 3]>,
 }
 
 impl Seen {
@@ -34,6 +38,23 @@ impl Seen {
         self.verdicts.entry(row.type_byte()).or_default()[column] += 1;
     }
 
+    /// Counts what silence did, at the step just taken, to rows that have their events again and again.
+    pub fn silence(&mut self, monitor: &Monitor) {
+        let recorded = monitor.recorded();
+        let Some(step) = monitor.steps().last() else { return };
+        for (row, verdict) in monitor.rows().iter().zip(monitor.verdicts()) {
+            let broken_now = verdict == Verdict::Broken(recorded.count());
+            let last_moment = || !meets(row, &recorded.after(Step::Tick { time: recorded.clock() + 1 }));
+            let column = match step {
+                Step::Tick { .. } if broken_now => 0,
+                Step::Event { kind, .. } if broken_now && !row.kinds().contains(kind) => 1,
+                Step::Close if verdict == Verdict::Kept && last_moment() => 2,
+                _ => continue,
+            };
+            self.silences.entry(row.type_byte()).or_default()[column] += 1;
+        }
+    }
+
     /// How often this refusal number was seen.
     pub fn refusals(&self, number: u8) -> u64 {
         self.refusals.get(&number).copied().unwrap_or_default()
@@ -55,5 +76,15 @@ impl Seen {
     pub fn demand_verdicts(&self) {
         let seen = |kind| self.verdicts.get(&kind).is_some_and(|counts| counts.iter().all(|count| *count > 0));
         assert!((1..=LAST_TYPE).all(seen), "open, kept, broken by type: {:?}", self.verdicts);
+    }
+
+    /// Fails the test if silence never broke a Repeat or a Sporadic, at a tick and at an event of another kind, or never
+    /// left one kept at the last moment; or if it ever did that to a Burst.
+    ///
+    /// # Panics
+    /// With the counts by type.
+    pub fn demand_silences(&self) {
+        let seen = |kind| self.silences.get(&kind).is_some_and(|counts| counts.iter().all(|count| *count > 0));
+        assert!(seen(3) && seen(4) && !self.silences.contains_key(&5), "by silence: {:?}", self.silences);
     }
 }

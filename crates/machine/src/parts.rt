@@ -4,7 +4,6 @@ use crate::Marks;
 use constraint::NO_LIMIT;
 use queue::Edit;
 use queue::SIZE;
-use queue::minus;
 use queue::time_at;
 ghost use mathlib.Core.Path.{_≡_};
 ghost use Prim.Native.Nat.{_+_, _-_, min, max};
@@ -26,13 +25,6 @@ pub fn reaches(from: u64, by: u64, t: u64) -> bool
     ensures { λ r. ⌜ r ≡ leb (from + by) t ⌝ }
 {
     by <= t && from <= t - by
-}
-
-// Whether t is at most by after from.
-pub fn within(from: u64, by: u64, t: u64) -> bool
-    ensures { λ r. ⌜ r ≡ leb t (from + by) ⌝ }
-{
-    minus(t, from) <= by
 }
 
 // Whether t is at least minimum after the last event, where there was one.

@@ -10,7 +10,8 @@ use lib.Dec.{eqb}
 use borrow.Author.Tests.{eq-eqb, ne-eqb}
 use Rattle.constraint.specs.Limits.{lastKind}
 use Rattle.constraint.specs.Steps.{Step, event, tick, close, at, times, among, own, clockFrom, clock, closed}
-use Rattle.constraint.specs.Meets.{Meets, MeetsDelay, MeetsStrongDelay, NotLater, MeetsRepeat, MeetsSporadic, MeetsBurst, MeetsOrder, MeetsStrongSynchronization}
+use Rattle.constraint.specs.Meets.{NotLater, Meets, MeetsDelay, MeetsStrongDelay, MeetsRepeat, MeetsSporadic, MeetsBurst, MeetsOrder}
+use Rattle.constraint.specs.Meets.{MeetsStrongSynchronization}
 use Rattle.constraint.specs.Continuation.{EventInOrder, Continues, stop, more, Open}
 use Rattle.constraint.specs.Accepted.{kinds}
 use Rattle.constraint.specs.declared.Constraint.{Constraint}
@@ -73,10 +74,13 @@ sporadic-earlier lower upper jitter minimum events now later h ((points, hidden,
 -- what a row says of some events and a clock it says of the same events and every earlier clock
 meets-same-times : (c : Constraint) (a b : List Step) → SameTimes (kinds c) a b → clock b ≤ clock a → Meets c a → Meets c b
 unfolding Meets
-meets-same-times (Delay source target lower upper) a b same earlier m = subst₂ (MeetsDelay lower upper) (same 0 (omega arith)) (same 1 (omega arith)) m
-meets-same-times (StrongDelay source target lower upper) a b same earlier m = subst₂ (MeetsStrongDelay lower upper) (same 0 (omega arith)) (same 1 (omega arith)) m
+meets-same-times (Delay source target lower upper) a b same earlier m =
+    subst₂ (MeetsDelay lower upper) (same 0 (omega arith)) (same 1 (omega arith)) m
+meets-same-times (StrongDelay source target lower upper) a b same earlier m =
+    subst₂ (MeetsStrongDelay lower upper) (same 0 (omega arith)) (same 1 (omega arith)) m
 meets-same-times (Repeat kind span lower upper) a b same earlier m =
-    subst (λ (ts : List ℕ). MeetsRepeat span lower upper ts (clock b)) (same 0 (omega arith)) (repeat-earlier span lower upper _ (clock b) (clock a) earlier m)
+    subst (λ (ts : List ℕ). MeetsRepeat span lower upper ts (clock b)) (same 0 (omega arith))
+    (repeat-earlier span lower upper _ (clock b) (clock a) earlier m)
 meets-same-times (Sporadic kind lower upper jitter minimum) a b same earlier m =
     subst (λ (ts : List ℕ). MeetsSporadic lower upper jitter minimum ts (clock b)) (same 0 (omega arith))
     (sporadic-earlier lower upper jitter minimum _ (clock b) (clock a) earlier m)

@@ -10,7 +10,8 @@ use lib.Dec.{leb}
 use borrow.Author.Tests.{ne-eqb}
 use Rattle.constraint.specs.Limits.{noLimit}
 use Rattle.constraint.specs.Steps.{Step, event, tick, at, times, clockFrom}
-use Rattle.constraint.specs.Meets.{Between, NotLater, Apart, Meets, MeetsDelay, MeetsStrongDelay, SpansApart, AtLeastApart, HiddenPoints, MeetsRepeat, MeetsSporadic, MeetsBurst, MeetsOrder, MeetsStrongSynchronization}
+use Rattle.constraint.specs.Meets.{Between, NotLater, Apart, SpansApart, AtLeastApart, HiddenPoints}
+use Rattle.constraint.specs.Meets.{Meets, MeetsDelay, MeetsStrongDelay, MeetsRepeat, MeetsSporadic, MeetsBurst, MeetsOrder, MeetsStrongSynchronization}
 use Rattle.constraint.specs.Waiting.{answered}
 use Rattle.constraint.specs.Continuation.{BrokenAt}
 use Rattle.constraint.specs.Questions.{Question, Judged}
@@ -57,7 +58,11 @@ meets-none (Delay source target lower upper) = λ i h. absurd (omega arith)
 meets-none (StrongDelay source target lower upper) = (refl, λ i h. absurd (omega arith))
 meets-none (Repeat kind span lower upper) = (λ i h. absurd (omega arith), λ i h end. absurd (omega arith))
 meets-none (Sporadic kind lower upper jitter minimum) = (
-  ([], record { one-each = refl; near = λ i h. absurd (omega arith); rise = λ i h. absurd (omega arith); apart = λ i h. absurd (omega arith) }, λ i e. absurd (omega arith)),
+  (
+    [],
+    record { one-each = refl; near = λ i h. absurd (omega arith); rise = λ i h. absurd (omega arith); apart = λ i h. absurd (omega arith) },
+    λ i e. absurd (omega arith),
+  ),
   λ i h. absurd (omega arith),
 )
 meets-none (Burst kind maximum len minimum) = (λ i h. absurd (omega arith), λ i h. absurd (omega arith))
@@ -96,7 +101,8 @@ answered-as-before lower upper s t targets limit = rw (ne-eqb upper noLimit limi
 -- ---- rows that silence does not break
 
 -- without an upper limit a Repeat and a Sporadic ask of the events alone, at every clock
-pub unlimited-repeat-as-before : (span lower : ℕ) (events : List ℕ) (now : ℕ) → MeetsRepeat span lower noLimit events now ↔ SpansApart span lower noLimit events
+pub unlimited-repeat-as-before : (span lower : ℕ) (events : List ℕ) (now : ℕ)
+    → MeetsRepeat span lower noLimit events now ↔ SpansApart span lower noLimit events
 unfolding MeetsRepeat
 unlimited-repeat-as-before span lower events now = (λ m. m .0, λ m. (m, λ i h end. inl refl))
 
@@ -158,7 +164,10 @@ strong-delay-contingent = record { can-be-met = (refl, λ i h. paired i h); can-
 pub repeat-contingent : Contingent (Repeat 0 1 4 4) (event 0 0 ∷ event 0 4 ∷ []) (event 0 0 ∷ event 0 3 ∷ [])
 unfolding Meets SpansApart MeetsRepeat times clockFrom
 repeat-contingent =
-    record { can-be-met = (λ i h. apart i h, λ i h end. still i h end); can-be-missed = λ m. let early = m .0 0 (omega arith) .0 in omega (arith, early) }
+    record {
+      can-be-met = (λ i h. apart i h, λ i h end. still i h (omega arith));
+      can-be-missed = λ m. let early = m .0 0 (omega arith) .0 in omega (arith, early);
+    }
   where
     still : (i : ℕ) → i < 2 → 2 ≤ i + 1 → NotLater 4 (at (0 ∷ 4 ∷ []) i) 4
     still zero h end = absurd (omega arith)
@@ -218,6 +227,31 @@ sporadic-contingent =
     far : (x y : ℕ) → (5 ≡ noLimit) ⊎ (y ≤ x + 5) → y ≤ x + 5
     far x y (inl e) = absurd (omega arith)
     far x y (inr h) = h
+
+-- and so with its point as late as it can be
+pub silent-sporadic-contingent : Contingent (Sporadic 0 5 5 2 0) (event 0 2 ∷ tick 9 ∷ []) (event 0 2 ∷ tick 10 ∷ [])
+unfolding Meets SpansApart MeetsSporadic times clockFrom
+silent-sporadic-contingent =
+    record {
+      can-be-met = (
+        (
+          2 ∷ [],
+          record { one-each = refl; near = λ i h. near i h; rise = λ i h. absurd (omega arith); apart = λ i h. absurd (omega arith) },
+          λ i e. last i e,
+        ),
+        λ i h. absurd (omega arith),
+      );
+      can-be-missed = λ m. ⊎-elim (λ e. omega arith) (λ h. omega (arith, m .0 .1 .near 0 (omega arith)))
+          (m .0 .2 0 (omega (arith, m .0 .1 .one-each)));
+    }
+  where
+    near : (i : ℕ) → i < 1 → (at (2 ∷ []) i + 0 ≤ at (2 ∷ []) i) × (at (2 ∷ []) i ≤ at (2 ∷ []) i + 2)
+    near zero h = (omega arith, omega arith)
+    near (suc i) h = absurd (omega arith)
+
+    last : (i : ℕ) → i + 1 ≡ 1 → NotLater 5 (at (2 ∷ []) i + 2) 9
+    last zero e = inr (omega arith)
+    last (suc i) e = absurd (omega arith)
 
 pub burst-contingent : Contingent (Burst 0 1 5 0) (event 0 0 ∷ event 0 5 ∷ []) (event 0 0 ∷ event 0 4 ∷ [])
 unfolding Meets MeetsBurst SpansApart times

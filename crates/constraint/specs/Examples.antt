@@ -1,7 +1,11 @@
 -- The contract's examples 1 to 12 (§10.1 to §10.12), those of Delays without an upper limit and those of signals that stop: a row, calls
 -- that are all taken, and what the row reads after them.
-use mathlib.Core.List.{List, [], _∷_}
+use Prim.Native.Nat.{ℕ, zero, suc, _+_}
+use mathlib.Core.List.{List, [], _∷_, _++_}
+use lib.ListN.{replicate}
 use Rattle.constraint.specs.Limits.{lastTime, noLimit}
+use Rattle.constraint.specs.declared.Answer.{Answer}
+use Rattle.constraint.specs.declared.Answer.the-variants.{Taken, Refused}
 use Rattle.constraint.specs.declared.Call.{Call}
 use Rattle.constraint.specs.declared.Call.the-variants.{Event, Tick, Close}
 use Rattle.constraint.specs.declared.Constraint.{Constraint}
@@ -113,3 +117,19 @@ silences =
     ∷ reads (Sporadic 0 0 0 3 0) (Event 0 7 ∷ Tick 10 ∷ Tick 11 ∷ []) (Broken 3)
     ∷ reads (Sporadic 0 0 0 3 0) (Event 0 7 ∷ Event 0 8 ∷ []) (Broken 2)
     ∷ []
+
+-- §5.3.5: a table of two rows: sources crowd the first, and the second falls silent
+abbrev pub crowdedRows : List Constraint
+crowdedRows = Delay 0 1 0 noLimit ∷ Repeat 2 1 0 64 ∷ []
+
+-- so many sources, one at each time from a first on
+abbrev pub sources : ℕ → ℕ → List Call
+sources zero t = []
+sources (suc n) t = Event 0 t ∷ sources n (t + 1)
+
+-- the 65th source is refused
+abbrev pub crowdedCalls : List Call
+crowdedCalls = Event 2 0 ∷ sources 64 1 ++ (Event 0 65 ∷ [])
+
+abbrev pub crowdedAnswers : List Answer
+crowdedAnswers = replicate 65 Taken ++ (Refused 12 ∷ [])

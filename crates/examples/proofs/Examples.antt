@@ -5,15 +5,18 @@ use mathlib.Core.List.{List, [], _∷_, _++_, map, append-nil, append-assoc}
 use mathlib.Core.Option.{Option, none, some}
 use lib.Dec.{eqb}
 use borrow.Author.Tests.{eqb-true}
+use Rattle.constraint.specs.Limits.{noLimit}
 use Rattle.constraint.specs.Steps.{Step}
 use Rattle.constraint.specs.Continuation.{Reads}
 use Rattle.constraint.specs.Run.{stepFor, Run, done, call}
 use Rattle.constraint.specs.Promise.{ReadsRow, row, play, Played}
-use Rattle.constraint.specs.Examples.{Example, examples, unlimited-delays, silences}
+use Rattle.constraint.specs.Examples.{Example, examples, unlimited-delays, silences, crowdedRows, crowdedCalls, crowdedAnswers}
 use Rattle.constraint.specs.declared.Answer.{Answer}
 use Rattle.constraint.specs.declared.Answer.the-variants.{Taken, Refused}
 use Rattle.constraint.specs.declared.Call.{Call}
+use Rattle.constraint.specs.declared.Call.the-variants.{Tick}
 use Rattle.constraint.specs.declared.Constraint.{Constraint}
+use Rattle.constraint.specs.declared.Constraint.the-variants.{Delay, Repeat}
 use Rattle.constraint.specs.declared.Verdict.{Verdict}
 use Rattle.constraint.specs.declared.Verdict.the-variants.{Open, Kept, Broken}
 use Rattle.constraint.proofs.Judged.{never}
@@ -30,8 +33,8 @@ use Rattle.monitor.specs.Machine.{monitorOf, mapFirst, anyFirst, takenCall, ste
 use Rattle.monitor.specs.Contract.{step, after}
 use Rattle.monitor.specs.declared.Monitor.{Monitor}
 use Rattle.monitor.proofs.Theorem.{monitor-is-exact}
-use Rattle.examples.specs.Reading.{stepsOf, ReadsSo, AllRead}
-use Rattle.examples.proofs.Fitting.{and-true, fits, accepted-by}
+use Rattle.examples.specs.Reading.{stepsOf, ReadsSo, AllRead, BothRead, CrowdedSilence}
+use Rattle.examples.proofs.Fitting.{and-true, fits, accepted-by, accepted-both}
 
 -- ---- what the machine computes
 
@@ -136,3 +139,30 @@ unlimited-delays-hold = all-read unlimited-delays unlimited-computed
 -- §5.3.2, §5.4.4
 pub silences-hold : AllRead silences
 silences-hold = all-read silences silences-computed
+
+-- ---- a table of two rows
+
+-- what the machine answers to calls over the crowded rows, and what these read then
+crowdedPlay : List Call → Played Monitor
+crowdedPlay calls = play step (monitorOf crowdedRows) calls
+
+both-read : (calls : List Call) (answers : List Answer) (first second : Verdict) → crowdedPlay calls .answers ≡ answers
+    → verdictOf (crowdedPlay calls .monitor) 0 ≡ some first → verdictOf (crowdedPlay calls .monitor) 1 ≡ some second
+    → BothRead crowdedRows calls answers first second
+unfolding crowdedPlay
+both-read calls answers first second answered one two =
+    let exact = monitor-is-exact .exact crowdedRows (accepted-both (Delay 0 1 0 noLimit) (Repeat 2 1 0 64) refl refl) calls in (
+      exact .0,
+      subst (λ list. Run crowdedRows [] calls list (exact .0)) answered (exact .1),
+      subst (ReadsRow crowdedRows (exact .0) 0) one (exact .2 0),
+      subst (ReadsRow crowdedRows (exact .0) 1) two (exact .2 1),
+    )
+
+-- §5.3.5
+pub crowded-silence-holds : CrowdedSilence
+unfolding crowdedPlay play monitorOf mapFirst anyFirst takenCall stepOf verdictOf rowOf brokenRow applied changedRow rowStep rowVerdict ring pushRing putRing answeredBy decideDelay decideRepeat
+crowded-silence-holds =
+    record {
+      refused = both-read crowdedCalls crowdedAnswers Open Open refl refl refl;
+      ticked = both-read (crowdedCalls ++ (Tick 65 ∷ [])) (crowdedAnswers ++ (Taken ∷ [])) Open (Broken 66) refl refl refl;
+    }

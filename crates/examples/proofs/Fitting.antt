@@ -3,15 +3,17 @@ use Prim.Native.Nat.{ℕ, _≤_}
 use native.Mathlib.Omega.{arith}
 use mathlib.Core.Path.{_≡_, refl, sym}
 use mathlib.Core.Bool.{Bool, true, false, not, _&&_, _||_}
-use mathlib.Core.List.{List, [], _∷_}
+use mathlib.Core.List.{List, [], _∷_, _++_}
 use mathlib.Core.Logic.{_⊎_, inl, inr}
 use lib.Dec.{leb, eqb}
 use borrow.Author.Tests.{leb-true, eqb-true, eqb-false, not-true}
 use Rattle.constraint.specs.Limits.{lastKind, lastTime, noLimit}
-use Rattle.constraint.specs.Questions.{Judged}
+use Rattle.constraint.specs.Questions.{Question, Judged}
 use Rattle.constraint.specs.Types.{kind, count, span, plain, lower, upper, upper-or-none, Field, byte, time, fieldsOf}
-use Rattle.constraint.specs.Accepted.{kinds, KindsFit, UpperInRange, FieldsInRange, InRange, NotBelow, LowerFirst, rowsQuestions, Accepted}
+use Rattle.constraint.specs.Accepted.{kinds, KindsFit, UpperInRange, FieldsInRange, InRange, NotBelow, LowerFirst}
+use Rattle.constraint.specs.Accepted.{rowQuestions, rowsQuestions, Accepted}
 use Rattle.constraint.specs.Records.{Absent}
+use Rattle.constraint.specs.declared.Answer.the-variants.{Taken}
 use Rattle.constraint.specs.declared.Constraint.{Constraint}
 use Rattle.constraint.proofs.FittingKinds.{kinds-none, kinds-more}
 use Rattle.constraint.proofs.Lists.{both, or-true}
@@ -98,10 +100,20 @@ lower-by low (time lower x ∷ fields) e = lower-by x fields e
 lower-by low (time upper x ∷ fields) e = leb-true low x e
 lower-by low (time upper-or-none x ∷ fields) e = leb-true low x e
 
+-- so the row is asked 5 to 7, and then come the later questions
+pub asked-by : (c : Constraint) → fits c ≡ true → (later : List Question) → Judged later Taken → Judged (rowQuestions c ++ later) Taken
+unfolding Judged InRange LowerFirst
+asked-by c e later judged =
+    let parts = and-true (kindsBy (kinds c)) (rangeBy (fieldsOf c) && lowerBy 0 (fieldsOf c)) e in
+    let last = and-true (rangeBy (fieldsOf c)) (lowerBy 0 (fieldsOf c)) (parts .1) in
+    inl (kinds-by (kinds c) (parts .0), inl (range-by (fieldsOf c) (last .0), inl (lower-by 0 (fieldsOf c) (last .1), judged)))
+
 -- a table of this row alone is accepted
 pub accepted-by : (c : Constraint) → fits c ≡ true → Accepted (c ∷ [])
-unfolding Judged rowsQuestions InRange LowerFirst
-accepted-by c e =
-    let parts = and-true (kindsBy (kinds c)) (rangeBy (fieldsOf c) && lowerBy 0 (fieldsOf c)) e in
-    let later = and-true (rangeBy (fieldsOf c)) (lowerBy 0 (fieldsOf c)) (parts .1) in
-    inl (omega arith, inl (kinds-by (kinds c) (parts .0), inl (range-by (fieldsOf c) (later .0), inl (lower-by 0 (fieldsOf c) (later .1), refl))))
+unfolding Judged rowsQuestions
+accepted-by c e = inl (omega arith, asked-by c e [] refl)
+
+-- and one of two rows
+pub accepted-both : (c d : Constraint) → fits c ≡ true → fits d ≡ true → Accepted (c ∷ d ∷ [])
+unfolding Judged rowsQuestions
+accepted-both c d e f = inl (omega arith, asked-by c e (rowsQuestions 1 (d ∷ []) []) (inl (omega arith, asked-by d f [] refl)))

@@ -1,11 +1,19 @@
 -- What is promised of a list of examples: every call is taken, and the row reads so by the definitions, and by the monitor.
 use mathlib.Core.Path.{_≡_}
-use mathlib.Core.List.{List, [], _∷_, map}
+use mathlib.Core.List.{List, [], _∷_, _++_, map}
 use mathlib.Core.Option.{some}
 use Rattle.constraint.specs.Steps.{Step}
-use Rattle.constraint.specs.Run.{stepFor}
+use Rattle.constraint.specs.Run.{stepFor, Run}
 use Rattle.constraint.specs.Continuation.{Reads}
-use Rattle.constraint.specs.Examples.{Example}
+use Rattle.constraint.specs.Promise.{ReadsRow}
+use Rattle.constraint.specs.declared.Answer.{Answer}
+use Rattle.constraint.specs.declared.Answer.the-variants.{Taken}
+use Rattle.constraint.specs.declared.Call.{Call}
+use Rattle.constraint.specs.declared.Call.the-variants.{Tick}
+use Rattle.constraint.specs.declared.Constraint.{Constraint}
+use Rattle.constraint.specs.declared.Verdict.{Verdict}
+use Rattle.constraint.specs.declared.Verdict.the-variants.{Open, Broken}
+use Rattle.constraint.specs.Examples.{Example, crowdedRows, crowdedCalls, crowdedAnswers}
 use Rattle.monitor.specs.Machine.{verdictOf}
 use Rattle.monitor.specs.Contract.{after, Recorded}
 
@@ -23,3 +31,13 @@ pub record ReadsSo (e : Example) : Type 0 where
 abbrev pub AllRead : List Example → Type 0
 AllRead [] = Unit {0}
 AllRead (e ∷ later) = ReadsSo e × AllRead later
+
+-- calls over two rows get these answers, and the rows read so after them
+abbrev pub BothRead : List Constraint → List Call → List Answer → Verdict → Verdict → Type 0
+BothRead rows calls answers first second =
+    (steps : List Step) × Run rows [] calls answers steps × ReadsRow rows steps 0 (some first) × ReadsRow rows steps 1 (some second)
+
+-- §5.3.5: a refused step breaks no row; the tick to its time breaks the one that fell silent
+pub record CrowdedSilence : Type 0 where
+  pub refused : BothRead crowdedRows crowdedCalls crowdedAnswers Open Open
+  pub ticked : BothRead crowdedRows (crowdedCalls ++ (Tick 65 ∷ [])) (crowdedAnswers ++ (Taken ∷ [])) Open (Broken 66)

@@ -71,7 +71,8 @@ module _ (rule : Rule) (events : List ℕ) (marks : Marks) (kept : List ℕ) (ke
   kept-front : (i : ℕ) → i + rule .span ≡ length events → front kept ≡ at events i
   kept-front i e = front-at kept ∙ kept-oldest i (omega arith)
 
-  module _ (t : ℕ) (some : 1 ≤ rule .span) (small : t ≤ lastTime) (rises : Rising (events ++ (t ∷ []))) (soon : t ≤ dueOldest (rule .upper) kept) where
+  module _ (t : ℕ) (some : 1 ≤ rule .span) (small : t ≤ lastTime) (rises : Rising (events ++ (t ∷ [])))
+      (soon : t ≤ dueOldest (rule .upper) kept) where
     in-span : Tells (MeetsSpan rule (events ++ (t ∷ []))) (spanReached rule kept t)
     in-span =
         tells-or (ltb (length kept) (rule .span)) (leb (front kept + rule .lower) t)
@@ -150,7 +151,8 @@ repeat-first span lower upper xs ys now later h after m = (
     behind : (j : ℕ) → length xs ≤ j → j < length (xs ++ ys) → now ≤ at (xs ++ ys) j
     behind j past there =
         let place : length xs + (j - length xs) ≡ j = omega arith in
-        subst (λ (n : ℕ). now ≤ at (xs ++ ys) n) place (rw (at-right xs ys (j - length xs)) (after (j - length xs) (omega (arith, length-append xs ys))))
+        subst (λ (n : ℕ). now ≤ at (xs ++ ys) n) place
+        (rw (at-right xs ys (j - length xs)) (after (j - length xs) (omega (arith, length-append xs ys))))
 
 repeat-spans : (span lower upper : ℕ) (events : List ℕ) (now : ℕ) → MeetsRepeat span lower upper events now → SpansApart span lower upper events
 unfolding MeetsRepeat

@@ -1,4 +1,5 @@
--- What is true of continuations for every row type: a row's definition looks only at its own events and the clock, and what may still follow after a step might have followed before it, so a row that is open after a step was open before it.
+-- What is true of continuations for every row type: a row's definition looks only at its own events and the clock, what is met at a clock is met at
+-- every earlier one, and what may still follow after a step might have followed before it, so a row that is open after a step was open before it.
 use Prim.Native.Nat.{ℕ, zero, suc, _+_, _≤_, _<_}
 use native.Mathlib.Omega.{arith}
 use mathlib.Core.Path.{_≡_, refl, sym, ap, _∙_, subst, subst₂}

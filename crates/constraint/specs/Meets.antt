@@ -35,7 +35,7 @@ MeetsStrongDelay lower upper sources targets =
 unfoldable pub SpansApart : ℕ → ℕ → ℕ → List ℕ → Type 0
 SpansApart span lower upper events = (i : ℕ) → i + span < length events → Apart lower upper (at events i) (at events (i + span))
 
--- §5.3: so are a Repeat's, and at the clock now an event that has none span places after it is at most upper ago
+-- §5.3: so it is in a Repeat; and an event that has none span places after it is at most upper before the clock now
 unfoldable pub MeetsRepeat : ℕ → ℕ → ℕ → List ℕ → ℕ → Type 0
 MeetsRepeat span lower upper events now =
     SpansApart span lower upper events × ((i : ℕ) → i < length events → length events ≤ i + span → NotLater upper (at events i) now)
@@ -51,11 +51,11 @@ pub record HiddenPoints (lower upper jitter : ℕ) (events points : List ℕ) : 
   pub rise : (i : ℕ) → i + 1 < length events → at points i < at points (i + 1)
   pub apart : (i : ℕ) → i + 1 < length events → Apart lower upper (at points i) (at points (i + 1))
 
--- §5.4: at the clock now the last point, where there is one, is at most upper and jitter ago
+-- §5.4: the last point, where there is one, is at most upper and jitter before the clock now
 abbrev pub LastNotLater : ℕ → ℕ → List ℕ → ℕ → Type 0
 LastNotLater upper jitter points now = (i : ℕ) → i + 1 ≡ length points → NotLater upper (at points i + jitter) now
 
--- §5.4: the same points do both; neighbours among the events are at least minimum apart
+-- §5.4: the same points do both, and neighbours among the events are at least minimum apart
 unfoldable pub MeetsSporadic : ℕ → ℕ → ℕ → ℕ → List ℕ → ℕ → Type 0
 MeetsSporadic lower upper jitter minimum events now =
     ((points : List ℕ) × HiddenPoints lower upper jitter events points × LastNotLater upper jitter points now) × AtLeastApart minimum events

@@ -254,7 +254,7 @@ extern "C" {
 #define DELKUTHI_MONITOR_STACK 262144
 #define DELKUTHI_STEP_STACK    1024
 
-/* The upper of a Repeat or a Sporadic that has no upper limit. */
+/* The upper of a Delay, Repeat or Sporadic that has no upper limit. */
 #define DELKUTHI_NO_LIMIT UINT64_C(18446744073709551615)
 
 /*

@@ -105,8 +105,8 @@ fn the_bench_loop_stops_at_the_very_step() {
     let mut random = Random::new(401);
     for level in LEVELS {
         let host = c_host("bench_loop", level);
-        assert_eq!(host.run(&drive), Ran::new(1, "row 1 broken at step 33\n"));
-        assert_eq!(host.run_in_valgrind(&drive), Ran::new(1, "row 1 broken at step 33\n"));
+        assert_eq!(host.run(&drive), Ran::new(1, "row 1 broken at step 38\n"));
+        assert_eq!(host.run_in_valgrind(&drive), Ran::new(1, "row 1 broken at step 38\n"));
         play(examples(), |files| host.run(files));
         for _ in 0..150 {
             let number = random.place(12);

@@ -5,7 +5,7 @@ use crate::refusal::Refusal;
 
 /// No table is longer: a version byte, and for each of 32 rows a length field and at most 34 bytes.
 pub const TABLE_LIMIT: usize = 1153;
-/// The upper of a Repeat or a Sporadic that has no upper limit.
+/// The upper of a Delay, Repeat or Sporadic that has no upper limit.
 pub const NO_LIMIT: u64 = u64::MAX;
 
 /// How many bytes a row has when it is given to the writer: as many as the longest has, the rest being 0.

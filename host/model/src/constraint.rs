@@ -4,7 +4,7 @@
 pub const LAST_KIND: u8 = 63;
 /// The last time (§1.1).
 pub const LAST_TIME: u64 = (1 << 56) - 1;
-/// The mark for no upper limit, in Repeat and Sporadic (§4.7).
+/// The mark for no upper limit, in Delay, Repeat and Sporadic (§4.7).
 pub const NO_LIMIT: u64 = u64::MAX;
 /// How many rows a table has at most (§4.2).
 pub const ROW_LIMIT: usize = 32;

@@ -126,7 +126,7 @@ int main(int argc, char **argv)
     well &= within(DELKUTHI_STEP_STACK, "tick", tick);
     well &= within(DELKUTHI_STEP_STACK, "verdict", verdict);
     well &= within(DELKUTHI_STEP_STACK, "close", close_it);
-    well &= within(DELKUTHI_STEP_STACK, "page", printed);
+    well &= within(DELKUTHI_PAGE_STACK, "page", printed);
     well &= within(DELKUTHI_REPORT_STACK, "report", whole_report);
     free(stack);
     free_file(&table);

@@ -37,7 +37,8 @@ pub extern "C" fn delkuthi_page(m: &Monitor, buffer: &mut [u8]) -> usize
     let mut page = Page::blank(rows, m.closed);
     let mut i = 0;
     while i < rows {
-        page = page.with_row(i, m.rows[i].rule.form, m.rows[i].now.broken);
+        let row = &m.rows[i];
+        page = page.with_row(i, row.rule.form, row.now.broken);
         i += 1;
     }
     page.write(buffer)

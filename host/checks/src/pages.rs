@@ -15,10 +15,7 @@ pub fn page_in(monitor: &Monitor, length: usize) -> Option<Vec<u8>> {
     let mut memory = vec![FILL; length + 64];
     let written = monitor.page(&mut memory[32..32 + length]);
     let end = 32 + written.unwrap_or(0);
-    assert!(
-        memory[..32].iter().chain(&memory[end..]).all(|byte| *byte == FILL),
-        "a byte behind the page was written"
-    );
+    assert!(memory[..32].iter().chain(&memory[end..]).all(|byte| *byte == FILL), "a byte behind the page was written");
     written.map(|_| memory[32..end].to_vec())
 }
 

@@ -91,6 +91,9 @@ fn every_line_has_its_width_on_any_memory() {
         };
         let page = page_in(&Monitor::from_words(words), PAGE_LIMIT).expect("a page of at most 32 rows");
         let lines = lines(&page);
-        assert!(lines.len() <= 34 && lines.iter().all(|line| line.len() == 72 && line.iter().all(|b| (32..127).contains(b))));
+        assert!(
+            lines.len() <= 34
+                && lines.iter().all(|line| line.len() == 72 && line.iter().all(|b| (32..127).contains(b)))
+        );
     }
 }

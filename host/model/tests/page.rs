@@ -22,13 +22,20 @@ fn after(rows: &[Constraint], list: &str) -> String {
 #[test]
 fn lines_by_hand() {
     let rows = [delay(2, 3), order()];
-    let open = HEADING.to_string() + &line("  0  Delay                   open") + &line("  1  Order                   open");
+    let open =
+        HEADING.to_string() + &line("  0  Delay                   open") + &line("  1  Order                   open");
     assert_eq!(after(&rows, "0@10"), open);
     let broken = line("  0  Delay                   broken                     2");
-    assert_eq!(after(&rows, "0@10, tick 14"), HEADING.to_string() + &broken + &line("  1  Order                   open"));
+    assert_eq!(
+        after(&rows, "0@10, tick 14"),
+        HEADING.to_string() + &broken + &line("  1  Order                   open")
+    );
     let closed = line("  1  Order                   broken                     3");
     assert_eq!(after(&rows, "0@10, tick 14, close"), HEADING.to_string() + &broken + &closed);
-    assert_eq!(after(&rows[..1], "0@10, 1@12, close"), HEADING.to_string() + &line("  0  Delay                   kept"));
+    assert_eq!(
+        after(&rows[..1], "0@10, 1@12, close"),
+        HEADING.to_string() + &line("  0  Delay                   kept")
+    );
 }
 
 #[test]

@@ -228,22 +228,22 @@ module _ {M : Type 1} (𝓤 : URA M) (H : Heap 𝓤) (A : Atoms 𝓤) (W : Given
         spelt ! T.the-row (Is T.the-row) (shows 𝓤 H A T.the-row) (LL.vals T.the-type T′.the-laws) (LL.tells T.the-type T′.the-laws) q″ h vs b o $
         move ! (1 ∷ []) $ peeks ! T.the-row (Is T.the-row) (shows 𝓤 H A T.the-row) h (val h ∷ []) (λ was. move ! (1 ∷ 0 ∷ []) $
         -- [a share of the monitor's cell; what a monitor owns; what shuts it; the borrow; the buffer's token; the buffer; res; _0; …]: _i is at 7 + i
-        sets ! (of-opd ! (load ! (from ! (hop ! (look ! 8 refl) (fld ! refl (stop !)))) (look-in ! 0 (sub ! 5 refl (whole !))))) 13 refl
+        sets ! (of-opd ! (load ! (from ! (hop ! (look ! 8 refl) (fld ! refl (stop !)))) (look-in ! 0 (sub ! 5 refl (whole !))))) 14 refl
         (typed 𝓤 H A W word-type (h .len) (len-known h was)) $
         calls-plain ! (fmOf 𝓤 H (W .laws) 𝓣) held cites-held (h .len, tt) (len-known h was, tt) tt
-        (and-then ! (copies ! 14 refl) (no-more !)) (λ n n-is held-is.
+        (and-then ! (copies ! 15 refl) (no-more !)) (λ n n-is held-is.
         lands-in ! 10 refl (typed 𝓤 H A W word-type n n-is) $
-        sets ! (of-opd ! (load ! (from ! (hop ! (look ! 8 refl) (fld ! refl (stop !)))) (look-in ! 0 (sub ! 4 refl (whole !))))) 14 refl
+        sets ! (of-opd ! (load ! (from ! (hop ! (look ! 8 refl) (fld ! refl (stop !)))) (look-in ! 0 (sub ! 4 refl (whole !))))) 15 refl
         (typed 𝓤 H A W word-type (h .closed) (closed-known h was)) $
         calls-plain ! (fmOf 𝓤 H (W .laws) 𝓣) blank cites-blank (n, (h .closed, tt)) (n-is, (closed-known h was, tt)) tt
-        (and-then ! (copies ! 11 refl) (and-then ! (copies ! 15 refl) (no-more !))) (λ p p-is blank-is.
+        (and-then ! (copies ! 11 refl) (and-then ! (copies ! 16 refl) (no-more !))) (λ p p-is blank-is.
         lands-in ! 11 refl (typed 𝓤 H A W page-type p p-is) $
         -- what the page owns comes behind the other seven: _i is at 8 + i
         owned ! P.the-row (Is P.the-row) (page-type .makes 𝓤 H A W) p (page-type .val p ∷ []) p-is $ move ! (1 ∷ 2 ∷ 3 ∷ 4 ∷ 5 ∷ 6 ∷ 7 ∷ 0 ∷ []) $
         rewrite ! 12 (λ (g : Page). ‵ (fat fullShare (page-type .ty) (bs 4) 0 (page-type .val g))) (blank-is ∙ filled-none h n held-is) refl $
         rewrite ! 7 owned-page (blank-is ∙ filled-none h n held-is) refl $
         sets ! (of-opd ! (lit ! tt)) 13 refl (tt, record { fits = lit< tt }) $
-        first ! $ blocks ! $ counts 𝓤 H A W 𝓣 (env 𝓤 H (code.function .locals) bs) _ _ n (At bs q″ n) 8 5 3 16 13 11 (record {
+        first ! $ blocks ! $ counts 𝓤 H A W 𝓣 (env 𝓤 H (code.function .locals) bs) _ _ n (At bs q″ n) 9 5 3 17 13 11 (record {
           test-typed = λ b. (tt, tt);
           room-there = λ i. refl;
           test-there = λ i b. refl;
@@ -251,25 +251,23 @@ module _ {M : Type 1} (𝓤 : URA M) (H : Heap 𝓤) (A : Atoms 𝓤) (W : Given
           bound-there = λ i. refl;
           goes-on = λ i Q more again.
               let small : i < 32 = omega (arith, more, held-is) in
-              sets ! (bin ! (copies ! 13 refl) (lit ! tt) (record { fits = at-fits i small })) 17 refl (tt, record { fits = at-fits i small }) $
-              sets ! (addr ! (from ! (hop ! (look ! 9 refl) (fld ! refl (stop !))))) 18 refl (tt, tt) $
-              sets ! (bin ! (copies ! 18 refl) (copies ! 17 refl) tt) 19 refl (tt, tt) $
-              sets ! (of-opd ! (load ! (from ! (hop ! (look ! 19 refl) (fld ! refl (fld ! refl (stop !)))))
+              sets ! (bin ! (copies ! 13 refl) (lit ! tt) (record { fits = at-fits i small })) 18 refl (tt, record { fits = at-fits i small }) $
+              sets ! (addr ! (from ! (hop ! (look ! 9 refl) (fld ! refl (stop !))))) 19 refl (tt, tt) $
+              sets ! (bin ! (copies ! 19 refl) (copies ! 18 refl) tt) 20 refl (tt, tt) $
+              sets ! (addr ! (from ! (hop ! (look ! 20 refl) (stop !)))) 14 refl (tt, tt) $
+              sets ! (of-opd ! (load ! (from ! (hop ! (look ! 14 refl) (fld ! refl (fld ! refl (stop !)))))
               (look-in ! 0 (sub ! 0 refl (sub ! 0 refl (as-val ! (row-at h was i)
               (elem ! (row-vals (h .rows)) i (row-val noRow) (in-rows was i small) (vals-32 h was) (sub ! 0 refl (whole !)))))))))
-              20 refl (typed 𝓤 H A W word-type (typeIn h i) (type-known was i small)) $
-              sets ! (bin ! (copies ! 13 refl) (lit ! tt) (record { fits = at-fits i small })) 21 refl (tt, record { fits = at-fits i small }) $
-              sets ! (addr ! (from ! (hop ! (look ! 9 refl) (fld ! refl (stop !))))) 22 refl (tt, tt) $
-              sets ! (bin ! (copies ! 22 refl) (copies ! 21 refl) tt) 23 refl (tt, tt) $
-              sets ! (of-opd ! (load ! (from ! (hop ! (look ! 23 refl) (fld ! refl (fld ! refl (stop !)))))
+              21 refl (typed 𝓤 H A W word-type (typeIn h i) (type-known was i small)) $
+              sets ! (of-opd ! (load ! (from ! (hop ! (look ! 14 refl) (fld ! refl (fld ! refl (stop !)))))
               (look-in ! 0 (sub ! 5 refl (sub ! 2 refl (as-val ! (row-at h was i)
               (elem ! (row-vals (h .rows)) i (row-val noRow) (in-rows was i small) (vals-32 h was) (sub ! 0 refl (whole !)))))))))
-              24 refl (typed 𝓤 H A W word-type (brokenIn h i) (broken-known was i small)) $
+              22 refl (typed 𝓤 H A W word-type (brokenIn h i) (broken-known was i small)) $
               move ! (7 ∷ []) $
               peeks ! P.the-row (Is P.the-row) (shows 𝓤 H A P.the-row) (filled h i) (page-type .val (filled h i) ∷ []) (λ page-is. drop ! $
               calls-plain ! (fmOf 𝓤 H (W .laws) 𝓣) with-row cites-with (filled h i, (i, (typeIn h i, (brokenIn h i, tt))))
               (page-is, ((refl, fits i small), (type-known was i small, (broken-known was i small, tt)))) tt
-              (and-then ! (copies ! 12 refl) (and-then ! (copies ! 13 refl) (and-then ! (copies ! 20 refl) (and-then ! (copies ! 24 refl) (no-more !)))))
+              (and-then ! (copies ! 12 refl) (and-then ! (copies ! 13 refl) (and-then ! (copies ! 21 refl) (and-then ! (copies ! 22 refl) (no-more !)))))
               (λ p p-is e.
               let next : p ≡ filled h (i + 1) = e ∙ filled-next h i noRow (filled h i) (there was i small) refl in
               land ! (from ! (stop !)) (store ! 11 refl (typed 𝓤 H A W page-type p p-is)) $
@@ -279,22 +277,22 @@ module _ {M : Type 1} (𝓤 : URA M) (H : Heap 𝓤) (A : Atoms 𝓤) (W : Given
               rewrite ! 7 owned-page next refl $
               assigns-last ! (bin ! (copies ! 13 refl) (lit ! tt) (record { fits = fits-next i small })) (from ! (stop !))
               (store ! 13 refl (tt, record { fits = fits-next i small })) $
-              forget ! 16 refl $ forget ! 17 refl $ forget ! 18 refl $ forget ! 19 refl $ forget ! 20 refl $ forget ! 21 refl $ forget ! 22 refl $
-              forget ! 23 refl $ forget ! 24 refl $ by ! again));
+              forget ! 14 refl $ forget ! 17 refl $ forget ! 18 refl $ forget ! 19 refl $ forget ! 20 refl $ forget ! 21 refl $ forget ! 22 refl $
+              by ! again));
           ends =
               exec ! (𝓣 .C) (𝓣 .Λ) (env 𝓤 H (code.function .locals) bs) code-mir.t-7 (atRet (env 𝓤 H (code.function .locals) bs) Post) $
               move ! (7 ∷ []) $
               peeks ! P.the-row (Is P.the-row) (shows 𝓤 H A P.the-row) (filled h n) (page-type .val (filled h n) ∷ []) (λ page-is. drop ! $
               -- the borrow is shut: [its token; the borrow; the buffer's token; the buffer; res; _0; …]
               shuts ! tt T.the-row q″ h (val h ∷ []) b o $
-              sets ! (addr ! (from ! (fld ! refl (hop ! (look-in ! 7 (sub ! 0 refl (whole !))) (stop !))))) 22 refl (tt, tt) $
-              sets ! (agg ! (and-then ! (copies ! 22 refl)
-              (and-then ! (load ! (from ! (fld ! refl (stop !))) (look-in ! 7 (sub ! 1 refl (whole !)))) (no-more !)))) 23 refl
+              sets ! (addr ! (from ! (fld ! refl (hop ! (look-in ! 7 (sub ! 0 refl (whole !))) (stop !))))) 20 refl (tt, tt) $
+              sets ! (agg ! (and-then ! (copies ! 20 refl)
+              (and-then ! (load ! (from ! (fld ! refl (stop !))) (look-in ! 7 (sub ! 1 refl (whole !)))) (no-more !)))) 21 refl
               (tt, (tt, (record { fits = room .0 }, tt))) $
               -- the page and the buffer go to the writer
               move ! (2 ∷ 3 ∷ []) $ use2 W (raw (Write 𝓤 H A mem run .pre (to-write (filled h n)))) (goes-write (filled h n) page-is) $
               calls-at ! (fmOf 𝓤 H (W .laws) 𝓣) (Write 𝓤 H A mem run) cites-write (to-write (filled h n))
-              (and-then ! (copies ! 8 refl) (and-then ! (copies ! 22 refl) (no-more !))) (λ u.
+              (and-then ! (copies ! 8 refl) (and-then ! (copies ! 20 refl) (no-more !))) (λ u.
               use1 W (later (some′ (λ (r : ℕ). ((‵ (flft κ′ q′) ⊛ ‵ ftrue) ⊛ ‵ (usize .own r (u ∷ []))) ⊛ raw
               (ensured 𝓤 H A w.ended (w.clauses 𝓤 H A mem run) (κ′, tt) (filled h n, (s, tt)) tt r)))) (id⊢ 𝓤 _) $ await ! tt $ pick ! (λ r.
               split ! $ move ! (1 ∷ []) $
@@ -342,7 +340,7 @@ module _ {M : Type 1} (𝓤 : URA M) (H : Heap 𝓤) (A : Atoms 𝓤) (W : Given
         At : (ℕ → ℕ) → Share → ℕ → ℕ → List (Item 𝓤)
         At bs q″ n i =
             Open q″ (owned-page (filled h i) ∷ Frame 𝓤 H A W (code.function .locals) bs
-            (none ∷ some (vptr b o) ∷ some v ∷ some (vint w64 n) ∷ some (page-type .val (filled h i)) ∷ some (vint w64 i) ∷ some (vint w64 (h .len))
+            (none ∷ some (vptr b o) ∷ some v ∷ some (vint w64 n) ∷ some (page-type .val (filled h i)) ∷ some (vint w64 i) ∷ none ∷ some (vint w64 (h .len))
             ∷ some (vint w64 (h .closed)) ∷ []))
 
 module _ {M : Type 1} (𝓤 : URA M) (H : Heap 𝓤) (A : Atoms 𝓤) (W : Given 𝓤 H A) (mem : Memory → SProp 𝓤) (run : Routine → Fun 𝓤) (𝓣 : Tables 𝓤 H)

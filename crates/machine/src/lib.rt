@@ -7,13 +7,15 @@ pub mod parts;
 // The constraint's fields as numbers. A field that a type does not have is 0; a kind that it does not have is 64.
 #[repr(C)]
 pub struct Rule {
-    // the type, 1 to 7
+    // the type, 1 to 8
     pub form: u64,
-    // source, event or first kind
+    // source, event, start or first kind
     pub first: u64,
-    // target or second kind
+    // target, stop or second kind
     pub second: u64,
+    // preempt or third kind
     pub third: u64,
+    // resume or fourth kind
     pub fourth: u64,
     // span or maximum
     pub span: u64,
@@ -34,10 +36,10 @@ pub struct Marks {
     pub early: u64,
     // how many sources are beyond the number of targets
     pub ahead: u64,
-    // where the last hidden point can be: from low to high
+    // where the last hidden point can be: from low to high; or how long the execution begun has run up to its last event
     pub low: u64,
     pub high: u64,
-    // how many of the groups begun have an event of the first to the fourth kind
+    // how many of the groups begun have an event of the first to the fourth kind; or, in first, the phase of an execution
     pub first: u64,
     pub second: u64,
     pub third: u64,

@@ -1,4 +1,4 @@
--- The contract's examples 1 to 12, and those of Delays without an upper limit, read as it says: the machine computes each verdict, with
+-- The contract's examples 1 to 12, those of Delays without an upper limit and those of ExecutionTime read as it says: the machine computes each verdict, with
 -- every step taken, and §3.6 makes it the definition's.
 use Prim.Native.Nat.{ℕ, _≤_}
 use native.Mathlib.Omega.{arith}
@@ -18,7 +18,7 @@ use Rattle.constraint.specs.declared.Answer.{Answer}
 use Rattle.constraint.specs.declared.Answer.the-variants.{Taken, Refused}
 use Rattle.constraint.specs.declared.Call.{Call}
 use Rattle.constraint.specs.declared.Constraint.{Constraint}
-use Rattle.constraint.specs.declared.Constraint.the-variants.{Delay, StrongDelay, Repeat, Sporadic, Order, StrongSynchronization2}
+use Rattle.constraint.specs.declared.Constraint.the-variants.{Delay, StrongDelay, Repeat, Sporadic, Order, StrongSynchronization2, ExecutionTime}
 use Rattle.constraint.specs.declared.Verdict.{Verdict}
 use Rattle.constraint.proofs.Judged.{never}
 use Rattle.constraint.proofs.FittingKinds.{kinds-none, kinds-more}
@@ -28,12 +28,13 @@ use Rattle.spans.specs.Repeat.{decideRepeat}
 use Rattle.points.specs.Sporadic.{laterSporadic, decideSporadic}
 use Rattle.pairs.specs.Order.{changesTo, decideOrder}
 use Rattle.groups.specs.StrongSynchronization.{decideStrongSynchronization}
+use Rattle.phases.specs.ExecutionTime.{whileIdle, whileRunning, whilePreempted, decideExecutionTime}
 use Rattle.row.specs.Machine.{rowOf, brokenRow, applied, changedRow, rowStep, rowVerdict}
 use Rattle.row.proofs.Exact.{Sound, Exact}
 use Rattle.queue.specs.Ring.{ring, pushRing, putRing}
 use Rattle.monitor.specs.Machine.{monitorOf, mapFirst, anyFirst, takenCall, stepOf, verdictOf}
 use Rattle.monitor.specs.Contract.{step, after, Recorded}
-use Rattle.monitor.specs.Examples.{Example, examples, unlimited-delays, stepsOf, AllRead}
+use Rattle.monitor.specs.Examples.{Example, examples, unlimited-delays, execution-times, stepsOf, AllRead}
 use Rattle.monitor.proofs.Demand.{start-follows, play-follows, verdict-reads}
 
 -- ---- what the machine computes
@@ -67,6 +68,12 @@ unfolding AllComputed Computed allTaken play monitorOf mapFirst anyFirst takenCa
 unlimited-computed =
     ((refl, refl), ((refl, refl), ((refl, refl), ((refl, refl), ((refl, refl), ((refl, refl), ((refl, refl), ((refl, refl), ((refl, refl), ((refl, refl), ((refl, refl), ((refl, refl), ((refl, refl), ((refl, refl), ((refl, refl), ((refl, refl), tt))))))))))))))))
 
+-- and for ExecutionTime
+execution-times-computed : AllComputed execution-times
+unfolding AllComputed Computed allTaken play monitorOf mapFirst anyFirst takenCall stepOf verdictOf rowOf brokenRow applied changedRow rowStep rowVerdict ring pushRing putRing whileIdle whileRunning whilePreempted decideExecutionTime
+execution-times-computed =
+    ((refl, refl), ((refl, refl), ((refl, refl), ((refl, refl), ((refl, refl), ((refl, refl), ((refl, refl), ((refl, refl), ((refl, refl), ((refl, refl), ((refl, refl), ((refl, refl), ((refl, refl), ((refl, refl), ((refl, refl), ((refl, refl), ((refl, refl), ((refl, refl), ((refl, refl), ((refl, refl), ((refl, refl), ((refl, refl), ((refl, refl), ((refl, refl), ((refl, refl), ((refl, refl), ((refl, refl), ((refl, refl), tt))))))))))))))))))))))))))))
+
 -- ---- each row is accepted
 
 accepted-one : (c : Constraint) → KindsFit (kinds c) → InRange c → LowerFirst c → Accepted (c ∷ [])
@@ -78,6 +85,11 @@ zero-fits = kinds-more 0 [] (omega arith, tt) kinds-none
 
 pair-fits : KindsFit (0 ∷ 1 ∷ [])
 pair-fits = kinds-more 0 (1 ∷ []) (omega arith, (omega arith, tt)) (kinds-more 1 [] (omega arith, tt) kinds-none)
+
+four-fit : KindsFit (0 ∷ 1 ∷ 2 ∷ 3 ∷ [])
+four-fit =
+    kinds-more 0 (1 ∷ 2 ∷ 3 ∷ []) (omega arith, (omega arith, (omega arith, (omega arith, tt))))
+    (kinds-more 1 (2 ∷ 3 ∷ []) (omega arith, (omega arith, (omega arith, tt))) (kinds-more 2 (3 ∷ []) (omega arith, (omega arith, tt)) (kinds-more 3 [] (omega arith, tt) kinds-none)))
 
 AllAccepted : List Example → Type 0
 AllAccepted [] = Unit {0}
@@ -140,6 +152,19 @@ unlimited-accepted =
     let last : Accepted (Delay 0 1 lastTime noLimit ∷ []) = unlimited lastTime (omega arith) in
     (two, (two, (two, (two, (two, (two, (two, (two, (two, (two, (two, (none, (none, (last, (last, (last, tt))))))))))))))))
 
+-- an ExecutionTime of any bounds in range
+execution-time : (low high : ℕ) → low ≤ high → high ≤ lastTime → Accepted (ExecutionTime 0 1 2 3 low high ∷ [])
+unfolding InRange LowerFirst
+execution-time low high first small = accepted-one (ExecutionTime 0 1 2 3 low high) four-fit (omega arith, (small, tt)) first
+
+execution-times-accepted : AllAccepted execution-times
+unfolding AllAccepted
+execution-times-accepted =
+    let usual : Accepted (ExecutionTime 0 1 2 3 2 5 ∷ []) = execution-time 2 5 (omega arith) (omega arith) in
+    let none : Accepted (ExecutionTime 0 1 2 3 0 0 ∷ []) = execution-time 0 0 (omega arith) (omega arith) in
+    let one : Accepted (ExecutionTime 0 1 2 3 1 1 ∷ []) = execution-time 1 1 (omega arith) (omega arith) in
+    (usual, (usual, (usual, (usual, (usual, (usual, (usual, (usual, (usual, (usual, (usual, (usual, (usual, (usual, (usual, (usual, (usual, (usual, (usual, (usual, (usual, (usual, (usual, (usual, (none, (none, (one, (one, tt))))))))))))))))))))))))))))
+
 -- ---- so each reads by the definitions what the machine computes
 
 -- calls that are all taken are the steps accepted
@@ -178,3 +203,6 @@ module _ (engine : (c : Constraint) → Sound c → Exact c) where
 
   pub unlimited-delays-read : AllRead unlimited-delays
   unlimited-delays-read = all-read unlimited-delays unlimited-accepted unlimited-computed
+
+  pub execution-times-read : AllRead execution-times
+  execution-times-read = all-read execution-times execution-times-accepted execution-times-computed

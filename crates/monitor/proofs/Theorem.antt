@@ -25,12 +25,12 @@ use Rattle.row.proofs.Exact.{Sound}
 use Rattle.row.proofs.Engine.{engine}
 use Rattle.monitor.specs.Machine.{monitorOf, stepOf, verdictOf}
 use Rattle.monitor.specs.Contract.{step, after, Recorded, Steps, Reading}
-use Rattle.monitor.specs.Examples.{examples, unlimited-delays, AllRead}
+use Rattle.monitor.specs.Examples.{examples, unlimited-delays, execution-times, AllRead}
 use Rattle.monitor.specs.declared.Monitor.{Monitor}
 use Rattle.monitor.specs.declared.Stepped.{Stepped}
 use Rattle.monitor.proofs.Demand.{promise, accepted-sound, steps-keep, reading-keeps}
 use Rattle.monitor.proofs.FittingRows.{sound-at}
-use Rattle.monitor.proofs.Examples.{examples-read, unlimited-delays-read}
+use Rattle.monitor.proofs.Examples.{examples-read, unlimited-delays-read, execution-times-read}
 
 -- over every table, every list of calls from a fresh monitor, and every row
 pub monitor-is-exact : Promise monitorOf step verdictOf
@@ -43,6 +43,10 @@ examples-hold = examples-read engine
 -- §5.1.6, §5.1.7
 pub unlimited-delays-hold : AllRead unlimited-delays
 unlimited-delays-hold = unlimited-delays-read engine
+
+-- §5.8.1 to §5.8.6
+pub execution-times-hold : AllRead execution-times
+execution-times-hold = execution-times-read engine
 
 -- what equals a step of the machine keeps the contract of a step
 pub step-kept : (m : Monitor) (s : Call) {result : Stepped} → result ≡ stepOf m s → Steps m s result

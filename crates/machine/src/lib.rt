@@ -36,14 +36,18 @@ pub struct Marks {
     pub early: u64,
     // how many sources are beyond the number of targets
     pub ahead: u64,
-    // where the last hidden point can be: from low to high; or how long the execution begun has run up to its last event
+    // where the last hidden point can be: from low to high
     pub low: u64,
     pub high: u64,
-    // how many of the groups begun have an event of the first to the fourth kind; or, in first, the phase of an execution
+    // how many of the groups begun have an event of the first to the fourth kind
     pub first: u64,
     pub second: u64,
     pub third: u64,
     pub fourth: u64,
+    // the phase: 0 between two executions, 1 in a running one, 2 in a preempted one
+    pub phase: u64,
+    // how long the execution begun has run up to its last event
+    pub ran: u64,
 }
 
 // What a row keeps beside its rule and its times.

@@ -1,5 +1,5 @@
--- ExecutionTime: no times are kept; `first` is the phase (0 idle, 1 running, 2 preempted), `last` one more than the time of the row's last
--- event, `low` how long the execution begun has run up to that event.
+-- ExecutionTime: no times are kept; `phase` is 0 between two executions, 1 in a running one and 2 in a preempted one, `last` one more than the
+-- time of the row's last event, `ran` how long the execution begun has run up to that event.
 use Prim.Native.Nat.{ℕ, _-_}
 use mathlib.Core.Bool.{true, false, cond, _&&_}
 use mathlib.Core.List.{List}
@@ -13,7 +13,7 @@ use Rattle.machine.specs.declared.Change.{Change}
 
 -- how long an execution that has run without a pause since its last event has run at t
 abbrev pub ranTo : Marks → ℕ → ℕ
-ranTo marks t = plus (marks .low) (plus t 1 - marks .last)
+ranTo marks t = plus (marks .ran) (plus t 1 - marks .last)
 
 -- the marks after an event at t: the phase, and how long the execution has run
 abbrev pub inPhase : Marks → ℕ → ℕ → ℕ → Marks
@@ -22,12 +22,14 @@ inPhase m phase t ran =
       last = plus t 1;
       early = m .early;
       ahead = m .ahead;
-      low = ran;
+      low = m .low;
       high = m .high;
-      first = phase;
+      first = m .first;
       second = m .second;
       third = m .third;
       fourth = m .fourth;
+      phase = phase;
+      ran = ran;
     }
 
 -- the row goes on between two executions, with one that runs from t on, or with one that is preempted at t; only a running one has a due time
@@ -53,12 +55,12 @@ whileRunning rule marks kind t =
 
 -- only a resume may come after a preempt
 unfoldable pub whilePreempted : Rule → Marks → ℕ → ℕ → Change
-whilePreempted rule marks kind t = cond (eqb kind (rule .fourth)) (runningFrom rule marks t (marks .low)) breaking
+whilePreempted rule marks kind t = cond (eqb kind (rule .fourth)) (runningFrom rule marks t (marks .ran)) breaking
 
 -- two events of the row never share a time
 unfoldable pub decideExecutionTime : Rule → Marks → List ℕ → ℕ → ℕ → Change
 decideExecutionTime rule marks times kind t =
     cond (ltb t (marks .last)) breaking
-    (cond (eqb (marks .first) 0) (whileIdle rule marks kind t)
-    (cond (eqb (marks .first) 1) (whileRunning rule marks kind t)
+    (cond (eqb (marks .phase) 0) (whileIdle rule marks kind t)
+    (cond (eqb (marks .phase) 1) (whileRunning rule marks kind t)
     (whilePreempted rule marks kind t)))

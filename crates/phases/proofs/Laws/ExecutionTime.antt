@@ -41,7 +41,7 @@ tells-below a b = split (ltb a b) (Tells (a < b)) (λ e. holds (ltb-true a b e))
 
 -- the phase that the marks say
 abbrev phaseIn : ℕ → ℕ → Phase
-phaseIn first low = cond (eqb first 0) idle (cond (eqb first 1) (runs low) (waits low))
+phaseIn phase ran = cond (eqb phase 0) idle (cond (eqb phase 1) (runs ran) (waits ran))
 
 -- by the two tests for it
 by-phase : (first : ℕ) (P : Bool → Bool → Type 0) → P true false → P false true → P false false → P (eqb first 0) (eqb first 1)
@@ -95,14 +95,14 @@ module _ (start stop preempt resume lower upper : ℕ) (sound : Sound (Execution
 
   record Keeps (past : List (ℕ × ℕ)) (marks : Marks) (times : List ℕ) : Type 0 where
     no-times : times ≡ []
-    stands : Stands past (phaseIn (marks .first) (marks .low)) (marks .last)
-    room : Room (phaseIn (marks .first) (marks .low))
+    stands : Stands past (phaseIn (marks .phase) (marks .ran)) (marks .last)
+    room : Room (phaseIn (marks .phase) (marks .ran))
 
   abbrev due : Marks → List ℕ → ℕ
-  due marks times = cond (eqb (marks .first) 1) (plus (marks .last) (upper - (marks .low + 1))) noLimit
+  due marks times = cond (eqb (marks .phase) 1) (plus (marks .last) (upper - (marks .ran + 1))) noLimit
 
   abbrev kept : Marks → List ℕ → Bool
-  kept marks times = eqb (marks .first) 0
+  kept marks times = eqb (marks .phase) 0
 
   -- ---- Events
 
@@ -155,23 +155,23 @@ module _ (start stop preempt resume lower upper : ℕ) (sound : Sound (Execution
             lost-now idle (marks .last) stands (λ further h. wrong (h .1, omega (arith, ends-room (runs 0) (t + 1) further (h .2))))
 
     -- a stop or a preempt may come in a running execution; the due time has seen to upper
-    module _ (from : marks .last ≤ t) (room : marks .low + 1 ≤ upper) (soon : t ≤ plus (marks .last) (upper - (marks .low + 1)))
-        (stands : Stands past (runs (marks .low)) (marks .last)) where
-      ran-is : ranTo marks t ≡ ranBy (marks .low) (marks .last) t
+    module _ (from : marks .last ≤ t) (room : marks .ran + 1 ≤ upper) (soon : t ≤ plus (marks .last) (upper - (marks .ran + 1)))
+        (stands : Stands past (runs (marks .ran)) (marks .last)) where
+      ran-is : ranTo marks t ≡ ranBy (marks .ran) (marks .last) t
       ran-is = omega (arith, small)
 
-      stop-next : k ≡ stop → lower ≤ ranTo marks t → (further : List (ℕ × ℕ)) → Ends (runs (marks .low)) (marks .last) ((k, t) ∷ further) ↔ Ends idle (t + 1) further
+      stop-next : k ≡ stop → lower ≤ ranTo marks t → (further : List (ℕ × ℕ)) → Ends (runs (marks .ran)) (marks .last) ((k, t) ∷ further) ↔ Ends idle (t + 1) further
       stop-next is long further = (to-idle, λ h. (from, inl (is, omega (arith, ran-is), omega (arith, small), h)))
         where
-          to-idle : Ends (runs (marks .low)) (marks .last) ((k, t) ∷ further) → Ends idle (t + 1) further
+          to-idle : Ends (runs (marks .ran)) (marks .last) ((k, t) ∷ further) → Ends idle (t + 1) further
           to-idle (late, inl (same, enough, short, later)) = later
           to-idle (late, inr (other, later)) = absurd (stop-apart (sym is ∙ other))
 
       preempt-next : k ≡ preempt → (further : List (ℕ × ℕ))
-          → Ends (runs (marks .low)) (marks .last) ((k, t) ∷ further) ↔ Ends (waits (ranTo marks t)) (t + 1) further
+          → Ends (runs (marks .ran)) (marks .last) ((k, t) ∷ further) ↔ Ends (waits (ranTo marks t)) (t + 1) further
       preempt-next is further = rw ran-is (to-waits, λ h. (from, inr (is, h)))
         where
-          to-waits : Ends (runs (marks .low)) (marks .last) ((k, t) ∷ further) → Ends (waits (ranBy (marks .low) (marks .last) t)) (t + 1) further
+          to-waits : Ends (runs (marks .ran)) (marks .last) ((k, t) ∷ further) → Ends (waits (ranBy (marks .ran) (marks .last) t)) (t + 1) further
           to-waits (late, inl (other, enough, short, later)) = absurd (stop-apart (sym other ∙ is))
           to-waits (late, inr (same, later)) = later
 
@@ -181,32 +181,32 @@ module _ (start stop preempt resume lower upper : ℕ) (sound : Sound (Execution
           turn (tells-and (tells-equal k stop) (tells-leb lower (ranTo marks t))) (tells-and (tells-equal k preempt) (tells-below (ranTo marks t) upper))
         where
           wrong : ¬ ((k ≡ stop) × (lower ≤ ranTo marks t)) → ¬ ((k ≡ preempt) × (ranTo marks t < upper)) → (further : List (ℕ × ℕ))
-              → ¬ Ends (runs (marks .low)) (marks .last) ((k, t) ∷ further)
+              → ¬ Ends (runs (marks .ran)) (marks .last) ((k, t) ∷ further)
           wrong no-stop no-preempt further (late, inl (is, enough, short, later)) = no-stop (is, omega (arith, ran-is))
           wrong no-stop no-preempt further (late, inr (is, later)) =
-              no-preempt (is, omega (arith, ran-is, ends-room (waits (ranBy (marks .low) (marks .last) t)) (t + 1) further later))
+              no-preempt (is, omega (arith, ran-is, ends-room (waits (ranBy (marks .ran) (marks .last) t)) (t + 1) further later))
 
           turn : {stops preempts : Bool} → Tells ((k ≡ stop) × (lower ≤ ranTo marks t)) stops → Tells ((k ≡ preempt) × (ranTo marks t < upper)) preempts
               → Turns past times k t (cond stops (idleFrom marks t) (cond preempts (preemptedFrom marks t (ranTo marks t)) breaking))
-          turn (holds (is, long)) preempts = idle-next (stands-more (runs (marks .low)) idle (marks .last) stands (stop-next is long))
+          turn (holds (is, long)) preempts = idle-next (stands-more (runs (marks .ran)) idle (marks .last) stands (stop-next is long))
           turn (fails no-stop) (holds (is, less)) =
               preempted-next (ranTo marks t) (omega arith)
-              (stands-more (runs (marks .low)) (waits (ranTo marks t)) (marks .last) stands (preempt-next is))
-          turn (fails no-stop) (fails no-preempt) = lost-now (runs (marks .low)) (marks .last) stands (wrong no-stop no-preempt)
+              (stands-more (runs (marks .ran)) (waits (ranTo marks t)) (marks .last) stands (preempt-next is))
+          turn (fails no-stop) (fails no-preempt) = lost-now (runs (marks .ran)) (marks .last) stands (wrong no-stop no-preempt)
 
     -- only a resume may come in a preempted one
-    preempted-turns : marks .last ≤ t → marks .low + 1 ≤ upper → Stands past (waits (marks .low)) (marks .last)
+    preempted-turns : marks .last ≤ t → marks .ran + 1 ≤ upper → Stands past (waits (marks .ran)) (marks .last)
         → Turns past times k t (whilePreempted rule marks k t)
     unfolding whilePreempted
     preempted-turns from room stands = turn (tells-equal k resume)
       where
-        turn : {test : Bool} → Tells (k ≡ resume) test → Turns past times k t (cond test (runningFrom rule marks t (marks .low)) breaking)
+        turn : {test : Bool} → Tells (k ≡ resume) test → Turns past times k t (cond test (runningFrom rule marks t (marks .ran)) breaking)
         turn (holds is) =
-            running-next (marks .low) room
-            (stands-more (waits (marks .low)) (runs (marks .low)) (marks .last) stands (λ further. (λ h. h .2, λ h. (from, is, h))))
-        turn (fails wrong) = lost-now (waits (marks .low)) (marks .last) stands (λ further h. wrong (h .1))
+            running-next (marks .ran) room
+            (stands-more (waits (marks .ran)) (runs (marks .ran)) (marks .last) stands (λ further. (λ h. h .2, λ h. (from, is, h))))
+        turn (fails wrong) = lost-now (waits (marks .ran)) (marks .last) stands (λ further h. wrong (h .1))
 
-    event-turns : Stands past (phaseIn (marks .first) (marks .low)) (marks .last) → Room (phaseIn (marks .first) (marks .low)) → t ≤ due marks times
+    event-turns : Stands past (phaseIn (marks .phase) (marks .ran)) (marks .last) → Room (phaseIn (marks .phase) (marks .ran)) → t ≤ due marks times
         → Turns past times k t (decideExecutionTime rule marks times k t)
     unfolding decideExecutionTime
     event-turns stands room soon = turn (tells-below t (marks .last))
@@ -214,22 +214,22 @@ module _ (start stop preempt resume lower upper : ℕ) (sound : Sound (Execution
         -- the marks' last time has passed
         in-phase : marks .last ≤ t
             → Turns past times k t
-            (cond (eqb (marks .first) 0) (whileIdle rule marks k t)
-            (cond (eqb (marks .first) 1) (whileRunning rule marks k t) (whilePreempted rule marks k t)))
+            (cond (eqb (marks .phase) 0) (whileIdle rule marks k t)
+            (cond (eqb (marks .phase) 1) (whileRunning rule marks k t) (whilePreempted rule marks k t)))
         in-phase from =
-            by-phase (marks .first)
-            (λ x y. Stands past (cond x idle (cond y (runs (marks .low)) (waits (marks .low)))) (marks .last)
-            → Room (cond x idle (cond y (runs (marks .low)) (waits (marks .low)))) → t ≤ cond y (plus (marks .last) (upper - (marks .low + 1))) noLimit
+            by-phase (marks .phase)
+            (λ x y. Stands past (cond x idle (cond y (runs (marks .ran)) (waits (marks .ran)))) (marks .last)
+            → Room (cond x idle (cond y (runs (marks .ran)) (waits (marks .ran)))) → t ≤ cond y (plus (marks .last) (upper - (marks .ran + 1))) noLimit
             → Turns past times k t (cond x (whileIdle rule marks k t) (cond y (whileRunning rule marks k t) (whilePreempted rule marks k t))))
             (λ st ro so. idle-turns from st) (λ st ro so. running-turns from ro so st) (λ st ro so. preempted-turns from ro st) stands room soon
 
         turn : {test : Bool} → Tells (t < marks .last) test
             → Turns past times k t
             (cond test breaking
-            (cond (eqb (marks .first) 0) (whileIdle rule marks k t)
-            (cond (eqb (marks .first) 1) (whileRunning rule marks k t) (whilePreempted rule marks k t))))
+            (cond (eqb (marks .phase) 0) (whileIdle rule marks k t)
+            (cond (eqb (marks .phase) 1) (whileRunning rule marks k t) (whilePreempted rule marks k t))))
         turn (holds early) =
-            let phase : Phase = phaseIn (marks .first) (marks .low) in
+            let phase : Phase = phaseIn (marks .phase) (marks .ran) in
             lost-now phase (marks .last) stands (λ further h. omega (arith, ends-rise phase (marks .last) ((k, t) ∷ further) h .0))
         turn (fails late) = in-phase (omega arith)
 
@@ -272,16 +272,16 @@ module _ (start stop preempt resume lower upper : ℕ) (sound : Sound (Execution
   too-late : (past : List (ℕ × ℕ)) (marks : Marks) (times : List ℕ) (t : ℕ) → Keeps past marks times → due marks times < t → t ≤ lastTime
       → (further : List (ℕ × ℕ)) → FirstFrom t further → ¬ Ends idle 0 (past ++ further)
   too-late past marks times t keeps passed recordable further first ends =
-      by-phase (marks .first)
-      (λ x y. cond y (plus (marks .last) (upper - (marks .low + 1))) noLimit < t → Room (cond x idle (cond y (runs (marks .low)) (waits (marks .low))))
-      → Ends (cond x idle (cond y (runs (marks .low)) (waits (marks .low)))) (marks .last) further → ⊥)
+      by-phase (marks .phase)
+      (λ x y. cond y (plus (marks .last) (upper - (marks .ran + 1))) noLimit < t → Room (cond x idle (cond y (runs (marks .ran)) (waits (marks .ran))))
+      → Ends (cond x idle (cond y (runs (marks .ran)) (waits (marks .ran)))) (marks .last) further → ⊥)
       (λ over room h. omega arith) (λ over room h. runs-out over room further first h) (λ over room h. omega arith)
       passed (keeps .room) (keeps .stands further .0 ends)
     where
-      runs-out : plus (marks .last) (upper - (marks .low + 1)) < t → marks .low + 1 ≤ upper → (es : List (ℕ × ℕ)) → FirstFrom t es
-          → ¬ Ends (runs (marks .low)) (marks .last) es
+      runs-out : plus (marks .last) (upper - (marks .ran + 1)) < t → marks .ran + 1 ≤ upper → (es : List (ℕ × ℕ)) → FirstFrom t es
+          → ¬ Ends (runs (marks .ran)) (marks .last) es
       runs-out over room [] first h = h
-      runs-out over room (e ∷ es) first h = omega (arith, h .0, E.ends-soon start stop preempt resume lower upper (marks .low) (marks .last) e es h)
+      runs-out over room (e ∷ es) first h = omega (arith, h .0, E.ends-soon start stop preempt resume lower upper (marks .ran) (marks .last) e es h)
 
   -- ---- Open
 
@@ -290,27 +290,27 @@ module _ (start stop preempt resume lower upper : ℕ) (sound : Sound (Execution
   WayOut now phase free = (es : List (ℕ × ℕ)) × OfKinds ks es × FirstFrom now es × Ends phase free es
 
   way-out : (now : ℕ) (past : List (ℕ × ℕ)) (marks : Marks) (times : List ℕ) → Keeps past marks times → now ≤ due marks times
-      → WayOut now (phaseIn (marks .first) (marks .low)) (marks .last)
+      → WayOut now (phaseIn (marks .phase) (marks .ran)) (marks .last)
   way-out now past marks times keeps soon =
-      by-phase (marks .first)
-      (λ x y. Room (cond x idle (cond y (runs (marks .low)) (waits (marks .low)))) → now ≤ cond y (plus (marks .last) (upper - (marks .low + 1))) noLimit
-      → WayOut now (cond x idle (cond y (runs (marks .low)) (waits (marks .low)))) (marks .last))
+      by-phase (marks .phase)
+      (λ x y. Room (cond x idle (cond y (runs (marks .ran)) (waits (marks .ran)))) → now ≤ cond y (plus (marks .last) (upper - (marks .ran + 1))) noLimit
+      → WayOut now (cond x idle (cond y (runs (marks .ran)) (waits (marks .ran)))) (marks .last))
       (λ room in-time. ([], tt, tt, tt)) running-out preempted-out (keeps .room) soon
     where
       of-place : (i : ℕ) → i < 4 → (at ks i ≤ lastKind) × (among (at ks i) ks ≡ true)
       of-place i h = (kinds-small ks (sound .kinds-fit) i h, among-at ks i h)
 
-      running-out : marks .low + 1 ≤ upper → now ≤ plus (marks .last) (upper - (marks .low + 1)) → WayOut now (runs (marks .low)) (marks .last)
+      running-out : marks .ran + 1 ≤ upper → now ≤ plus (marks .last) (upper - (marks .ran + 1)) → WayOut now (runs (marks .ran)) (marks .last)
       running-out room in-time = (
-        (stop, max now (marks .last + (lower - (marks .low + 1)))) ∷ [],
+        (stop, max now (marks .last + (lower - (marks .ran + 1)))) ∷ [],
         (of-place 1 (omega arith), tt),
         omega arith,
         (omega arith, inl (refl, omega arith, omega (arith, ordered), tt)),
       )
 
-      preempted-out : marks .low + 1 ≤ upper → now ≤ noLimit → WayOut now (waits (marks .low)) (marks .last)
+      preempted-out : marks .ran + 1 ≤ upper → now ≤ noLimit → WayOut now (waits (marks .ran)) (marks .last)
       preempted-out room in-time = (
-        (resume, max now (marks .last)) ∷ (stop, max now (marks .last) + max 1 (lower - marks .low)) ∷ [],
+        (resume, max now (marks .last)) ∷ (stop, max now (marks .last) + max 1 (lower - marks .ran)) ∷ [],
         (of-place 3 (omega arith), (of-place 1 (omega arith), tt)),
         omega arith,
         (omega arith, refl, (omega arith, inl (refl, omega arith, omega (arith, ordered), tt))),
@@ -330,8 +330,8 @@ module _ (start stop preempt resume lower upper : ℕ) (sound : Sound (Execution
 
   at-close : (past : List (ℕ × ℕ)) (marks : Marks) (times : List ℕ) → Keeps past marks times → Tells (Ends idle 0 past) (kept marks times)
   at-close past marks times keeps =
-      by-phase (marks .first)
-      (λ x y. (Ends idle 0 (past ++ []) ↔ Ends (cond x idle (cond y (runs (marks .low)) (waits (marks .low)))) (marks .last) [])
+      by-phase (marks .phase)
+      (λ x y. (Ends idle 0 (past ++ []) ↔ Ends (cond x idle (cond y (runs (marks .ran)) (waits (marks .ran)))) (marks .last) [])
       → Tells (Ends idle 0 past) x)
       (λ stands. holds (rw (append-nil past) at (stands .1 tt)))
       (λ stands. fails (λ h. stands .0 (rw (append-nil past) h)))

@@ -22,6 +22,10 @@ const INDICATOR_REAR: u8 = 10;
 const INDICATOR_MIRROR: u8 = 11;
 const DOOR_OPEN: u8 = 12;
 const CABIN_LIGHT: u8 = 13;
+const TASK_START: u8 = 14;
+const TASK_STOP: u8 = 15;
+const TASK_PREEMPT: u8 = 16;
+const TASK_RESUME: u8 = 17;
 
 /// The rows, in the order of `examples/README.md`.
 fn rows() -> Vec<Constraint> {
@@ -39,6 +43,14 @@ fn rows() -> Vec<Constraint> {
         },
         Constraint::Delay { source: DOOR_OPEN, target: CABIN_LIGHT, lower: 0, upper: 150 * ms },
         Constraint::Repeat { event: CAMERA_FRAME, span: 2, lower: 70 * ms, upper: NO_LIMIT },
+        Constraint::ExecutionTime {
+            start: TASK_START,
+            stop: TASK_STOP,
+            preempt: TASK_PREEMPT,
+            resume: TASK_RESUME,
+            lower: 2 * ms,
+            upper: 6 * ms,
+        },
     ]
 }
 
@@ -55,6 +67,7 @@ fn drive() -> Vec<Step> {
     events.extend([(60_000, INDICATOR_FRONT), (62_500, INDICATOR_MIRROR), (64_900, INDICATOR_REAR)]);
     events.extend([(90_000, INDICATOR_REAR), (90_000, INDICATOR_FRONT), (95_000, INDICATOR_MIRROR)]);
     events.push((70_100, DOOR_OPEN));
+    events.extend([(250_000, TASK_START), (254_500, TASK_PREEMPT), (262_100, TASK_RESUME), (263_600, TASK_STOP)]);
     events.sort_by_key(|&(time, _)| time);
     let mut steps: Vec<Step> = events.into_iter().map(|(time, kind)| Step::Event { kind, time }).collect();
     steps.push(Step::Tick { time: 300 * MILLISECOND });

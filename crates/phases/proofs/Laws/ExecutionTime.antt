@@ -26,7 +26,7 @@ use Rattle.machine.specs.declared.Rule.{Rule}
 use Rattle.machine.specs.declared.Marks.{Marks}
 use Rattle.machine.specs.declared.Change.{Change}
 use Rattle.machine.proofs.Exact.{Sound, OfKind, GoesOn, ByOutcome, outcome-map, Exact}
-use Rattle.machine.proofs.Tests.{Tells, holds, fails, tells-leb, tells-and}
+use Rattle.machine.proofs.Tests.{Tells, holds, fails, tells-leb, tells-same, tells-and}
 use Rattle.machine.proofs.SeveralKinds.{kinds-small, kinds-apart, by-place}
 use Rattle.phases.specs.ExecutionTime.{ranTo, inPhase, idleFrom, runningFrom, preemptedFrom, whileIdle, whileRunning, whilePreempted, decideExecutionTime}
 use Rattle.phases.proofs.Laws.Executions.{Phase, idle, runs, waits, ranBy, RisesFrom}
@@ -126,7 +126,7 @@ module _ (start stop preempt resume lower upper : ℕ) (sound : Sound (Execution
     keeps-next : (first ran : ℕ) → Stands (past ++ ((k, t) ∷ [])) (phaseIn first ran) (t + 1) → Room (phaseIn first ran)
         → Keeps (past ++ ((k, t) ∷ [])) (inPhase marks first t ran) times
     keeps-next first ran stands room =
-        let last-is : plus t 1 ≡ t + 1 = omega arith in
+        let last-is : inPhase marks first t ran .last ≡ t + 1 = omega arith in
         record {
           no-times = none;
           stands = subst (Stands (past ++ ((k, t) ∷ [])) (phaseIn first ran)) (sym last-is) stands;
@@ -178,7 +178,7 @@ module _ (start stop preempt resume lower upper : ℕ) (sound : Sound (Execution
       running-turns : Turns past times k t (whileRunning rule marks k t)
       unfolding whileRunning
       running-turns =
-          turn (tells-and (tells-equal k stop) (tells-leb lower (ranTo marks t))) (tells-and (tells-equal k preempt) (tells-below (ranTo marks t) upper))
+          turn (tells-and (tells-equal k stop) (tells-leb lower (ranTo marks t))) (tells-and (tells-equal k preempt) (tells-same (tells-leb _ upper) (λ h. omega arith) (λ h. omega arith)))
         where
           wrong : ¬ ((k ≡ stop) × (lower ≤ ranTo marks t)) → ¬ ((k ≡ preempt) × (ranTo marks t < upper)) → (further : List (ℕ × ℕ))
               → ¬ Ends (runs (marks .ran)) (marks .last) ((k, t) ∷ further)

@@ -227,9 +227,14 @@ synchronization4-contingent =
     alike (suc (suc (suc (suc j)))) h = absurd (omega arith)
 
 -- the stretch from preempt to resume is no running time
-pub execution-time-contingent : Contingent (ExecutionTime 0 1 2 3 2 5) (event 0 0 ∷ event 2 4 ∷ event 3 1000 ∷ event 1 1001 ∷ []) (event 0 0 ∷ event 1 1 ∷ [])
+pub execution-time-contingent
+    : Contingent (ExecutionTime 0 1 2 3 2 5) (event 0 0 ∷ event 2 4 ∷ event 3 1000 ∷ event 1 1001 ∷ []) (event 0 0 ∷ event 1 1 ∷ [])
 unfolding Meets MeetsExecutionTime own
-execution-time-contingent = record { can-be-met = (one ∷ [], record { are = refl; rise = λ i h. rise i h; run = omega arith }); can-be-missed = λ m. short (m .0) (m .1) }
+execution-time-contingent =
+    record {
+      can-be-met = (one ∷ [], record { are = refl; rise = λ i h. rise i h; run = omega arith });
+      can-be-missed = λ m. short (m .0) (m .1);
+    }
   where
     one : Execution
     one = record { starts = 0; pauses = (4, 1000) ∷ []; stops = 1001 }

@@ -1,18 +1,22 @@
-//! Long lists of calls over an ExecutionTime, beside the model: it stays open for long, and breaks in every way there is.
+//! Long lists of calls over an ExecutionTime, beside the model: it stays open for long, and breaks in every way.
 
 use checks::beside::{fresh, take, verdict};
 use model::random::Random;
 use model::random::executions::{SeenWays, next_step, row, way};
 use model::{Constraint, Monitor, Step, Verdict};
 
-/// Plays a list until the row is broken or the recording closed, at most so many steps; gives the number of steps taken.
+/// Plays a list until the row is broken or the recording closed, at most so many steps; gives the number of steps.
 fn play(random: &mut Random, row: &Constraint, steps: u64, wrong: u64, ways: &mut SeenWays) -> u64 {
     let rows = std::slice::from_ref(row);
     let (mut monitor, mut model) = (fresh(rows), Monitor::fresh(rows).expect("an accepted row"));
     while model.recorded().count() < steps {
         let step = next_step(random, row, model.recorded(), wrong);
         let before = model.recorded().clone();
-        assert_eq!((take(&mut monitor, step), model.step(step)), (Ok(()), Ok(())), "{step} of {row:?} after {before:?}");
+        assert_eq!(
+            (take(&mut monitor, step), model.step(step)),
+            (Ok(()), Ok(())),
+            "{step} of {row:?} after {before:?}"
+        );
         assert_eq!(verdict(&monitor, 0), model.verdict(0), "{step} of {row:?} after {before:?}");
         if matches!(model.verdict(0), Ok(Verdict::Broken(_))) {
             ways.way(way(row, &before, step));

@@ -28,7 +28,8 @@ use Rattle.machine.specs.declared.Change.{Change}
 use Rattle.machine.proofs.Exact.{Sound, OfKind, GoesOn, ByOutcome, outcome-map, Exact}
 use Rattle.machine.proofs.Tests.{Tells, holds, fails, tells-leb, tells-same, tells-and}
 use Rattle.machine.proofs.SeveralKinds.{kinds-small, kinds-apart, by-place}
-use Rattle.phases.specs.ExecutionTime.{ranTo, inPhase, idleFrom, runningFrom, preemptedFrom, whileIdle, whileRunning, whilePreempted, decideExecutionTime}
+use Rattle.phases.specs.ExecutionTime.{ranTo, inPhase, idleFrom, runningFrom, preemptedFrom}
+use Rattle.phases.specs.ExecutionTime.{whileIdle, whileRunning, whilePreempted, decideExecutionTime}
 use Rattle.phases.proofs.Laws.Executions.{Phase, idle, runs, waits, ranBy, RisesFrom}
 use Rattle.phases.proofs.Laws.Executions as E
 use Rattle.phases.proofs.Laws.Continued.{own-event, FirstFrom, own-late, stepsFor, OfKinds, own-steps, own-continues}
@@ -39,11 +40,13 @@ tells-equal a b = split (eqb a b) (Tells (a ≡ b)) (λ e. holds (eqb-true a b e
 tells-below : (a b : ℕ) → Tells (a < b) (ltb a b)
 tells-below a b = split (ltb a b) (Tells (a < b)) (λ e. holds (ltb-true a b e)) (λ e. fails (omega (arith, ltb-false a b e)))
 
--- the phase that the marks say
-abbrev phaseIn : ℕ → ℕ → Phase
-phaseIn phase ran = cond (eqb phase 0) idle (cond (eqb phase 1) (runs ran) (waits ran))
+-- the phase that the marks say, by the two tests for it
+abbrev phaseBy : Bool → Bool → ℕ → Phase
+phaseBy is-idle is-running ran = cond is-idle idle (cond is-running (runs ran) (waits ran))
 
--- by the two tests for it
+abbrev phaseIn : ℕ → ℕ → Phase
+phaseIn phase ran = phaseBy (eqb phase 0) (eqb phase 1) ran
+
 by-phase : (first : ℕ) (P : Bool → Bool → Type 0) → P true false → P false true → P false false → P (eqb first 0) (eqb first 1)
 by-phase first P is-idle is-running is-preempted =
     split (eqb first 0) (λ x. P x (eqb first 1))
@@ -98,8 +101,12 @@ module _ (start stop preempt resume lower upper : ℕ) (sound : Sound (Execution
     stands : Stands past (phaseIn (marks .phase) (marks .ran)) (marks .last)
     room : Room (phaseIn (marks .phase) (marks .ran))
 
+  -- only a running execution has a due time
+  abbrev dueBy : Bool → Marks → ℕ
+  dueBy is-running marks = cond is-running (plus (marks .last) (upper - (marks .ran + 1))) noLimit
+
   abbrev due : Marks → List ℕ → ℕ
-  due marks times = cond (eqb (marks .phase) 1) (plus (marks .last) (upper - (marks .ran + 1))) noLimit
+  due marks times = dueBy (eqb (marks .phase) 1) marks
 
   abbrev kept : Marks → List ℕ → Bool
   kept marks times = eqb (marks .phase) 0
@@ -136,11 +143,13 @@ module _ (start stop preempt resume lower upper : ℕ) (sound : Sound (Execution
     idle-next : Stands (past ++ ((k, t) ∷ [])) idle (t + 1) → Turns past times k t (idleFrom marks t)
     idle-next stands = record { live = keeps-next 0 0 stands tt; due-is = refl; kept-is = refl; in-time = omega arith }
 
-    running-next : (ran : ℕ) → ran + 1 ≤ upper → Stands (past ++ ((k, t) ∷ [])) (runs ran) (t + 1) → Turns past times k t (runningFrom rule marks t ran)
+    running-next : (ran : ℕ) → ran + 1 ≤ upper → Stands (past ++ ((k, t) ∷ [])) (runs ran) (t + 1)
+        → Turns past times k t (runningFrom rule marks t ran)
     running-next ran room stands =
         record { live = keeps-next 1 ran stands room; due-is = omega (arith, small); kept-is = refl; in-time = omega (arith, small) }
 
-    preempted-next : (ran : ℕ) → ran + 1 ≤ upper → Stands (past ++ ((k, t) ∷ [])) (waits ran) (t + 1) → Turns past times k t (preemptedFrom marks t ran)
+    preempted-next : (ran : ℕ) → ran + 1 ≤ upper → Stands (past ++ ((k, t) ∷ [])) (waits ran) (t + 1)
+        → Turns past times k t (preemptedFrom marks t ran)
     preempted-next ran room stands = record { live = keeps-next 2 ran stands room; due-is = refl; kept-is = refl; in-time = omega arith }
 
     -- only a start may come between two executions, and none where there is no time to run
@@ -160,7 +169,8 @@ module _ (start stop preempt resume lower upper : ℕ) (sound : Sound (Execution
       ran-is : ranTo marks t ≡ ranBy (marks .ran) (marks .last) t
       ran-is = omega (arith, small)
 
-      stop-next : k ≡ stop → lower ≤ ranTo marks t → (further : List (ℕ × ℕ)) → Ends (runs (marks .ran)) (marks .last) ((k, t) ∷ further) ↔ Ends idle (t + 1) further
+      stop-next : k ≡ stop → lower ≤ ranTo marks t → (further : List (ℕ × ℕ))
+          → Ends (runs (marks .ran)) (marks .last) ((k, t) ∷ further) ↔ Ends idle (t + 1) further
       stop-next is long further = (to-idle, λ h. (from, inl (is, omega (arith, ran-is), omega (arith, small), h)))
         where
           to-idle : Ends (runs (marks .ran)) (marks .last) ((k, t) ∷ further) → Ends idle (t + 1) further
@@ -178,7 +188,8 @@ module _ (start stop preempt resume lower upper : ℕ) (sound : Sound (Execution
       running-turns : Turns past times k t (whileRunning rule marks k t)
       unfolding whileRunning
       running-turns =
-          turn (tells-and (tells-equal k stop) (tells-leb lower (ranTo marks t))) (tells-and (tells-equal k preempt) (tells-same (tells-leb _ upper) (λ h. omega arith) (λ h. omega arith)))
+          turn (tells-and (tells-equal k stop) (tells-leb lower (ranTo marks t)))
+          (tells-and (tells-equal k preempt) (tells-same (tells-leb _ upper) (λ h. omega arith) (λ h. omega arith)))
         where
           wrong : ¬ ((k ≡ stop) × (lower ≤ ranTo marks t)) → ¬ ((k ≡ preempt) × (ranTo marks t < upper)) → (further : List (ℕ × ℕ))
               → ¬ Ends (runs (marks .ran)) (marks .last) ((k, t) ∷ further)
@@ -186,7 +197,8 @@ module _ (start stop preempt resume lower upper : ℕ) (sound : Sound (Execution
           wrong no-stop no-preempt further (late, inr (is, later)) =
               no-preempt (is, omega (arith, ran-is, ends-room (waits (ranBy (marks .ran) (marks .last) t)) (t + 1) further later))
 
-          turn : {stops preempts : Bool} → Tells ((k ≡ stop) × (lower ≤ ranTo marks t)) stops → Tells ((k ≡ preempt) × (ranTo marks t < upper)) preempts
+          turn : {stops preempts : Bool} → Tells ((k ≡ stop) × (lower ≤ ranTo marks t)) stops
+              → Tells ((k ≡ preempt) × (ranTo marks t < upper)) preempts
               → Turns past times k t (cond stops (idleFrom marks t) (cond preempts (preemptedFrom marks t (ranTo marks t)) breaking))
           turn (holds (is, long)) preempts = idle-next (stands-more (runs (marks .ran)) idle (marks .last) stands (stop-next is long))
           turn (fails no-stop) (holds (is, less)) =
@@ -218,8 +230,8 @@ module _ (start stop preempt resume lower upper : ℕ) (sound : Sound (Execution
             (cond (eqb (marks .phase) 1) (whileRunning rule marks k t) (whilePreempted rule marks k t)))
         in-phase from =
             by-phase (marks .phase)
-            (λ x y. Stands past (cond x idle (cond y (runs (marks .ran)) (waits (marks .ran)))) (marks .last)
-            → Room (cond x idle (cond y (runs (marks .ran)) (waits (marks .ran)))) → t ≤ cond y (plus (marks .last) (upper - (marks .ran + 1))) noLimit
+            (λ x y. Stands past (phaseBy x y (marks .ran)) (marks .last)
+            → Room (phaseBy x y (marks .ran)) → t ≤ dueBy y marks
             → Turns past times k t (cond x (whileIdle rule marks k t) (cond y (whileRunning rule marks k t) (whilePreempted rule marks k t))))
             (λ st ro so. idle-turns from st) (λ st ro so. running-turns from ro so st) (λ st ro so. preempted-turns from ro st) stands room soon
 
@@ -260,7 +272,8 @@ module _ (start stop preempt resume lower upper : ℕ) (sound : Sound (Execution
   event-does {steps} {marks} {times} {k} {t} live is a soon =
       outcome-map (decideExecutionTime rule marks times k t .breaks)
       (λ lost. shut (steps ++ (event k t ∷ [])) (rw (own-event ks k t steps is) (λ further first. lost further)))
-      (subst (λ (past : List (ℕ × ℕ)). GoesOn (Keeps past) due kept times t (decideExecutionTime rule marks times k t)) (sym (own-event ks k t steps is)))
+      (subst (λ (past : List (ℕ × ℕ)). GoesOn (Keeps past) due kept times t (decideExecutionTime rule marks times k t))
+      (sym (own-event ks k t steps is)))
       (event-turns (own ks steps) marks times k t (a .time-small) (live .no-times) (live .stands) (live .room) soon)
 
   -- ---- Ticks
@@ -273,8 +286,8 @@ module _ (start stop preempt resume lower upper : ℕ) (sound : Sound (Execution
       → (further : List (ℕ × ℕ)) → FirstFrom t further → ¬ Ends idle 0 (past ++ further)
   too-late past marks times t keeps passed recordable further first ends =
       by-phase (marks .phase)
-      (λ x y. cond y (plus (marks .last) (upper - (marks .ran + 1))) noLimit < t → Room (cond x idle (cond y (runs (marks .ran)) (waits (marks .ran))))
-      → Ends (cond x idle (cond y (runs (marks .ran)) (waits (marks .ran)))) (marks .last) further → ⊥)
+      (λ x y. dueBy y marks < t → Room (phaseBy x y (marks .ran))
+      → Ends (phaseBy x y (marks .ran)) (marks .last) further → ⊥)
       (λ over room h. omega arith) (λ over room h. runs-out over room further first h) (λ over room h. omega arith)
       passed (keeps .room) (keeps .stands further .0 ends)
     where
@@ -293,8 +306,8 @@ module _ (start stop preempt resume lower upper : ℕ) (sound : Sound (Execution
       → WayOut now (phaseIn (marks .phase) (marks .ran)) (marks .last)
   way-out now past marks times keeps soon =
       by-phase (marks .phase)
-      (λ x y. Room (cond x idle (cond y (runs (marks .ran)) (waits (marks .ran)))) → now ≤ cond y (plus (marks .last) (upper - (marks .ran + 1))) noLimit
-      → WayOut now (cond x idle (cond y (runs (marks .ran)) (waits (marks .ran)))) (marks .last))
+      (λ x y. Room (phaseBy x y (marks .ran)) → now ≤ dueBy y marks
+      → WayOut now (phaseBy x y (marks .ran)) (marks .last))
       (λ room in-time. ([], tt, tt, tt)) running-out preempted-out (keeps .room) soon
     where
       of-place : (i : ℕ) → i < 4 → (at ks i ≤ lastKind) × (among (at ks i) ks ≡ true)
@@ -331,7 +344,7 @@ module _ (start stop preempt resume lower upper : ℕ) (sound : Sound (Execution
   at-close : (past : List (ℕ × ℕ)) (marks : Marks) (times : List ℕ) → Keeps past marks times → Tells (Ends idle 0 past) (kept marks times)
   at-close past marks times keeps =
       by-phase (marks .phase)
-      (λ x y. (Ends idle 0 (past ++ []) ↔ Ends (cond x idle (cond y (runs (marks .ran)) (waits (marks .ran)))) (marks .last) [])
+      (λ x y. (Ends idle 0 (past ++ []) ↔ Ends (phaseBy x y (marks .ran)) (marks .last) [])
       → Tells (Ends idle 0 past) x)
       (λ stands. holds (rw (append-nil past) at (stands .1 tt)))
       (λ stands. fails (λ h. stands .0 (rw (append-nil past) h)))

@@ -22,7 +22,10 @@ Rise es = (i : ℕ) → i + 1 < length es → at (map (λ e. e .1) es) i < at (m
 
 rises-behind : (e : ℕ × ℕ) (es : List (ℕ × ℕ)) → Rise (e ∷ es) → RisesFrom (e .1 + 1) es
 rises-behind e [] rise = tt
-rises-behind e (f ∷ es) rise = (omega (arith, rise 0 (omega arith)), rises-behind f es (λ i h. let e : suc i + 1 ≡ suc (i + 1) = omega arith in rw e at (rise (suc i) (omega arith))))
+rises-behind e (f ∷ es) rise = (
+  omega (arith, rise 0 (omega arith)),
+  rises-behind f es (λ i h. let next : suc i + 1 ≡ suc (i + 1) = omega arith in rw next at (rise (suc i) (omega arith))),
+)
 
 rises-all : (es : List (ℕ × ℕ)) → Rise es → RisesFrom 0 es
 rises-all [] rise = tt

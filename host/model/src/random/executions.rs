@@ -1,4 +1,4 @@
-//! Random lists of calls over one ExecutionTime: such as keep it open for long, and such as break it in every way there is.
+//! Random lists of calls over one ExecutionTime: such as keep it open for long, and such as break it in every way.
 
 use super::Random;
 use crate::constraint::Constraint;

@@ -163,8 +163,13 @@ impl Load {
 
     /// How many rows the events of the drive concern, from the fewest to the most.
     pub fn concerned(&self) -> (usize, usize) {
-        let rows = |kind| self.rows.iter().filter(|row| row.kinds().contains(&kind)).count();
-        let kinds = (0..64).map(rows).filter(|rows| *rows > 0);
-        kinds.fold((usize::MAX, 0), |(fewest, most), rows| (fewest.min(rows), most.max(rows)))
+        let rows = |step: &Step| match step {
+            Step::Event { kind, .. } => Some(self.rows.iter().filter(|row| row.kinds().contains(kind)).count()),
+            _ => None,
+        };
+        self.steps
+            .iter()
+            .filter_map(rows)
+            .fold((usize::MAX, 0), |(fewest, most), rows| (fewest.min(rows), most.max(rows)))
     }
 }

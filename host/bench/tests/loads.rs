@@ -19,7 +19,7 @@ fn thirty_two_rows_of_all_types() {
         assert_eq!(load.rows.len(), 32);
         assert!((1..=LAST_TYPE).all(|type_byte| load.rows.iter().map(types).any(|one| one == type_byte)));
     }
-    assert_eq!((sparse(10).concerned(), dense(10).concerned()), ((1, 2), (15, 22)));
+    assert_eq!((sparse(1_000).concerned(), dense(1_000).concerned()), ((1, 2), (15, 22)));
 }
 
 #[test]

@@ -104,6 +104,8 @@
  *   5 Burst                   event, maximum, length, minimum              19
  *   6 Order                   source, target                                3
  *   7 StrongSynchronization   n from 2 to 4, n kinds, tolerance        10 + n
+ *   8 ExecutionTime           start, stop, preempt, resume,
+ *                             lower, upper                                 21
  *
  * Spans and maxima go from 1 to 64. Where the upper of type 1, 3 or 4 is
  * 2^64 - 1, DELKUTHI_NO_LIMIT, there is no upper limit.
@@ -164,6 +166,15 @@
  *                 apart, and so are the second, the third, and so on. A group
  *                 that lacks a kind breaks the row once the clock is past its
  *                 first event + tolerance, and at the close.
+ *   8 ExecutionTime
+ *                 The row's events come as a start, any number of pairs of a
+ *                 preempt and a resume, a stop, and again from a start, no two
+ *                 at the same time. The running time, stop minus start less
+ *                 the stretches from preempt to resume, is lower to upper. An
+ *                 event that may not come next breaks the row, and so does
+ *                 the clock once the running time is past upper, a preempt
+ *                 after which no time is left to run, and a close after a
+ *                 start and before its stop.
  *
  *
  * A BENCH LOOP
@@ -260,12 +271,12 @@ extern "C" {
 #define DELKUTHI_NO_LIMIT UINT64_C(18446744073709551615)
 
 /*
- * A monitor: 23,072 bytes, aligned as a uint64_t is. Put it on the stack, in
+ * A monitor: 23,584 bytes, aligned as a uint64_t is. Put it on the stack, in
  * static memory, on a heap or in a struct of your own, and give it to
  * delkuthi_fresh first. What its words mean is the library's own business.
  */
 typedef struct delkuthi_monitor {
-    uint64_t words[2884];
+    uint64_t words[2948];
 } delkuthi_monitor;
 
 /* Returns the version of the library, which is that of its own header. */
@@ -485,6 +496,19 @@ static inline delkuthi_row delkuthi_strong_synchronization(
     for (i = 0; i < n && i < 4; i++)
         row.body[2 + i] = kinds[i];
     return delkuthi_row_time(row, 2 + i, tolerance);
+}
+
+static inline delkuthi_row delkuthi_execution_time(uint8_t start, uint8_t stop,
+                                                   uint8_t preempt,
+                                                   uint8_t resume,
+                                                   uint64_t lower,
+                                                   uint64_t upper)
+{
+    delkuthi_row row = delkuthi_row_bytes(8, start, stop);
+
+    row.body[3] = preempt;
+    row.body[4] = resume;
+    return delkuthi_row_time(delkuthi_row_time(row, 5, lower), 13, upper);
 }
 
 /* The table writer; rows_size is in bytes. delkuthi_make_table calls it. */

@@ -12,22 +12,23 @@ use borrow.Author.Tests.{eq-eqb, ne-eqb}
 use Rattle.constraint.specs.Limits.{lastKind}
 use Rattle.constraint.specs.Steps.{Step, event, tick, close, at, times, among, own, clockFrom, clock, closed}
 use Rattle.constraint.specs.Meets.{NotLater, Meets, MeetsDelay, MeetsStrongDelay, MeetsRepeat, MeetsSporadic, MeetsBurst, MeetsOrder}
-use Rattle.constraint.specs.Meets.{MeetsStrongSynchronization}
+use Rattle.constraint.specs.Meets.{MeetsStrongSynchronization, MeetsExecutionTime}
 use Rattle.constraint.specs.Continuation.{EventInOrder, Continues, stop, more, Open}
 use Rattle.constraint.specs.Accepted.{kinds}
 use Rattle.constraint.specs.declared.Constraint.{Constraint}
 use Rattle.constraint.specs.declared.Constraint.the-variants.{Delay, StrongDelay, Repeat, Sporadic, Burst, Order, StrongSynchronization2, StrongSynchronization3, StrongSynchronization4}
+use Rattle.constraint.specs.declared.Constraint.the-variants.{ExecutionTime}
 use Rattle.constraint.proofs.Lists.{split, both, Each, each-none, each-cons, Rising, rising-right, rising-across, rising-snoc}
 use Rattle.constraint.proofs.History.{times-append, times-own, times-tick, times-close, own-append, own-tick, own-close, clock-append, clock-later, clock-event, clock-tick, clock-close, closed-event, closed-tick, closed-close, Accepts, with-time}
 
 -- ---- a row looks only at its own events and the clock
 
 -- the times of one kind among some events
-timesIn : ℕ → List (ℕ × ℕ) → List ℕ
+unfoldable pub timesIn : ℕ → List (ℕ × ℕ) → List ℕ
 timesIn k [] = []
 timesIn k (e ∷ es) = cond (eqb (e .0) k) (e .1 ∷ timesIn k es) (timesIn k es)
 
-own-times : (ks : List ℕ) (k : ℕ) → among k ks ≡ true → (steps : List Step) → times k steps ≡ timesIn k (own ks steps)
+pub own-times : (ks : List ℕ) (k : ℕ) → among k ks ≡ true → (steps : List Step) → times k steps ≡ timesIn k (own ks steps)
 unfolding times own timesIn
 own-times ks k is [] = refl
 own-times ks k is (event j t ∷ steps) =
@@ -38,7 +39,7 @@ own-times ks k is (event j t ∷ steps) =
 own-times ks k is (tick t ∷ steps) = own-times ks k is steps
 own-times ks k is (close ∷ steps) = own-times ks k is steps
 
-among-at : (ks : List ℕ) (i : ℕ) → i < length ks → among (at ks i) ks ≡ true
+pub among-at : (ks : List ℕ) (i : ℕ) → i < length ks → among (at ks i) ks ≡ true
 among-at [] i h = absurd (omega arith)
 among-at (k ∷ ks) zero h = rw (eq-eqb k k refl)
 among-at (k ∷ ks) (suc i) h = rw (among-at ks i (omega arith)) (or-true (eqb (at ks i) k))
@@ -73,26 +74,29 @@ sporadic-earlier lower upper jitter minimum events now later h ((points, hidden,
     ((points, hidden, λ i e. not-later-earlier (at points i + jitter) now later h (last i e)), apart)
 
 -- what a row says of some events and a clock it says of the same events and every earlier clock
-meets-same-times : (c : Constraint) (a b : List Step) → SameTimes (kinds c) a b → clock b ≤ clock a → Meets c a → Meets c b
+meets-same-times : (c : Constraint) (a b : List Step) → own (kinds c) a ≡ own (kinds c) b → SameTimes (kinds c) a b → clock b ≤ clock a
+    → Meets c a → Meets c b
 unfolding Meets
-meets-same-times (Delay source target lower upper) a b same earlier m =
+meets-same-times (Delay source target lower upper) a b in-order same earlier m =
     subst₂ (MeetsDelay lower upper) (same 0 (omega arith)) (same 1 (omega arith)) m
-meets-same-times (StrongDelay source target lower upper) a b same earlier m =
+meets-same-times (StrongDelay source target lower upper) a b in-order same earlier m =
     subst₂ (MeetsStrongDelay lower upper) (same 0 (omega arith)) (same 1 (omega arith)) m
-meets-same-times (Repeat kind span lower upper) a b same earlier m =
+meets-same-times (Repeat kind span lower upper) a b in-order same earlier m =
     subst (λ (ts : List ℕ). MeetsRepeat span lower upper ts (clock b)) (same 0 (omega arith))
     (repeat-earlier span lower upper _ (clock b) (clock a) earlier m)
-meets-same-times (Sporadic kind lower upper jitter minimum) a b same earlier m =
+meets-same-times (Sporadic kind lower upper jitter minimum) a b in-order same earlier m =
     subst (λ (ts : List ℕ). MeetsSporadic lower upper jitter minimum ts (clock b)) (same 0 (omega arith))
     (sporadic-earlier lower upper jitter minimum _ (clock b) (clock a) earlier m)
-meets-same-times (Burst kind maximum len minimum) a b same earlier m = subst (MeetsBurst maximum len minimum) (same 0 (omega arith)) m
-meets-same-times (Order source target) a b same earlier m = subst₂ MeetsOrder (same 0 (omega arith)) (same 1 (omega arith)) m
-meets-same-times (StrongSynchronization2 x y tolerance) a b same earlier m = synchronized-same (x ∷ y ∷ []) tolerance a b same m
-meets-same-times (StrongSynchronization3 x y z tolerance) a b same earlier m = synchronized-same (x ∷ y ∷ z ∷ []) tolerance a b same m
-meets-same-times (StrongSynchronization4 x y z w tolerance) a b same earlier m = synchronized-same (x ∷ y ∷ z ∷ w ∷ []) tolerance a b same m
+meets-same-times (Burst kind maximum len minimum) a b in-order same earlier m = subst (MeetsBurst maximum len minimum) (same 0 (omega arith)) m
+meets-same-times (Order source target) a b in-order same earlier m = subst₂ MeetsOrder (same 0 (omega arith)) (same 1 (omega arith)) m
+meets-same-times (StrongSynchronization2 x y tolerance) a b in-order same earlier m = synchronized-same (x ∷ y ∷ []) tolerance a b same m
+meets-same-times (StrongSynchronization3 x y z tolerance) a b in-order same earlier m = synchronized-same (x ∷ y ∷ z ∷ []) tolerance a b same m
+meets-same-times (StrongSynchronization4 x y z w tolerance) a b in-order same earlier m = synchronized-same (x ∷ y ∷ z ∷ w ∷ []) tolerance a b same m
+meets-same-times (ExecutionTime x y z w lower upper) a b in-order same earlier m =
+    subst (MeetsExecutionTime x y z w lower upper) in-order m
 
 pub meets-same : (c : Constraint) (a b : List Step) → own (kinds c) a ≡ own (kinds c) b → clock b ≤ clock a → Meets c a → Meets c b
-meets-same c a b same earlier m = meets-same-times c a b (same-times (kinds c) a b same) earlier m
+meets-same c a b same earlier m = meets-same-times c a b same (same-times (kinds c) a b same) earlier m
 
 -- ---- what a continuation is made of
 

@@ -1,17 +1,18 @@
 -- What a reader would check first: a list of calls has one list of answers and one record, a row is open before any step, and each definition can be met and can be missed.
-use Prim.Native.Nat.{ℕ, zero, suc, _+_, _^_, _≤_, _<_}
+use Prim.Native.Nat.{ℕ, zero, suc, _+_, _-_, _^_, _≤_, _<_}
 use native.Mathlib.Omega.{arith}
-use mathlib.Core.Path.{_≡_, refl, sym, ap₂, subst}
-use mathlib.Core.List.{List, [], _∷_}
+use mathlib.Core.Path.{_≡_, refl, sym, ap, ap₂, subst}
+use mathlib.Core.List.{List, [], _∷_, _++_, map}
 use mathlib.Core.Logic.{_⊎_, inl, inr, _↔_, ⊎-elim}
 use mathlib.Core.Bool.{Bool, _&&_, _||_}
 use lib.ListN.{length}
 use lib.Dec.{leb}
 use borrow.Author.Tests.{ne-eqb}
 use Rattle.constraint.specs.Limits.{noLimit}
-use Rattle.constraint.specs.Steps.{Step, event, tick, at, times, clockFrom}
-use Rattle.constraint.specs.Meets.{Between, NotLater, Apart, SpansApart, AtLeastApart, HiddenPoints}
-use Rattle.constraint.specs.Meets.{Meets, MeetsDelay, MeetsStrongDelay, MeetsRepeat, MeetsSporadic, MeetsBurst, MeetsOrder, MeetsStrongSynchronization}
+use Rattle.constraint.specs.Steps.{Step, event, tick, at, times, clockFrom, own}
+use Rattle.constraint.specs.Meets.{Between, NotLater, Apart, SpansApart, AtLeastApart, HiddenPoints, Execution, Executes, paused, pauseEvents, executionEvents}
+use Rattle.constraint.specs.Meets.{Meets, MeetsDelay, MeetsStrongDelay, MeetsRepeat, MeetsSporadic, MeetsBurst, MeetsOrder}
+use Rattle.constraint.specs.Meets.{MeetsStrongSynchronization, MeetsExecutionTime}
 use Rattle.constraint.specs.Waiting.{answered}
 use Rattle.constraint.specs.Continuation.{BrokenAt}
 use Rattle.constraint.specs.Questions.{Question, Judged}
@@ -21,6 +22,7 @@ use Rattle.constraint.specs.declared.Answer.{Answer}
 use Rattle.constraint.specs.declared.Answer.the-variants.{Taken, Refused}
 use Rattle.constraint.specs.declared.Constraint.{Constraint}
 use Rattle.constraint.specs.declared.Constraint.the-variants.{Delay, StrongDelay, Repeat, Sporadic, Burst, Order, StrongSynchronization2, StrongSynchronization3, StrongSynchronization4}
+use Rattle.constraint.specs.declared.Constraint.the-variants.{ExecutionTime}
 use Rattle.constraint.proofs.Judged.{judged-once}
 use Rattle.constraint.proofs.Verdicts.{open-of-meets}
 
@@ -53,7 +55,7 @@ run-some rows (s ∷ calls) steps none =
 
 -- no event at all meets every definition
 pub meets-none : (c : Constraint) → Meets c []
-unfolding Meets MeetsDelay MeetsStrongDelay SpansApart MeetsRepeat MeetsSporadic MeetsBurst MeetsOrder MeetsStrongSynchronization times
+unfolding Meets MeetsDelay MeetsStrongDelay SpansApart MeetsRepeat MeetsSporadic MeetsBurst MeetsOrder MeetsStrongSynchronization MeetsExecutionTime times own
 meets-none (Delay source target lower upper) = λ i h. absurd (omega arith)
 meets-none (StrongDelay source target lower upper) = (refl, λ i h. absurd (omega arith))
 meets-none (Repeat kind span lower upper) = (λ i h. absurd (omega arith), λ i h end. absurd (omega arith))
@@ -70,6 +72,7 @@ meets-none (Order source target) = (refl, λ i h. absurd (omega arith))
 meets-none (StrongSynchronization2 a b tolerance) = λ j k h g. (refl, λ i l. absurd (omega arith))
 meets-none (StrongSynchronization3 a b c tolerance) = λ j k h g. (refl, λ i l. absurd (omega arith))
 meets-none (StrongSynchronization4 a b c d tolerance) = λ j k h g. (refl, λ i l. absurd (omega arith))
+meets-none (ExecutionTime start stop preempt resume lower upper) = ([], record { are = refl; rise = λ i h. absurd (omega arith); run = tt })
 
 -- so the step at which a row broke is one that was taken
 pub broken-counted : (c : Constraint) (steps : List Step) (n : ℕ) → BrokenAt c steps n → 0 < n
@@ -308,3 +311,31 @@ synchronization4-contingent =
     alike (suc (suc zero)) h = refl
     alike (suc (suc (suc zero))) h = refl
     alike (suc (suc (suc (suc j)))) h = absurd (omega arith)
+
+-- the stretch from preempt to resume is no running time
+pub execution-time-contingent
+    : Contingent (ExecutionTime 0 1 2 3 2 5) (event 0 0 ∷ event 2 4 ∷ event 3 1000 ∷ event 1 1001 ∷ []) (event 0 0 ∷ event 1 1 ∷ [])
+unfolding Meets MeetsExecutionTime own
+execution-time-contingent =
+    record {
+      can-be-met = (one ∷ [], record { are = refl; rise = λ i h. rise i h; run = omega arith });
+      can-be-missed = λ m. short (m .0) (m .1);
+    }
+  where
+    one : Execution
+    one = record { starts = 0; pauses = (4, 1000) ∷ []; stops = 1001 }
+
+    rise : (i : ℕ) → i + 1 < 4 → at (0 ∷ 4 ∷ 1000 ∷ 1001 ∷ []) i < at (0 ∷ 4 ∷ 1000 ∷ 1001 ∷ []) (i + 1)
+    rise zero h = omega arith
+    rise (suc zero) h = omega arith
+    rise (suc (suc zero)) h = omega arith
+    rise (suc (suc (suc i))) h = absurd (omega arith)
+
+    too-short : (pauses : List (ℕ × ℕ)) (s t : ℕ) (later : List (ℕ × ℕ))
+        → (0, 0) ∷ (1, 1) ∷ [] ≡ (0, s) ∷ (pauseEvents 0 1 2 3 pauses ++ ((1, t) ∷ later)) → 2 ≤ (t - s) - paused pauses → ⊥
+    too-short [] s t later e long = let z : 1 ≡ t = ap (λ (es : List (ℕ × ℕ)). at (map (λ e. e .1) es) 1) e in omega arith
+    too-short (p ∷ ps) s t later e long = let z : _≡_ {A = ℕ} 1 2 = ap (λ (es : List (ℕ × ℕ)). at (map (λ e. e .0) es) 1) e in omega arith
+
+    short : (executions : List Execution) → Executes 0 1 2 3 2 5 ((0, 0) ∷ (1, 1) ∷ []) executions → ⊥
+    short [] x = let z : _≡_ {A = ℕ} 2 0 = ap length (x .are) in omega arith
+    short (e ∷ es) x = too-short (e .pauses) (e .starts) (e .stops) (executionEvents 0 1 2 3 es) (x .are) (x .run .0 .0)

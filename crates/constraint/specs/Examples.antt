@@ -9,7 +9,7 @@ use Rattle.constraint.specs.declared.Answer.the-variants.{Taken, Refused
 use Rattle.constraint.specs.declared.Call.{Call}
 use Rattle.constraint.specs.declared.Call.the-variants.{Event, Tick, Close}
 use Rattle.constraint.specs.declared.Constraint.{Constraint}
-use Rattle.constraint.specs.declared.Constraint.the-variants.{Delay, StrongDelay, Repeat, Sporadic, Burst, Order, StrongSynchronization2}
+use Rattle.constraint.specs.declared.Constraint.the-variants.{Delay, StrongDelay, Repeat, Sporadic, Burst, Order, StrongSynchronization2, ExecutionTime}
 use Rattle.constraint.specs.declared.Verdict.{Verdict}
 use Rattle.constraint.specs.declared.Verdict.the-variants.{Open, Kept, Broken}
 
@@ -116,6 +116,45 @@ silences =
     ∷ reads (Sporadic 0 0 0 3 0) (Event 0 7 ∷ Tick 10 ∷ []) Open
     ∷ reads (Sporadic 0 0 0 3 0) (Event 0 7 ∷ Tick 10 ∷ Tick 11 ∷ []) (Broken 3)
     ∷ reads (Sporadic 0 0 0 3 0) (Event 0 7 ∷ Event 0 8 ∷ []) (Broken 2)
+    ∷ []
+
+-- §5.8.1 to §5.8.6: ExecutionTime, of start 0, stop 1, preempt 2 and resume 3
+abbrev pub execution-times : List Example
+execution-times =
+    -- §5.8, §5.8.5: no event of the row's, and an execution that runs as short and as long as it may
+    reads (ExecutionTime 0 1 2 3 2 5) (Close ∷ []) Kept
+    ∷ reads (ExecutionTime 0 1 2 3 2 5) (Event 9 3 ∷ Tick 4 ∷ Close ∷ []) Kept
+    ∷ reads (ExecutionTime 0 1 2 3 2 5) (Event 0 0 ∷ Event 1 2 ∷ Close ∷ []) Kept
+    ∷ reads (ExecutionTime 0 1 2 3 2 5) (Event 0 0 ∷ Tick 5 ∷ Event 1 5 ∷ Close ∷ []) Kept
+    ∷ reads (ExecutionTime 0 1 2 3 2 5) (Event 0 0 ∷ Event 1 1 ∷ []) (Broken 2)
+    -- §5.8.3: the last moment of a running execution, and the one after it
+    ∷ reads (ExecutionTime 0 1 2 3 2 5) (Event 0 0 ∷ Tick 5 ∷ []) Open
+    ∷ reads (ExecutionTime 0 1 2 3 2 5) (Event 0 0 ∷ Tick 6 ∷ []) (Broken 2)
+    ∷ reads (ExecutionTime 0 1 2 3 2 5) (Event 0 0 ∷ Event 9 6 ∷ []) (Broken 2)
+    -- §5.8.2, §5.8.4: a preempt that leaves no time to run; a preempted execution, for however long
+    ∷ reads (ExecutionTime 0 1 2 3 2 5) (Event 0 0 ∷ Event 2 5 ∷ []) (Broken 2)
+    ∷ reads (ExecutionTime 0 1 2 3 2 5) (Event 0 0 ∷ Event 2 4 ∷ Tick 1000 ∷ []) Open
+    ∷ reads (ExecutionTime 0 1 2 3 2 5) (Event 0 0 ∷ Event 2 4 ∷ Tick 1000 ∷ Event 3 1000 ∷ Tick 1001 ∷ []) Open
+    ∷ reads (ExecutionTime 0 1 2 3 2 5) (Event 0 0 ∷ Event 2 4 ∷ Tick 1000 ∷ Event 3 1000 ∷ Tick 1001 ∷ Tick 1002 ∷ []) (Broken 6)
+    ∷ reads (ExecutionTime 0 1 2 3 2 5) (Event 0 0 ∷ Event 2 4 ∷ Event 3 1000 ∷ Event 1 1001 ∷ Close ∷ []) Kept
+    ∷ reads (ExecutionTime 0 1 2 3 2 5) (Event 0 0 ∷ Event 2 1 ∷ Event 3 2 ∷ Event 2 3 ∷ Event 3 9 ∷ Event 1 10 ∷ Close ∷ []) Kept
+    -- §5.8.5: a close after a start, a preempt or a resume
+    ∷ reads (ExecutionTime 0 1 2 3 2 5) (Event 0 0 ∷ Close ∷ []) (Broken 2)
+    ∷ reads (ExecutionTime 0 1 2 3 2 5) (Event 0 0 ∷ Event 2 3 ∷ Close ∷ []) (Broken 3)
+    ∷ reads (ExecutionTime 0 1 2 3 2 5) (Event 0 0 ∷ Event 2 3 ∷ Event 3 4 ∷ Close ∷ []) (Broken 4)
+    -- §5.8.1: two events at one time, one execution after the other, and an event that may not come next
+    ∷ reads (ExecutionTime 0 1 2 3 2 5) (Event 0 0 ∷ Event 1 3 ∷ Event 0 3 ∷ []) (Broken 3)
+    ∷ reads (ExecutionTime 0 1 2 3 2 5) (Event 0 0 ∷ Event 2 0 ∷ []) (Broken 2)
+    ∷ reads (ExecutionTime 0 1 2 3 2 5) (Event 0 0 ∷ Event 1 3 ∷ Event 0 4 ∷ Event 1 9 ∷ Close ∷ []) Kept
+    ∷ reads (ExecutionTime 0 1 2 3 2 5) (Event 0 0 ∷ Event 2 2 ∷ Event 1 4 ∷ []) (Broken 3)
+    ∷ reads (ExecutionTime 0 1 2 3 2 5) (Event 0 0 ∷ Event 0 1 ∷ []) (Broken 2)
+    ∷ reads (ExecutionTime 0 1 2 3 2 5) (Event 1 4 ∷ []) (Broken 1)
+    ∷ reads (ExecutionTime 0 1 2 3 2 5) (Event 0 0 ∷ Event 3 1 ∷ []) (Broken 2)
+    -- §5.8.6: the smallest bounds
+    ∷ reads (ExecutionTime 0 1 2 3 0 0) (Event 0 7 ∷ []) (Broken 1)
+    ∷ reads (ExecutionTime 0 1 2 3 0 0) (Tick 7 ∷ Close ∷ []) Kept
+    ∷ reads (ExecutionTime 0 1 2 3 1 1) (Event 0 7 ∷ Event 1 8 ∷ Close ∷ []) Kept
+    ∷ reads (ExecutionTime 0 1 2 3 1 1) (Event 0 7 ∷ Event 2 8 ∷ []) (Broken 2)
     ∷ []
 
 -- §5.3.5: a table of two rows: sources crowd the first, and the second falls silent

@@ -1,13 +1,14 @@
--- What each row asks of all events together, some of the clock too (§2.2, §5.1 to §5.7).
-use Prim.Native.Nat.{ℕ, _+_, _≤_, _<_}
+-- What each row asks of all events together, some of the clock too (§2.2, §5.1 to §5.8).
+use Prim.Native.Nat.{ℕ, _+_, _-_, _≤_, _<_}
 use mathlib.Core.Path.{_≡_}
-use mathlib.Core.List.{List, [], _∷_}
+use mathlib.Core.List.{List, [], _∷_, _++_, map}
 use mathlib.Core.Logic.{_⊎_}
 use lib.ListN.{length}
 use Rattle.constraint.specs.Limits.{noLimit}
-use Rattle.constraint.specs.Steps.{Step, at, times, clock}
+use Rattle.constraint.specs.Steps.{Step, at, times, own, clock}
 use Rattle.constraint.specs.declared.Constraint.{Constraint}
 use Rattle.constraint.specs.declared.Constraint.the-variants.{Delay, StrongDelay, Repeat, Sporadic, Burst, Order, StrongSynchronization2, StrongSynchronization3, StrongSynchronization4}
+use Rattle.constraint.specs.declared.Constraint.the-variants.{ExecutionTime}
 
 -- y is lower to upper after x, both ends included
 abbrev pub Between : ℕ → ℕ → ℕ → ℕ → Type 0
@@ -75,6 +76,45 @@ MeetsStrongSynchronization kinds tolerance steps =
     (length (times (at kinds j) steps) ≡ length (times (at kinds k) steps))
     × ((i : ℕ) → i < length (times (at kinds j) steps) → at (times (at kinds j) steps) i ≤ at (times (at kinds k) steps) i + tolerance)
 
+-- §5.8: one execution: its start, the stretches in which it is preempted, each from its preempt to its resume, and its stop
+pub record Execution : Type 0 where
+  pub starts : ℕ
+  pub pauses : List (ℕ × ℕ)
+  pub stops : ℕ
+
+-- how long it is preempted, and its running time: stop minus start, less that
+abbrev pub paused : List (ℕ × ℕ) → ℕ
+paused [] = 0
+paused (p ∷ ps) = (p .1 - p .0) + paused ps
+
+abbrev pub running : Execution → ℕ
+running e = (e .stops - e .starts) - paused (e .pauses)
+
+-- each of them runs for lower to upper
+abbrev pub RunFor : ℕ → ℕ → List Execution → Type 0
+RunFor lower upper [] = Unit {0}
+RunFor lower upper (e ∷ es) = ((lower ≤ running e) × (running e ≤ upper)) × RunFor lower upper es
+
+module _ (start stop preempt resume : ℕ) where
+  -- the events of an execution, and of executions one after the other, each with its kind and its time
+  abbrev pub pauseEvents : List (ℕ × ℕ) → List (ℕ × ℕ)
+  pauseEvents [] = []
+  pauseEvents (p ∷ ps) = (preempt, p .0) ∷ (resume, p .1) ∷ pauseEvents ps
+
+  abbrev pub executionEvents : List Execution → List (ℕ × ℕ)
+  executionEvents [] = []
+  executionEvents (e ∷ es) = (start, e .starts) ∷ (pauseEvents (e .pauses) ++ ((stop, e .stops) ∷ executionEvents es))
+
+  -- these are the executions of the row's events, whose times rise strictly, and each runs for lower to upper
+  pub record Executes (lower upper : ℕ) (events : List (ℕ × ℕ)) (executions : List Execution) : Type 0 where
+    pub are : events ≡ executionEvents executions
+    pub rise : (i : ℕ) → i + 1 < length events → at (map (λ e. e .1) events) i < at (map (λ e. e .1) events) (i + 1)
+    pub run : RunFor lower upper executions
+
+unfoldable pub MeetsExecutionTime : ℕ → ℕ → ℕ → ℕ → ℕ → ℕ → List (ℕ × ℕ) → Type 0
+MeetsExecutionTime start stop preempt resume lower upper events =
+    (executions : List Execution) × Executes start stop preempt resume lower upper events executions
+
 -- what a row asks of all events together, with the clock that they close at (§2.2)
 unfoldable pub Meets : Constraint → List Step → Type 0
 Meets (Delay source target lower upper) steps = MeetsDelay lower upper (times source steps) (times target steps)
@@ -86,3 +126,5 @@ Meets (Order source target) steps = MeetsOrder (times source steps) (times targe
 Meets (StrongSynchronization2 a b tolerance) steps = MeetsStrongSynchronization (a ∷ b ∷ []) tolerance steps
 Meets (StrongSynchronization3 a b c tolerance) steps = MeetsStrongSynchronization (a ∷ b ∷ c ∷ []) tolerance steps
 Meets (StrongSynchronization4 a b c d tolerance) steps = MeetsStrongSynchronization (a ∷ b ∷ c ∷ d ∷ []) tolerance steps
+Meets (ExecutionTime start stop preempt resume lower upper) steps =
+    MeetsExecutionTime start stop preempt resume lower upper (own (start ∷ stop ∷ preempt ∷ resume ∷ []) steps)

@@ -17,6 +17,7 @@ use Rattle.constraint.specs.declared.Constraint.the-variants.{
   StrongSynchronization2,
   StrongSynchronization3,
   StrongSynchronization4,
+  ExecutionTime,
 }
 
 -- §4.4: what a byte says. A span or maximum has its own limit (§4.6)
@@ -48,6 +49,7 @@ typeOf (Order source target) = 6
 typeOf (StrongSynchronization2 a b tolerance) = 7
 typeOf (StrongSynchronization3 a b c tolerance) = 7
 typeOf (StrongSynchronization4 a b c d tolerance) = 7
+typeOf (ExecutionTime start stop preempt resume low high) = 8
 
 -- §4.5: the fields, in their order
 abbrev pub fieldsOf : Constraint → List Field
@@ -62,10 +64,12 @@ fieldsOf (StrongSynchronization2 a b tolerance) = byte count 2 ∷ byte kind a �
 fieldsOf (StrongSynchronization3 a b c tolerance) = byte count 3 ∷ byte kind a ∷ byte kind b ∷ byte kind c ∷ time plain tolerance ∷ []
 fieldsOf (StrongSynchronization4 a b c d tolerance) =
     byte count 4 ∷ byte kind a ∷ byte kind b ∷ byte kind c ∷ byte kind d ∷ time plain tolerance ∷ []
+fieldsOf (ExecutionTime start stop preempt resume low high) =
+    byte kind start ∷ byte kind stop ∷ byte kind preempt ∷ byte kind resume ∷ time lower low ∷ time upper high ∷ []
 
 -- §4.5: the lengths, by the type byte; to a StrongSynchronization's its n is added
 abbrev pub lengths : List ℕ
-lengths = 0 ∷ 19 ∷ 19 ∷ 19 ∷ 34 ∷ 19 ∷ 3 ∷ 10 ∷ []
+lengths = 0 ∷ 19 ∷ 19 ∷ 19 ∷ 34 ∷ 19 ∷ 3 ∷ 10 ∷ 21 ∷ []
 
 abbrev pub lengthOf : ℕ → ℕ → ℕ
 lengthOf t n = at lengths t + cond (eqb t 7) n 0

@@ -85,6 +85,14 @@ pub enum Constraint {
         fourth: u8,
         tolerance: u64,
     },
+    ExecutionTime {
+        start: u8,
+        stop: u8,
+        preempt: u8,
+        resume: u8,
+        lower: u64,
+        upper: u64,
+    },
 }
 
 // A call, with its arguments as given: an event of a kind at a time, a tick to a time, or the close.
@@ -173,6 +181,12 @@ const GROUP_OF_4: Line = Line {
     times: [PLAIN, 0, 0, 0],
 };
 
+const EXECUTION_TIME: Line = Line {
+    form: 8,
+    bytes: [KIND, KIND, KIND, KIND, 0],
+    times: [LOWER, UPPER, 0, 0],
+};
+
 impl Constraint {
     // The fields as numbers.
     pub fn fields(self) -> Fields
@@ -248,6 +262,18 @@ impl Constraint {
                 GROUP_OF_4,
                 [4, first, second, third, fourth],
                 [tolerance, 0, 0, 0],
+            ),
+            Constraint::ExecutionTime {
+                start,
+                stop,
+                preempt,
+                resume,
+                lower,
+                upper,
+            } => Fields::new(
+                EXECUTION_TIME,
+                [start, stop, preempt, resume, 0],
+                [lower, upper, 0, 0],
             ),
         }
     }

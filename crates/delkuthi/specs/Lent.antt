@@ -26,7 +26,7 @@ version = 0 * 1000000 + 2 * 1000 + 0
 
 -- the bytes of a monitor (`monitor-size`: of its type on the machine)
 abbrev pub monitorSize : ℕ
-monitorSize = 23072
+monitorSize = 23584
 
 -- ---- fresh
 

@@ -15,7 +15,7 @@ ghost use Rattle.delkuthi.specs.Lent.{Begins, wordOf, WordOfVerdict, Ste
 // The version of the library: 0.2.0 as major * 1,000,000 + minor * 1,000 + patch.
 pub const VERSION: u32 = 2000;
 // The bytes of a monitor.
-pub const MONITOR_SIZE: u64 = 23072;
+pub const MONITOR_SIZE: u64 = 23584;
 
 // The version of the library, for a host to compare with that of its header.
 #[no_mangle]

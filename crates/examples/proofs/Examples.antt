@@ -10,7 +10,7 @@ use Rattle.constraint.specs.Steps.{Step}
 use Rattle.constraint.specs.Continuation.{Reads}
 use Rattle.constraint.specs.Run.{stepFor, Run, done, call}
 use Rattle.constraint.specs.Promise.{ReadsRow, row, play, Played}
-use Rattle.constraint.specs.Examples.{Example, examples, unlimited-delays, silences, crowdedRows, crowdedCalls, crowdedAnswers}
+use Rattle.constraint.specs.Examples.{Example, examples, unlimited-delays, silences, execution-times, crowdedRows, crowdedCalls, crowdedAnswers}
 use Rattle.constraint.specs.declared.Answer.{Answer}
 use Rattle.constraint.specs.declared.Answer.the-variants.{Taken, Refused}
 use Rattle.constraint.specs.declared.Call.{Call}
@@ -27,6 +27,7 @@ use Rattle.spans.specs.Repeat.{decideRepeat}
 use Rattle.points.specs.Sporadic.{laterSporadic, decideSporadic}
 use Rattle.pairs.specs.Order.{changesTo, decideOrder}
 use Rattle.groups.specs.StrongSynchronization.{decideStrongSynchronization}
+use Rattle.phases.specs.ExecutionTime.{whileIdle, whileRunning, whilePreempted, decideExecutionTime}
 use Rattle.row.specs.Machine.{rowOf, brokenRow, applied, changedRow, rowStep, rowVerdict}
 use Rattle.queue.specs.Ring.{ring, pushRing, putRing}
 use Rattle.monitor.specs.Machine.{monitorOf, mapFirst, anyFirst, takenCall, stepOf, verdictOf}
@@ -94,6 +95,10 @@ silences-computed : allCompute silences ≡ true
 unfolding allCompute computes playOf allTaken isVerdict play monitorOf mapFirst anyFirst takenCall stepOf verdictOf rowOf brokenRow applied changedRow rowStep rowVerdict ring pushRing putRing decideRepeat laterSporadic decideSporadic
 silences-computed = refl
 
+execution-times-computed : allCompute execution-times ≡ true
+unfolding allCompute computes playOf allTaken isVerdict play monitorOf mapFirst anyFirst takenCall stepOf verdictOf rowOf brokenRow applied changedRow rowStep rowVerdict ring pushRing putRing whileIdle whileRunning whilePreempted decideExecutionTime
+execution-times-computed = refl
+
 -- ---- so each reads by the definitions what the machine computes
 
 -- calls that are all taken are the steps accepted
@@ -139,6 +144,10 @@ unlimited-delays-hold = all-read unlimited-delays unlimited-computed
 -- §5.3.2, §5.4.4
 pub silences-hold : AllRead silences
 silences-hold = all-read silences silences-computed
+
+-- §5.8.1 to §5.8.6
+pub execution-times-hold : AllRead execution-times
+execution-times-hold = all-read execution-times execution-times-computed
 
 -- ---- a table of two rows
 

@@ -33,6 +33,8 @@ withCounts first second third fourth m =
       second = second;
       third = third;
       fourth = fourth;
+      phase = m .phase;
+      ran = m .ran;
     }
 
 -- one more of the kind

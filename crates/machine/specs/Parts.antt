@@ -37,9 +37,9 @@ abbrev pub dueOldest : ℕ → List ℕ → ℕ
 dueOldest upper times = dueOr noLimit upper times
 
 abbrev pub noMarks : Marks
-noMarks = record { last = 0; early = 0; ahead = 0; low = 0; high = 0; first = 0; second = 0; third = 0; fourth = 0 }
+noMarks = record { last = 0; early = 0; ahead = 0; low = 0; high = 0; first = 0; second = 0; third = 0; fourth = 0; phase = 0; ran = 0 }
 
--- marks with these numbers, and the counts of others
+-- marks with these numbers, and the counts and the phase of others
 abbrev pub marksOf : ℕ → ℕ → ℕ → ℕ → ℕ → Marks → Marks
 marksOf last early ahead low high m =
     record {
@@ -52,6 +52,8 @@ marksOf last early ahead low high m =
       second = m .second;
       third = m .third;
       fourth = m .fourth;
+      phase = m .phase;
+      ran = m .ran;
     }
 
 -- the marks with another last event, and with another target beyond the number of sources

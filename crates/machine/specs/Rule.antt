@@ -5,7 +5,7 @@ use lib.ListN.{replicate}
 use Rattle.constraint.specs.Limits.{noLimit}
 use Rattle.constraint.specs.declared.Constraint.{Constraint}
 use Rattle.constraint.specs.declared.Constraint.the-variants.{Delay, StrongDelay, Repeat, Sporadic, Burst, Order}
-use Rattle.constraint.specs.declared.Constraint.the-variants.{StrongSynchronization2, StrongSynchronization3, StrongSynchronization4}
+use Rattle.constraint.specs.declared.Constraint.the-variants.{StrongSynchronization2, StrongSynchronization3, StrongSynchronization4, ExecutionTime}
 use Rattle.machine.specs.declared.Rule.{Rule}
 
 -- a kind that no event has
@@ -28,17 +28,17 @@ pairRule form first second span lower upper jitter minimum =
       minimum = minimum;
     }
 
-abbrev pub groupRule : ℕ → ℕ → ℕ → ℕ → ℕ → Rule
-groupRule first second third fourth tolerance =
+abbrev pub groupRule : ℕ → ℕ → ℕ → ℕ → ℕ → ℕ → ℕ → Rule
+groupRule form first second third fourth lower upper =
     record {
-      form = 7;
+      form = form;
       first = first;
       second = second;
       third = third;
       fourth = fourth;
       span = 0;
-      lower = 0;
-      upper = tolerance;
+      lower = lower;
+      upper = upper;
       jitter = 0;
       minimum = 0;
     }
@@ -50,9 +50,10 @@ ruleOf (Repeat event span lower upper) = pairRule 3 event noKind span lower uppe
 ruleOf (Sporadic event lower upper jitter minimum) = pairRule 4 event noKind 0 lower upper jitter minimum
 ruleOf (Burst event maximum length minimum) = pairRule 5 event noKind maximum length noLimit 0 minimum
 ruleOf (Order source target) = pairRule 6 source target 0 0 0 0 0
-ruleOf (StrongSynchronization2 first second tolerance) = groupRule first second noKind noKind tolerance
-ruleOf (StrongSynchronization3 first second third tolerance) = groupRule first second third noKind tolerance
-ruleOf (StrongSynchronization4 first second third fourth tolerance) = groupRule first second third fourth tolerance
+ruleOf (StrongSynchronization2 first second tolerance) = groupRule 7 first second noKind noKind 0 tolerance
+ruleOf (StrongSynchronization3 first second third tolerance) = groupRule 7 first second third noKind 0 tolerance
+ruleOf (StrongSynchronization4 first second third fourth tolerance) = groupRule 7 first second third fourth 0 tolerance
+ruleOf (ExecutionTime start stop preempt resume lower upper) = groupRule 8 start stop preempt resume lower upper
 
 -- how many words a row of the rule has from the start, each 0, and these words
 abbrev pub wordsOf : Rule → ℕ

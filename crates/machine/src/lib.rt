@@ -7,13 +7,15 @@ pub mod parts;
 // The constraint's fields as numbers. A field that a type does not have is 0; a kind that it does not have is 64.
 #[repr(C)]
 pub struct Rule {
-    // the type, 1 to 7
+    // the type, 1 to 8
     pub form: u64,
-    // source, event or first kind
+    // source, event, start or first kind
     pub first: u64,
-    // target or second kind
+    // target, stop or second kind
     pub second: u64,
+    // preempt or third kind
     pub third: u64,
+    // resume or fourth kind
     pub fourth: u64,
     // span or maximum
     pub span: u64,
@@ -42,6 +44,10 @@ pub struct Marks {
     pub second: u64,
     pub third: u64,
     pub fourth: u64,
+    // the phase: 0 between two executions, 1 in a running one, 2 in a preempted one
+    pub phase: u64,
+    // how long the execution begun has run up to its last event
+    pub ran: u64,
 }
 
 // What a row keeps beside its rule and its times.

@@ -49,20 +49,28 @@ pub fn rule_of(c: Constraint) -> Rule
             first,
             second,
             tolerance,
-        } => group_rule(first, second, NO_KIND, NO_KIND, tolerance),
+        } => group_rule(7, first, second, NO_KIND, NO_KIND, 0, tolerance),
         Constraint::StrongSynchronization3 {
             first,
             second,
             third,
             tolerance,
-        } => group_rule(first, second, third, NO_KIND, tolerance),
+        } => group_rule(7, first, second, third, NO_KIND, 0, tolerance),
         Constraint::StrongSynchronization4 {
             first,
             second,
             third,
             fourth,
             tolerance,
-        } => group_rule(first, second, third, fourth, tolerance),
+        } => group_rule(7, first, second, third, fourth, 0, tolerance),
+        Constraint::ExecutionTime {
+            start,
+            stop,
+            preempt,
+            resume,
+            lower,
+            upper,
+        } => group_rule(8, start, stop, preempt, resume, lower, upper),
     }
 }
 
@@ -94,18 +102,26 @@ fn pair_rule(
 }
 
 // A constraint of several kinds as numbers.
-fn group_rule(first: u8, second: u8, third: u8, fourth: u8, tolerance: u64) -> Rule
-    ensures { λ r. ⌜ r ≡ groupRule first second third fourth tolerance ⌝ }
+fn group_rule(
+    form: u64,
+    first: u8,
+    second: u8,
+    third: u8,
+    fourth: u8,
+    lower: u64,
+    upper: u64,
+) -> Rule
+    ensures { λ r. ⌜ r ≡ groupRule form first second third fourth lower upper ⌝ }
 {
     Rule {
-        form: 7,
+        form,
         first: first as u64,
         second: second as u64,
         third: third as u64,
         fourth: fourth as u64,
         span: 0,
-        lower: 0,
-        upper: tolerance,
+        lower,
+        upper,
         jitter: 0,
         minimum: 0,
     }

@@ -89,6 +89,8 @@ pub fn no_marks() -> Marks
         second: 0,
         third: 0,
         fourth: 0,
+        phase: 0,
+        ran: 0,
     }
 }
 

@@ -8,11 +8,12 @@ use lib.Dec.{eqb}
 
 -- the number is none of those that the code names
 abbrev pub NoneOf : ℕ → Type 0
-NoneOf n = ((((Unit {0} × (n ≡ 1 → ⊥)) × (n ≡ 2 → ⊥)) × ((n ≡ 3) ⊎ (n ≡ 5) → ⊥)) × (n ≡ 4 → ⊥)) × (n ≡ 6 → ⊥)
+NoneOf n =
+    (((((Unit {0} × (n ≡ 1 → ⊥)) × (n ≡ 2 → ⊥)) × ((n ≡ 3) ⊎ (n ≡ 5) → ⊥)) × (n ≡ 4 → ⊥)) × (n ≡ 6 → ⊥)) × (n ≡ 8 → ⊥)
 
-module _ {A : Type 0} (n : ℕ) (a b c d e f : A) where
+module _ {A : Type 0} (n : ℕ) (a b c d e f g : A) where
   abbrev pub chosen : A
-  chosen = cond (eqb n 1) a (cond (eqb n 2) b (cond (eqb n 3 || eqb n 5) c (cond (eqb n 4) d (cond (eqb n 6) e f))))
+  chosen = cond (eqb n 1) a (cond (eqb n 2) b (cond (eqb n 3 || eqb n 5) c (cond (eqb n 4) d (cond (eqb n 6) e (cond (eqb n 8) f g)))))
 
   pub form-1 : n ≡ 1 → chosen ≡ a
   form-1 is = rw is
@@ -29,13 +30,17 @@ module _ {A : Type 0} (n : ℕ) (a b c d e f : A) where
   pub form-6 : n ≡ 6 → chosen ≡ e
   form-6 is = rw is
 
-  pub form-none : NoneOf n → chosen ≡ f
+  pub form-8 : n ≡ 8 → chosen ≡ f
+  form-8 is = rw is
+
+  pub form-none : NoneOf n → chosen ≡ g
   form-none is =
       rw (
-        ne-eqb n 1 (is .0 .0 .0 .0 .1),
-        ne-eqb n 2 (is .0 .0 .0 .1),
-        ne-eqb n 3 (λ x. is .0 .0 .1 (inl x)),
-        ne-eqb n 5 (λ x. is .0 .0 .1 (inr x)),
-        ne-eqb n 4 (is .0 .1),
-        ne-eqb n 6 (is .1),
+        ne-eqb n 1 (is .0 .0 .0 .0 .0 .1),
+        ne-eqb n 2 (is .0 .0 .0 .0 .1),
+        ne-eqb n 3 (λ x. is .0 .0 .0 .1 (inl x)),
+        ne-eqb n 5 (λ x. is .0 .0 .0 .1 (inr x)),
+        ne-eqb n 4 (is .0 .0 .1),
+        ne-eqb n 6 (is .0 .1),
+        ne-eqb n 8 (is .1),
       )

@@ -12,6 +12,7 @@ use machine::parts;
 use pairs::delay;
 use pairs::order;
 use pairs::strong_delay;
+use phases::execution_time;
 use points::sporadic;
 use queue::Edit;
 use queue::SIZE;
@@ -65,6 +66,7 @@ pub fn decide(
         3 | 5 => repeat::decide(rule, marks, times, head, len, t),
         4 => sporadic::decide(rule, marks, t),
         6 => order::decide(rule, marks, kind, t),
+        8 => execution_time::decide(rule, marks, kind, t),
         _ => strong_synchronization::decide(rule, marks, times, head, len, kind, t),
     }
 }

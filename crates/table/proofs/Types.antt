@@ -14,7 +14,7 @@ use Rattle.constraint.specs.Table.{fieldsBytes, rowBody, ShapeFits, StandsFor}
 use Rattle.constraint.specs.Records.{bytesIn, timesIn}
 use Rattle.constraint.specs.declared.Constraint.{Constraint}
 use Rattle.constraint.specs.declared.Constraint.the-variants.{Delay, StrongDelay, Repeat, Sporadic, Burst, Order}
-use Rattle.constraint.specs.declared.Constraint.the-variants.{StrongSynchronization2, StrongSynchronization3, StrongSynchronization4}
+use Rattle.constraint.specs.declared.Constraint.the-variants.{StrongSynchronization2, StrongSynchronization3, StrongSynchronization4, ExecutionTime}
 use Rattle.table.specs.Rows.{groupFrom, rowFrom, constraintOf, timesBytes}
 use Rattle.constraint.proofs.Lists.{split}
 use Rattle.table.proofs.Bodies.{stands-of}
@@ -43,6 +43,7 @@ regular (Order source target) = record { again = λ more later. refl; parts = re
 regular (StrongSynchronization2 a b tolerance) = record { again = λ more later. refl; parts = refl; sized = omega arith }
 regular (StrongSynchronization3 a b c tolerance) = record { again = λ more later. refl; parts = refl; sized = omega arith }
 regular (StrongSynchronization4 a b c d tolerance) = record { again = λ more later. refl; parts = refl; sized = omega arith }
+regular (ExecutionTime start stop preempt resume low high) = record { again = λ more later. refl; parts = refl; sized = omega arith }
 
 -- From a body
 
@@ -93,8 +94,11 @@ module _ (body : List ℕ) (all : Bytes body) (fits : ShapeFits body) where
                 (
                   (
                     (
-                      tt,
-                      λ e. absurd (omega (arith, fits .type-known)),
+                      (
+                        tt,
+                        λ e. absurd (omega (arith, fits .type-known)),
+                      ),
+                      λ e. rw e (stands-of body all _ (sym e) refl (fits .length-right ∙ rw e)),
                     ),
                     λ e. rw e (stands-of body all _ (sym e) refl (fits .length-right ∙ rw e)),
                   ),
@@ -106,8 +110,8 @@ module _ (body : List ℕ) (all : Bytes body) (fits : ShapeFits body) where
             ),
             λ e. rw e (stands-of body all _ (sym e) refl (fits .length-right ∙ rw e)),
           ),
-          λ e. rw e (stands-of body all _ (sym e) refl (fits .length-right ∙ rw e)),
+          group-stands,
         ),
-        group-stands,
+        λ e. rw e (stands-of body all _ (sym e) refl (fits .length-right ∙ rw e)),
       )
       (at body 0) (fits .type-known .1) refl

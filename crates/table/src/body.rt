@@ -9,7 +9,7 @@ ghost use Rattle.constraint.specs.Table.{ShapeFits};
 ghost use Rattle.table.specs.Rows.{groupFrom, rowFrom, constraintOf};
 
 // The length expected for each type, by the type byte; to a StrongSynchronization's its n is added.
-const LENGTHS: [usize; 8] = [0, 19, 19, 19, 34, 19, 3, 10];
+const LENGTHS: [usize; 9] = [0, 19, 19, 19, 34, 19, 3, 10, 21];
 
 // The length expected of a row of a type, with the byte behind it, which is the n of a StrongSynchronization; 0 if there is
 // no such type. As a row has fewer than eight bytes before its times, they begin at this length modulo 8.
@@ -26,7 +26,7 @@ pub(crate) fn length_of(form: u8, n: u8) -> usize
     LENGTHS[place]
 }
 
-// Question 4, of a row with a length field of that size: is the type 1 to 7, n in range, the length right?
+// Question 4, of a row with a length field of that size: is the type 1 to 8, n in range, the length right?
 pub(crate) fn shape_fits(body: &[u8], size: usize) -> bool
     requires { ⌜ size ≡ length (now body) ⌝ }
     ensures { λ r. ⌜ Decides (ShapeFits (now (body .entry))) r ⌝ }
@@ -123,6 +123,14 @@ fn row_from(
         6 => Constraint::Order {
             source: a,
             target: b,
+        },
+        8 => Constraint::ExecutionTime {
+            start: a,
+            stop: b,
+            preempt: c,
+            resume: d,
+            lower: x,
+            upper: y,
         },
         _ => group_from(a, b, c, d, e, x),
     }

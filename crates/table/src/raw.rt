@@ -21,14 +21,14 @@ fn entries_of(count: usize) -> usize
     constraint::ROW_LIMIT
 }
 
-// Question 4 of a type byte and the byte behind it: is the type 1 to 7, and n in range?
+// Question 4 of a type byte and the byte behind it: is the type 1 to 8, and n in range?
 fn type_known(form: u8, n: u8) -> bool
     ensures { λ r. ⌜ Decides (TypeKnown form n) r ⌝ }
 {
     if form < 1 {
         return false;
     }
-    if 7 < form {
+    if 8 < form {
         return false;
     }
     if form == 7 {

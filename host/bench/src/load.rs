@@ -1,4 +1,4 @@
-//! Tables of 32 rows of all seven types, and drives over which every row stays open until the close.
+//! Tables of 32 rows of all eight types, and drives over which every row stays open until the close.
 
 use model::{Constraint, NO_LIMIT, Step, recording_bytes, table_bytes};
 
@@ -80,6 +80,15 @@ fn synchronization(signals: &[Signal]) -> Constraint {
     Constraint::StrongSynchronization { kinds: signals.iter().map(|signal| signal.kind).collect(), tolerance }
 }
 
+/// An execution in each round, from a start to a stop, with a pause where two signals stand between them.
+fn execution_time(start: Signal, pause: Option<(Signal, Signal)>, stop: Signal) -> Constraint {
+    let paused = pause.map_or(0, |(preempt, resume)| resume.after(preempt));
+    let (preempt, resume) = pause.map_or((62, 63), |(preempt, resume)| (preempt.kind, resume.kind));
+    let running = stop.after(start) - paused;
+    let (lower, upper) = (running.saturating_sub(2 * WOBBLE), running + 2 * WOBBLE);
+    Constraint::ExecutionTime { start: start.kind, stop: stop.kind, preempt, resume, lower, upper }
+}
+
 fn repeat(event: Signal, span: u8) -> Constraint {
     let length = u64::from(span) * PERIOD;
     Constraint::Repeat { event: event.kind, span, lower: length - WOBBLE, upper: length + WOBBLE }
@@ -107,7 +116,7 @@ pub fn sparse(events: usize) -> Load {
     let mut signals = Signals::default();
     let mut rows: Vec<Constraint> = LAGS.iter().map(|lag| delay(signals.pair(*lag))).collect();
     rows.extend(LAGS.map(|lag| strong_delay(signals.pair(lag))));
-    rows.extend(LAGS[..4].iter().map(|lag| order(signals.pair(*lag))));
+    rows.extend(LAGS[..3].iter().map(|lag| order(signals.pair(*lag))));
     let repeated = SPANS.map(|span| (signals.next(0), span));
     rows.extend(repeated.map(|(event, span)| repeat(event, span)));
     rows.extend(repeated.iter().zip(MAXIMA).map(|((event, _), maximum)| burst(*event, maximum)));
@@ -116,21 +125,24 @@ pub fn sparse(events: usize) -> Load {
         let group: Vec<Signal> = (0..n).map(|place| signals.next(if place == 0 { 0 } else { lag })).collect();
         rows.push(synchronization(&group));
     }
+    let [start, preempt, resume, stop] = [0; 4].map(|lag| signals.next(lag));
+    rows.push(execution_time(start, Some((preempt, resume)), stop));
     Load { name: "sparse", rows, steps: signals.drive(events) }
 }
 
-/// All rows share two kinds: an event concerns 25 rows, or 26.
+/// All rows share three kinds: an event concerns 15 to 22 rows.
 pub fn dense(events: usize) -> Load {
     let mut signals = Signals::default();
     let pair = signals.pair(40);
-    let either = |place: usize| if place.is_multiple_of(2) { pair.0 } else { pair.1 };
+    let third = signals.next(0);
     let mut rows = vec![delay(pair); 5];
     rows.extend(vec![strong_delay(pair); 5]);
-    rows.extend(vec![order(pair); 4]);
-    rows.extend(SPANS.iter().enumerate().map(|(place, span)| repeat(either(place), *span)));
-    rows.extend(MAXIMA.iter().enumerate().map(|(place, maximum)| burst(either(place), *maximum)));
-    rows.extend(UPPERS.iter().enumerate().map(|(place, upper)| sporadic(either(place), *upper)));
-    rows.extend(vec![synchronization(&[pair.0, pair.1]); 5]);
+    rows.extend(vec![order((pair.0, third)); 3]);
+    rows.extend(SPANS.map(|span| repeat(third, span)));
+    rows.extend(MAXIMA.map(|maximum| burst(third, maximum)));
+    rows.extend(UPPERS.map(|upper| sporadic(third, upper)));
+    rows.extend(vec![synchronization(&[pair.0, third, pair.1]); 5]);
+    rows.push(execution_time(pair.0, None, third));
     Load { name: "dense", rows, steps: signals.drive(events) }
 }
 
@@ -151,8 +163,13 @@ impl Load {
 
     /// How many rows the events of the drive concern, from the fewest to the most.
     pub fn concerned(&self) -> (usize, usize) {
-        let rows = |kind| self.rows.iter().filter(|row| row.kinds().contains(&kind)).count();
-        let kinds = (0..64).map(rows).filter(|rows| *rows > 0);
-        kinds.fold((usize::MAX, 0), |(fewest, most), rows| (fewest.min(rows), most.max(rows)))
+        let rows = |step: &Step| match step {
+            Step::Event { kind, .. } => Some(self.rows.iter().filter(|row| row.kinds().contains(kind)).count()),
+            _ => None,
+        };
+        self.steps
+            .iter()
+            .filter_map(rows)
+            .fold((usize::MAX, 0), |(fewest, most), rows| (fewest.min(rows), most.max(rows)))
     }
 }

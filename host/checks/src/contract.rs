@@ -105,6 +105,11 @@ fn row(line: &str) -> Option<Constraint> {
             Constraint::Burst { event: byte("event"), maximum: byte("maximum"), length, minimum }
         }
         "Order" => Constraint::Order { source: byte("source"), target: byte("target") },
+        "ExecutionTime" => {
+            let (start, stop, preempt, resume) = (byte("start"), byte("stop"), byte("preempt"), byte("resume"));
+            let (lower, upper) = bounds();
+            Constraint::ExecutionTime { start, stop, preempt, resume, lower, upper }
+        }
         _ => panic!("no type: {line}"),
     })
 }

@@ -15,6 +15,9 @@ pub fn row_of(row: &Constraint) -> Row<'_> {
         Constraint::Burst { event, maximum, length, minimum } => Row::Burst { event, maximum, length, minimum },
         Constraint::Order { source, target } => Row::Order { source, target },
         Constraint::StrongSynchronization { ref kinds, tolerance } => Row::StrongSynchronization { kinds, tolerance },
+        Constraint::ExecutionTime { start, stop, preempt, resume, lower, upper } => {
+            Row::ExecutionTime { start, stop, preempt, resume, lower, upper }
+        }
     }
 }
 
@@ -41,6 +44,9 @@ pub fn numbers_of(row: &Constraint) -> String {
         Constraint::StrongSynchronization { ref kinds, tolerance } => {
             let n = u8::try_from(kinds.len()).expect("an n of one byte");
             (7, std::iter::once(n).chain(kinds.iter().copied()).collect(), vec![tolerance])
+        }
+        Constraint::ExecutionTime { start, stop, preempt, resume, lower, upper } => {
+            (8, vec![start, stop, preempt, resume], vec![lower, upper])
         }
     };
     let byte = |i| bytes.get(i).copied().unwrap_or(0).to_string();

@@ -244,7 +244,7 @@ fn tables_made_in_c() {
 #[test]
 fn the_monitors_memory() {
     let size = format!("{} {}\n", size_of::<Monitor>(), align_of::<Monitor>());
-    assert_eq!(size, "23072 8\n");
+    assert_eq!(size, "23584 8\n");
     for level in LEVELS {
         let host = c_host("memory", level);
         assert_eq!(host.run(&["300"]), Ran::new(0, &size));
@@ -253,7 +253,7 @@ fn the_monitors_memory() {
 }
 
 /// A row of each type, and of each number of kinds, that stays open for a while.
-fn one_of_each() -> [Constraint; 10] {
+fn one_of_each() -> [Constraint; 11] {
     let synchronization = |kinds: &[u8]| Constraint::StrongSynchronization { kinds: kinds.to_vec(), tolerance: 50 };
     [
         Constraint::Delay { source: 0, target: 1, lower: 2, upper: 30 },
@@ -266,6 +266,7 @@ fn one_of_each() -> [Constraint; 10] {
         synchronization(&[0, 1]),
         synchronization(&[0, 1, 2]),
         synchronization(&[0, 1, 2, 3]),
+        Constraint::ExecutionTime { start: 0, stop: 1, preempt: 2, resume: 3, lower: 2, upper: 50 },
     ]
 }
 

@@ -31,6 +31,8 @@ pub enum Row<'a> {
     Order { source: u8, target: u8 },
     /// The first events of the kinds, 2 to 4 of them, are at most `tolerance` apart, and so are the second, and so on.
     StrongSynchronization { kinds: &'a [u8], tolerance: u64 },
+    /// From each `start` to its `stop`, less the stretches from `preempt` to `resume`, it runs for `lower` to `upper`.
+    ExecutionTime { start: u8, stop: u8, preempt: u8, resume: u8, lower: u64, upper: u64 },
 }
 
 /// Writes the table of some rows; gives the number of bytes written. Bytes after those written stay as they were. On a
@@ -65,6 +67,9 @@ impl Row<'_> {
                 let mut bytes = [7, kinds.len().min(255) as u8, 0, 0, 0, 0];
                 bytes[2..2 + n].copy_from_slice(&kinds[..n]);
                 body(&bytes[..2 + n], &[tolerance])
+            }
+            Row::ExecutionTime { start, stop, preempt, resume, lower, upper } => {
+                body(&[8, start, stop, preempt, resume], &[lower, upper])
             }
         }
     }

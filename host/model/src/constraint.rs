@@ -14,7 +14,7 @@ pub const SPAN_LIMIT: u8 = 64;
 pub const WAITING_LIMIT: usize = 64;
 
 /// The types of rows are 1 to this.
-pub const LAST_TYPE: u8 = 7;
+pub const LAST_TYPE: u8 = 8;
 
 /// A row of a table: its type and fields. Any values can stand in the fields; the questions say which are accepted.
 ///
@@ -35,6 +35,8 @@ pub enum Constraint {
     Order { source: u8, target: u8 },
     /// Type 7. The n is the number of kinds.
     StrongSynchronization { kinds: Vec<u8>, tolerance: u64 },
+    /// Type 8.
+    ExecutionTime { start: u8, stop: u8, preempt: u8, resume: u8, lower: u64, upper: u64 },
 }
 
 impl Constraint {
@@ -48,6 +50,7 @@ impl Constraint {
             Constraint::Burst { .. } => 5,
             Constraint::Order { .. } => 6,
             Constraint::StrongSynchronization { .. } => 7,
+            Constraint::ExecutionTime { .. } => 8,
         }
     }
 
@@ -61,6 +64,7 @@ impl Constraint {
                 vec![*event]
             }
             Constraint::StrongSynchronization { kinds, .. } => kinds.clone(),
+            Constraint::ExecutionTime { start, stop, preempt, resume, .. } => vec![*start, *stop, *preempt, *resume],
         }
     }
 }

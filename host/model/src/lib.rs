@@ -19,6 +19,7 @@ pub mod beside;
 pub mod constraint;
 pub mod continuation;
 pub mod examples;
+pub mod executions;
 pub mod hidden_points;
 pub mod meets;
 pub mod monitor;
@@ -34,7 +35,7 @@ pub mod steps;
 pub mod table;
 pub mod waiting;
 
-pub use constraint::{Constraint, LAST_KIND, LAST_TIME, NO_LIMIT, ROW_LIMIT, SPAN_LIMIT, WAITING_LIMIT};
+pub use constraint::{Constraint, LAST_KIND, LAST_TIME, LAST_TYPE, NO_LIMIT, ROW_LIMIT, SPAN_LIMIT, WAITING_LIMIT};
 pub use meets::meets;
 pub use monitor::{Monitor, Verdict};
 pub use open::open;

@@ -1,6 +1,7 @@
-//! What each row asks of all events together, some of the clock too (§5.1 to §5.7).
+//! What each row asks of all events together, some of the clock too (§5.1 to §5.8).
 
 use crate::constraint::{Constraint, NO_LIMIT};
+use crate::executions::Executions;
 use crate::hidden_points::Spacing;
 use crate::steps::Events;
 
@@ -25,6 +26,10 @@ pub fn meets(constraint: &Constraint, events: &impl Events) -> bool {
         Constraint::StrongSynchronization { kinds, tolerance } => {
             let lists: Vec<&[u64]> = kinds.iter().map(times).collect();
             strong_synchronization(*tolerance, &lists)
+        }
+        Constraint::ExecutionTime { lower, upper, .. } => {
+            let executions = Executions::of(constraint, events);
+            executions.rise() && executions.run_for(*lower, *upper)
         }
     }
 }

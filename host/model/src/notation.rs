@@ -40,3 +40,8 @@ pub fn order() -> Constraint {
 pub fn synchronization(n: u8, tolerance: u64) -> Constraint {
     Constraint::StrongSynchronization { kinds: (0..n).collect(), tolerance }
 }
+
+/// An ExecutionTime of start 0, stop 1, preempt 2 and resume 3.
+pub fn execution_time(lower: u64, upper: u64) -> Constraint {
+    Constraint::ExecutionTime { start: 0, stop: 1, preempt: 2, resume: 3, lower, upper }
+}

@@ -8,6 +8,7 @@
 
 use crate::constraint::Constraint;
 use crate::continuation::{Event, Together};
+use crate::executions::{Executions, Part};
 use crate::meets::{meets, without_target};
 use crate::steps::{Events, History};
 
@@ -26,6 +27,9 @@ pub fn open(constraint: &Constraint, recorded: &History) -> bool {
 /// - StrongDelay and Order pair by index. Of the events beyond the larger recorded number both members would be
 ///   further ones: without them the rest still fits. So only partners of recorded events are wanted.
 /// - StrongSynchronization: the same, with groups for pairs.
+/// - ExecutionTime: whole executions that are right stay so with what follows, and further whole ones are not needed.
+///   One that is begun needs its stop, and a preempted one its resume first; each more pair of preempt and resume would
+///   only let it run longer.
 pub fn earliest_continuation(constraint: &Constraint, recorded: &History) -> Vec<Event> {
     if recorded.closed() {
         return Vec::new();
@@ -36,6 +40,7 @@ pub fn earliest_continuation(constraint: &Constraint, recorded: &History) -> Vec
         Constraint::StrongDelay { source, target, lower, .. } => partners(recorded, *source, *target, *lower),
         Constraint::Order { source, target } => partners(recorded, *source, *target, 0),
         Constraint::StrongSynchronization { kinds, .. } => members(recorded, kinds),
+        Constraint::ExecutionTime { stop, resume, lower, .. } => way_out(constraint, recorded, *stop, *resume, *lower),
     }
 }
 
@@ -85,4 +90,19 @@ fn members(recorded: &History, kinds: &[u8]) -> Vec<Event> {
     let mut further: Vec<Event> = kinds.iter().flat_map(missing).collect();
     further.sort_by_key(|event| event.time);
     further
+}
+
+/// What ends an execution that is begun: its stop, once it has run for lower, and before that its resume where it is
+/// preempted. Both are as early as they can be, so it runs no longer than it must.
+fn way_out(row: &Constraint, recorded: &History, stop: u8, resume: u8, lower: u64) -> Vec<Event> {
+    let executions = Executions::of(row, recorded);
+    let begun = executions.begun();
+    let Some((last, part)) = begun.last().copied() else { return Vec::new() };
+    let ran: u64 = begun.windows(2).filter(|pair| pair[0].1 != Part::Preempt).map(|pair| pair[1].0 - pair[0].0).sum();
+    let left = lower.saturating_sub(ran);
+    let next = recorded.clock().max(last + 1);
+    if part == Part::Preempt {
+        return vec![Event { kind: resume, time: next }, Event { kind: stop, time: next + left.max(1) }];
+    }
+    vec![Event { kind: stop, time: next.max(last + left) }]
 }

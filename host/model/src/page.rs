@@ -45,5 +45,6 @@ fn name(row: &Constraint) -> &'static str {
         Constraint::Burst { .. } => "Burst",
         Constraint::Order { .. } => "Order",
         Constraint::StrongSynchronization { .. } => "StrongSynchronization",
+        Constraint::ExecutionTime { .. } => "ExecutionTime",
     }
 }

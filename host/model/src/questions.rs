@@ -64,6 +64,7 @@ fn in_range(row: &Constraint) -> bool {
         Constraint::Burst { maximum, length, minimum, .. } => span_or_maximum(maximum) && time(length) && time(minimum),
         Constraint::Order { .. } => true,
         Constraint::StrongSynchronization { tolerance, .. } => time(tolerance),
+        Constraint::ExecutionTime { lower, upper, .. } => time(lower) && time(upper),
     }
 }
 
@@ -73,7 +74,8 @@ fn lower_first(row: &Constraint) -> bool {
         Constraint::Delay { lower, upper, .. }
         | Constraint::StrongDelay { lower, upper, .. }
         | Constraint::Repeat { lower, upper, .. }
-        | Constraint::Sporadic { lower, upper, .. } => lower <= upper,
+        | Constraint::Sporadic { lower, upper, .. }
+        | Constraint::ExecutionTime { lower, upper, .. } => lower <= upper,
         Constraint::Burst { .. } | Constraint::Order { .. } | Constraint::StrongSynchronization { .. } => true,
     }
 }

@@ -1,6 +1,7 @@
 //! Random tables, recordings and lists of calls for tests: the same from the same seed, on every machine.
 
 pub mod calls;
+pub mod executions;
 pub mod recordings;
 pub mod seen;
 pub mod tables;

@@ -29,6 +29,8 @@ pub fn open_within(constraint: &Constraint, recorded: &History, last: u64) -> bo
 ///   group left has a recorded member, at most at the clock, and the others are at most upper or tolerance later.
 ///   Order has no such bound, but its further targets, whose sources are all recorded, may as well be at
 ///   clock + 1, clock + 2 and so on; its further sources are not after recorded targets.
+/// - ExecutionTime: of a continuation that meets the row keep what ends the execution that is begun, without further
+///   pairs: a resume, right after the clock at the latest, and a stop once it has run for lower.
 /// - Repeat, Sporadic, Burst: drop all; what is said of the recorded events alone, at the clock now, stays true. A few
 ///   more places are searched to see that they change nothing.
 pub fn reach(constraint: &Constraint, recorded: &History) -> u64 {
@@ -44,6 +46,7 @@ pub fn reach(constraint: &Constraint, recorded: &History) -> u64 {
             clock + missing as u64
         }
         Constraint::StrongSynchronization { tolerance, .. } => clock + tolerance,
+        Constraint::ExecutionTime { lower, .. } => clock + 1 + lower.max(&1),
         Constraint::Repeat { .. } | Constraint::Sporadic { .. } | Constraint::Burst { .. } => clock + 3,
     }
 }

@@ -1,10 +1,10 @@
 //! The table's bytes (§4.1 to §4.7) and the table's questions (§9.3).
 
-use crate::constraint::{Constraint, ROW_LIMIT};
+use crate::constraint::{Constraint, LAST_TYPE, ROW_LIMIT};
 use crate::questions::{Refusal, ask, fields_questions, rows_questions};
 
 /// The length of each type (§4.5), by the type byte; to type 7 its n is added.
-const LENGTHS: [usize; 8] = [0, 19, 19, 19, 34, 19, 3, 10];
+const LENGTHS: [usize; 9] = [0, 19, 19, 19, 34, 19, 3, 10, 21];
 
 /// A field, of one byte or of eight (§4.4).
 enum Field {
@@ -34,6 +34,9 @@ fn fields(row: &Constraint) -> Vec<Field> {
             let n = u8::try_from(kinds.len()).expect("an n of one byte");
             let kinds = kinds.iter().map(|kind| Byte(*kind));
             std::iter::once(Byte(n)).chain(kinds).chain([Time(*tolerance)]).collect()
+        }
+        Constraint::ExecutionTime { start, stop, preempt, resume, lower, upper } => {
+            vec![Byte(*start), Byte(*stop), Byte(*preempt), Byte(*resume), Time(*lower), Time(*upper)]
         }
     }
 }
@@ -118,7 +121,7 @@ fn shape_fits(body: &[u8]) -> bool {
     match body {
         [7, n, ..] => (2..=4).contains(n) && body.len() == LENGTHS[7] + usize::from(*n),
         [7] | [] => false,
-        [type_byte, ..] => (1..=6).contains(type_byte) && body.len() == LENGTHS[usize::from(*type_byte)],
+        [type_byte, ..] => (1..=LAST_TYPE).contains(type_byte) && body.len() == LENGTHS[usize::from(*type_byte)],
     }
 }
 
@@ -138,6 +141,14 @@ fn constraint_of(body: &[u8]) -> Constraint {
         },
         5 => Constraint::Burst { event: body[1], maximum: body[2], length: time(3), minimum: time(11) },
         6 => Constraint::Order { source: body[1], target: body[2] },
+        8 => Constraint::ExecutionTime {
+            start: body[1],
+            stop: body[2],
+            preempt: body[3],
+            resume: body[4],
+            lower: time(5),
+            upper: time(13),
+        },
         _ => {
             let end = 2 + usize::from(body[1]);
             Constraint::StrongSynchronization { kinds: body[2..end].to_vec(), tolerance: time(end) }

@@ -24,6 +24,7 @@ pub fn waiting(constraint: &Constraint, recorded: &History) -> usize {
         Constraint::Repeat { .. }
         | Constraint::Sporadic { .. }
         | Constraint::Burst { .. }
-        | Constraint::Order { .. } => 0,
+        | Constraint::Order { .. }
+        | Constraint::ExecutionTime { .. } => 0,
     }
 }

@@ -24,6 +24,10 @@ const INDICATOR_MIRROR: u8 = 11;
 const DOOR_OPEN: u8 = 12;
 const CABIN_LIGHT: u8 = 13;
 const TYRE_PRESSURE: u8 = 14;
+const TASK_START: u8 = 15;
+const TASK_STOP: u8 = 16;
+const TASK_PREEMPT: u8 = 17;
+const TASK_RESUME: u8 = 18;
 
 /// The rows, in the order of `examples/README.md`.
 fn rows() -> Vec<Constraint> {
@@ -42,6 +46,14 @@ fn rows() -> Vec<Constraint> {
         Constraint::Delay { source: DOOR_OPEN, target: CABIN_LIGHT, lower: 0, upper: 150 * ms },
         Constraint::Repeat { event: CAMERA_FRAME, span: 2, lower: 70 * ms, upper: NO_LIMIT },
         Constraint::Repeat { event: TYRE_PRESSURE, span: 1, lower: 24 * ms, upper: 26 * ms },
+        Constraint::ExecutionTime {
+            start: TASK_START,
+            stop: TASK_STOP,
+            preempt: TASK_PREEMPT,
+            resume: TASK_RESUME,
+            lower: 2 * ms,
+            upper: 6 * ms,
+        },
     ]
 }
 
@@ -59,6 +71,7 @@ fn drive() -> Vec<Step> {
     events.extend([(90_000, INDICATOR_REAR), (90_000, INDICATOR_FRONT), (95_000, INDICATOR_MIRROR)]);
     events.push((70_100, DOOR_OPEN));
     events.extend((0..6).map(|i| (1_500 + 25 * i * MILLISECOND, TYRE_PRESSURE)));
+    events.extend([(250_000, TASK_START), (254_500, TASK_PREEMPT), (262_100, TASK_RESUME), (263_600, TASK_STOP)]);
     events.sort_by_key(|&(time, _)| time);
     let mut steps: Vec<Step> = events.into_iter().map(|(time, kind)| Step::Event { kind, time }).collect();
     steps.push(Step::Tick { time: 300 * MILLISECOND });

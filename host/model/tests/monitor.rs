@@ -2,7 +2,9 @@
 
 mod common;
 
-use common::{burst, delay, fresh, order, repeat, sporadic, steps, strong_delay, synchronization, take, verdicts};
+use common::{
+    burst, delay, execution_time, fresh, order, repeat, sporadic, steps, strong_delay, synchronization, take, verdicts,
+};
 use model::random::Random;
 use model::random::calls::calls;
 use model::random::seen::Seen;
@@ -148,13 +150,16 @@ fn what_waits_in_each_type() {
 
 #[test]
 fn nothing_waits_in_the_other_types() {
-    let rows = [order(), repeat(64, 0, 900), sporadic(0, 900, 9, 0), burst(64, 0, 0)];
+    let executions = Constraint::ExecutionTime { start: 4, stop: 0, preempt: 1, resume: 2, lower: 0, upper: 9 };
+    let rows = [order(), repeat(64, 0, 900), sporadic(0, 900, 9, 0), burst(64, 0, 0), executions];
     let mut monitor = fresh(&rows);
-    (0..200).for_each(|time| assert_eq!(monitor.event(0, time), Ok(())));
-    assert_eq!(verdicts(&monitor), "open, open, open, open");
-    assert!((0..4).all(|row| monitor.waiting(row) == Ok(0)));
+    for time in 0..200 {
+        assert_eq!((monitor.event(4, 2 * time), monitor.event(0, 2 * time + 1)), (Ok(()), Ok(())));
+    }
+    assert_eq!(verdicts(&monitor), "open, open, open, open, open");
+    assert!((0..5).all(|row| monitor.waiting(row) == Ok(0)));
     take(&mut monitor, "close");
-    assert_eq!(verdicts(&monitor), "broken 201, kept, kept, kept");
+    assert_eq!(verdicts(&monitor), "broken 401, kept, kept, kept, kept");
 }
 
 #[test]
@@ -192,6 +197,15 @@ fn corners_of_waiting_rows() {
     plays(synchronization(3, 1), "0@5, 2@6", "open");
     plays(synchronization(3, 1), "0@5, 2@6, 0@7", "broken 3");
     plays(synchronization(2, 9), "0@5, close", "broken 2");
+    plays(execution_time(2, 5), "0@0, 2@5", "broken 2");
+    plays(execution_time(2, 5), "0@0, 2@4, tick 1000, 3@1000, tick 1001", "open");
+    plays(execution_time(2, 5), "0@0, 2@4, tick 1000, 3@1000, tick 1001, tick 1002", "broken 6");
+    plays(execution_time(2, 5), "0@0, 2@1, 3@2, 2@3, 3@9, 1@10, close", "kept");
+    plays(execution_time(2, 5), "0@0, 9@6", "broken 2");
+    plays(execution_time(2, 5), "0@0, 1@3, 0@3", "broken 3");
+    plays(execution_time(2, 5), "0@0, 1@3, 0@4, 1@9, close", "kept");
+    plays(execution_time(2, 5), "0@0, 2@3, close", "broken 3");
+    plays(execution_time(0, 0), "0@7", "broken 1");
 }
 
 /// The answer to a call read off the questions: all put at once, the first "no" taken.
@@ -228,13 +242,21 @@ fn reads(row: &Constraint, accepted: &[Step]) -> Verdict {
     }
 }
 
+/// Are there too many continuations of the row's to try each?
+fn too_many_places(row: &Constraint) -> bool {
+    match row {
+        Constraint::ExecutionTime { lower, .. } => *lower > 1,
+        row => row.kinds().len() > 2,
+    }
+}
+
 #[test]
 fn lists_of_calls_by_the_definitions_alone() {
     let mut random = Random::new(3);
     let mut seen = Seen::default();
     for _ in 0..1_500 {
         let rows: Vec<Constraint> = (0..2).map(|_| row(&mut random, Scale::Small, &[0, 1, 2, 3])).collect();
-        if rows.iter().any(|row| row.kinds().len() > 2) {
+        if rows.iter().any(too_many_places) {
             continue;
         }
         let mut monitor = fresh(&rows);

@@ -2,23 +2,26 @@
 
 mod common;
 
-use common::{burst, delay, order, repeat, sporadic, strong_delay, synchronization};
+use common::{burst, delay, execution_time, order, repeat, sporadic, strong_delay, synchronization};
 use model::continuation::is_continuation;
 use model::open::earliest_continuation;
 use model::random::Random;
 use model::random::tables::{Scale, row_of_type};
 use model::search::{open_by_search, open_within, reach};
-use model::{Constraint, History, NO_LIMIT, Step, open};
+use model::{Constraint, History, LAST_TYPE, NO_LIMIT, Step, open};
 
 /// The kinds that the small rows use.
 const KINDS: [u8; 4] = [0, 1, 2, 3];
 
-/// A small row of a type. With more kinds a StrongSynchronization has fewer places to search.
+/// A small row of a type. With more kinds there are fewer places to search.
 fn small_row(random: &mut Random, type_byte: u8) -> Constraint {
     match row_of_type(random, type_byte, Scale::Small, &KINDS) {
         Constraint::StrongSynchronization { kinds, tolerance } => {
             let tolerance = tolerance.min(6 - kinds.len() as u64);
             Constraint::StrongSynchronization { kinds, tolerance }
+        }
+        Constraint::ExecutionTime { start, stop, preempt, resume, lower, upper } => {
+            Constraint::ExecutionTime { start, stop, preempt, resume, lower: lower.min(2), upper }
         }
         row => row,
     }
@@ -92,6 +95,11 @@ fn strong_synchronization_beside_the_search() {
     compare(7, 8_000);
 }
 
+#[test]
+fn execution_time_beside_the_search() {
+    compare(8, 1_000);
+}
+
 /// Compares both decisions after every list of at most so many steps that can be accepted, up to a last time.
 fn compare_all(row: &Constraint, recorded: &History, last: u64, steps: usize) -> u64 {
     assert_eq!(open(row, recorded), open_by_search(row, recorded), "{row:?} after {recorded:?}");
@@ -121,18 +129,18 @@ fn every_short_history_beside_the_search() {
     ];
     let compared: u64 = rows.iter().flatten().map(|row| compare_all(row, &History::default(), 4, 5)).sum();
     let three = compare_all(&synchronization(3, 1), &History::default(), 2, 7);
+    let bounds = [(0, 0), (0, 1), (1, 1), (0, 2), (1, 2)];
+    let executions = bounds.map(|(lower, upper)| compare_all(&execution_time(lower, upper), &History::default(), 2, 4));
     assert!(compared + three > 100_000, "{compared} and {three} histories");
+    assert!(executions.iter().sum::<u64>() > 10_000, "{executions:?} histories of executions");
 }
 
 #[test]
 fn the_earliest_continuation_is_one_and_later_places_add_nothing() {
     let mut random = Random::new(99);
     for _ in 0..6_000 {
-        let type_byte = random.from_to(1, 7) as u8;
+        let type_byte = random.from_to(1, LAST_TYPE.into()) as u8;
         let row = small_row(&mut random, type_byte);
-        if row.kinds().len() > 2 {
-            continue;
-        }
         let mut recorded = History::default();
         for _ in 0..1 + random.below(6) {
             if !recorded.closed() {
@@ -140,6 +148,9 @@ fn the_earliest_continuation_is_one_and_later_places_add_nothing() {
             }
         }
         assert!(is_continuation(&recorded, &earliest_continuation(&row, &recorded)), "{row:?} after {recorded:?}");
+        if row.kinds().len() > 2 {
+            continue;
+        }
         let farther = open_within(&row, &recorded, reach(&row, &recorded) + 2);
         assert_eq!(open(&row, &recorded), farther, "{row:?} after {recorded:?}");
     }

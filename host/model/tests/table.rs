@@ -2,7 +2,7 @@
 
 mod common;
 
-use common::{burst, delay, order, repeat, sporadic, strong_delay, synchronization};
+use common::{burst, delay, execution_time, order, repeat, sporadic, strong_delay, synchronization};
 use model::random::Random;
 use model::random::seen::Seen;
 use model::random::tables::{any_table, damaged_rows, damaged_table};
@@ -32,6 +32,7 @@ fn every_type_in_bytes() {
         synchronization(2, 1),
         synchronization(3, 2),
         synchronization(4, 3),
+        execution_time(2, 5),
     ];
     let bytes = hex("01
         0013 01 00 01 0000000000000002 0000000000000003
@@ -42,7 +43,8 @@ fn every_type_in_bytes() {
         0003 06 00 01
         000C 07 02 00 01 0000000000000001
         000D 07 03 00 01 02 0000000000000002
-        000E 07 04 00 01 02 03 0000000000000003");
+        000E 07 04 00 01 02 03 0000000000000003
+        0015 08 00 01 02 03 0000000000000002 0000000000000005");
     assert_eq!(table_bytes(&rows), bytes);
     assert_eq!(read_table(&bytes), Ok(rows.to_vec()));
 }
@@ -70,7 +72,7 @@ fn version_and_whole_rows() {
 
 #[test]
 fn shape() {
-    for row in ["0000", "0001 00", "0001 08", "0003 08 00 01", "0003 00 00 01", "0003 FF 00 01"] {
+    for row in ["0000", "0001 00", "0001 08", "0003 08 00 01", "0003 09 00 01", "0003 00 00 01", "0003 FF 00 01"] {
         assert_eq!(refused(&hex(&format!("01 {row}"))), (4, 1), "{row}");
     }
     // the length of another type, no n, an n out of range, an n that the length does not suit
@@ -80,6 +82,8 @@ fn shape() {
     assert_eq!(refused(&hex("01 000B 07 01 00 0000000000000001")), (4, 1));
     assert_eq!(refused(&hex("01 000F 07 05 00 01 02 03 04 0000000000000001")), (4, 1));
     assert_eq!(refused(&hex("01 000C 07 03 00 01 0000000000000001")), (4, 1));
+    assert_eq!(refused(&hex("01 0014 08 00 01 02 03 0000000000000002 00000000000005")), (4, 1));
+    assert_eq!(refused(&hex("01 0016 08 00 01 02 03 0000000000000002 0000000000000005 00")), (4, 1));
 }
 
 #[test]
@@ -102,6 +106,13 @@ fn fields_in_order() {
     assert_eq!(number(burst(0, 1, 1)), (6, 6));
     assert_eq!(number(Constraint::StrongSynchronization { kinds: vec![1, 2, 3, 1], tolerance: u64::MAX }), (5, 6));
     assert_eq!(number(synchronization(4, LAST_TIME + 1)), (6, 6));
+    let execution = |start, stop, preempt, resume, lower, upper| {
+        number(Constraint::ExecutionTime { start, stop, preempt, resume, lower, upper })
+    };
+    assert_eq!(execution(0, 1, 2, 0, 2, 5), (5, 6));
+    assert_eq!(execution(0, 1, 2, 64, 2, 5), (5, 6));
+    assert_eq!(execution(0, 1, 2, 3, 2, u64::MAX), (6, 6));
+    assert_eq!(execution(0, 1, 2, 3, 6, 5), (7, 6));
     // the first bad row counts, whatever stands in later ones
     assert_eq!(refused(&table_bytes(&[delay(0, 1, 1, 0), delay(64, 1, 0, 0)])), (7, 1));
 }

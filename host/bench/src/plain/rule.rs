@@ -21,6 +21,16 @@ pub enum Rule {
     Order { source: u8, ahead: u64, early: u64 },
     /// The first times of the groups begun, and how many of these groups have an event of each kind.
     StrongSynchronization { kinds: [u8; 4], n: usize, tolerance: u64, begun: Ring, counts: [usize; 4] },
+    /// The phase of the execution, its last event, and how long it has run up to that event.
+    ExecutionTime { kinds: [u8; 4], lower: u64, upper: u64, phase: Phase, last: u64, ran: u64 },
+}
+
+/// Between two executions, in a running one, or in a preempted one.
+#[derive(Clone, Copy, Debug, PartialEq, Eq)]
+pub enum Phase {
+    Idle,
+    Running,
+    Preempted,
 }
 
 impl Rule {
@@ -43,6 +53,10 @@ impl Rule {
                 let kinds = std::array::from_fn(|place| list.get(place).copied().unwrap_or(u8::MAX));
                 Rule::StrongSynchronization { kinds, n: list.len(), tolerance, begun: Ring::default(), counts: [0; 4] }
             }
+            Constraint::ExecutionTime { start, stop, preempt, resume, lower, upper } => {
+                let kinds = [start, stop, preempt, resume];
+                Rule::ExecutionTime { kinds, lower, upper, phase: Phase::Idle, last: NEVER, ran: 0 }
+            }
         }
     }
 
@@ -56,7 +70,7 @@ impl Rule {
             Rule::StrongSynchronization { kinds, begun, counts, .. } => {
                 begun.is_full() && counts[place(kinds, kind)] == begun.length()
             }
-            Rule::Repeat { .. } | Rule::Sporadic { .. } | Rule::Order { .. } => false,
+            Rule::Repeat { .. } | Rule::Sporadic { .. } | Rule::Order { .. } | Rule::ExecutionTime { .. } => false,
         }
     }
 
@@ -90,6 +104,7 @@ impl Rule {
                 group_event(place(kinds, kind), &mut counts[..*n], begun, time);
                 true
             }
+            Rule::ExecutionTime { .. } => self.execution_event(kind, time),
         }
     }
 
@@ -105,6 +120,24 @@ impl Rule {
         fits && *low <= *high
     }
 
+    /// An ExecutionTime's event: the next phase, if the event is one that may come.
+    fn execution_event(&mut self, kind: u8, time: u64) -> bool {
+        let Rule::ExecutionTime { kinds, lower, upper, phase, last, ran } = self else { return true };
+        let [start, stop, preempt, resume] = *kinds;
+        let run = if *phase == Phase::Running { *ran + (time - *last) } else { *ran };
+        let (next, fits) = match *phase {
+            Phase::Idle if kind == start => (Phase::Running, *upper > 0),
+            Phase::Running if kind == stop => (Phase::Idle, *lower <= run),
+            Phase::Running if kind == preempt => (Phase::Preempted, run < *upper),
+            Phase::Preempted if kind == resume => (Phase::Running, true),
+            _ => return false,
+        };
+        let later = *last != time;
+        (*phase, *last) = (next, time);
+        *ran = if next == Phase::Idle { 0 } else { run };
+        fits && later
+    }
+
     /// The last clock at which the row is open if none of its events comes.
     pub fn due(&self) -> u64 {
         match self {
@@ -117,6 +150,8 @@ impl Rule {
             Rule::Repeat { upper, events, .. } => events.first().map_or(NEVER, |first| first.saturating_add(*upper)),
             Rule::Sporadic { last: NEVER, .. } => NEVER,
             Rule::Sporadic { upper, jitter, high, .. } => high.saturating_add(*upper).saturating_add(*jitter),
+            Rule::ExecutionTime { upper, phase: Phase::Running, last, ran, .. } => last + (upper - ran),
+            Rule::ExecutionTime { .. } => NEVER,
         }
     }
 
@@ -127,6 +162,7 @@ impl Rule {
             Rule::StrongDelay { waiting, early, .. } => waiting.is_empty() && *early == NEVER,
             Rule::Order { ahead, early, .. } => *ahead == 0 && *early == NEVER,
             Rule::StrongSynchronization { begun, .. } => begun.is_empty(),
+            Rule::ExecutionTime { phase, .. } => *phase == Phase::Idle,
             Rule::Repeat { .. } | Rule::Sporadic { .. } => true,
         }
     }
@@ -136,7 +172,7 @@ impl Rule {
         match self {
             Rule::Delay { waiting, .. } | Rule::StrongDelay { waiting, .. } => waiting.is_full(),
             Rule::StrongSynchronization { begun, .. } => begun.is_full(),
-            Rule::Repeat { .. } | Rule::Sporadic { .. } | Rule::Order { .. } => false,
+            Rule::Repeat { .. } | Rule::Sporadic { .. } | Rule::Order { .. } | Rule::ExecutionTime { .. } => false,
         }
     }
 }

@@ -1,7 +1,7 @@
 //! Random tables: accepted ones, rows that are to be refused, and damaged bytes.
 
 use super::Random;
-use crate::constraint::{Constraint, LAST_KIND, LAST_TIME, NO_LIMIT, ROW_LIMIT, SPAN_LIMIT};
+use crate::constraint::{Constraint, LAST_KIND, LAST_TIME, LAST_TYPE, NO_LIMIT, ROW_LIMIT, SPAN_LIMIT};
 use crate::table::table_bytes;
 
 /// How large the times of a row are.
@@ -50,7 +50,7 @@ impl Scale {
 }
 
 /// So many different kinds of a pool that has at least as many.
-fn different(random: &mut Random, pool: &[u8], number: usize) -> Vec<u8> {
+pub(crate) fn different(random: &mut Random, pool: &[u8], number: usize) -> Vec<u8> {
     let mut left = pool.to_vec();
     (0..number).map(|_| left.swap_remove(random.place(left.len()))).collect()
 }
@@ -96,6 +96,11 @@ pub fn row_of_type(random: &mut Random, type_byte: u8, scale: Scale, pool: &[u8]
             Constraint::Burst { event, maximum: span(random), length: scale.time(random), minimum }
         }
         6 => Constraint::Order { source, target },
+        8 => {
+            let kinds = different(random, pool, 4);
+            let (start, stop, preempt, resume) = (kinds[0], kinds[1], kinds[2], kinds[3]);
+            Constraint::ExecutionTime { start, stop, preempt, resume, lower, upper }
+        }
         _ => {
             let number = 2 + random.place(3);
             Constraint::StrongSynchronization { kinds: different(random, pool, number), tolerance: upper }
@@ -105,7 +110,7 @@ pub fn row_of_type(random: &mut Random, type_byte: u8, scale: Scale, pool: &[u8]
 
 /// An accepted row of any type.
 pub fn row(random: &mut Random, scale: Scale, pool: &[u8]) -> Constraint {
-    let type_byte = random.from_to(1, 7) as u8;
+    let type_byte = random.from_to(1, LAST_TYPE.into()) as u8;
     row_of_type(random, type_byte, scale, pool)
 }
 
@@ -172,6 +177,13 @@ fn damage_row(random: &mut Random, row: &mut Constraint) {
             _ => *target = *source,
         },
         Constraint::StrongSynchronization { kinds, tolerance } => damage_synchronization(random, kinds, tolerance),
+        Constraint::ExecutionTime { start, stop, preempt, resume, lower, upper } => match choice {
+            0 => *[start, stop, preempt, resume][random.place(4)] = odd_kind(random),
+            1 => *resume = *random.pick(&[*start, *stop, *preempt]),
+            2 => *lower = odd_time(random),
+            3 => *upper = odd_time(random),
+            _ => (*lower, *upper) = (*upper, *lower),
+        },
         _ => damage_repetition(random, row),
     }
 }

@@ -1,7 +1,9 @@
 //! What the tests share: the contract's notation, and monitors in it.
 #![allow(dead_code, unused_imports)]
 
-pub use model::notation::{burst, delay, order, repeat, sporadic, steps, strong_delay, synchronization};
+pub use model::notation::{
+    burst, delay, execution_time, order, repeat, sporadic, steps, strong_delay, synchronization,
+};
 use model::{Constraint, History, Monitor};
 
 /// What these steps have recorded.

@@ -41,6 +41,10 @@ returns-9 : tie.Need-returns-9
 unfolding fieldsAs
 returns-9 c = rw (c .before .before .self9 .given .1, c .new9 .ensures) (record { typed = refl; all = refl; bytes = refl; times = refl })
 
+returns-10 : tie.Need-returns-10
+unfolding fieldsAs
+returns-10 c = rw (c .before .before .self10 .given .1, c .new10 .ensures) (record { typed = refl; all = refl; bytes = refl; times = refl })
+
 pub fields-spec : {M : Type 1} → statement M
 fields-spec =
     tie.close
@@ -54,6 +58,7 @@ fields-spec =
     (λ c. c .match .keys7) free
     (λ c. c .match .keys8) free
     (λ c. c .match .keys9) free
+    (λ c. c .match .keys10) free
     returns
     returns-2
     returns-3
@@ -62,4 +67,5 @@ fields-spec =
     returns-6
     returns-7
     returns-8
-    returns-9)
+    returns-9
+    returns-10)

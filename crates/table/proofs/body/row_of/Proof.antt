@@ -16,7 +16,24 @@ add-eight-at-3 c = search needs
 
 returns : tie.Need-returns
 unfolding constraintOf
-returns c = cc
+returns c =
+    let times = c .before .before .before .before in
+    let kinds = times .before .before .before .before in
+    let start = kinds .before in
+    rw (
+      c .row-from .ensures,
+      c .before .eight-at4 .ensures,
+      c .before .before .eight-at3 .ensures,
+      c .before .before .before .eight-at2 .ensures,
+      times .eight-at .ensures,
+      times .before .byte-at6 .ensures,
+      times .before .before .byte-at5 .ensures,
+      times .before .before .before .byte-at4 .ensures,
+      kinds .byte-at3 .ensures,
+      start .length-of .ensures,
+      start .before .byte-at2 .ensures,
+      start .before .before .byte-at .ensures,
+    )
 
 pub row-of-spec : {M : Type 1} → statement M
 row-of-spec =

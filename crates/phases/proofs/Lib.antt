@@ -1,0 +1,2 @@
+-- Why the machine of ExecutionTime is exact.
+pub mod Laws

@@ -145,7 +145,13 @@ fn put_heading(buffer: &mut [u8], place: usize, row: usize) -> usize
 }
 
 // Puts the lines of the first rows, one after the other, to the front of a buffer.
-fn put_rows(buffer: &mut [u8], types: &[u64; 32], steps: &[u64; 32], rows: usize, closed: u64)
+fn put_rows<'a>(
+    buffer: &mut [u8],
+    types: &'a [u64; 32],
+    steps: &'a [u64; 32],
+    rows: usize,
+    closed: u64,
+)
     requires { ⌜ rows ≤ rowLimit ⌝ }
     ensures { λ _. ⌜ now (buffer .exit) ≡ sets (now (buffer .entry)) 0
         (pageLines (at (now (types .entry))) (verdictsOf closed (now (steps .entry))) rows) ⌝ }
@@ -196,8 +202,6 @@ impl Page {
     pub fn write(self, buffer: &mut [u8]) -> usize
         ensures { λ r. ⌜ Copied (textOf self) (now (buffer .entry)) r (now (buffer .exit)) ⌝ }
     {
-        let types = self.types;
-        let steps = self.steps;
         let rows = held(self.rows);
         let size = size(rows);
         if buffer.len() < size {
@@ -207,7 +211,7 @@ impl Page {
             number::put(buffer, 0, &HYPHENS);
             return size;
         }
-        put_rows(buffer, &types, &steps, rows, self.closed);
+        put_rows(buffer, &self.types, &self.steps, rows, self.closed);
         size
     }
 }

@@ -16,7 +16,7 @@ use Rattle.page.proofs.Page.write.Statement.{statement}
 use Rattle.page.proofs.Page.write.Tie as tie
 
 -- the length that was tested
-counted : (c : tie.After-size) → c .size .result ≡ pageLength (min (c .before .before .before .before .before .args .self .rows) rowLimit)
+counted : (c : tie.After-size) → c .size .result ≡ pageLength (min (c .before .before .before .args .t1 .rows) rowLimit)
 counted c = c .size .ensures ∙ ap pageLength (c .before .held .ensures)
 
 held-requires : tie.Need-held-requires
@@ -28,8 +28,8 @@ size-requires c κs = omega (arith, c .held .ensures)
 returns : tie.Need-returns
 returns c =
     let size = c .before in
-    let start = size .before .before .before .before .before .args in
-    copied-nothing (start .self) (now (start .buffer)) (size .size .result) (counted size) (c .if1 .taken)
+    let start = size .before .before .before .args in
+    copied-nothing (start .t1) (now (start .buffer)) (size .size .result) (counted size) (c .if1 .taken)
 
 slice-aggregate-put : tie.Need-slice-aggregate-put
 slice-aggregate-put c = search needs
@@ -46,12 +46,12 @@ returns-2 c =
     let put = c .before .before in
     let none = put .before .before .before in
     let size = none .before .before in
-    let start = size .before .before .before .before .before .args in
-    let rows : min (start .self .rows) rowLimit ≡ 0 = omega (arith, size .before .held .ensures) in
-    copied-page (start .self) (now (start .buffer)) (size .size .result) (counted size) _ (none .before .if1 .left) (rw rows (put .put .ensures))
+    let start = size .before .before .before .args in
+    let rows : min (start .t1 .rows) rowLimit ≡ 0 = omega (arith, size .before .held .ensures) in
+    copied-page (start .t1) (now (start .buffer)) (size .size .result) (counted size) _ (none .before .if1 .left) (rw rows (put .put .ensures))
 
 put-rows-requires : tie.Need-put-rows-requires
-put-rows-requires c κs = omega (arith, c .before .before .before .before .before .before .held .ensures)
+put-rows-requires c κs = omega (arith, c .before .before .before .before .before .before .before .held .ensures)
 
 same-length-2 : tie.Need-same-length-2
 same-length-2 c = search needs
@@ -59,10 +59,10 @@ same-length-2 c = search needs
 returns-3 : tie.Need-returns-3
 returns-3 c =
     let put = c .before .before in
-    let some = put .before .before .before .before in
+    let some = put .before .before .before .before .before in
     let size = some .before .before in
-    let start = size .before .before .before .before .before .args in
-    let page = start .self in
+    let start = size .before .before .before .args in
+    let page = start .t1 in
     let types = at (page .types) in
     let verdicts = verdictsOf (page .closed) (page .steps) in
     let n = min (page .rows) rowLimit in

@@ -154,10 +154,6 @@ repeat-first span lower upper xs ys now later h after m = (
         subst (λ (n : ℕ). now ≤ at (xs ++ ys) n) place
         (rw (at-right xs ys (j - length xs)) (after (j - length xs) (omega (arith, length-append xs ys))))
 
-repeat-spans : (span lower upper : ℕ) (events : List ℕ) (now : ℕ) → MeetsRepeat span lower upper events now → SpansApart span lower upper events
-unfolding MeetsRepeat
-repeat-spans span lower upper events now m = m .0
-
 repeat-says : (rule : Rule) (events : List ℕ) (marks : Marks) (kept : List ℕ) (now : ℕ) → Rising events → now ≤ lastTime
     → KeepsRepeat rule events marks kept
     → MeetsRepeat (rule .span) (rule .lower) (rule .upper) events now ↔ (now ≤ dueRepeat rule marks kept)
@@ -193,7 +189,7 @@ repeat-few rule small {events} {marks} {kept} keeps = omega (arith, kept-length 
 
 pub exactRepeat : (kind span lower upper : ℕ) → Sound (Repeat kind span lower upper)
     → Exact (Repeat kind span lower upper) (decideRepeat (ruleOf (Repeat kind span lower upper)))
-unfolding Meets waiting InRange
+unfolding Meets MeetsRepeat waiting InRange
 exactRepeat kind span lower upper sound =
     exactOneKind (Repeat kind span lower upper) (decideRepeat rule)
     (record {
@@ -212,7 +208,7 @@ exactRepeat kind span lower upper sound =
       keeps-few = repeat-few rule (sound .in-range .1);
       keeps-event = λ t rises small keeps soon.
           repeat-event rule _ _ _ keeps t (sound .in-range .0) small rises soon kind (MeetsRepeat span lower upper)
-          (λ m. (repeat-spans span lower upper _ t m, rising-apart _ rises));
+          (λ m. (m .0, rising-apart _ rises));
     })
   where
     rule : Rule

@@ -12,14 +12,16 @@ use lib.ListN.{length, take, drop, length-append, length-drop, take-append-drop}
 use lib.Seq.{drop-nil, getD-drop, drop-drop, drop-append-le}
 use lib.Dec.{leb, ltb}
 use borrow.Author.Tests.{ltb-true, ltb-false}
-use Rattle.constraint.specs.Limits.{lastTime, spanLimit, waitingLimit}
-use Rattle.constraint.specs.Steps.{at}
+use Rattle.constraint.specs.Limits.{lastTime, noLimit, spanLimit, waitingLimit}
+use Rattle.constraint.specs.Steps.{Step, at, times, clock}
 use Rattle.constraint.specs.Meets.{Meets, SpansApart, MeetsRepeat, AtLeastApart}
+use Rattle.constraint.specs.Continuation.{Open}
 use Rattle.constraint.specs.Waiting.{waiting}
 use Rattle.constraint.specs.Accepted.{InRange}
 use Rattle.constraint.specs.declared.Constraint.the-variants.{Repeat}
 use Rattle.constraint.proofs.Lists.{split, at-left, at-right, Each, Rising, rising-left, rising-right, rising-at}
-use Rattle.constraint.proofs.Continuations.{not-later-earlier}
+use Rattle.constraint.proofs.History.{times-append}
+use Rattle.constraint.proofs.Continuations.{not-later-earlier, continues-late, continues-clock}
 use Rattle.queue.specs.declared.Edit.the-variants.{Push}
 use Rattle.machine.specs.Rule.{ruleOf}
 use Rattle.machine.specs.Parts.{noMarks, plus, withLast, goesOn, breaking, front, dueOldest}
@@ -153,6 +155,16 @@ repeat-first span lower upper xs ys now later h after m = (
         let place : length xs + (j - length xs) ≡ j = omega arith in
         subst (λ (n : ℕ). now ≤ at (xs ++ ys) n) place
         (rw (at-right xs ys (j - length xs)) (after (j - length xs) (omega (arith, length-append xs ys))))
+
+-- so a signal that is silent for too long leaves no continuation
+pub silent-repeat-shut : (kind span lower upper : ℕ) (steps : List Step) → ¬ (upper ≡ noLimit) → (i : ℕ) → i < length (times kind steps)
+    → length (times kind steps) ≤ i + span → at (times kind steps) i + upper < clock steps → ¬ Open (Repeat kind span lower upper) steps
+unfolding Meets MeetsRepeat
+silent-repeat-shut kind span lower upper steps limit i there none silent (further, follows, m) =
+    let now =
+    repeat-first span lower upper (times kind steps) (times kind further) (clock steps) (clock (steps ++ further)) (continues-clock follows)
+    (continues-late follows kind) (rw (times-append kind steps further) at m) in
+    ⊎-elim limit (λ soon. omega arith) (now .1 i there none)
 
 repeat-says : (rule : Rule) (events : List ℕ) (marks : Marks) (kept : List ℕ) (now : ℕ) → Rising events → now ≤ lastTime
     → KeepsRepeat rule events marks kept

@@ -1,26 +1,28 @@
 -- §3.6 to §3.8 for all seven row types: the promise over the machine, with the engine of every type put in.
-use Prim.Native.Nat.{ℕ}
+use Prim.Native.Nat.{ℕ, _+_, _≤_, _<_}
 use mathlib.Core.Path.{_≡_, refl, sym, subst}
 use mathlib.Core.Bool.{true, false}
 use mathlib.Core.List.{List}
 use mathlib.Core.Logic.{_↔_, Iff·trans}
 use mathlib.Core.Option.{Option, some}
-use lib.ListN.{getElem?}
+use lib.ListN.{length, getElem?}
 use Rattle.constraint.specs.Limits.{noLimit}
-use Rattle.constraint.specs.Steps.{Step, closed}
+use Rattle.constraint.specs.Steps.{Step, at, times, clock, closed}
 use Rattle.constraint.specs.Meets.{Meets}
 use Rattle.constraint.specs.Continuation.{Open, Reads}
 use Rattle.constraint.specs.Accepted.{Accepted}
 use Rattle.constraint.specs.Promise.{Promise, ReadsRow, row, no-row}
 use Rattle.constraint.specs.declared.Call.{Call}
 use Rattle.constraint.specs.declared.Constraint.{Constraint}
-use Rattle.constraint.specs.declared.Constraint.the-variants.{Delay}
+use Rattle.constraint.specs.declared.Constraint.the-variants.{Delay, Repeat, Sporadic}
 use Rattle.constraint.specs.declared.Verdict.{Verdict}
 use Rattle.constraint.proofs.History.{valid-none, past-of}
 use Rattle.constraint.proofs.Judged.{never}
 use Rattle.constraint.proofs.Runs.{run-valid, broken-exactly, kept-exactly}
 use Rattle.constraint.proofs.Sanity.{run-once}
 use Rattle.pairs.proofs.Laws.Delay.{unlimited-delay-open}
+use Rattle.spans.proofs.Laws.Repeat.{silent-repeat-shut}
+use Rattle.points.proofs.Laws.Sporadic.{silent-sporadic-shut}
 use Rattle.row.proofs.Exact.{Sound}
 use Rattle.row.proofs.Engine.{engine}
 use Rattle.monitor.specs.Machine.{monitorOf, stepOf, verdictOf}
@@ -76,3 +78,21 @@ module _ (rows : List Constraint) (calls : List Call) (steps : List Step) (accep
       broken-while-it-runs .0 (n, broken)
       (subst (λ (x : Constraint). Open x steps) (sym is)
       (unlimited-delay-open source target lower sound (past-of (run-valid (recorded .1) valid-none)) before))
+
+  -- §5.3.2, §5.4.4: the row reads broken
+  abbrev pub ReadsBroken : Type 0
+  ReadsBroken = (n : ℕ) × (verdictOf (after rows calls) i ≡ some (Verdict.Broken n))
+
+  -- where an event of a Repeat has none span places after it and is more than upper before the clock
+  pub silent-repeat-broken : (kind span lower upper : ℕ) → c ≡ Repeat kind span lower upper → ¬ (upper ≡ noLimit) → (place : ℕ)
+      → place < length (times kind steps) → length (times kind steps) ≤ place + span → at (times kind steps) place + upper < clock steps → ReadsBroken
+  silent-repeat-broken kind span lower upper is limit place there none silent =
+      broken-while-it-runs .1
+      (λ o. silent-repeat-shut kind span lower upper steps limit place there none silent (subst (λ (x : Constraint). Open x steps) is o))
+
+  -- and where the last event of a Sporadic is more than upper and jitter before the clock
+  pub silent-sporadic-broken : (kind lower upper jitter minimum : ℕ) → c ≡ Sporadic kind lower upper jitter minimum → ¬ (upper ≡ noLimit)
+      → (place : ℕ) → place + 1 ≡ length (times kind steps) → at (times kind steps) place + upper + jitter < clock steps → ReadsBroken
+  silent-sporadic-broken kind lower upper jitter minimum is limit place last silent =
+      broken-while-it-runs .1
+      (λ o. silent-sporadic-shut kind lower upper jitter minimum steps limit place last silent (subst (λ (x : Constraint). Open x steps) is o))

@@ -12,13 +12,15 @@ use lib.Seq.{getD-take}
 use lib.Dec.{eqb}
 use borrow.Author.Tests.{eqb-true, eqb-false, ne-eqb}
 use Rattle.constraint.specs.Limits.{lastTime, noLimit}
-use Rattle.constraint.specs.Steps.{at}
+use Rattle.constraint.specs.Steps.{Step, at, times, clock}
 use Rattle.constraint.specs.Meets.{Meets, Between, SpansApart, HiddenPoints, LastNotLater, MeetsSporadic, AtLeastApart}
+use Rattle.constraint.specs.Continuation.{Open}
 use Rattle.constraint.specs.Waiting.{waiting}
 use Rattle.constraint.specs.Accepted.{InRange}
 use Rattle.constraint.specs.declared.Constraint.the-variants.{Sporadic}
 use Rattle.constraint.proofs.Lists.{split, at-next, at-right, Each}
-use Rattle.constraint.proofs.Continuations.{not-later-earlier}
+use Rattle.constraint.proofs.History.{times-append}
+use Rattle.constraint.proofs.Continuations.{not-later-earlier, continues-late, continues-clock}
 use Rattle.machine.specs.Rule.{ruleOf}
 use Rattle.machine.specs.Parts.{noMarks, plus, breaking}
 use Rattle.points.specs.Sporadic.{duePoint, pointAt, stride, lowest, highest, laterSporadic, decideSporadic}
@@ -242,6 +244,17 @@ sporadic-first lower upper jitter minimum xs ys now later h after ((points, hidd
   ),
   apart-first 1 minimum noLimit xs ys apart,
 )
+
+-- so a signal that is silent for too long leaves no continuation: its last point is not after its last event
+pub silent-sporadic-shut : (kind lower upper jitter minimum : ℕ) (steps : List Step) → ¬ (upper ≡ noLimit) → (i : ℕ)
+    → i + 1 ≡ length (times kind steps) → at (times kind steps) i + upper + jitter < clock steps
+    → ¬ Open (Sporadic kind lower upper jitter minimum) steps
+unfolding Meets MeetsSporadic
+silent-sporadic-shut kind lower upper jitter minimum steps limit i last silent (further, follows, m) =
+    let now =
+    sporadic-first lower upper jitter minimum (times kind steps) (times kind further) (clock steps) (clock (steps ++ further))
+    (continues-clock follows) (continues-late follows kind) (rw (times-append kind steps further) at m) in
+    ⊎-elim limit (λ soon. omega (arith, now .0 .1 .near i (omega arith))) (now .0 .2 i (omega (arith, now .0 .1 .one-each)))
 
 module _ (rule : Rule) (events : List ℕ) (marks : Marks) (kept : List ℕ) (keeps : KeepsSporadic rule events marks kept) (now : ℕ)
     (small : now ≤ lastTime) where

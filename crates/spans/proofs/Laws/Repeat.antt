@@ -12,14 +12,16 @@ use lib.ListN.{length, take, drop, length-append, length-drop, take-append-drop}
 use lib.Seq.{drop-nil, getD-drop, drop-drop, drop-append-le}
 use lib.Dec.{leb, ltb}
 use borrow.Author.Tests.{ltb-true, ltb-false}
-use Rattle.constraint.specs.Limits.{lastTime, spanLimit, waitingLimit}
-use Rattle.constraint.specs.Steps.{at}
+use Rattle.constraint.specs.Limits.{lastTime, noLimit, spanLimit, waitingLimit}
+use Rattle.constraint.specs.Steps.{Step, at, times, clock}
 use Rattle.constraint.specs.Meets.{Meets, SpansApart, MeetsRepeat, AtLeastApart}
+use Rattle.constraint.specs.Continuation.{Open}
 use Rattle.constraint.specs.Waiting.{waiting}
 use Rattle.constraint.specs.Accepted.{InRange}
 use Rattle.constraint.specs.declared.Constraint.the-variants.{Repeat}
 use Rattle.constraint.proofs.Lists.{split, at-left, at-right, Each, Rising, rising-left, rising-right, rising-at}
-use Rattle.constraint.proofs.Continuations.{not-later-earlier}
+use Rattle.constraint.proofs.History.{times-append}
+use Rattle.constraint.proofs.Continuations.{not-later-earlier, continues-late, continues-clock}
 use Rattle.queue.specs.declared.Edit.the-variants.{Push}
 use Rattle.machine.specs.Rule.{ruleOf}
 use Rattle.machine.specs.Parts.{noMarks, plus, withLast, goesOn, breaking, front, dueOldest}
@@ -154,9 +156,15 @@ repeat-first span lower upper xs ys now later h after m = (
         subst (λ (n : ℕ). now ≤ at (xs ++ ys) n) place
         (rw (at-right xs ys (j - length xs)) (after (j - length xs) (omega (arith, length-append xs ys))))
 
-repeat-spans : (span lower upper : ℕ) (events : List ℕ) (now : ℕ) → MeetsRepeat span lower upper events now → SpansApart span lower upper events
-unfolding MeetsRepeat
-repeat-spans span lower upper events now m = m .0
+-- so a signal that is silent for too long leaves no continuation
+pub silent-repeat-shut : (kind span lower upper : ℕ) (steps : List Step) → ¬ (upper ≡ noLimit) → (i : ℕ) → i < length (times kind steps)
+    → length (times kind steps) ≤ i + span → at (times kind steps) i + upper < clock steps → ¬ Open (Repeat kind span lower upper) steps
+unfolding Meets MeetsRepeat
+silent-repeat-shut kind span lower upper steps limit i there none silent (further, follows, m) =
+    let now =
+    repeat-first span lower upper (times kind steps) (times kind further) (clock steps) (clock (steps ++ further)) (continues-clock follows)
+    (continues-late follows kind) (rw (times-append kind steps further) at m) in
+    ⊎-elim limit (λ soon. omega arith) (now .1 i there none)
 
 repeat-says : (rule : Rule) (events : List ℕ) (marks : Marks) (kept : List ℕ) (now : ℕ) → Rising events → now ≤ lastTime
     → KeepsRepeat rule events marks kept
@@ -193,7 +201,7 @@ repeat-few rule small {events} {marks} {kept} keeps = omega (arith, kept-length 
 
 pub exactRepeat : (kind span lower upper : ℕ) → Sound (Repeat kind span lower upper)
     → Exact (Repeat kind span lower upper) (decideRepeat (ruleOf (Repeat kind span lower upper)))
-unfolding Meets waiting InRange
+unfolding Meets MeetsRepeat waiting InRange
 exactRepeat kind span lower upper sound =
     exactOneKind (Repeat kind span lower upper) (decideRepeat rule)
     (record {
@@ -212,7 +220,7 @@ exactRepeat kind span lower upper sound =
       keeps-few = repeat-few rule (sound .in-range .1);
       keeps-event = λ t rises small keeps soon.
           repeat-event rule _ _ _ keeps t (sound .in-range .0) small rises soon kind (MeetsRepeat span lower upper)
-          (λ m. (repeat-spans span lower upper _ t m, rising-apart _ rises));
+          (λ m. (m .0, rising-apart _ rises));
     })
   where
     rule : Rule

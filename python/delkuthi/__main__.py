@@ -1,0 +1,4 @@
+"""``python3 -m delkuthi``."""
+from .command import run
+
+run()

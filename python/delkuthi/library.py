@@ -1,0 +1,127 @@
+"""The shared library by ctypes: the calls of ``include/delkuthi.h``, and their refusals as exceptions."""
+from __future__ import annotations
+
+import ctypes
+import ctypes.util
+import os
+import sys
+from functools import lru_cache
+from pathlib import Path
+from typing import Iterator
+
+#: The package's version. It works with each library of the same first two numbers.
+VERSION = (Path(__file__).parent / "VERSION").read_text(encoding="ascii").strip()
+INTERFACE = VERSION.rsplit(".", 1)[0]
+
+LAST_TIME = 2**56 - 1
+LAST_KIND = 63
+NO_LIMIT = 2**64 - 1
+TABLE_LIMIT = 2048
+REPORT_LIMIT = 1024
+PAGE_LIMIT = 4096
+
+#: What each refusal says, as ``delkuthi_refusal_text`` of the header has it.
+REFUSALS = {
+    1: "the table does not begin with a version byte 1",
+    2: "a length field or a row of the table is not whole",
+    3: "the table has more than 32 rows",
+    4: "a row has no known type or n, or the wrong length",
+    5: "a row has a kind above 63, or one kind twice",
+    6: "a row has a time, span or maximum out of range",
+    7: "a row has a lower that is more than its upper",
+    8: "the recording is closed",
+    9: "the kind is above 63",
+    10: "the time is above 2^56 - 1",
+    11: "the time is not in order",
+    12: "more than 64 would wait in a row",
+    13: "the recording does not begin with a version byte 1",
+    14: "a record is not whole, or its length is neither 8 nor 9",
+    15: "there is no row of that number",
+    16: "the buffer is too short",
+    17: "a file is too large",
+}
+
+
+class Refused(Exception):
+    """A call that the library refused; it has changed nothing.
+
+    ``number`` is the refusal's number, ``place`` the place of the length field concerned, in bytes, where the library
+    says one, and ``text`` what the number means.
+    """
+
+    def __init__(self, number: int, place: int | None = None):
+        self.number = number
+        self.place = place
+        self.text = REFUSALS.get(number, "a refusal without a text")
+        where = "" if place is None else f" at byte {place}"
+        super().__init__(f"refused with {number}{where}: {self.text}")
+
+    def __reduce__(self):
+        return (Refused, (self.number, self.place))
+
+
+class LibraryMissing(Exception):
+    """The shared library was not found, or is not of this package's version."""
+
+
+def _calls() -> dict[str, tuple]:
+    data, length, monitor, number = ctypes.c_char_p, ctypes.c_size_t, ctypes.c_void_p, ctypes.c_uint64
+    return {
+        "delkuthi_version": (ctypes.c_uint32, []),
+        "delkuthi_monitor_size": (number, []),
+        "delkuthi_fresh": (number, [monitor, data, length]),
+        "delkuthi_event": (ctypes.c_uint8, [monitor, ctypes.c_uint8, number]),
+        "delkuthi_tick": (ctypes.c_uint8, [monitor, number]),
+        "delkuthi_close": (ctypes.c_uint8, [monitor]),
+        "delkuthi_row_verdict": (ctypes.c_uint8, [monitor, number]),
+        "delkuthi_row_step": (number, [monitor, number]),
+        "delkuthi_rows": (number, [monitor]),
+        "delkuthi_report": (length, [data, length, data, length, data, length]),
+    }
+
+
+def candidates() -> Iterator[str]:
+    """Where the shared library may be, the first that is there being taken.
+
+    The folder that ``DELKUTHI_LIB`` names, alone if it is set; else what the linker finds, the folder beside Python's
+    own, ``/usr/local/lib``, and the ``build`` folder of a checkout.
+    """
+    name = f"libdelkuthi.so.{INTERFACE}"
+    folder = os.environ.get("DELKUTHI_LIB")
+    if folder:
+        yield str(Path(folder) / name)
+        return
+    yield name
+    for place in (Path(sys.prefix) / "lib", Path("/usr/local/lib"), Path(__file__).resolve().parents[2] / "build"):
+        yield str(place / name)
+
+
+@lru_cache(maxsize=None)
+def library() -> ctypes.CDLL:
+    """The library, with the types of its calls; it is looked for once."""
+    tried = list(candidates())
+    for path in tried:
+        try:
+            found = ctypes.CDLL(path)
+            break
+        except OSError:
+            continue
+    else:
+        raise LibraryMissing(
+            f"libdelkuthi.so.{INTERFACE} was not found: `make install` installs it, and DELKUTHI_LIB can name its folder "
+            f"(tried {', '.join(tried)})"
+        )
+    for name, (result, arguments) in _calls().items():
+        call = getattr(found, name)
+        call.restype, call.argtypes = result, arguments
+    version = found.delkuthi_version()
+    interface = f"{version // 1_000_000}.{version // 1000 % 1000}"
+    if interface != INTERFACE:
+        raise LibraryMissing(f"the library is of version {interface}, this package of {INTERFACE}: install both anew")
+    return found
+
+
+def library_version() -> str:
+    """The version of the library that was found."""
+    version = library().delkuthi_version()
+    return f"{version // 1_000_000}.{version // 1000 % 1000}.{version % 1000}"

@@ -1,0 +1,280 @@
+"""Why a row is broken, in a sentence, and where its events may come, for a picture.
+
+The library says that a row is broken and at which step. What is said here is worked out of the events up to that step:
+it is tested, and no verdict depends on it.
+"""
+from __future__ import annotations
+
+from bisect import bisect_left
+from dataclasses import dataclass, field
+from typing import TYPE_CHECKING, Callable, Iterator, NamedTuple
+
+from .library import NO_LIMIT
+from .units import shown
+
+if TYPE_CHECKING:
+    from .table import Row, Table
+
+
+@dataclass
+class Kind:
+    """The events of a kind so far: their times, and their places in the log."""
+
+    times: list[int] = field(default_factory=list)
+    places: list[int] = field(default_factory=list)
+
+    def add(self, time: int, place: int) -> None:
+        self.times.append(time)
+        self.places.append(place)
+
+    def __len__(self) -> int:
+        return len(self.times)
+
+
+@dataclass
+class Case:
+    """A broken row: the table, its events up to the breaking step, the clock then, and whether that step is the close."""
+
+    table: Table
+    row: Row
+    events: dict[int, Kind]
+    clock: int
+    closed: bool
+    at: Callable[[int], str]
+
+    def of(self, field_name: str) -> Kind:
+        return self.events.setdefault(self.row.values[field_name], Kind())  # type: ignore[arg-type]
+
+    def number(self, field_name: str) -> int:
+        value = self.row.values[field_name]
+        assert isinstance(value, int)
+        return value
+
+    def name(self, kind: int) -> str:
+        return self.table.event_name(kind)
+
+    def time(self, time: int) -> str:
+        return shown(time, self.table.unit)
+
+    def event(self, kind: int, index: int) -> str:
+        """``the pedal at 20.5 ms (line 7)``"""
+        events = self.events[kind]
+        return f"the {self.name(kind)} at {self.time(events.times[index])} ({self.at(events.places[index])})"
+
+    def missing(self, what: str, lacks: str, due: int | None) -> str:
+        """What did not come: by its last moment, or before the end."""
+        if due is not None and self.clock > due:
+            return f"{what} had no {lacks} by {self.time(due)}"
+        until = "" if due is None else f", due by {self.time(due)}"
+        return f"the recording ended at {self.time(self.clock)}, and {what} had no {lacks} yet{until}"
+
+
+def delay(case: Case) -> str | None:
+    source, target = case.number("source"), case.number("target")
+    lower, upper = case.number("lower"), case.number("upper")
+    sources, targets = case.of("source").times, case.of("target").times
+    for index, time in enumerate(sources):
+        place = bisect_left(targets, time + lower)
+        if place < len(targets) and (upper == NO_LIMIT or targets[place] <= time + upper):
+            continue
+        due = None if upper == NO_LIMIT else time + upper
+        lacks = case.name(target) + (f" from {case.time(time + lower)} on" if lower else "")
+        return case.missing(case.event(source, index), lacks, due)
+    return None
+
+
+def strong_delay(case: Case) -> str | None:
+    source, target = case.number("source"), case.number("target")
+    lower, upper = case.number("lower"), case.number("upper")
+    sources, targets = case.of("source").times, case.of("target").times
+    for index, (begin, end) in enumerate(zip(sources, targets)):
+        if end < begin + lower:
+            early = f"{case.event(target, index)} came {case.time(end - begin)} after its {case.name(source)}"
+            if end < begin:
+                return f"{case.event(target, index)} came before its {case.name(source)} at {case.time(begin)}"
+            return f"{early} at {case.time(begin)}, where at least {case.time(lower)} is asked"
+        if end > begin + upper:
+            return case.missing(case.event(source, index), case.name(target), begin + upper)
+    if len(targets) > len(sources):
+        return f"{case.event(target, len(sources))} has no {case.name(source)} that it could belong to"
+    if len(sources) > len(targets):
+        return case.missing(case.event(source, len(targets)), case.name(target), sources[len(targets)] + upper)
+    return None
+
+
+def order(case: Case) -> str | None:
+    source, target = case.number("source"), case.number("target")
+    sources, targets = case.of("source").times, case.of("target").times
+    for index, (begin, end) in enumerate(zip(sources, targets)):
+        if end < begin:
+            return f"{case.event(target, index)} came before its {case.name(source)} at {case.time(begin)}"
+    if len(targets) > len(sources):
+        return f"{case.event(target, len(sources))} has no {case.name(source)} at its time or before"
+    if len(sources) > len(targets):
+        return case.missing(case.event(source, len(targets)), case.name(target), None)
+    return None
+
+
+def _gap(case: Case, kind: int, index: int, before: int, asked: str) -> str:
+    times = case.events[kind].times
+    apart = case.time(times[index] - times[before])
+    return f"{case.event(kind, index)} came {apart} after {_back(case, kind, index - before, before)}, where {asked} is asked"
+
+
+def _back(case: Case, kind: int, places: int, index: int) -> str:
+    which = "the one" if places == 1 else f"the one {places} places"
+    events = case.events[kind]
+    return f"{which} before it, at {case.time(events.times[index])} ({case.at(events.places[index])})"
+
+
+def _silent(case: Case, kind: int, index: int, due: int) -> str:
+    return f"no {case.name(kind)} came by {case.time(due)}, after {case.event(kind, index)}"
+
+
+def repeat(case: Case) -> str | None:
+    kind, span = case.number("event"), case.number("span")
+    lower, upper = case.number("lower"), case.number("upper")
+    times = case.of("event").times
+    for index in range(span, len(times)):
+        apart = times[index] - times[index - span]
+        if apart < lower:
+            return _gap(case, kind, index, index - span, f"at least {case.time(lower)}")
+        if upper != NO_LIMIT and apart > upper:
+            return _gap(case, kind, index, index - span, f"at most {case.time(upper)}")
+    first = max(len(times) - span, 0)
+    if upper != NO_LIMIT and first < len(times) and case.clock > times[first] + upper:
+        return _silent(case, kind, first, times[first] + upper)
+    return None
+
+
+def _points(row: Row, times: list[int]) -> Iterator[tuple[int, int | None]]:
+    """For each event the first and the last time (``None``: no last one) at which it could come, by those before it."""
+    lower, upper, jitter = (row.values[name] for name in ("lower", "upper", "jitter"))
+    minimum, apart = row.values["minimum"], max(lower, 1)  # type: ignore[type-var]
+    first = last = None
+    for index, time in enumerate(times):
+        if first is None or last is None:
+            yield 0, None
+            first, last = max(time - jitter, 0), time  # type: ignore[operator]
+            continue
+        limit = None if upper == NO_LIMIT else last + upper
+        yield max(first + apart, times[index - 1] + minimum), None if limit is None else limit + jitter  # type: ignore
+        first = max(first + apart, time - jitter)  # type: ignore[operator]
+        last = time if limit is None else min(limit, time)
+    if first is not None and last is not None:
+        limit = None if upper == NO_LIMIT else last + upper + jitter  # type: ignore[operator]
+        yield max(first + apart, times[-1] + minimum), limit  # type: ignore[operator]
+
+
+def sporadic(case: Case) -> str | None:
+    kind = case.number("event")
+    times = case.of("event").times
+    minimum = case.number("minimum")
+    allowed = list(_points(case.row, times))
+    for index, time in enumerate(times):
+        first, last = allowed[index]
+        if index and time - times[index - 1] < minimum:
+            return _gap(case, kind, index, index - 1, f"at least {case.time(minimum)}")
+        if time < first:
+            return (f"{case.event(kind, index)} came too early: with the events before it no point fits before "
+                    f"{case.time(first)}")
+        if last is not None and time > last:
+            return f"{case.event(kind, index)} came too late: after the events before it the last moment was {case.time(last)}"
+        if index and case.number("upper") < max(case.number("lower"), 1):
+            return f"{case.event(kind, index)} is a second one, and points that rise are more than upper apart"
+    if times:
+        last = allowed[-1][1]
+        if last is not None and case.clock > last:
+            return _silent(case, kind, len(times) - 1, last)
+    return None
+
+
+def burst(case: Case) -> str | None:
+    kind, maximum = case.number("event"), case.number("maximum")
+    length, minimum = case.number("length"), case.number("minimum")
+    times = case.of("event").times
+    for index in range(1, len(times)):
+        if times[index] - times[index - 1] < minimum:
+            return _gap(case, kind, index, index - 1, f"at least {case.time(minimum)}")
+        if index >= maximum and times[index] - times[index - maximum] < length:
+            inside = case.time(times[index] - times[index - maximum])
+            return (f"{case.event(kind, index)} is number {maximum + 1} within {inside}, from "
+                    f"{case.time(times[index - maximum])} on, where at most {maximum} in {case.time(length)} are asked")
+    return None
+
+
+def synchronization(case: Case) -> str | None:
+    kinds = case.row.kinds
+    tolerance = case.number("tolerance")
+    groups = [case.events.setdefault(kind, Kind()).times for kind in kinds]
+    for index in range(max(map(len, groups))):
+        begun = [(times[index], kind) for kind, times in zip(kinds, groups) if index < len(times)]
+        first, kind = min(begun)
+        lacking = [k for k, times in zip(kinds, groups) if index >= len(times) or times[index] > first + tolerance]
+        if lacking:
+            lacks = " and no ".join(case.name(k) for k in lacking)
+            return case.missing(f"the group that begins with {case.event(kind, index)}", lacks, first + tolerance)
+    return None
+
+
+class Window(NamedTuple):
+    """Where an event of a kind may come, or has to: from ``begin`` to ``end``, or without an end."""
+
+    kind: int
+    begin: int
+    end: int | None
+
+
+Times = dict[int, "list[int]"]
+
+
+def _sum(time: int, limit: int) -> int | None:
+    return None if limit == NO_LIMIT else time + limit
+
+
+def delay_windows(row: Row, times: Times) -> Iterator[Window]:
+    """For each source the stretch in which its target has to come."""
+    values: dict[str, int] = row.values  # type: ignore[assignment]
+    for time in times.get(values["source"], ()):
+        yield Window(values["target"], time + values["lower"], _sum(time, values["upper"]))
+
+
+def repeat_windows(row: Row, times: Times) -> Iterator[Window]:
+    """For each event the stretch in which the one span places on has to come."""
+    values: dict[str, int] = row.values  # type: ignore[assignment]
+    for time in times.get(values["event"], ()):
+        yield Window(values["event"], time + values["lower"], _sum(time, values["upper"]))
+
+
+def sporadic_windows(row: Row, times: Times) -> Iterator[Window]:
+    """For each event but the first the stretch in which it can come after those before it."""
+    kind: int = row.values["event"]  # type: ignore[assignment]
+    for begin, end in list(_points(row, times.get(kind, [])))[1:]:
+        yield Window(kind, begin, end)
+
+
+def burst_windows(row: Row, times: Times) -> Iterator[Window]:
+    """From the first event of each burst the stretch that may have no more than maximum."""
+    values: dict[str, int] = row.values  # type: ignore[assignment]
+    end = -1
+    for time in times.get(values["event"], ()):
+        if time >= end:
+            end = time + values["length"]
+            yield Window(values["event"], time, end)
+
+
+def order_windows(row: Row, times: Times) -> Iterator[Window]:
+    """For each source the stretch up to its target."""
+    values: dict[str, int] = row.values  # type: ignore[assignment]
+    targets = times.get(values["target"], [])
+    for index, time in enumerate(times.get(values["source"], ())):
+        yield Window(values["target"], time, targets[index] if index < len(targets) else None)
+
+
+def synchronization_windows(row: Row, times: Times) -> Iterator[Window]:
+    """For each group the stretch within which all its kinds have to come."""
+    groups = [times.get(kind, []) for kind in row.kinds]
+    for index in range(max(map(len, groups))):
+        first = min(group[index] for group in groups if index < len(group))
+        for kind in row.kinds:
+            yield Window(kind, first, first + row.values["tolerance"])  # type: ignore[operator]

@@ -1,0 +1,196 @@
+"""Tables: events with names, rows with names, in text and in the bytes that the library reads."""
+from __future__ import annotations
+
+import ctypes
+from dataclasses import dataclass, field
+from pathlib import Path
+from typing import Iterable
+
+from . import library as lib
+from .library import Refused
+from .rowtypes import BY_NAME, RowType, Value, row_bytes, row_values
+
+
+@dataclass(frozen=True)
+class CanSource:
+    """Frames of a CAN bus that are an event: an identifier, and what their data begins with (``.`` is any digit)."""
+
+    identifier: int
+    extended: bool = False
+    bus: str | None = None
+    data: str | None = None
+    change: bool = False
+
+    def matches(self, data: bytes) -> bool:
+        """Does the data begin with the digits asked for?"""
+        if self.data is None:
+            return True
+        digits = data.hex().upper()
+        return len(digits) >= len(self.data) and all(a in (".", b) for a, b in zip(self.data, digits))
+
+
+@dataclass(frozen=True)
+class CsvSource:
+    """What stands in the event's column of a CSV file where it is not the event's name."""
+
+    text: str
+
+
+@dataclass(frozen=True)
+class KeySource:
+    """A key that gives the event while a bus is watched."""
+
+    key: str
+
+
+Source = CanSource | CsvSource | KeySource
+
+
+@dataclass(frozen=True)
+class Event:
+    """A kind of event with its name, and where it comes from."""
+
+    name: str
+    kind: int
+    sources: tuple[Source, ...] = ()
+
+
+@dataclass(frozen=True)
+class Row:
+    """A row: its type, the values of its fields by their names, and its own name if it has one."""
+
+    type: RowType
+    values: dict[str, Value]
+    name: str | None = None
+    line: int = field(default=0, compare=False)
+    columns: dict[str, int] = field(default_factory=dict, compare=False)
+
+    @staticmethod
+    def of(type_name: str, name: str | None = None, **values: Value) -> Row:
+        """A row by the name of its type and of its fields: ``Row.of("Order", source=0, target=1)``."""
+        row_type = BY_NAME[type_name]
+        names = [part.name for part in row_type.fields]
+        if sorted(values) != sorted(names):
+            raise TypeError(f"{type_name} has the fields {', '.join(names)}")
+        return Row(row_type, {name: values[name] for name in names}, name)
+
+    @property
+    def kinds(self) -> tuple[int, ...]:
+        """The kinds that it names, in the order of its fields."""
+        found: list[int] = []
+        for part in self.type.fields:
+            value = self.values[part.name]
+            if part.role == "kinds":
+                found.extend(value)  # type: ignore[arg-type]
+            elif part.role == "kind":
+                found.append(value)  # type: ignore[arg-type]
+        return tuple(found)
+
+    def doubtful(self, number: int) -> str | None:
+        """The name of the field that a refusal of this number (5 to 7) is about."""
+        seen: set[int] = set()
+        for part in self.type.fields:
+            value = self.values[part.name]
+            kinds = value if part.role == "kinds" else (value,) if part.role == "kind" else ()
+            for kind in kinds:  # type: ignore[union-attr]
+                if number == 5 and (kind > lib.LAST_KIND or kind in seen):
+                    return part.name
+                seen.add(kind)
+            if number == 4 and part.role == "kinds":
+                return part.name
+            if number == 6 and part.role in ("time", "limit", "count") and not _in_range(part.role, value):
+                return part.name
+        return self.type.bounds[0] if number == 7 and self.type.bounds else None
+
+
+def _in_range(role: str, value: Value) -> bool:
+    assert isinstance(value, int)
+    if role == "count":
+        return 1 <= value <= 64
+    return value <= lib.LAST_TIME or role == "limit" and value == lib.NO_LIMIT
+
+
+class Table:
+    """An accepted table, with the names and units that its text gives.
+
+    ``Table.read(path)`` takes a file of text or bytes; :meth:`from_text` and :meth:`from_bytes` take what was read.
+    """
+
+    def __init__(self, rows: Iterable[Row], events: Iterable[Event] = (), unit: str | None = None):
+        """A table of rows; :class:`Refused` says what the library has against them."""
+        self.rows = tuple(rows)
+        self.events = tuple(events)
+        self.unit = unit
+        for name in [row.name for row in self.rows if row.name is not None]:
+            if not name.isprintable():
+                raise ValueError(f"a row's name is one line of text, not {name!r}")
+        self._bytes = bytes([1]) + b"".join(row_bytes(row.type, row.values) for row in self.rows)
+        self._names = {event.kind: event.name for event in self.events}
+        self._kinds = {event.name: event.kind for event in self.events}
+        ask_table(self._bytes)
+
+    @staticmethod
+    def read(path: str | Path) -> Table:
+        """The table in a file: bytes if it begins with a byte 1, text otherwise."""
+        data = Path(path).read_bytes()
+        if data[:1] == b"\x01" or not data:
+            return Table.from_bytes(data)
+        return Table.from_text(data.decode("utf-8"), str(path))
+
+    @staticmethod
+    def from_bytes(data: bytes) -> Table:
+        """The table that the bytes are; :class:`Refused` if the library does not accept them."""
+        ask_table(data)
+        return Table(Row(*row_values(body)) for _, body in table_places(data))
+
+    @staticmethod
+    def from_text(text: str, file: str = "table") -> Table:
+        """The table of a text; :class:`TextError` says the line, the column and what was expected there."""
+        from .text import parse
+
+        return parse(text, file)
+
+    def bytes(self) -> bytes:
+        """The table as the library reads it."""
+        return self._bytes
+
+    def text(self) -> str:
+        """The table as text, in its normal form."""
+        from .text import printed
+
+        return printed(self)
+
+    def kind(self, event: int | str) -> int:
+        """The kind of an event that is given by its name or by its kind."""
+        return event if isinstance(event, int) else self._kinds[event]
+
+    def event_name(self, kind: int) -> str:
+        """The name of a kind; its number if it has none."""
+        return self._names.get(kind, f"kind {kind}")
+
+    def row_name(self, number: int) -> str:
+        """The name of a row, in quotes; ``row 3`` if it has none."""
+        name = self.rows[number].name
+        return f"row {number}" if name is None else f'"{name}"'
+
+    def alone(self, number: int) -> Table:
+        """The table of this one row."""
+        return Table([self.rows[number]], self.events, self.unit)
+
+
+def table_places(data: bytes) -> Iterable[tuple[int, bytes]]:
+    """The place of each row's length field, and the row's bytes behind it."""
+    place = 1
+    while place < len(data):
+        size = int.from_bytes(data[place : place + 2], "big")
+        yield place, data[place + 2 : place + 2 + size]
+        place += 2 + size
+
+
+def ask_table(data: bytes) -> None:
+    """Does the library accept the table? :class:`Refused` if not."""
+    library = lib.library()
+    memory = (ctypes.c_uint64 * (library.delkuthi_monitor_size() // 8))()
+    answer = library.delkuthi_fresh(memory, data, len(data))
+    if answer:
+        raise Refused(answer % 256, answer // 256)

@@ -1,0 +1,338 @@
+"""The text of a table, read and printed. The forms of the rows stand in :mod:`delkuthi.rowtypes`; this is the rest:
+
+.. code-block:: text
+
+    table  = line*                                each statement on a line of its own; # begins a comment
+    line   = "unit" UNIT                          ns, us, ms, s, min or h: first, if times have units
+           | "event" NAME "=" KIND source*        KIND is 0 to 63
+           | [STRING] TYPE form                   a row, with a name if it has one
+    source = "from" "can" ID ["bus" NAME] ["data" DIGITS] ["on" "change"]
+           | "from" "csv" STRING
+           | "from" "key" CHARACTER
+"""
+from __future__ import annotations
+
+import difflib
+import re
+
+from . import library as lib
+from .library import Refused
+from .rowtypes import BY_NAME, TYPES, Field, RowType, Value
+from .table import CanSource, CsvSource, Event, KeySource, Row, Source, Table, table_places
+from .units import UNITS, NotWhole, exact, in_unit
+
+GRAMMAR = (__doc__ or "").split(".. code-block:: text\n\n")[1]
+
+
+class TextError(Exception):
+    """A text that is not a table: ``file``, ``line``, ``column`` (both from 1) and ``message``, what was expected there."""
+
+    def __init__(self, file: str, line: int, column: int, message: str):
+        self.file, self.line, self.column, self.message = file, line, column, message
+        Exception.__init__(self, f"{file}:{line}:{column}: {message}")
+
+    def __reduce__(self):
+        return (TextError, (self.file, self.line, self.column, self.message))
+
+
+class TextRefused(TextError, Refused):
+    """A text whose table the library refuses: the refusal's ``number``, ``place`` and ``text``, and where it stands."""
+
+    def __init__(self, file: str, line: int, column: int, message: str, refusal: Refused):
+        Refused.__init__(self, refusal.number, refusal.place)
+        TextError.__init__(self, file, line, column, message)
+
+    def __reduce__(self):
+        return (TextRefused, (self.file, self.line, self.column, self.message, Refused(self.number, self.place)))
+
+
+def grammar() -> str:
+    """The whole grammar, with a line for each row type."""
+    lines = [line[4:] for line in GRAMMAR.rstrip().splitlines()]
+    lines.append("form:")
+    width = max(len(row_type.name) for row_type in TYPES)
+    for row_type in TYPES:
+        form = re.sub(r"\{(\w+):(\w+)\}", lambda match: match[1].upper(), row_type.form)
+        lines.append(f"    {row_type.name:{width}}  {form}")
+    lines.append("A kind is an event's name or its number; KINDS are two to four of them. A time is a number, with a unit")
+    lines.append("behind it where the table has one. An UPPER of Delay, Repeat and Sporadic may be the word none.")
+    return "\n".join(lines) + "\n"
+
+
+class _Line:
+    """A line that is read from the left to the right."""
+
+    def __init__(self, file: str, number: int, text: str):
+        self.file, self.number, self.text, self.place = file, number, text, 0
+        self.skip()
+
+    def skip(self) -> None:
+        match = re.compile(r"\s*(#.*)?").match(self.text, self.place)
+        assert match is not None
+        self.place = match.end()
+
+    def ended(self) -> bool:
+        return self.place >= len(self.text)
+
+    @property
+    def column(self) -> int:
+        return self.place + 1
+
+    def error(self, message: str, column: int | None = None) -> TextError:
+        return TextError(self.file, self.number, column or self.column, message)
+
+    def expected(self, what: str) -> TextError:
+        rest = re.compile(r"\"[^\"]*\"?|\w+|->|\.\.|\S").match(self.text, self.place)
+        return self.error(f"expected {what}, found {rest[0] if rest else 'the end of the line'}")
+
+    def take(self, pattern: str, what: str | None = None) -> str | None:
+        """What the pattern matches here; if nothing, ``None``, or an error where it is said what is expected."""
+        match = re.compile(pattern).match(self.text, self.place)
+        if match is None:
+            if what is not None:
+                raise self.expected(what)
+            return None
+        self.place = match.end()
+        self.skip()
+        return match[0]
+
+    def word(self, word: str) -> bool:
+        return self.take(rf"{re.escape(word)}(?!\w)" if word[-1].isalnum() else re.escape(word)) is not None
+
+    def demand(self, word: str) -> None:
+        if not self.word(word):
+            raise self.expected(word)
+
+    def string(self, what: str) -> str:
+        found = self.take(r'"(?:[^"\\]|\\["\\])*"', what)
+        assert found is not None
+        return re.sub(r"\\(.)", r"\1", found[1:-1])
+
+
+class _Parser:
+    """What has been read of a table so far."""
+
+    def __init__(self, file: str):
+        self.file = file
+        self.unit: str | None = None
+        self.events: list[Event] = []
+        self.rows: list[Row] = []
+
+    def line(self, line: _Line) -> None:
+        if line.ended():
+            return
+        start = line.column
+        if line.text.startswith('"', line.place):
+            name = line.string('a name that ends with "')
+            if any(row.name == name for row in self.rows):
+                raise line.error(f'a second row with the name "{name}"', start)
+            self.row(line, name)
+        elif re.compile(r"unit\b").match(line.text, line.place):
+            self.unit_line(line)
+        elif re.compile(r"event\b").match(line.text, line.place):
+            self.event_line(line)
+        else:
+            self.row(line, None)
+        if not line.ended():
+            raise line.expected("the end of the line")
+
+    def unit_line(self, line: _Line) -> None:
+        if self.unit is not None:
+            raise line.error("a second unit: a table has one")
+        if self.rows:
+            raise line.error("the unit has to stand before the first row")
+        line.demand("unit")
+        start = line.place
+        unit = line.take(r"\w+", f"one of {', '.join(UNITS)}")
+        if unit not in UNITS:
+            line.place = start
+            raise line.expected(f"one of {', '.join(UNITS)}")
+        self.unit = unit
+
+    def event_line(self, line: _Line) -> None:
+        line.demand("event")
+        start = line.column
+        name = line.take(r"[^\W\d]\w*", "a name for the event")
+        assert name is not None
+        if any(event.name == name for event in self.events):
+            raise line.error(f"a second event with the name {name}", start)
+        line.demand("=")
+        start = line.column
+        kind = int(line.take(r"\d+", f"a kind from 0 to {lib.LAST_KIND}") or 0)
+        if kind > lib.LAST_KIND:
+            raise line.error(f"expected a kind from 0 to {lib.LAST_KIND}, found {kind}", start)
+        for event in self.events:
+            if event.kind == kind:
+                raise line.error(f"kind {kind} is {event.name} already", start)
+        sources = []
+        while line.word("from"):
+            sources.append(_source(line))
+        self.events.append(Event(name, kind, tuple(sources)))
+
+    def row(self, line: _Line, name: str | None) -> None:
+        start = line.place
+        type_name = line.take(r"[^\W\d]\w*", "unit, event, a row's name or its type")
+        if type_name not in BY_NAME:
+            line.place = start
+            near = difflib.get_close_matches(type_name or "", [*BY_NAME, "unit", "event"], 1)
+            hint = f" (did you mean {near[0]}?)" if near else ""
+            raise line.error(f"expected a row's type, one of {', '.join(BY_NAME)}; found {type_name}{hint}")
+        row_type = BY_NAME[type_name]
+        values: dict[str, Value] = {}
+        columns = {"": start + 1}
+        for part in row_type.parts:
+            if isinstance(part, str):
+                line.demand(part)
+            else:
+                columns[part.name] = line.column
+                values[part.name] = self.value(line, part)
+        self.rows.append(Row(row_type, values, name, line.number, columns))
+
+    def value(self, line: _Line, part: Field) -> Value:
+        if part.role == "kind":
+            return self.kind(line, part.name)
+        if part.role == "kinds":
+            kinds = [self.kind(line, "kinds"), self.kind(line, "kinds")]
+            while len(kinds) < 4 and not line.ended() and not line.text.startswith(",", line.place):
+                kinds.append(self.kind(line, "kinds"))
+            return tuple(kinds)
+        if part.role == "count":
+            start = line.column
+            count = int(line.take(r"\d+(?![\w.])", f"a whole number for {part.name}") or 0)
+            if count > 255:
+                raise line.error(f"expected a {part.name} from 1 to 64, found {count}", start)
+            return count
+        if part.role == "limit" and line.word("none"):
+            return lib.NO_LIMIT
+        return self.time(line, part)
+
+    def kind(self, line: _Line, what: str) -> int:
+        start = line.column
+        found = line.take(r"\w+", f"an event for {what}")
+        assert found is not None
+        if re.fullmatch(r"[0-9]+", found):
+            if int(found) > 255:
+                raise line.error(f"expected a kind from 0 to {lib.LAST_KIND}, found {found}", start)
+            return int(found)
+        for event in self.events:
+            if event.name == found:
+                return event.kind
+        near = difflib.get_close_matches(found, [event.name for event in self.events], 1)
+        hint = f"did you mean {near[0]}?" if near else "an event line has to declare it"
+        raise line.error(f"expected an event for {what}; {found} is not declared ({hint})", start)
+
+    def time(self, line: _Line, part: Field) -> int:
+        start = line.column
+        like = "50" if self.unit is None else f"50 {self.unit}"
+        what = f"a time for {part.name}, such as {like}" + (", or none" if part.role == "limit" else "")
+        number = line.take(r"[0-9]+(\.[0-9]+)?", what)
+        assert number is not None
+        written = line.take(r"[^\W\d]\w*(?=\W|$)") if self.follows_unit(line) else None
+        if written is not None and self.unit is None:
+            raise line.error(f"{number} {written}: without a unit line times have no unit", start)
+        try:
+            time = in_unit(number, written, self.unit)
+        except NotWhole as found:
+            raise line.error(f"{found} is no whole number of {self.unit or 'units'}", start) from None
+        if time >= lib.NO_LIMIT:
+            raise line.error(f"expected a time up to {lib.LAST_TIME}, found {time}", start)
+        return time
+
+    def follows_unit(self, line: _Line) -> bool:
+        found = re.compile(r"[^\W\d]\w*").match(line.text, line.place)
+        return found is not None and found[0] in UNITS
+
+
+def _source(line: _Line) -> Source:
+    if line.word("csv"):
+        return CsvSource(line.string("the text of the event's column, in quotes"))
+    if line.word("key"):
+        return KeySource(line.take(r"\S(?!\S)", "one character") or "")
+    if not line.word("can"):
+        raise line.expected("can, csv or key")
+    start = line.column
+    digits = line.take(r"0[xX][0-9A-Fa-f]+(?!\w)", "an identifier such as 0x1A0") or "0x0"
+    identifier, extended = int(digits, 16), len(digits) > 5 or int(digits, 16) > 0x7FF
+    if identifier >= 2**29:
+        raise line.error("expected an identifier of at most 29 bits, 0x1FFFFFFF", start)
+    bus = line.take(r"\w+", "a bus, such as can0") if line.word("bus") else None
+    data = line.take(r"[0-9A-Fa-f.]+(?!\w)", "hexadecimal digits, with . for any") if line.word("data") else None
+    change = line.word("on")
+    if change:
+        line.demand("change")
+    return CanSource(identifier, extended, bus, None if data is None else data.upper(), change)
+
+
+def parse(text: str, file: str = "table") -> Table:
+    """The table of a text; :class:`TextError` or :class:`TextRefused` where it has none."""
+    parser = _Parser(file)
+    for number, line in enumerate(text.split("\n"), 1):
+        parser.line(_Line(file, number, line.rstrip("\r")))
+    try:
+        return Table(parser.rows, parser.events, parser.unit)
+    except Refused as refusal:
+        raise _located(parser, refusal) from None
+
+
+def _located(parser: _Parser, refusal: Refused) -> TextRefused:
+    """The refusal with the line and the field that it is about."""
+    from .rowtypes import row_bytes
+
+    data = bytes([1]) + b"".join(row_bytes(row.type, row.values) for row in parser.rows)
+    places = [place for place, _ in table_places(data)]
+    row = parser.rows[places.index(refusal.place or 1)]
+    field = row.doubtful(refusal.number)
+    about = f"{row.type.name}, {field}" if field else row.type.name
+    message = f"{about}: {refusal.text} (refused with {refusal.number})"
+    return TextRefused(parser.file, row.line, row.columns.get(field or "", 1), message, refusal)
+
+
+def printed(table: Table) -> str:
+    """The table's text in its normal form: the unit, the events, the rows, in columns."""
+    lines = [] if table.unit is None else [f"unit {table.unit}"]
+    if table.events:
+        width = max(len(event.name) for event in table.events)
+        for event in table.events:
+            sources = "".join(f"  {_source_text(source)}" for source in event.sources)
+            lines.append(f"event {event.name:{width}} = {event.kind:<2}{sources}".rstrip())
+    width = max((len(_quoted(row.name)) for row in table.rows), default=0)
+    for row in table.rows:
+        form = row_text(table, row)
+        lines.append(f"{_quoted(row.name):{width}}  {form}" if width else form)
+    return "".join(line + "\n" for line in lines)
+
+
+def row_text(table: Table, row: Row) -> str:
+    """The row without its name."""
+    names = {event.kind: event.name for event in table.events}
+    text = row.type.name
+    for part in row.type.parts:
+        word = part if isinstance(part, str) else _value_text(row, part, names, table.unit)
+        text += word if word == "," else f" {word}"
+    return text
+
+
+def _value_text(row: Row, part: Field, names: dict[int, str], unit: str | None) -> str:
+    value = row.values[part.name]
+    if isinstance(value, tuple):
+        return " ".join(names.get(kind, str(kind)) for kind in value)
+    if part.role == "kind":
+        return names.get(value, str(value))
+    if part.role == "limit" and value == lib.NO_LIMIT:
+        return "none"
+    return str(value) if part.role == "count" else exact(value, unit)
+
+
+def _quoted(name: str | None) -> str:
+    return "" if name is None else '"' + re.sub(r'(["\\])', r"\\\1", name) + '"'
+
+
+def _source_text(source: Source) -> str:
+    if isinstance(source, CsvSource):
+        return f"from csv {_quoted(source.text)}"
+    if isinstance(source, KeySource):
+        return f"from key {source.key}"
+    digits = f"{source.identifier:08X}" if source.extended else f"{source.identifier:03X}"
+    bus = f" bus {source.bus}" if source.bus is not None else ""
+    data = f" data {source.data}" if source.data is not None else ""
+    return f"from can 0x{digits}{bus}{data}{' on change' if source.change else ''}"

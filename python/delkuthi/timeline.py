@@ -1,0 +1,179 @@
+"""A picture of a log: a lane for each event, the stretches that rows ask for shaded, the steps that broke one marked."""
+from __future__ import annotations
+
+from array import array
+from dataclasses import dataclass, field
+from html import escape
+from typing import Iterable
+
+from .check import Outcome
+from .logs import Step
+from .table import Table
+from .units import UNITS, shown
+
+#: A picture shows a whole log of so many steps; of a longer one so many before and after the first that broke a row.
+WHOLE, BEFORE, AFTER = 2000, 300, 100
+#: Colours that most people can tell apart, a row after the other.
+COLOURS = ("#0072B2", "#E69F00", "#009E73", "#CC79A7", "#56B4E9", "#8C6D31", "#6A51A3", "#5F7F3F")
+BROKEN = "#C8102E"
+
+
+@dataclass(frozen=True)
+class Shade:
+    """A stretch on a lane that a row asks for; ``end`` is ``None`` where it has none."""
+
+    row: int
+    lane: int
+    begin: int
+    end: int | None
+    broken: bool
+
+
+@dataclass
+class Scene:
+    """What a picture shows, from ``begin`` to ``end``."""
+
+    title: str
+    unit: str | None
+    begin: int
+    end: int
+    lanes: list[tuple[str, list[int]]] = field(default_factory=list)
+    shades: list[Shade] = field(default_factory=list)
+    marks: list[tuple[int, str]] = field(default_factory=list)
+
+
+def scene(table: Table, steps: Iterable[Step], outcome: Outcome, rows: Iterable[int] | None = None) -> Scene:
+    """The scene of a checked log, from its steps once more; of some rows, or of all."""
+    chosen = list(range(len(table.rows))) if rows is None else list(rows)
+    kinds = sorted({kind for row in chosen for kind in table.rows[row].kinds})
+    broken = {row.number: row for row in outcome.broken if row.number in chosen}
+    whole = outcome.steps <= WHOLE and rows is None
+    first = min((row.step or 0 for row in broken.values()), default=0)
+    times, begin, end = _collect(steps, kinds, first, whole)
+    if rows is not None:
+        begin, end = _around(table, [broken[row] for row in chosen if row in broken], times, begin, end)
+    picture = Scene(outcome.log, table.unit, begin, max(end, begin + 1))
+    lanes = {kind: lane for lane, kind in enumerate(kinds)}
+    for kind in kinds:
+        seen = [time for time in times[kind] if begin <= time <= end]
+        picture.lanes.append((table.event_name(kind), seen))
+    for number in chosen:
+        _shades(picture, table, number, times, lanes, broken)
+    for row in sorted(broken.values(), key=lambda row: row.step or 0):
+        if row.time is not None and begin <= row.time <= end:
+            picture.marks.append((row.time, f"{row.name} broken{' at the end' if row.by_close else ''}"))
+    return picture
+
+
+def _collect(steps: Iterable[Step], kinds: list[int], first: int, whole: bool) -> tuple[dict[int, array], int, int]:
+    """The times of each kind up to the end of the picture, and where the picture begins and ends."""
+    times = {kind: array("Q") for kind in kinds}
+    begin = end = 0
+    for number, (kind, time, _) in enumerate(steps, 1):
+        if not whole and number > max(first, BEFORE) + AFTER:
+            break
+        if number == 1 or not whole and number == first - BEFORE:
+            begin = time
+        if kind in times:
+            times[kind].append(time)
+        end = time
+    return times, begin, end
+
+
+def _around(table: Table, rows: list, times: dict[int, array], begin: int, end: int) -> tuple[int, int]:
+    """A stretch around the breaking steps: from the last few events before to a bit after."""
+    moments = [row.time for row in rows if row.time is not None]
+    if not moments:
+        return begin, end
+    seen = sorted(time for kind in times for time in times[kind] if time <= max(moments))
+    start = seen[-6] if len(seen) > 6 else seen[0] if seen else begin
+    room = max((max(moments) - start) // 5, 1)
+    return max(start - room, 0), max(moments) + room
+
+
+def _shades(picture: Scene, table: Table, number: int, times: dict, lanes: dict[int, int], broken: dict) -> None:
+    row = table.rows[number]
+    before = broken[number].time if number in broken else None
+    for kind, begin, end in row.type.windows(row, times):
+        if begin > picture.end or end is not None and end < picture.begin:
+            continue
+        # The stretch that nothing came in, where the row is broken.
+        missed = before is not None and end is not None and end <= before and not any(
+            begin <= time <= end for time in times[kind])
+        picture.shades.append(Shade(number, lanes[kind], begin, end, missed))
+
+
+def ticks(begin: int, end: int, unit: str | None) -> tuple[list[int], str, int]:
+    """Where the axis has its numbers, the unit that they are in, and how many of the table's units it has."""
+    span = max(end - begin, 1)
+    name, size = unit or "", 1
+    if unit is not None:
+        for larger in UNITS:
+            if UNITS[larger] % UNITS[unit] == 0 and span * UNITS[unit] >= 5 * UNITS[larger] and larger not in ("min", "h"):
+                name, size = larger, UNITS[larger] // UNITS[unit]
+    step = size
+    while span // step > 12:
+        for factor in (2, 5, 10):
+            if span // (step * factor) <= 12:
+                step *= factor
+                break
+        else:
+            step *= 10
+    first = -(-begin // step) * step
+    return list(range(first, end + 1, step)), name, size
+
+
+_LEFT, _WIDTH, _LANE, _STYLE = 170, 1000, 26, "font-family='DejaVu Sans, Verdana, sans-serif'"
+
+
+def svg(picture: Scene) -> str:
+    """The picture as one SVG element, which needs nothing else."""
+    inner = _WIDTH - _LEFT - 20
+    scale = inner / (picture.end - picture.begin)
+
+    def x(time: float) -> float:
+        return round(_LEFT + min(max((time - picture.begin) * scale, 0), inner), 1)
+
+    top = 34 + 15 * len(picture.marks)
+    height = top + _LANE * len(picture.lanes) + 34
+    out = [f"<svg xmlns='http://www.w3.org/2000/svg' viewBox='0 0 {_WIDTH} {height}' {_STYLE} font-size='11'>",
+           f"<title>{escape(picture.title)}</title>", f"<rect width='{_WIDTH}' height='{height}' fill='white'/>"]
+    bottom = top + _LANE * len(picture.lanes)
+    places, unit, size = ticks(picture.begin, picture.end, picture.unit)
+    for place in places:
+        out.append(f"<path d='M{x(place)} {top} V{bottom + 4}' stroke='#ddd'/>")
+        number = f"{place / size:g}" if place % size else str(place // size)
+        out.append(f"<text x='{x(place)}' y='{bottom + 17}' text-anchor='middle' fill='#444'>{number}</text>")
+    out.append(f"<text x='{_WIDTH - 20}' y='{bottom + 30}' text-anchor='end' fill='#444'>{escape(unit or 'time')}</text>")
+    for lane, (name, _) in enumerate(picture.lanes):
+        middle = top + _LANE * lane + _LANE // 2
+        out.append(f"<text x='{_LEFT - 10}' y='{middle + 4}' text-anchor='end' fill='#111'>{escape(name)}</text>")
+        out.append(f"<path d='M{_LEFT} {middle} H{_WIDTH - 20}' stroke='#999' stroke-width='.6'/>")
+    for shade in picture.shades:
+        out.append(_shade_svg(shade, picture, x, top))
+    for lane, (name, times) in enumerate(picture.lanes):
+        middle = top + _LANE * lane + _LANE // 2
+        for time in times:
+            tip = escape(f"{name} at {shown(time, picture.unit)}")
+            out.append(f"<path d='M{x(time)} {middle - 8} v16' stroke='#111' stroke-width='1.8'><title>{tip}</title></path>")
+    for place, (time, label) in enumerate(picture.marks):
+        y = 18 + 15 * place
+        right = x(time) > _WIDTH * 0.7
+        anchor, dx = ("end", -5) if right else ("start", 5)
+        out.append(f"<path d='M{x(time)} {y - 8} V{bottom}' stroke='{BROKEN}' stroke-width='1.4' stroke-dasharray='4 2'/>")
+        text = escape(f"{label}, {shown(time, picture.unit)}")
+        out.append(f"<text x='{x(time) + dx}' y='{y}' text-anchor='{anchor}' fill='{BROKEN}' font-weight='bold'>{text}</text>")
+    out.append("</svg>")
+    return "\n".join(out) + "\n"
+
+
+def _shade_svg(shade: Shade, picture: Scene, x, top: int) -> str:
+    end = picture.end if shade.end is None else shade.end
+    colour = BROKEN if shade.broken else COLOURS[shade.row % len(COLOURS)]
+    opacity = ".35" if shade.broken else ".10" if shade.end is None else ".22"
+    y = top + _LANE * shade.lane + 4
+    width = max(round(x(end) - x(shade.begin), 1), 1.5)
+    upto = "" if shade.end is None else f" to {shown(shade.end, picture.unit)}"
+    tip = escape(f"row {shade.row}: {shown(shade.begin, picture.unit)}{upto}{', nothing came' if shade.broken else ''}")
+    return (f"<rect x='{x(shade.begin)}' y='{y}' width='{width}' height='{_LANE - 8}' fill='{colour}' "
+            f"fill-opacity='{opacity}'><title>{tip}</title></rect>")

@@ -61,11 +61,13 @@ class Case:
         events = self.events[kind]
         return f"the {self.name(kind)} at {self.time(events.times[index])} ({self.at(events.places[index])})"
 
-    def missing(self, what: str, lacks: str, due: int | None) -> str:
+    def missing(self, what: str, lacks: str, due: int | None, since: int | None = None) -> str:
         """What did not come: by its last moment, or before the end."""
+        begin = "" if since is None else f"from {self.time(since)} "
         if due is not None and self.clock > due:
-            return f"{what} had no {lacks} by {self.time(due)}"
-        until = "" if due is None else f", due by {self.time(due)}"
+            return f"{what} had no {lacks} {begin}{'to' if begin else 'by'} {self.time(due)}"
+        end = "on" if due is None else f"{'to' if begin else 'by'} {self.time(due)}"
+        until = f", due {begin}{end}" if begin or due is not None else ""
         return f"the recording ended at {self.time(self.clock)}, and {what} had no {lacks} yet{until}"
 
 
@@ -78,8 +80,7 @@ def delay(case: Case) -> str | None:
         if place < len(targets) and (upper == NO_LIMIT or targets[place] <= time + upper):
             continue
         due = None if upper == NO_LIMIT else time + upper
-        lacks = case.name(target) + (f" from {case.time(time + lower)} on" if lower else "")
-        return case.missing(case.event(source, index), lacks, due)
+        return case.missing(case.event(source, index), case.name(target), due, time + lower if lower else None)
     return None
 
 

@@ -54,8 +54,9 @@ def grammar() -> str:
     for row_type in TYPES:
         form = re.sub(r"\{(\w+):(\w+)\}", lambda match: match[1].upper(), row_type.form)
         lines.append(f"    {row_type.name:{width}}  {form}")
+    limited = [row_type.name for row_type in TYPES if any(part.role == "limit" for part in row_type.fields)]
     lines.append("A kind is an event's name or its number; KINDS are two to four of them. A time is a number, with a unit")
-    lines.append("behind it where the table has one. An UPPER of Delay, Repeat and Sporadic may be the word none.")
+    lines.append(f"behind it where the table has one. An UPPER of {', '.join(limited[:-1])} and {limited[-1]} may be the word none.")
     return "\n".join(lines) + "\n"
 
 
@@ -247,7 +248,7 @@ def _source(line: _Line) -> Source:
     if line.word("csv"):
         return CsvSource(line.string("the text of the event's column, in quotes"))
     if line.word("key"):
-        return KeySource(line.take(r"\S(?!\S)", "one character") or "")
+        return KeySource(line.take(r"[^\s#](?!\S)", "one character, not #") or "")
     if not line.word("can"):
         raise line.expected("can, csv or key")
     start = line.column

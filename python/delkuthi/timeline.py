@@ -41,6 +41,10 @@ class Scene:
     shades: list[Shade] = field(default_factory=list)
     marks: list[tuple[int, str]] = field(default_factory=list)
 
+    def shown_end(self, shade: Shade) -> float:
+        """Where a stretch ends in the picture; of one without an end only the beginning is shown."""
+        return shade.begin + (self.end - self.begin) / 40 if shade.end is None else shade.end
+
 
 def scene(table: Table, steps: Iterable[Step], outcome: Outcome, rows: Iterable[int] | None = None) -> Scene:
     """The scene of a checked log, from its steps once more; of some rows, or of all."""
@@ -95,7 +99,7 @@ def _shades(picture: Scene, table: Table, number: int, times: dict, lanes: dict[
     row = table.rows[number]
     before = broken[number].time if number in broken else None
     for kind, begin, end in row.type.windows(row, times):
-        if begin > picture.end or end is not None and end < picture.begin:
+        if begin > picture.end or begin < picture.begin and (end is None or end < picture.begin):
             continue
         # The stretch that nothing came in, where the row is broken.
         missed = before is not None and end is not None and end <= before and not any(
@@ -168,12 +172,12 @@ def svg(picture: Scene) -> str:
 
 
 def _shade_svg(shade: Shade, picture: Scene, x, top: int) -> str:
-    end = picture.end if shade.end is None else shade.end
+    end = picture.shown_end(shade)
     colour = BROKEN if shade.broken else COLOURS[shade.row % len(COLOURS)]
-    opacity = ".35" if shade.broken else ".10" if shade.end is None else ".22"
+    opacity = ".35" if shade.broken else ".22"
     y = top + _LANE * shade.lane + 4
     width = max(round(x(end) - x(shade.begin), 1), 1.5)
     upto = "" if shade.end is None else f" to {shown(shade.end, picture.unit)}"
     tip = escape(f"row {shade.row}: {shown(shade.begin, picture.unit)}{upto}{', nothing came' if shade.broken else ''}")
     return (f"<rect x='{x(shade.begin)}' y='{y}' width='{width}' height='{_LANE - 8}' fill='{colour}' "
-            f"fill-opacity='{opacity}'><title>{tip}</title></rect>")
+            f"fill-opacity='{opacity}' stroke='{colour}' stroke-opacity='.45' stroke-width='.7'><title>{tip}</title></rect>")

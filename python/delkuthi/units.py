@@ -45,7 +45,7 @@ def shown(time: int, unit: str | None) -> str:
     if unit in ("min", "h"):
         return f"{time} {unit}"
     nanoseconds = time * UNITS[unit]
-    if nanoseconds < 10**4:
+    if 0 < nanoseconds < 10**4:
         name = "us" if nanoseconds >= 10**3 or unit != "ns" else "ns"
     else:
         name = "ms" if nanoseconds < 10**10 else "s"

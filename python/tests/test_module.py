@@ -1,0 +1,109 @@
+"""The package as a module: monitors beside the Rust model, the report, refusals."""
+import json
+import subprocess
+
+import pytest
+from hypothesis import given
+
+import delkuthi
+from delkuthi import Monitor, Refused, Row, Table, report
+from delkuthi.recording import recording_bytes
+
+from conftest import EXAMPLES, ROOT
+from strategies import played
+
+DELAY = Table([Row.of("Delay", source=0, target=1, lower=2, upper=3)])
+
+
+def answer(call, *arguments):
+    try:
+        call(*arguments)
+        return 0
+    except Refused as refusal:
+        return refusal.number
+
+
+def test_random_lists_beside_the_model():
+    """Answers and verdicts after every call of lists that the model made, worked out from the definitions."""
+    words = ["cargo", "run", "--offline", "--release", "--quiet", "-p", "model", "--bin", "lists", "--", "2026", "150", "60"]
+    done = subprocess.run(words, cwd=ROOT / "host", capture_output=True, text=True, check=True)
+    seen, broken = set(), 0
+    for line in done.stdout.splitlines():
+        played_list = json.loads(line)
+        monitor = Monitor(bytes.fromhex(played_list["table"]))
+        for kind, time, expected, verdicts in played_list["calls"]:
+            if kind >= 0:
+                found = answer(monitor.event, kind, time)
+            else:
+                found = answer(monitor.tick, time) if kind == -1 else answer(monitor.close)
+            assert found == expected
+            assert [str(verdict) for verdict in monitor.verdicts] == verdicts
+            seen.add(found)
+            broken += any(verdict.startswith("broken") for verdict in verdicts)
+    assert seen >= {0, 8, 9, 10, 11} and broken > 100
+
+
+def test_a_copy_goes_its_own_way():
+    monitor = Monitor(DELAY)
+    monitor.event(0, 10)
+    copy = monitor.copy()
+    copy.tick(14)
+    assert [str(one.verdict(0)) for one in (monitor, copy)] == ["open", "broken 2"]
+
+
+@pytest.mark.parametrize("call, number", [
+    (lambda m: m.event(64, 10), 9), (lambda m: m.event(300, 10), 9), (lambda m: m.event(-1, 10), 9),
+    (lambda m: m.tick(2**56), 10), (lambda m: m.tick(2**70), 10), (lambda m: m.tick(-1), 11), (lambda m: m.event(0, 0), 11),
+    (lambda m: m.verdict(1), 15), (lambda m: m.verdict(-1), 15),
+])
+def test_refusals_are_exceptions(call, number):
+    monitor = Monitor(DELAY)
+    monitor.event(0, 0)
+    with pytest.raises(Refused) as refusal:
+        call(monitor)
+    assert refusal.value.number == number and refusal.value.text == delkuthi.library.REFUSALS[number]
+    assert str(monitor.verdict(0)) == "open"
+
+
+def test_a_refused_table_has_a_place():
+    with pytest.raises(Refused) as refusal:
+        Monitor(DELAY.bytes() + b"\x00\x03\x06\x00\x00")
+    assert (refusal.value.number, refusal.value.place) == (5, 22)
+    with pytest.raises(Refused) as refusal:
+        Monitor(b"")
+    assert (refusal.value.number, refusal.value.place) == (1, 0)
+
+
+def test_the_report_on_the_drive():
+    data = (EXAMPLES / "recording.bin").read_bytes()
+    assert report(Table.read(EXAMPLES / "drive.txt"), data) == (EXAMPLES / "report.txt").read_text()
+
+
+@given(played())
+def test_the_report_says_what_the_monitor_says(case):
+    table, steps = case
+    monitor = Monitor(table)
+    for kind, time in steps:
+        monitor.tick(time) if kind is None else monitor.event(kind, time)
+    monitor.close()
+    lines = [f"closed {len(steps) + 1}", *(f"{row} {verdict}" for row, verdict in enumerate(monitor.verdicts))]
+    assert report(table, b"".join(recording_bytes(steps))) == "".join(line + "\n" for line in lines)
+
+
+def test_events_by_name():
+    table = Table.from_text("event pedal = 5\nevent light = 6\nDelay pedal -> light, 0 .. 3\n")
+    monitor = Monitor(table)
+    monitor.event("pedal", 1)
+    monitor.event("light", 2)
+    monitor.close()
+    assert str(monitor.verdict(0)) == "kept"
+
+
+def test_the_library_is_looked_for(monkeypatch, tmp_path):
+    monkeypatch.setenv("DELKUTHI_LIB", str(tmp_path))
+    delkuthi.library.library.cache_clear()
+    with pytest.raises(delkuthi.LibraryMissing, match="make install"):
+        delkuthi.library.library()
+    monkeypatch.undo()
+    delkuthi.library.library.cache_clear()
+    delkuthi.library.library()

@@ -1,0 +1,159 @@
+"""Text tables, both ways."""
+import pytest
+from hypothesis import given
+from hypothesis import strategies as st
+
+import delkuthi
+from delkuthi import Event, Refused, Row, Table, TextError, TextRefused
+from delkuthi.library import LAST_TIME
+from delkuthi.rowtypes import BY_NAME, TYPES
+from delkuthi.text import grammar
+from delkuthi.units import UNITS
+
+from conftest import EXAMPLES, ROOT
+from strategies import rows, tables
+
+
+@given(st.lists(rows(), max_size=32), st.none() | st.sampled_from(list(UNITS)))
+def test_bytes_to_text_to_bytes(several, unit):
+    data = Table(several).bytes()
+    read = Table.from_bytes(data)
+    assert read.bytes() == data
+    assert Table.from_text(Table(read.rows, (), unit).text()).bytes() == data
+
+
+@given(tables())
+def test_a_text_has_a_normal_form(table):
+    text = table.text()
+    read = Table.from_text(text)
+    assert read.text() == text
+    assert (read.rows, read.events, read.unit) == (table.rows, table.events, table.unit)
+    bare = Table.from_bytes(read.bytes()).text()
+    assert Table.from_text(bare).text() == bare
+    assert Table.from_text(bare).bytes() == table.bytes()
+
+
+def test_the_drive():
+    table = Table.read(EXAMPLES / "drive.txt")
+    assert table.bytes() == (EXAMPLES / "table.bin").read_bytes()
+    assert {row.type for row in table.rows} >= set(TYPES[:7])
+
+
+UNIT = "unit us\nevent pedal = 0\nevent light = 1\n"
+ERRORS = [
+    ("Delay 0 -> 1, 1 2", "t:1:17: expected .., found 2"),
+    ("Delay 0 > 1, 1 .. 2", "t:1:9: expected ->, found >"),
+    ("Delay 0 -> 1, 1 .. 2 3", "t:1:22: expected the end of the line, found 3"),
+    ("Delay 0 -> 1", "t:1:13: expected ,, found the end of the line"),
+    ("Delay 0 -> 1, x .. 2", "t:1:15: expected a time for lower, such as 50, found x"),
+    ("Delay 0 -> 1, 1 .. y", "t:1:20: expected a time for upper, such as 50, or none, found y"),
+    ("Delay 0 -> 1, 1 ms .. 2", "t:1:15: 1 ms: without a unit line times have no unit"),
+    ("Deley 0 -> 1", "t:1:1: expected a row's type, one of "),
+    ("\n\n  5", "t:3:3: expected unit, event, a row's name or its type, found 5"),
+    ('"brake Delay 0 -> 1', "t:1:1: expected a name that ends with \""),
+    ('"a" Order 0 -> 1\n"a" Order 0 -> 1', 't:2:1: a second row with the name "a"'),
+    ("Repeat 0 span x, 1 .. 2", "t:1:15: expected a whole number for span, found x"),
+    ("Repeat 0 span 256, 1 .. 2", "t:1:15: expected a span from 1 to 64, found 256"),
+    ("Order 0 -> 300", "t:1:12: expected a kind from 0 to 63, found 300"),
+    ("Order 0 -> 1 # so\nOrder 0", "t:2:8: expected ->, found the end of the line"),
+    ("StrongSynchronization 1, tolerance 5", "t:1:24: expected an event for kinds, found ,"),
+    ("StrongSynchronization 1 2 3 4 5, tolerance 5", "t:1:31: expected ,, found 5"),
+    (UNIT + "Order pedel -> light", "t:4:7: expected an event for source; pedel is not declared (did you mean pedal?)"),
+    (UNIT + "Order pedal -> horn", "t:4:16: expected an event for target; horn is not declared"),
+    (UNIT + "Delay pedal -> light, 0.5 us .. 1", "t:4:23: 0.5 us is no whole number of us"),
+    (UNIT + "Delay pedal -> light, 0 .. 99999999999999999999", "t:4:28: expected a time up to 72057594037927935"),
+    (UNIT + "event horn = 1", "t:4:14: kind 1 is light already"),
+    (UNIT + "event light = 2", "t:4:7: a second event with the name light"),
+    (UNIT + "event horn = 64", "t:4:14: expected a kind from 0 to 63, found 64"),
+    (UNIT + "event horn = 2 from lin 1", "t:4:21: expected can, csv or key, found lin"),
+    (UNIT + "event horn = 2 from can 12", "t:4:25: expected an identifier such as 0x1A0, found 12"),
+    (UNIT + "event horn = 2 from can 0xFFFFFFFF", "t:4:25: expected an identifier of at most 29 bits"),
+    (UNIT + "event horn = 2 from can 0x1 data zz", "t:4:34: expected hexadecimal digits, with . for any, found zz"),
+    (UNIT + "event horn = 2 from can 0x1 on", "t:4:31: expected change, found the end of the line"),
+    (UNIT + "unit ms", "t:4:1: a second unit"),
+    ("unit days", "t:1:6: expected one of ns, us, ms, s, min, h, found days"),
+    ("Order 0 -> 1\nunit ms", "t:2:1: the unit has to stand before the first row"),
+]
+
+
+@pytest.mark.parametrize("text, message", ERRORS)
+def test_errors_say_line_and_column(text, message):
+    with pytest.raises(TextError) as error:
+        Table.from_text(text, "t")
+    assert str(error.value).startswith(message)
+    assert not isinstance(error.value, Refused)
+
+
+REFUSALS = [
+    ("Order 0 -> 1\n  Delay 3 -> 3, 1 .. 2", 5, 2, 14, "Delay, target"),
+    ("StrongSynchronization 1 2 1, tolerance 5", 5, 1, 23, "StrongSynchronization, kinds"),
+    ("Order 64 -> 1", 5, 1, 7, "Order, source"),
+    ("Repeat 1 span 65, 1 .. 2", 6, 1, 15, "Repeat, span"),
+    ("Burst 1 maximum 0, length 5, minimum 6", 6, 1, 17, "Burst, maximum"),
+    (f"Delay 1 -> 2, 1 .. {LAST_TIME + 1}", 6, 1, 20, "Delay, upper"),
+    ("Sporadic 1, 3 .. 2, jitter 0, minimum 0", 7, 1, 13, "Sporadic, lower"),
+    ("Order 0 -> 1\n" * 33, 3, 33, 1, "Order"),
+]
+
+
+@pytest.mark.parametrize("text, number, line, column, about", REFUSALS)
+def test_a_refusal_names_line_and_field(text, number, line, column, about):
+    with pytest.raises(TextRefused) as error:
+        Table.from_text(text, "t")
+    assert (error.value.number, error.value.line, error.value.column) == (number, line, column)
+    assert f"{about}: {error.value.text}" in str(error.value)
+    with pytest.raises(Refused) as refusal:
+        Table.from_bytes(b"\x01" + b"".join(_bytes(line) for line in text.strip().split("\n")))
+    assert (refusal.value.number, refusal.value.place) == (number, error.value.place)
+
+
+def _bytes(line):
+    """A row's bytes by the library's own format, whether the row is accepted or not."""
+    from delkuthi.rowtypes import row_bytes
+    from delkuthi.text import _Line, _Parser
+
+    parser = _Parser("t")
+    parser.line(_Line("t", 1, line))
+    return row_bytes(parser.rows[0].type, parser.rows[0].values)
+
+
+def test_times_in_all_units():
+    table = Table.from_text("unit us\nDelay 0 -> 1, 1.5 ms .. 2 s\nSporadic 0, 1 min .. 1 h, jitter 7, minimum 3000 ns\n")
+    assert table.rows[0].values == {"source": 0, "target": 1, "lower": 1500, "upper": 2_000_000}
+    assert list(table.rows[1].values.values()) == [0, 60 * 10**6, 3600 * 10**6, 7, 3]
+
+
+def test_the_grammar_has_every_type():
+    assert all(f"    {name} " in grammar() for name in BY_NAME)
+    manual = (ROOT / "python/README.md").read_text(encoding="utf-8")
+    assert "".join(f"    {line}\n" if line else "\n" for line in grammar().splitlines()) in manual
+
+
+def test_rows_by_their_fields_names():
+    table = Table([Row.of("Delay", "brake", source=0, target=1, lower=0, upper=50)], [Event("pedal", 0)])
+    assert table.text() == 'event pedal = 0\n"brake"  Delay pedal -> 1, 0 .. 50\n'
+    with pytest.raises(TypeError):
+        Row.of("Order", source=0)
+    with pytest.raises(ValueError):
+        Table([Row.of("Order", "two\nlines", source=0, target=1)])
+
+
+def test_the_types_are_the_contracts():
+    """Number, name and fields of each type are those in the contract's list, and there is no other."""
+    contract = (ROOT / "docs/CONTRACT.md").read_text(encoding="utf-8")
+    listed = contract.split("| type | name | fields | length |")[1].split("\n\n")[0]
+    lines = [[cell.strip() for cell in line.strip("|").split("|")] for line in listed.strip().splitlines()[1:]]
+    assert [(line[0], line[1]) for line in lines] == [(str(row_type.number), row_type.name) for row_type in TYPES]
+    for line, row_type in zip(lines, TYPES):
+        names = ", ".join("n (2, 3 or 4), n kinds" if part.role == "kinds" else part.name for part in row_type.fields)
+        assert line[2] == names
+
+
+def test_the_version_is_the_products():
+    assert delkuthi.__version__ == (ROOT / "VERSION").read_text().strip()
+
+
+def test_the_refusals_are_the_headers():
+    header = (ROOT / "include/delkuthi.h").read_text(encoding="utf-8")
+    for number, text in delkuthi.library.REFUSALS.items():
+        assert f'"{text}"' in header, number

@@ -27,6 +27,8 @@ from .timeline import Scene, scene
 from .units import UNITS, in_unit
 
 KEPT, BROKEN, REFUSED, NOT_WRITTEN = 0, 1, 2, 3
+#: A log of so many bytes takes long enough for a progress bar.
+BAR_FROM = 4_000_000
 
 _EXAMPLES = """\
 examples:
@@ -77,7 +79,7 @@ def _write(path: str | None, data: bytes | str) -> None:
 def progress_bar(log: Log) -> Iterator[None]:
     """A bar while a long log is read, if a person watches and tqdm is there."""
     size = os.path.getsize(log.path) if os.path.exists(log.path) else 0
-    if size < 4_000_000 or not sys.stderr.isatty():
+    if size < BAR_FROM or not sys.stderr.isatty():
         yield
         return
     try:
@@ -246,9 +248,11 @@ def _shrink(given: argparse.Namespace) -> int:
         _out(f"{given.log}: no stretch breaks {table.row_name(row)} before the close\n")
         return KEPT
     stretch = steps[found.first : found.first + found.length]
-    _out(f"{given.log}: {table.row_name(row)} is broken by {found.length} of {len(steps)} steps, "
-         f"number {found.tried} of all stretches by length\n")
-    _out("".join(_log_lines(log, stretch)))
+    kinds = table.rows[row].kinds
+    matter = [step for step in stretch[:-1] if step.kind in kinds] + stretch[-1:]
+    _out(f"{given.log}: {table.row_name(row)} is broken by {log.word}s {stretch[0].place} to {stretch[-1].place} alone, "
+         f"{found.length} of {len(steps)} steps; those that the row hears, and the last:\n")
+    _out("".join(_log_lines(log, matter)))
     return BROKEN
 
 

@@ -1,0 +1,130 @@
+"""Checked logs: verdicts as the report's, messages, and what is written for others."""
+import json
+import xml.etree.ElementTree as xml
+from html.parser import HTMLParser
+
+import pytest
+from hypothesis import given
+
+from delkuthi import Table, report
+from delkuthi import check as check_module
+from delkuthi.check import check
+from delkuthi.logs import Policy
+from delkuthi.output import as_html, as_json, as_junit
+from delkuthi.recording import recording_bytes
+
+from conftest import EXAMPLES
+from strategies import played
+
+MESSAGES = (EXAMPLES / "messages.txt").read_text(encoding="utf-8").splitlines()
+
+
+def drive(name="drive.csv", **policy):
+    return check(Table.read(EXAMPLES / "drive.txt"), str(EXAMPLES / name), Policy(**policy))
+
+
+def test_the_messages_on_the_drive():
+    outcome = drive()
+    assert [message.replace(f"{EXAMPLES}/", "") for message in outcome.messages] == MESSAGES[:2]
+    assert (outcome.status, outcome.steps, outcome.lines, outcome.events) == (1, 62, 61, 60)
+
+
+@pytest.mark.parametrize("name", ["drive.csv", "drive.log", "recording.bin"])
+def test_verdicts_and_steps_are_the_reports(name):
+    lines = [f"{row.number} {row.verdict}{'' if row.step is None else f' {row.step}'}" for row in drive(name).rows]
+    assert lines == (EXAMPLES / "report.txt").read_text().splitlines()[1:]
+
+
+@given(played(most=60))
+def test_random_logs(tmp_path, case):
+    """A check says what the report says, and the place of the step that broke a row, however the steps are cut up."""
+    table, steps = case
+    path = tmp_path / "a.bin"
+    data = b"".join(recording_bytes(steps))
+    path.write_bytes(data)
+    check_module._CHUNK = 7
+    outcome = check(table, str(path))
+    check_module._CHUNK = 1024
+    lines = [f"{row.number} {row.verdict}{'' if row.step is None else f' {row.step}'}" for row in outcome.rows]
+    assert [f"closed {outcome.steps}", *lines] == report(table, data).splitlines()
+    for row in outcome.broken:
+        assert row.by_close == (row.step == len(steps) + 1)
+        assert row.place == min(row.step, len(steps))
+
+
+def test_a_log_that_is_not_closed():
+    outcome = drive(close=False)
+    assert {row.verdict for row in outcome.rows} == {"open", "broken"}
+    assert len(outcome.broken) == 2
+
+
+def test_refusals_of_steps(tmp_path):
+    path = tmp_path / "a.csv"
+    table = Table.from_text('unit ns\nevent a = 0\nevent b = 1\n"slow" Delay a -> b, 0 .. 1 h\n')
+    path.write_text("time_s,event\n1600000000,a\n")
+    outcome = check(table, str(path))
+    assert (outcome.status, outcome.refused) == (2, 10)
+    assert outcome.error.endswith("the time is above 2^56 - 1; --from-zero counts the stamps from the first one")
+    path.write_text("time,event\n" + "".join(f"{time},a\n" for time in range(65)))
+    outcome = check(table, str(path))
+    assert (outcome.status, outcome.refused) == (2, 12)
+    assert outcome.error.startswith(f"{path}:66: a at 64 ns refused with 12") and '"slow"' in outcome.error
+    assert check(table, str(tmp_path / "none.csv")).error == f"{tmp_path}/none.csv: No such file or directory"
+
+
+def test_json():
+    table = Table.read(EXAMPLES / "drive.txt")
+    found = json.loads(as_json(table, [drive(), check(table, "nowhere.csv")]))
+    assert found["status"] == 2 and found["unit"] == "us"
+    rows = found["logs"][0]["rows"]
+    assert [row["verdict"] for row in rows].count("kept") == 7
+    assert (rows[1]["step"], rows[1]["place"], rows[1]["time"]) == (33, 34, 118300)
+    assert "nowhere.csv" in found["logs"][1]["error"]
+
+
+def test_junit():
+    table = Table.read(EXAMPLES / "drive.txt")
+    tree = xml.fromstring(as_junit(table, [drive(), drive("drive.log"), check(table, "no<where&.csv")]).encode())
+    assert tree.attrib == {"name": "delkuthi", "tests": "19", "failures": "4", "errors": "1"}
+    assert [suite.get("failures") for suite in tree] == ["2", "2", "0"]
+    failure = tree[0][1].find("failure")
+    assert failure.get("type") == "StrongDelay" and MESSAGES[0].split(": ", 1)[1] in failure.get("message")
+
+
+class Seen(HTMLParser):
+    """The tags of a page that are open, and whatever it would load."""
+
+    def __init__(self):
+        super().__init__()
+        self.open, self.loads, self.text = [], [], ""
+
+    def handle_starttag(self, tag, attributes):
+        self.loads += [value for name, value in attributes if name in ("src", "href", "srcset", "data")]
+        if tag not in ("meta", "path", "rect"):
+            self.open.append(tag)
+        elif tag in ("path", "rect") and not self.get_starttag_text().endswith("/>"):
+            self.open.append(tag)
+
+    def handle_startendtag(self, tag, attributes):
+        pass
+
+    def handle_endtag(self, tag):
+        assert self.open.pop() == tag
+
+    def handle_data(self, data):
+        self.text += data
+
+
+def test_the_page():
+    from delkuthi.command import _scenes
+
+    table = Table.read(EXAMPLES / "drive.txt")
+    outcome, policy = drive(), Policy()
+    page = as_html(table, "<drive>.txt", [(outcome, *_scenes(table, policy, outcome)), (check(table, "no.csv"), None, {})])
+    seen = Seen()
+    seen.feed(page)
+    assert seen.open == [] and seen.loads == []
+    assert "http" not in page.replace("http://www.w3.org/2000/svg", "")
+    assert "@import" not in page and "url(" not in page and "<script" not in page
+    assert "<drive>.txt" in seen.text and all(message in seen.text for message in outcome.messages)
+    assert page.count("<svg") == 3

@@ -1,0 +1,176 @@
+"""The command: statuses, options, many logs, text and bytes, and what the program of the same name does."""
+import json
+import os
+import shutil
+import subprocess
+import sys
+import xml.etree.ElementTree as xml
+
+import pytest
+
+from delkuthi import Table, __version__
+
+from conftest import EXAMPLES
+
+TABLE, CSV, LOG = EXAMPLES / "drive.txt", EXAMPLES / "drive.csv", EXAMPLES / "drive.log"
+KEPT = "unit ms\nevent a = 0\nevent b = 1\n\"answer\"  Delay a -> b, 0 .. 5 ms\n"
+
+
+@pytest.fixture
+def kept(tmp_path):
+    (tmp_path / "kept.txt").write_text(KEPT)
+    (tmp_path / "kept.csv").write_text("time,event\n1,a\n3,b\n")
+    return tmp_path
+
+
+def test_the_four_statuses(command, kept):
+    assert command("check", "kept.txt", "kept.csv") == (0, "kept.csv: 1 rows, 1 kept, 0 broken; 2 events in 2 lines\n", "")
+    assert command("check", TABLE, CSV)[0] == 1
+    (kept / "bad.txt").write_text("Delay 1 -> 1, 0 .. 5\n")
+    status, out, error = command("check", "bad.txt", "kept.csv")
+    assert (status, out) == (2, "") and error.startswith("bad.txt:1:12: Delay, target: ")
+    (kept / "bad.csv").write_text("time,event\n3,a\n2,b\n")
+    status, out, error = command("check", "kept.txt", "bad.csv")
+    assert (status, out) == (2, "") and error.startswith("bad.csv:3: the stamp 2 ms is before the one above it, 3 ms")
+    assert command("check", "none.txt", "kept.csv") == (2, "", "none.txt: No such file or directory\n")
+    assert command("check", "kept.txt", "none.csv") == (2, "", "none.csv: No such file or directory\n")
+    assert command("nonsense")[0] == 2
+
+
+def test_outputs_that_cannot_be_written(kept):
+    words = [sys.executable, "-m", "delkuthi", "check", str(TABLE), str(CSV)]
+    with open("/dev/full", "w") as full:
+        done = subprocess.run(words, stdout=full, stderr=subprocess.PIPE, text=True)
+    assert done.returncode == 3 and "could not be written" in done.stderr and "Traceback" not in done.stderr
+    for option in ("--junit", "--html", "--plot"):
+        done = subprocess.run([*words, option, "/nowhere/a.svg"], capture_output=True, text=True)
+        assert done.returncode == 3 and "/nowhere/a.svg" in done.stderr and "Traceback" not in done.stderr
+    done = subprocess.run([*words[:3], "table", str(TABLE), "-o", "/nowhere/table.bin"], capture_output=True, text=True)
+    assert done.returncode == 3
+
+
+def test_help_and_version(command):
+    status, out, _ = command("--help")
+    assert status == 0 and "delkuthi check brake.txt drive.csv" in out
+    assert command("--version")[1] == f"delkuthi {__version__}, library {__version__}\n"
+    for name in ("check", "watch", "table", "record", "join", "shrink"):
+        assert command(name, "--help")[0] == 0
+
+
+def test_many_logs_in_one_junit_file(command, kept):
+    for number in range(5):
+        (kept / f"{number}.csv").write_text(f"time,event\n1,a\n{3 + number},b\n9,\n")
+    logs = [f"{number}.csv" for number in range(5)]
+    alone = command("check", "kept.txt", *logs, "--junit", "one.xml")
+    spread = command("check", "kept.txt", *logs, "--junit", "all.xml", "--jobs", "3")
+    assert alone == spread and alone[0] == 1
+    assert (kept / "one.xml").read_text() == (kept / "all.xml").read_text()
+    assert [suite.get("failures") for suite in xml.parse(kept / "all.xml").getroot()] == ["0", "0", "0", "0", "1"]
+    assert "4.csv:3: \"answer\" (Delay) broken at 7 ms: the a at 1 ms (line 2) had no b by 6 ms\n" in alone[1]
+
+
+def test_spread_by_gnu_parallel(kept):
+    """The command of the README, with local jobs: a JUnit file for each log, and the worst status."""
+    if shutil.which("parallel") is None:
+        pytest.skip("GNU parallel is missing (Debian: parallel)")
+    for number in range(4):
+        (kept / f"{number}.csv").write_text(f"time,event\n1,a\n{4 + number},b\n9,\n")
+    line = (f"parallel --will-cite --jobs 2 --keep-order --halt never {sys.executable} -m delkuthi check kept.txt {{}} "
+            "--quiet --junit {.}.xml ::: [0-3].csv")
+    done = subprocess.run(line, shell=True, cwd=kept, capture_output=True, text=True, env={**os.environ, "HOME": str(kept)})
+    assert done.returncode == 1, done.stderr
+    assert done.stdout == "3.csv:3: \"answer\" (Delay) broken at 7 ms: the a at 1 ms (line 2) had no b by 6 ms\n"
+    assert len(list(kept.glob("?.xml"))) == 4
+
+
+def test_json_is_all_that_is_printed(command):
+    status, out, _ = command("check", TABLE, CSV, "--json")
+    assert status == 1 and json.loads(out)["logs"][0]["rows"][1]["verdict"] == "broken"
+
+
+def test_a_log_without_events(command, kept):
+    (kept / "other.csv").write_text("time,event\n1,x\n3,y\n")
+    status, _, error = command("check", "kept.txt", "other.csv")
+    assert status == 0 and error.startswith("other.csv: no line is an event of the table")
+
+
+def test_options_of_the_log(command, kept):
+    (kept / "a.csv").write_text("time,event\n101,a\n101,a\n100,b\n")
+    status, out, error = command("check", "kept.txt", "a.csv", "--unsorted", "sort", "--equal", "drop", "--from-zero", "--until",
+                                 "0.004 s", "--no-close")
+    assert (status, error) == (0, "") and out == "a.csv: 1 rows, 1 open, 0 broken; 3 events in 3 lines\n"
+    status, out, _ = command("check", "kept.txt", "a.csv", "--unsorted", "sort", "--equal", "drop", "--until", "107 ms")
+    assert status == 1 and "broken at 107 ms: the a at 101 ms (line 2) had no b by 106 ms" in out
+    assert command("check", "kept.txt", "a.csv", "--until", "soon")[0] == 2
+
+
+def test_text_and_bytes(command, tmp_path):
+    assert command("table", TABLE, "-o", "table.bin")[0] == 0
+    assert (tmp_path / "table.bin").read_bytes() == (EXAMPLES / "table.bin").read_bytes()
+    status, text, _ = command("table", "table.bin", "--unit", "us")
+    assert status == 0 and Table.from_text(text).bytes() == (EXAMPLES / "table.bin").read_bytes()
+    assert command("table", TABLE)[1] == Table.read(TABLE).text()
+    assert command("table", "--grammar")[1].startswith("table  = line*")
+    (tmp_path / "cut.bin").write_bytes(b"\x01\x00")
+    assert command("table", "cut.bin") == (2, "", "cut.bin: refused with 2 at byte 1: a length field or a row of the table is not whole\n")
+
+
+def test_a_log_as_a_recording(command, tmp_path):
+    assert command("record", TABLE, LOG, "-o", "recording.bin")[0] == 0
+    assert (tmp_path / "recording.bin").read_bytes() == (EXAMPLES / "recording.bin").read_bytes()
+    (tmp_path / "bad.csv").write_text("time,event\n3,brake_pedal\n2,\n")
+    assert command("record", TABLE, "bad.csv", "-o", "bad.bin")[0] == 2
+    assert sorted(path.name for path in tmp_path.iterdir()) == ["bad.csv", "recording.bin"]
+
+
+def test_two_logs_joined(command, tmp_path):
+    """The brake's events from one log and all others from another give the drive's verdicts."""
+    lines = CSV.read_text().splitlines()
+    (tmp_path / "brake.csv").write_text("\n".join([lines[0], *(line for line in lines if "brake" in line)]) + "\n")
+    (tmp_path / "rest.csv").write_text("\n".join(line for line in lines if "brake" not in line) + "\n")
+    assert command("join", TABLE, "brake.csv", "rest.csv", "-o", "joined.bin")[0] == 0
+    status, out, _ = command("check", TABLE, "joined.bin")
+    assert status == 1 and out.endswith("joined.bin: 9 rows, 7 kept, 2 broken; 60 events in 61 records\n")
+    status, _, error = command("join", TABLE, CSV, CSV, "-o", "twice.bin")
+    assert status == 2 and "refused with 20" in error
+
+
+def test_the_lines_that_matter(command):
+    status, out, _ = command("shrink", TABLE, CSV, "cabin light")
+    assert status == 1
+    first, *lines = out.splitlines()
+    assert first == (f'{CSV}: "cabin light" is broken by lines 22 to 52 alone, 31 of 61 steps; those that the row hears, '
+                     "and the last:")
+    assert lines == ["22: 70100,door_open", "52: 230080,wheel_speed"]
+    assert command("shrink", TABLE, EXAMPLES / "recording.bin", "7")[1].splitlines()[1] == "record 21: door_open 70100"
+    assert command("shrink", TABLE, CSV, "wheel speed")[0] == 0
+    assert command("shrink", TABLE, CSV, "nobody")[0] == 2
+
+
+def test_without_arguments_it_is_the_program(command, tmp_path):
+    """The report on table.bin and recording.bin, as the program `delkuthi` in C prints it, with its statuses."""
+    assert command(cwd=EXAMPLES)[:2] == (1, (EXAMPLES / "report.txt").read_text())
+    status, out, error = command()
+    assert (status, out) == (2, "refused 1 0\n") and "--help" in error
+    (tmp_path / "table.bin").write_bytes(b"\x01")
+    (tmp_path / "recording.bin").write_bytes(b"\x01")
+    assert command()[:2] == (0, "closed 1\n")
+    (tmp_path / "recording.bin").write_bytes(b"\x01" * 61_441)
+    assert command()[:2] == (2, "refused 17 0\n")
+
+
+def test_a_bar_where_a_person_watches(tmp_path):
+    """On a terminal a long log has a progress bar; into a file nothing of it is written."""
+    pytest.importorskip("tqdm", reason="tqdm is missing (Debian: python3-tqdm)")
+    import pty
+
+    (tmp_path / "a.txt").write_text("unit us\nevent a = 0\nRepeat a span 1, 1 .. 9\n")
+    (tmp_path / "a.csv").write_text("time,event\n1,a\n2,a\n")
+    small = "import sys; from delkuthi import command; command.BAR_FROM = 0; sys.exit(command.main())"
+    words = [sys.executable, "-c", small, "check", "a.txt", "a.csv"]
+    primary, secondary = pty.openpty()
+    done = subprocess.run(words, cwd=tmp_path, stdout=subprocess.PIPE, stderr=secondary, text=True, env={**os.environ})
+    os.close(secondary)
+    shown = os.read(primary, 4000).decode()
+    assert done.returncode == 0 and "a.csv" in shown and "%" in shown
+    assert subprocess.run(words, cwd=tmp_path, capture_output=True, text=True).stderr == ""

@@ -1,0 +1,148 @@
+"""A live bus: python-can's virtual one; ticks by the clock; markers and their withdrawal."""
+import io
+import os
+import signal
+import subprocess
+import sys
+import threading
+import time
+
+import pytest
+from hypothesis import given, settings
+from hypothesis import strategies as st
+
+from delkuthi import Monitor, Table
+from delkuthi.logs import LogError
+from delkuthi.recording import records
+from delkuthi.watch import Watch, watch_bus
+
+can = pytest.importorskip("can", reason="python-can is missing (Debian: python3-can)")
+
+TABLE = Table.from_text("""\
+unit us
+event pedal = 0  from can 0x1A0
+event light = 1  from can 0x2B4 data 01
+event mark  = 2  from key m
+"brake light"  Delay pedal -> light, 0 ms .. 60 ms
+"marked"       Order mark -> pedal
+""")
+
+
+def frame(identifier, data=b""):
+    return can.Message(arbitration_id=identifier, is_extended_id=False, data=data)
+
+
+def test_a_broken_row_is_said_at_once():
+    """A light that comes in time, and one that does not come: said while the watch runs, by the clock alone."""
+    said, moments, start = [], [], time.monotonic()
+
+    def say(text):
+        said.append(text)
+        moments.append(time.monotonic() - start)
+
+    watch = Watch(Table(TABLE.rows[:1], TABLE.events, TABLE.unit), say, io.BytesIO())
+    with can.Bus(interface="virtual", channel="said") as sender, can.Bus(interface="virtual", channel="said") as bus:
+        later = [(0.05, frame(0x1A0)), (0.07, frame(0x2B4, b"\x01")), (0.1, frame(0x1A0)), (0.12, frame(0x2B4, b"\x00"))]
+        timers = [threading.Timer(seconds, sender.send, [one]) for seconds, one in later]
+        for timer in timers:
+            timer.start()
+        watch_bus(watch, bus, 0.6, 0.005, 0.02, lambda: "", lambda: False)
+        for timer in timers:
+            timer.join()
+    assert len(said) == 1 and moments[0] < 0.5
+    assert said[0].startswith('"brake light" (Delay) broken at ') and " had no light by " in said[0]
+    watch.close()
+    assert len(said) == 1 and watch.broken.keys() == {0}
+
+
+def test_a_table_without_a_unit():
+    with pytest.raises(LogError, match="needs a unit line"):
+        Watch(Table([]), print, io.BytesIO())
+
+
+calls = st.lists(st.tuples(st.sampled_from("etmw"), st.integers(0, 1), st.integers(0, 30_000)), max_size=40)
+
+
+@given(calls)
+@settings(max_examples=100)
+def test_withdrawn_markers_are_struck_out(drawn):
+    """After any list of events, ticks, markers and withdrawals the monitor is that of the list without what was withdrawn."""
+    spool = io.BytesIO()
+    watch = Watch(TABLE, lambda text: None, spool)
+    taken, last, clock = [], None, 0
+    for what, kind, later in drawn:
+        if what == "w":
+            assert watch.withdraw() == (last is not None)
+            if last is not None:
+                del taken[last]
+                last = None
+            clock = watch.clock
+            continue
+        number, clock = watch.number, clock + later
+        if what == "e":
+            watch.event(kind, clock)
+            step = (kind, watch.clock)
+        elif what == "m":
+            watch.marker(2, clock)
+            step = (2, watch.clock)
+        else:
+            watch.tick(clock)
+            step = (None, watch.clock)
+        if watch.number > number:
+            last = len(taken) if what == "m" else last
+            taken.append(step)
+    fresh = Monitor(TABLE)
+    for kind, moment in taken:
+        fresh.tick(moment) if kind is None else fresh.event(kind, moment)
+    assert [str(one) for one in watch.monitor.verdicts] == [str(one) for one in fresh.verdicts]
+    assert bytes(watch.monitor._memory) == bytes(fresh._memory)
+    assert [(kind, moment) for _, kind, moment in records(spool.getvalue())] == taken
+    assert {row: verdict.step for row, verdict in enumerate(fresh.verdicts) if verdict.step} == watch.broken
+
+
+def test_a_marker_taken_back_by_a_signal(tmp_path):
+    """The command on a bus where nothing comes: a marker by a key, withdrawn by SIGUSR1, and the end by SIGTERM."""
+    (tmp_path / "a.txt").write_text(TABLE.text())
+    import pty
+
+    primary, secondary = pty.openpty()
+    words = [sys.executable, "-m", "delkuthi", "watch", "a.txt", "virtual:marker", "--record", "out.bin", "--seconds", "20"]
+    with subprocess.Popen(words, cwd=tmp_path, stdin=secondary, stdout=subprocess.PIPE, stderr=subprocess.PIPE, text=True) as process:
+        assert process.stderr.readline() == "keys: m mark; backspace withdraws the last one, q ends\n"
+        time.sleep(0.2)
+        os.write(primary, b"m")
+        time.sleep(0.3)
+        process.send_signal(signal.SIGUSR1)
+        assert process.stdout.readline() == "the last marker is withdrawn\n"
+        process.send_signal(signal.SIGUSR1)
+        assert process.stdout.readline() == "there is no marker to withdraw\n"
+        process.send_signal(signal.SIGTERM)
+        rest = process.stdout.read()
+        assert process.wait() == 0
+    assert rest.startswith("virtual:marker: 2 rows, 2 kept, 0 broken; ")
+    kinds = {kind for _, kind, _ in records((tmp_path / "out.bin").read_bytes())}
+    assert kinds == {None}
+
+
+def test_a_marker_that_stays(command, tmp_path):
+    """Without the withdrawal the marker has no pedal at the end."""
+    (tmp_path / "a.txt").write_text(TABLE.text())
+    said = []
+    watch = Watch(TABLE, said.append, io.BytesIO())
+    watch.tick(1000)
+    watch.marker(2, 5000)
+    watch.tick(9000)
+    watch.close()
+    assert said == ['"marked" (Order) broken at the end: the recording ended at 9 ms, and the mark at 5 ms (step 2) had no pedal yet']
+    assert command("watch", "a.txt", "virtual:quiet", "--seconds", "0.2")[0] == 0
+    status, _, error = command("watch", "a.txt", "nothing:here", "--seconds", "0.2")
+    assert status == 2 and error.startswith("nothing:here: ")
+
+
+def test_a_row_that_is_whole_again():
+    said = []
+    watch = Watch(Table.from_text("unit ms\nevent a = 0\nevent b = 1\nStrongDelay a -> b, 1 .. 9\n"), said.append, io.BytesIO())
+    watch.marker(1, 5)
+    assert watch.withdraw() and not watch.withdraw()
+    assert said == ["row 0 (StrongDelay) broken at 5 ms: the b at 5 ms (step 1) has no a that it could belong to",
+                    "row 0 is not broken any more"]

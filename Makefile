@@ -14,7 +14,7 @@ SHARED    := libdelkuthi.so.$(VERSION)
 LIBRARY   := $(BUILD)/libdelkuthi.a $(BUILD)/$(SHARED) $(BUILD)/delkuthi.pc
 DOCUMENTS := CHANGELOG.md docs/CONTRACT.md docs/DATASHEET.md
 
-.PHONY: all lib program install uninstall clean help test run bench always
+.PHONY: all lib program install uninstall clean help test test-python run bench always
 
 all: lib program
 lib: $(LIBRARY)
@@ -29,6 +29,7 @@ help:
 	@echo "make clean       takes away $(BUILD)/"
 	@echo "make run         proves and builds delkuthi_cli, and prints the report on the drive in examples/"
 	@echo "make test        the gate: proves everything from nothing, then runs the tests"
+	@echo "make test-python the tests of the package in python/ alone"
 	@echo "make bench       the speed beside plain Rust"
 	@echo "With DELKUTHI_LIB set, libdelkuthi.a is taken from the folder that it names, and rt is not needed."
 
@@ -84,6 +85,11 @@ clean:
 
 test:
 	bash .ci/run
+
+# Debian's modules are for Debian's own Python: make test-python PYTHON=python3 takes another one.
+PYTHON = /usr/bin/python3
+test-python: lib
+	$(PYTHON) -m pytest -q -p no:cacheprovider python/tests
 
 run:
 	rt check delkuthi_cli

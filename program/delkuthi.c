@@ -6,7 +6,8 @@
  * The exit status says what the report says:
  *   0  every row is kept
  *   1  a row is broken
- *   2  something is refused
+ *   2  something is refused; so are arguments, which the command of the
+ *      same name in the Python package takes
  *   3  the report could not be written
  */
 #define _POSIX_C_SOURCE 200809L
@@ -58,11 +59,17 @@ static int status_of(const char *text)
     return strstr(text, "broken") != NULL ? 1 : 0;
 }
 
-int main(void)
+int main(int argc, char **argv)
 {
     const char *text = (const char *)report;
-    size_t table_length = load("table.bin", table, sizeof table);
+    size_t table_length;
 
+    (void)argv;
+    if (argc > 1) {
+        fputs("delkuthi: this program takes no arguments; the command that does is the Python package's\n", stderr);
+        return 2;
+    }
+    table_length = load("table.bin", table, sizeof table);
     /* A reader that has gone away is an output that cannot be written. */
     signal(SIGPIPE, SIG_IGN);
     make_report(table_length, load("recording.bin", recording, sizeof recording));

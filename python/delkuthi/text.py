@@ -253,7 +253,7 @@ def _source(line: _Line) -> Source:
         raise line.expected("can, csv or key")
     start = line.column
     digits = line.take(r"0[xX][0-9A-Fa-f]+(?!\w)", "an identifier such as 0x1A0") or "0x0"
-    identifier, extended = int(digits, 16), len(digits) > 5 or int(digits, 16) > 0x7FF
+    identifier, extended = int(digits, 16), len(digits) >= 10 or int(digits, 16) > 0x7FF
     if identifier >= 2**29:
         raise line.error("expected an identifier of at most 29 bits, 0x1FFFFFFF", start)
     bus = line.take(r"\w+", "a bus, such as can0") if line.word("bus") else None

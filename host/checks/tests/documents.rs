@@ -16,6 +16,7 @@ fn all_files() -> Vec<PathBuf> {
         ("include", &[".h"]),
         ("host", &[".rs", ".c", ".h", ".cpp", ".py"]),
         ("program", &[".c"]),
+        ("python", &[".md", ".py"]),
     ] {
         all.extend(files(folder, endings));
     }

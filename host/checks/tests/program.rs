@@ -34,6 +34,15 @@ fn the_four_exit_statuses() {
     }
 }
 
+/// The program has no arguments: they are refused and not passed over.
+#[test]
+fn arguments_are_refused() {
+    let folder = files(Some(&table_bytes(&[order()])), Some(&recording_bytes(&[])));
+    let ended = Command::new(with_status()).arg("check").current_dir(folder.path()).output().expect("it can be run");
+    assert_eq!((ended.status.code(), ended.stdout), (Some(2), Vec::new()));
+    assert!(String::from_utf8_lossy(&ended.stderr).contains("takes no arguments"));
+}
+
 /// An output that is closed, and a pipe that nobody reads, are outputs that cannot be written.
 #[test]
 fn an_output_that_is_closed() {

@@ -1,9 +1,10 @@
 """A log checked against a table: a verdict for each row, and for a broken one where, when and why."""
 from __future__ import annotations
 
+from contextlib import AbstractContextManager, nullcontext
 from dataclasses import dataclass, field
 from itertools import islice
-from typing import Callable, Iterable, Iterator
+from typing import Callable, Iterable
 
 from . import library as lib
 from .library import Refused
@@ -13,6 +14,8 @@ from .reasons import Case, Kind
 from .table import Table
 from .units import shown
 
+#: What watches a log while it is read.
+Progress = Callable[[Log], AbstractContextManager]
 #: So many steps are given to the monitor before its rows are asked.
 _CHUNK = 1024
 
@@ -50,6 +53,7 @@ class Outcome:
 
     @property
     def broken(self) -> list[RowOutcome]:
+        """The rows that are broken."""
         return [row for row in self.rows if row.verdict == "broken"]
 
     @property
@@ -140,13 +144,13 @@ def reasons_of(table: Table, steps: Iterable[Step], found: Run, at: Callable[[in
     return said
 
 
-def check(table: Table, path: str, policy: Policy = Policy(), progress: Callable[[Log], Iterator] | None = None) -> Outcome:
+def check(table: Table, path: str, policy: Policy = Policy(), progress: Progress | None = None) -> Outcome:
     """Checks a log against a table. Nothing of the log is kept: where a row is broken it is read a second time."""
     log = Log(path, table, policy)
     outcome = Outcome(path, log.word, closed=policy.close)
     monitor = Monitor(table)
     try:
-        with _watched(log, progress):
+        with nullcontext() if progress is None else progress(log):
             found = run(monitor, log.steps(), policy.close)
         outcome.lines, outcome.events = log.read, log.events
         why = reasons_of(table, log.steps(), found, log.at) if found.broken else {}
@@ -166,12 +170,6 @@ def check(table: Table, path: str, policy: Policy = Policy(), progress: Callable
         if row.verdict != "broken":
             row.verdict = monitor.verdict(row.number).word
     return outcome
-
-
-def _watched(log: Log, progress: Callable | None):
-    from contextlib import nullcontext
-
-    return nullcontext() if progress is None else progress(log)
 
 
 def _row(table: Table, log: Log, number: int, found: Run, why: dict[int, str]) -> RowOutcome:

@@ -83,12 +83,11 @@ def progress_bar(log: Log) -> Iterator[None]:
         yield
         return
     try:
-        from tqdm import tqdm
+        from tqdm import tqdm  # type: ignore[import]
     except ImportError:
         yield
         return
-    plain = log.word == "line" and not log.path.endswith(".gz")
-    with tqdm(total=size if plain else None, unit="B", unit_scale=True, desc=log.path, leave=False, mininterval=0.2) as bar:
+    with tqdm(total=None if log.path.endswith(".gz") else size, unit="B", unit_scale=True, desc=log.path, leave=False, mininterval=0.2) as bar:
         log.progress = bar.update
         try:
             yield
@@ -285,6 +284,13 @@ def _program() -> int:
     return REFUSED if text.startswith("refused") else BROKEN if "broken" in text else KEPT
 
 
+def _positive(text: str) -> int:
+    """A number of jobs."""
+    if not text.isdigit() or int(text) < 1:
+        raise argparse.ArgumentTypeError(f"expected a number from 1 on, found {text}")
+    return int(text)
+
+
 def _log_options(parser: argparse.ArgumentParser) -> None:
     group = parser.add_argument_group("how the log is read")
     group.add_argument("--equal", choices=["refuse", "drop", "later"], default="refuse",
@@ -299,25 +305,24 @@ def _log_options(parser: argparse.ArgumentParser) -> None:
     group.add_argument("--event-column", metavar="NAME", help="CSV: the column of the events (event)")
 
 
-def _parser() -> argparse.ArgumentParser:
-    plain = argparse.RawDescriptionHelpFormatter
-    parser = argparse.ArgumentParser("delkuthi", description="Timing constraints (TADL2) checked on logs and live buses.",
-                                     epilog=_EXAMPLES, formatter_class=plain)
-    parser.add_argument("--version", action="store_true", help="the versions of this package and of the library")
-    commands = parser.add_subparsers(dest="command", metavar="COMMAND")
+_PLAIN = argparse.RawDescriptionHelpFormatter
 
-    one = commands.add_parser("check", help="check logs against a table", epilog=_EXAMPLES, formatter_class=plain)
+
+def _add_check(commands) -> None:
+    one = commands.add_parser("check", help="check logs against a table", epilog=_EXAMPLES, formatter_class=_PLAIN)
     one.add_argument("table", metavar="TABLE", help="a text table, or table.bin")
     one.add_argument("log", metavar="LOG", nargs="+", help=".csv, .log (candump), .bin; with python-can .asc, .blf, .trc ..")
     one.add_argument("--json", action="store_true", help="all of it as JSON on standard output")
     one.add_argument("--junit", metavar="FILE", help="a JUnit file for all logs")
     one.add_argument("--html", metavar="FILE", help="a page with pictures that needs no network")
     one.add_argument("--plot", metavar="FILE", help="a picture: SVG, or PNG by matplotlib")
-    one.add_argument("--jobs", metavar="N", type=int, default=1, help="check so many logs at a time")
+    one.add_argument("--jobs", metavar="N", type=_positive, default=1, help="check so many logs at a time")
     one.add_argument("--quiet", action="store_true", help="messages only, no last line")
     _log_options(one)
     one.set_defaults(run=_check)
 
+
+def _add_watch(commands) -> None:
     one = commands.add_parser("watch", help="check a bus while frames come")
     one.add_argument("table", metavar="TABLE")
     one.add_argument("bus", metavar="BUS", help="INTERFACE:CHANNEL of python-can, such as socketcan:can0")
@@ -328,6 +333,8 @@ def _parser() -> argparse.ArgumentParser:
     one.add_argument("--bitrate", type=int, metavar="N", help="of the bus, where the interface sets it")
     one.set_defaults(run=_watch)
 
+
+def _add_table(commands) -> None:
     one = commands.add_parser("table", help="text to bytes, bytes to text, text to its normal form")
     one.add_argument("table", metavar="TABLE", nargs="?")
     one.add_argument("-o", "--output", metavar="FILE", help="where to; text goes to bytes and bytes to text")
@@ -337,26 +344,32 @@ def _parser() -> argparse.ArgumentParser:
     one.add_argument("--grammar", action="store_true", help="how a text table is written")
     one.set_defaults(run=_table)
 
-    one = commands.add_parser("record", help="a log as a recording of the library")
-    one.add_argument("table", metavar="TABLE")
-    one.add_argument("log", metavar="LOG")
-    one.add_argument("-o", "--output", metavar="FILE", required=True)
-    _log_options(one)
-    one.set_defaults(run=_record)
 
-    one = commands.add_parser("join", help="two logs with no event in common as one recording")
-    one.add_argument("table", metavar="TABLE")
-    one.add_argument("log", metavar="LOG", nargs=2)
-    one.add_argument("-o", "--output", metavar="FILE", required=True)
-    _log_options(one)
-    one.set_defaults(run=_join)
+def _add_on_logs(commands) -> None:
+    """The commands that make something else of logs."""
+    for name, run, logs, text in (
+        ("record", _record, None, "a log as a recording of the library"),
+        ("join", _join, 2, "two logs with no event in common as one recording"),
+        ("shrink", _shrink, None, "the few lines of a log that break a row by themselves"),
+    ):
+        one = commands.add_parser(name, help=text)
+        one.add_argument("table", metavar="TABLE")
+        one.add_argument("log", metavar="LOG", nargs=logs)
+        if name == "shrink":
+            one.add_argument("row", metavar="ROW", help="a row's name or number")
+        else:
+            one.add_argument("-o", "--output", metavar="FILE", required=True)
+        _log_options(one)
+        one.set_defaults(run=run)
 
-    one = commands.add_parser("shrink", help="the few lines of a log that break a row by themselves")
-    one.add_argument("table", metavar="TABLE")
-    one.add_argument("log", metavar="LOG")
-    one.add_argument("row", metavar="ROW", help="a row's name or number")
-    _log_options(one)
-    one.set_defaults(run=_shrink)
+
+def _parser() -> argparse.ArgumentParser:
+    parser = argparse.ArgumentParser("delkuthi", description="Timing constraints (TADL2) checked on logs and live buses.",
+                                     epilog=_EXAMPLES, formatter_class=_PLAIN)
+    parser.add_argument("--version", action="store_true", help="the versions of this package and of the library")
+    commands = parser.add_subparsers(dest="command", metavar="COMMAND")
+    for add in (_add_check, _add_watch, _add_table, _add_on_logs):
+        add(commands)
     return parser
 
 

@@ -87,6 +87,7 @@ class Log:
         return f":{place}" if self.word == "line" else f": {self.word} {place}"
 
     def error(self, place: int, message: str) -> LogError:
+        """An error at a place."""
         return LogError(self.path, self.where(place), message)
 
     def at(self, place: int) -> str:
@@ -167,10 +168,10 @@ class Log:
         lines = self._open()
         first = next(lines, (1, ""))[1]
         delimiter = max(",;\t", key=first.count)
-        header = next(csv.reader([first], delimiter=delimiter), [])
+        header: list[str] = next(csv.reader([first], delimiter=delimiter), [])
         if "arbitration_id" in header:
             lines.close()  # type: ignore[attr-defined]
-            yield from self._python_can()
+            yield from self._python_can(first=2)
             return
         time_place, unit = self._time_column(header)
         event_place = self._column(header, self.policy.event_column or "event")
@@ -239,7 +240,7 @@ class Log:
                 raise self.error(number, f"expected whole bytes, found {len(data)} digits of data")
             yield Stamped(time, mapping.kinds(word, len(identifier) > 3, bus, bytes.fromhex(data)), number)
 
-    def _python_can(self) -> Iterator[Stamped]:
+    def _python_can(self, first: int = 1) -> Iterator[Stamped]:
         try:
             import can
         except ImportError:
@@ -249,24 +250,29 @@ class Log:
             reader = can.LogReader(self.path)
         except (ValueError, NotImplementedError, can.CanError) as error:
             raise LogError(self.path, "", str(error)) from None
+        file, read = getattr(reader, "file", None), 0
         with reader:
-            for number, frame in enumerate(reader, 1):
+            for number, frame in enumerate(reader, first):
                 time = self._time(f"{frame.timestamp:.6f}", "s", number)
-                kinds: tuple[int, ...] = ()
-                if not frame.is_error_frame and not frame.is_remote_frame:
-                    kinds = mapping.frame(frame)
-                yield Stamped(time, kinds, number)
+                data = not frame.is_error_frame and not frame.is_remote_frame
+                yield Stamped(time, mapping.frame(frame) if data else (), number)
+                if self.progress is not None and number % 1000 == 0 and file is not None:
+                    now = getattr(file, "buffer", file).tell()
+                    self.progress(now - read)
+                    read = now
 
     # recordings
 
     def _recording(self) -> Iterator[Stamped]:
-        data = Path(self.path).read_bytes()
-        if data[:1] != b"\x01":
-            raise LogError(self.path, "", str(Refused(13, 0)))
-        for number, (place, kind, time) in enumerate(records(data), 1):
-            if time is None:
-                raise self.error(number, str(Refused(14, place)))
-            yield Stamped(time, () if kind is None else (kind,), number)
+        with open(self.path, "rb") as file:
+            if file.read(1) != b"\x01":
+                raise LogError(self.path, "", str(Refused(13, 0)))
+            for number, (place, kind, time) in enumerate(records(file), 1):
+                if time is None:
+                    raise self.error(number, str(Refused(14, place)))
+                if self.progress is not None:
+                    self.progress(10 if kind is None else 11)
+                yield Stamped(time, () if kind is None else (kind,), number)
 
 
 class CanMapping:

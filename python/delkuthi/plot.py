@@ -16,11 +16,11 @@ def write_plot(picture: Scene, path: str) -> None:
         Path(path).write_text(svg(picture), encoding="utf-8")
         return
     try:
-        import matplotlib
+        import matplotlib  # type: ignore[import]
     except ImportError:
         raise PlotMissing(f"{path}: a picture other than SVG needs matplotlib (Debian: python3-matplotlib)") from None
     matplotlib.use("Agg")
-    from matplotlib.figure import Figure
+    from matplotlib.figure import Figure  # type: ignore[import]
 
     figure = Figure(figsize=(12, 1.6 + 0.32 * len(picture.lanes)), dpi=110, constrained_layout=True)
     axes = figure.subplots()

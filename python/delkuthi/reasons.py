@@ -24,6 +24,7 @@ class Kind:
     places: list[int] = field(default_factory=list)
 
     def add(self, time: int, place: int) -> None:
+        """One more."""
         self.times.append(time)
         self.places.append(place)
 
@@ -43,17 +44,21 @@ class Case:
     at: Callable[[int], str]
 
     def of(self, field_name: str) -> Kind:
+        """The events of the kind that a field names."""
         return self.events.setdefault(self.row.values[field_name], Kind())  # type: ignore[arg-type]
 
     def number(self, field_name: str) -> int:
+        """The value of a field."""
         value = self.row.values[field_name]
         assert isinstance(value, int)
         return value
 
     def name(self, kind: int) -> str:
+        """The name of a kind."""
         return self.table.event_name(kind)
 
     def time(self, time: int) -> str:
+        """A time with its unit."""
         return shown(time, self.table.unit)
 
     def event(self, kind: int, index: int) -> str:
@@ -72,6 +77,7 @@ class Case:
 
 
 def delay(case: Case) -> str | None:
+    """A source without a target in its stretch."""
     source, target = case.number("source"), case.number("target")
     lower, upper = case.number("lower"), case.number("upper")
     sources, targets = case.of("source").times, case.of("target").times
@@ -85,6 +91,7 @@ def delay(case: Case) -> str | None:
 
 
 def strong_delay(case: Case) -> str | None:
+    """The first pair that is wrong, or whoever has no partner."""
     source, target = case.number("source"), case.number("target")
     lower, upper = case.number("lower"), case.number("upper")
     sources, targets = case.of("source").times, case.of("target").times
@@ -104,6 +111,7 @@ def strong_delay(case: Case) -> str | None:
 
 
 def order(case: Case) -> str | None:
+    """The first pair that is the wrong way round, or whoever has no partner."""
     source, target = case.number("source"), case.number("target")
     sources, targets = case.of("source").times, case.of("target").times
     for index, (begin, end) in enumerate(zip(sources, targets)):
@@ -133,6 +141,7 @@ def _silent(case: Case, kind: int, index: int, due: int) -> str:
 
 
 def repeat(case: Case) -> str | None:
+    """The first two that are too close or too far apart, or the last that had no successor in time."""
     kind, span = case.number("event"), case.number("span")
     lower, upper = case.number("lower"), case.number("upper")
     times = case.of("event").times
@@ -168,6 +177,7 @@ def _points(row: Row, times: list[int]) -> Iterator[tuple[int, int | None]]:
 
 
 def sporadic(case: Case) -> str | None:
+    """The first event for which no point is left."""
     kind = case.number("event")
     times = case.of("event").times
     minimum = case.number("minimum")
@@ -191,6 +201,7 @@ def sporadic(case: Case) -> str | None:
 
 
 def burst(case: Case) -> str | None:
+    """The first event that is one too many, or too close."""
     kind, maximum = case.number("event"), case.number("maximum")
     length, minimum = case.number("length"), case.number("minimum")
     times = case.of("event").times
@@ -205,6 +216,7 @@ def burst(case: Case) -> str | None:
 
 
 def synchronization(case: Case) -> str | None:
+    """The first group that lacks a kind."""
     kinds = case.row.kinds
     tolerance = case.number("tolerance")
     groups = [case.events.setdefault(kind, Kind()).times for kind in kinds]

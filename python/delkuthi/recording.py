@@ -1,18 +1,19 @@
 """Recordings, the bytes that the library's report reads, and two of them joined."""
 from __future__ import annotations
 
-from typing import Iterable, Iterator
+from typing import IO, Iterable, Iterator
 
 from .library import Refused
 
 
-def records(data: bytes) -> Iterator[tuple[int, int | None, int | None]]:
-    """Place, kind (``None`` for a tick) and time of each record; the time is ``None`` for one that is not whole."""
+def records(file: IO[bytes]) -> Iterator[tuple[int, int | None, int | None]]:
+    """Place, kind (``None`` for a tick) and time of each record of a file that stands behind the version byte. The time is
+    ``None`` for a record that is not whole, which is the last then."""
     place = 1
-    while place < len(data):
-        size = int.from_bytes(data[place : place + 2], "big")
-        body = data[place + 2 : place + 2 + size]
-        if place + 2 > len(data) or len(body) != size or size not in (8, 9):
+    while head := file.read(2):
+        size = int.from_bytes(head, "big")
+        body = file.read(size) if len(head) == 2 and size in (8, 9) else b""
+        if len(body) != size or not size:
             yield place, None, None
             return
         yield place, (body[0] if size == 9 else None), int.from_bytes(body[-8:], "big")

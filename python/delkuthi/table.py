@@ -77,22 +77,14 @@ class Row:
     @property
     def kinds(self) -> tuple[int, ...]:
         """The kinds that it names, in the order of its fields."""
-        found: list[int] = []
-        for part in self.type.fields:
-            value = self.values[part.name]
-            if part.role == "kinds":
-                found.extend(value)  # type: ignore[arg-type]
-            elif part.role == "kind":
-                found.append(value)  # type: ignore[arg-type]
-        return tuple(found)
+        return tuple(kind for part in self.type.fields for kind in _kinds(part.role, self.values[part.name]))
 
     def doubtful(self, number: int) -> str | None:
         """The name of the field that a refusal of this number (5 to 7) is about."""
         seen: set[int] = set()
         for part in self.type.fields:
             value = self.values[part.name]
-            kinds = value if part.role == "kinds" else (value,) if part.role == "kind" else ()
-            for kind in kinds:  # type: ignore[union-attr]
+            for kind in _kinds(part.role, value):
                 if number == 5 and (kind > lib.LAST_KIND or kind in seen):
                     return part.name
                 seen.add(kind)
@@ -101,6 +93,13 @@ class Row:
             if number == 6 and part.role in ("time", "limit", "count") and not _in_range(part.role, value):
                 return part.name
         return self.type.bounds[0] if number == 7 and self.type.bounds else None
+
+
+def _kinds(role: str, value: Value) -> tuple[int, ...]:
+    """The kinds that a field names, if it does."""
+    if role not in ("kind", "kinds"):
+        return ()
+    return value if isinstance(value, tuple) else (value,)
 
 
 def _in_range(role: str, value: Value) -> bool:
@@ -135,7 +134,15 @@ class Table:
         data = Path(path).read_bytes()
         if data[:1] == b"\x01" or not data:
             return Table.from_bytes(data)
-        return Table.from_text(data.decode("utf-8"), str(path))
+        try:
+            text = data.decode("utf-8-sig")
+        except UnicodeDecodeError as error:
+            from .text import TextError
+
+            line = data.count(b"\n", 0, error.start) + 1
+            column = error.start - data.rfind(b"\n", 0, error.start)
+            raise TextError(str(path), line, column, "expected text in UTF-8") from None
+        return Table.from_text(text, str(path))
 
     @staticmethod
     def from_bytes(data: bytes) -> Table:

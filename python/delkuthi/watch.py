@@ -19,6 +19,7 @@ from .check import Run, reasons_of
 from .library import Refused
 from .logs import CanMapping, LogError, Step
 from .monitor import Monitor
+from .recording import records
 from .table import KeySource, Table
 from .units import UNITS, shown
 
@@ -135,11 +136,9 @@ class Watch:
     def steps(self) -> Iterator[Step]:
         """The steps so far, from the spool."""
         self.spool.seek(1)
-        number = 0
-        while len(head := self.spool.read(2)) == 2:
-            body = self.spool.read(head[1])
-            number += 1
-            yield Step(body[0] if head[1] == 9 else None, int.from_bytes(body[-8:], "big"), number)
+        for number, (_, kind, time) in enumerate(records(self.spool), 1):
+            assert time is not None
+            yield Step(kind, time, number)
 
 
 def watch_bus(watch: Watch, bus, seconds: float | None, period: float, lag: float, keys: Callable[[], str],
@@ -219,7 +218,7 @@ def watch_command(given, table: Table, out: Callable[[str], None]) -> int:
     interface, _, channel = given.bus.partition(":")
     options = {"bitrate": given.bitrate} if given.bitrate else {}
     try:
-        bus = can.Bus(interface=interface, channel=channel or None, **options)
+        bus = can.Bus(interface=interface, channel=channel or None, **options)  # type: ignore[abstract]
     except (can.CanError, ValueError, OSError, ImportError, NotImplementedError) as error:
         raise LogError(given.bus, "", str(error)) from None
     spool = open(given.record, "w+b") if given.record else tempfile.TemporaryFile()

@@ -1,4 +1,5 @@
 """What the command gives for the drive is what is stored. To store it anew after a change: `DRIVE=write pytest`."""
+import io
 import os
 import re
 
@@ -39,7 +40,7 @@ def test_the_drive_as_csv_and_candump():
     """The two logs are the recording, with the names and identifiers of the text table."""
     table = Table.read(EXAMPLES / "drive.txt")
     names = {event.kind: event.name for event in table.events} | {None: ""}
-    recorded = [(kind, time) for _, kind, time in records((EXAMPLES / "recording.bin").read_bytes())]
+    recorded = [(kind, time) for _, kind, time in records(io.BytesIO((EXAMPLES / "recording.bin").read_bytes()[1:]))]
     stored("drive.csv", "time_us,event\n" + "".join(f"{time},{names[kind]}\n" for kind, time in recorded))
     stored("drive.log", "".join(f"({time // 10**6}.{time % 10**6:06d}) can0 {frame(table, kind, number)}\n"
                                 for number, (kind, time) in enumerate(recorded)))

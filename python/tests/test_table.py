@@ -117,6 +117,17 @@ def _bytes(line):
     return row_bytes(parser.rows[0].type, parser.rows[0].values)
 
 
+def test_a_file_that_is_neither(tmp_path):
+    path = tmp_path / "t"
+    path.write_bytes(b"unit us\n # \xff\n")
+    with pytest.raises(TextError, match="t:2:4: expected text in UTF-8"):
+        Table.read(path)
+    path.write_bytes(b"")
+    with pytest.raises(Refused) as refusal:
+        Table.read(path)
+    assert (refusal.value.number, refusal.value.place) == (1, 0)
+
+
 def test_times_in_all_units():
     table = Table.from_text("unit us\nDelay 0 -> 1, 1.5 ms .. 2 s\nSporadic 0, 1 min .. 1 h, jitter 7, minimum 3000 ns\n")
     assert table.rows[0].values == {"source": 0, "target": 1, "lower": 1500, "upper": 2_000_000}

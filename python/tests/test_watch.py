@@ -96,7 +96,7 @@ def test_withdrawn_markers_are_struck_out(drawn):
         fresh.tick(moment) if kind is None else fresh.event(kind, moment)
     assert [str(one) for one in watch.monitor.verdicts] == [str(one) for one in fresh.verdicts]
     assert bytes(watch.monitor._memory) == bytes(fresh._memory)
-    assert [(kind, moment) for _, kind, moment in records(spool.getvalue())] == taken
+    assert [(kind, moment) for _, kind, moment in records(io.BytesIO(spool.getvalue()[1:]))] == taken
     assert {row: verdict.step for row, verdict in enumerate(fresh.verdicts) if verdict.step} == watch.broken
 
 
@@ -120,7 +120,7 @@ def test_a_marker_taken_back_by_a_signal(tmp_path):
         rest = process.stdout.read()
         assert process.wait() == 0
     assert rest.startswith("virtual:marker: 2 rows, 2 kept, 0 broken; ")
-    kinds = {kind for _, kind, _ in records((tmp_path / "out.bin").read_bytes())}
+    kinds = {kind for _, kind, _ in records(io.BytesIO((tmp_path / "out.bin").read_bytes()[1:]))}
     assert kinds == {None}
 
 

@@ -399,7 +399,7 @@ def main(arguments: Sequence[str] | None = None) -> int:
         os.dup2(os.open(os.devnull, os.O_WRONLY), 1)
         return NOT_WRITTEN
     except OSError as error:
-        print(f"{error.filename or 'delkuthi'}: {error.strerror}", file=sys.stderr)
+        print(f"{error.filename or 'delkuthi'}: {error.strerror or error}", file=sys.stderr)
         return REFUSED
 
 

@@ -8,6 +8,7 @@ from __future__ import annotations
 import csv
 import gzip
 import re
+import zlib
 from dataclasses import dataclass
 from pathlib import Path
 from typing import Callable, Iterable, Iterator, NamedTuple
@@ -111,6 +112,10 @@ class Log:
                 self.suffix, self._python_can)()
         except UnicodeDecodeError as error:
             raise LogError(self.path, "", f"not a text file: {error.reason} at byte {error.start}") from None
+        except csv.Error as error:
+            raise LogError(self.path, "", f"not a CSV file: {error}") from None
+        except (EOFError, gzip.BadGzipFile, zlib.error) as error:
+            raise LogError(self.path, "", f"not a packed file: {error}") from None
 
     def _ordered(self, lines: Iterable[Stamped]) -> Iterator[Step]:
         clock, stamp, place, last = 0, 0, 0, [-1] * 256
@@ -248,11 +253,13 @@ class Log:
         mapping = CanMapping(self.table)
         try:
             reader = can.LogReader(self.path)
-        except (ValueError, NotImplementedError, can.CanError) as error:
-            raise LogError(self.path, "", str(error)) from None
+        except OSError:
+            raise
+        except Exception as error:  # python-can has no one exception for a file that it cannot read
+            raise LogError(self.path, "", f"python-can cannot read it: {error}") from None
         file, read = getattr(reader, "file", None), 0
         with reader:
-            for number, frame in enumerate(reader, first):
+            for number, frame in enumerate(self._frames(reader), first):
                 time = self._time(f"{frame.timestamp:.6f}", "s", number)
                 data = not frame.is_error_frame and not frame.is_remote_frame
                 yield Stamped(time, mapping.frame(frame) if data else (), number)
@@ -260,6 +267,19 @@ class Log:
                     now = getattr(file, "buffer", file).tell()
                     self.progress(now - read)
                     read = now
+
+    def _frames(self, reader) -> Iterator:
+        """The frames that python-can reads; what it says against the file is an error of the log."""
+        frames, number = iter(reader), 0
+        while True:
+            try:
+                frame = next(frames)
+            except StopIteration:
+                return
+            except Exception as error:
+                raise self.error(number + 1, f"python-can cannot read it: {error or type(error).__name__}") from None
+            number += 1
+            yield frame
 
     # recordings
 

@@ -72,6 +72,12 @@ def test_csv_errors(tmp_path):
     path.write_bytes(b"time,event\n1,\xff\n")
     with pytest.raises(LogError, match="not a text file"):
         steps(path)
+    assert error(path, "\r0").startswith("a.csv: not a CSV file: ")
+    packed = tmp_path / "a.csv.gz"
+    for data in (b"time,event\n", gzip.compress(b"time,event\n")[:-9]):
+        packed.write_bytes(data)
+        with pytest.raises(LogError, match="not a packed file"):
+            steps(packed)
 
 
 def test_a_csv_with_a_unit_needs_one_in_the_table(tmp_path):
@@ -138,6 +144,14 @@ def test_what_python_can_reads(tmp_path, ending):
     assert all(abs(one - other) <= 100 for (_, one), (_, other) in zip(found, expected))
 
 
+@pytest.mark.parametrize("ending", ["asc", "blf", "trc", "xyz"])
+def test_what_python_can_cannot_read(tmp_path, ending):
+    path = tmp_path / f"a.{ending}"
+    path.write_bytes(b"\xff\xfe" * 100)
+    with pytest.raises(LogError, match="python-can cannot read it"):
+        list(Log(path, TABLE).steps())
+
+
 def test_equal_stamps(tmp_path):
     path = tmp_path / "a.csv"
     text = "time,event\n5,light\n5,pedal\n5,pedal\n5,light\n6,pedal\n"
@@ -176,3 +190,19 @@ def test_recordings(tmp_path):
         steps(path)
 
 
+lines = st.lists(st.sampled_from(["time,event", "1,pedal", "2,light", "2,pedal", '3,"pedal', "x,y", "", ",", "9", "1e5,pedal", "\x00",
+                                  "(0.000001) can0 1A0#01", "(1.5) can0 2B4#0", "(1.0) x 1A0#R", "()", "time_ms,event"]), max_size=8)
+
+
+@given(lines.map("\n".join) | st.text(max_size=40), st.sampled_from([".csv", ".log", ".bin"]), st.booleans())
+def test_any_file_is_a_log_or_an_error(tmp_path, text, ending, sort):
+    """Whatever a file has, the answer is steps in order or an error that names the file."""
+    path = tmp_path / f"any{ending}"
+    path.write_bytes(text.encode("utf-8", "surrogatepass"))
+    try:
+        found = steps(path, unsorted="sort" if sort else "refuse", round=True)
+    except LogError as error:
+        assert str(error).startswith(str(path))
+        return
+    times = [time for _, time, _ in found]
+    assert times == sorted(times)

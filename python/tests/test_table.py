@@ -117,6 +117,34 @@ def _bytes(line):
     return row_bytes(parser.rows[0].type, parser.rows[0].values)
 
 
+pieces = st.sampled_from(['"', "#", "\n", " ", ",", "..", "->", "=", "0", "7", "64", "1.5", "ms", "us", "none", "from", "can",
+                          "csv", "key", "data", "bus", "on", "change", "0x1", "\\", "unit", "event", "a", "b", "span", "maximum",
+                          "length", "minimum", "jitter", "tolerance", *BY_NAME])
+
+
+@given(st.lists(pieces, max_size=25).map(" ".join) | st.text(max_size=30))
+def test_any_text_is_a_table_or_an_error(text):
+    """Whatever the text, the answer is a table or an error with a line and a column of it."""
+    try:
+        table = Table.from_text(text)
+    except TextError as error:
+        lines = text.split("\n")
+        assert 1 <= error.line <= len(lines) and 1 <= error.column <= len(lines[error.line - 1]) + 1
+    else:
+        assert Table.from_text(table.text()).text() == table.text()
+
+
+@given(tables(max_rows=3), st.data())
+def test_a_damaged_text_is_a_table_or_an_error(table, data):
+    text = table.text()
+    if text:
+        place = data.draw(st.integers(0, len(text) - 1))
+        try:
+            Table.from_text(text[:place] + data.draw(st.sampled_from(["", "x", "0", " ", "\n", '"', ",", "."])) + text[place + 1 :])
+        except TextError:
+            pass
+
+
 def test_a_file_that_is_neither(tmp_path):
     path = tmp_path / "t"
     path.write_bytes(b"unit us\n # \xff\n")

@@ -73,6 +73,7 @@ class Watch:
         """Takes an event that can be withdrawn."""
         before = self.monitor.copy(), self.spool.tell(), self.clock, self.number, list(self.last), dict(self.broken)
         number = self.number
+        self.say(f"{self.table.event_name(kind)} at {shown(max(time, self.clock), self.table.unit)}")
         self.event(kind, time)
         if self.number > number:
             self._before, self._since = before, []

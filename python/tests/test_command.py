@@ -1,6 +1,7 @@
 """The command: statuses, options, many logs, text and bytes, and what the program of the same name does."""
 import json
 import os
+import re
 import shutil
 import subprocess
 import sys
@@ -10,7 +11,7 @@ import pytest
 
 from delkuthi import Table, __version__
 
-from conftest import EXAMPLES
+from conftest import EXAMPLES, ROOT
 
 TABLE, CSV, LOG = EXAMPLES / "drive.txt", EXAMPLES / "drive.csv", EXAMPLES / "drive.log"
 KEPT = "unit ms\nevent a = 0\nevent b = 1\n\"answer\"  Delay a -> b, 0 .. 5 ms\n"
@@ -69,18 +70,30 @@ def test_many_logs_in_one_junit_file(command, kept):
     assert "4.csv:3: \"answer\" (Delay) broken at 7 ms: the a at 1 ms (line 2) had no b by 6 ms\n" in alone[1]
 
 
-def test_spread_by_gnu_parallel(kept):
-    """The command of the README, with local jobs: a JUnit file for each log, and the worst status."""
+def test_spread_by_gnu_parallel(tmp_path):
+    """The README's command, with two jobs on this machine for the others: a JUnit file for each log, and the worst status."""
     if shutil.which("parallel") is None:
         pytest.skip("GNU parallel is missing (Debian: parallel)")
-    for number in range(4):
-        (kept / f"{number}.csv").write_text(f"time,event\n1,a\n{4 + number},b\n9,\n")
-    line = (f"parallel --will-cite --jobs 2 --keep-order --halt never {sys.executable} -m delkuthi check kept.txt {{}} "
-            "--quiet --junit {.}.xml ::: [0-3].csv")
-    done = subprocess.run(line, shell=True, cwd=kept, capture_output=True, text=True, env={**os.environ, "HOME": str(kept)})
-    assert done.returncode == 1, done.stderr
-    assert done.stdout == "3.csv:3: \"answer\" (Delay) broken at 7 ms: the a at 1 ms (line 2) had no b by 6 ms\n"
-    assert len(list(kept.glob("?.xml"))) == 4
+    (tmp_path / "logs").mkdir()
+    for name in ("drive.txt", "drive.log"):
+        shutil.copy(EXAMPLES / name, tmp_path)
+    for number, lines in enumerate((15, 30, 61)):
+        text = LOG.read_text().splitlines()[:lines]
+        (tmp_path / "logs" / f"{number}.log").write_text("\n".join(text) + "\n")
+    (tmp_path / "machines").write_text("2/:\n")
+    (tmp_path / "delkuthi").write_text(f'#!/bin/sh\nexec {sys.executable} -m delkuthi "$@"\n')
+    (tmp_path / "delkuthi").chmod(0o755)
+    readme = (ROOT / "README.md").read_text(encoding="utf-8")
+    line = re.search(r"    (parallel --sshloginfile [^\n]*\\\n[^\n]*)\n", readme)[1]
+    line = line.replace("logs/*.blf", "logs/*.log").replace("parallel ", "parallel --will-cite --keep-order ", 1)
+    known = {**os.environ, "HOME": str(tmp_path), "PATH": f"{tmp_path}:{os.environ['PATH']}"}
+    done = subprocess.run(line, shell=True, cwd=tmp_path, capture_output=True, text=True, env=known)
+    assert all(text.startswith("parallel: Warning: ") for text in done.stderr.splitlines())
+    assert [text.split(" broken")[0] for text in done.stdout.splitlines()] == [
+        'logs/1.log:30: "steering reply" (StrongDelay)', 'logs/1.log:30: "cabin light" (Delay)',
+        'logs/2.log:33: "steering reply" (StrongDelay)', 'logs/2.log:51: "cabin light" (Delay)']
+    assert done.returncode == 2  # so many jobs had a status other than 0
+    assert len(list((tmp_path / "logs").glob("?.xml"))) == 3
 
 
 def test_json_is_all_that_is_printed(command):

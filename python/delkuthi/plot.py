@@ -36,7 +36,7 @@ def _draw(axes, picture: Scene) -> None:
     for shade in picture.shades:
         end = picture.shown_end(shade)
         colour = BROKEN if shade.broken else COLOURS[shade.row % len(COLOURS)]
-        alpha = 0.35 if shade.broken else 0.22
+        alpha = 0.35 if shade.broken else 0.08 if shade.end is None else 0.22
         axes.broken_barh([(shade.begin, end - shade.begin)], (shade.lane - 0.38, 0.76), facecolors=colour, alpha=alpha)
     for lane, (_, times) in enumerate(picture.lanes):
         axes.vlines(times, lane - 0.3, lane + 0.3, colors="#111", linewidth=1.6)

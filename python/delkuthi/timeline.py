@@ -174,10 +174,12 @@ def svg(picture: Scene) -> str:
 def _shade_svg(shade: Shade, picture: Scene, x, top: int) -> str:
     end = picture.shown_end(shade)
     colour = BROKEN if shade.broken else COLOURS[shade.row % len(COLOURS)]
-    opacity = ".35" if shade.broken else ".22"
+    opacity = ".35" if shade.broken else ".08" if shade.end is None else ".22"
     y = top + _LANE * shade.lane + 4
     width = max(round(x(end) - x(shade.begin), 1), 1.5)
-    upto = "" if shade.end is None else f" to {shown(shade.end, picture.unit)}"
-    tip = escape(f"row {shade.row}: {shown(shade.begin, picture.unit)}{upto}{', nothing came' if shade.broken else ''}")
+    upto = " on" if shade.end is None else f" to {shown(shade.end, picture.unit)}"
+    # Dashed, where only the beginning of a stretch without an end is shown.
+    dashed = " stroke-dasharray='2 2'" if shade.end is None else ""
+    tip = escape(f"row {shade.row}: from {shown(shade.begin, picture.unit)}{upto}{', nothing came' if shade.broken else ''}")
     return (f"<rect x='{x(shade.begin)}' y='{y}' width='{width}' height='{_LANE - 8}' fill='{colour}' "
-            f"fill-opacity='{opacity}' stroke='{colour}' stroke-opacity='.45' stroke-width='.7'><title>{tip}</title></rect>")
+            f"fill-opacity='{opacity}' stroke='{colour}' stroke-opacity='.45' stroke-width='.7'{dashed}><title>{tip}</title></rect>")

@@ -22,6 +22,9 @@ def test_pip_install_without_a_network(tmp_path):
     checked = subprocess.run([bin_folder / "delkuthi", "check", "drive.txt", "drive.csv"], cwd=EXAMPLES, env=clean,
                              capture_output=True, text=True)
     assert (checked.returncode, checked.stdout) == (1, (EXAMPLES / "messages.txt").read_text(encoding="utf-8"))
+    candump = subprocess.run([bin_folder / "delkuthi", "check", "drive.txt", "drive.log", "--plot", tmp_path / "a.svg"], cwd=EXAMPLES,
+                             env=clean, capture_output=True, text=True)
+    assert candump.returncode == 1 and (tmp_path / "a.svg").exists()
     for ending, needs in ((".blf", "python3-can"), (".asc", "python3-can")):
         missing = subprocess.run([bin_folder / "delkuthi", "check", "drive.txt", f"drive{ending}"], cwd=EXAMPLES, env=clean,
                                  capture_output=True, text=True)

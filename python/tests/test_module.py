@@ -1,4 +1,5 @@
 """The package as a module: monitors beside the Rust model, the report, refusals."""
+import doctest
 import json
 import subprocess
 
@@ -107,3 +108,19 @@ def test_the_library_is_looked_for(monkeypatch, tmp_path):
     monkeypatch.undo()
     delkuthi.library.library.cache_clear()
     delkuthi.library.library()
+
+
+def test_the_docstring():
+    assert doctest.testmod(delkuthi).failed == 0 and doctest.testmod(delkuthi).attempted > 3
+
+
+def test_the_manuals_code(tmp_path, monkeypatch, capsys):
+    """The manual's text table and its lines of Python do what stands beside them."""
+    manual = (ROOT / "python/README.md").read_text(encoding="utf-8")
+    text = manual.split("## A table in text\n\n")[1].split("\n\n")[0]
+    (tmp_path / "brake.txt").write_text("\n".join(line[4:] for line in text.split("\n")) + "\n")
+    (tmp_path / "recording.bin").write_bytes(b"".join(recording_bytes([(0, 20_500), (None, 70_501)])))
+    monkeypatch.chdir(tmp_path)
+    exec(manual.split("```python\n")[1].split("```")[0], {})
+    printed = capsys.readouterr().out
+    assert printed == "broken 2\nclosed 3\n0 broken 2\n\n5 1 a row has a kind above 63, or one kind twice\n"

@@ -6,7 +6,6 @@ from dataclasses import dataclass, field
 from itertools import islice
 from typing import Callable, Iterable
 
-from . import library as lib
 from .library import Refused
 from .logs import Log, LogError, Policy, Step
 from .monitor import Monitor
@@ -16,8 +15,14 @@ from .units import shown
 
 #: What watches a log while it is read.
 Progress = Callable[[Log], AbstractContextManager]
+#: What is said where no reason is found.
+UNKNOWN = "nothing that could still come would meet it"
 #: So many steps are given to the monitor before its rows are asked.
 _CHUNK = 1024
+#: What a call can be given as a time; the library says which times are in range.
+_LARGEST = 2**64 - 1
+#: The types in which something waits.
+_WAITING = ("Delay", "StrongDelay", "StrongSynchronization")
 
 
 @dataclass
@@ -95,7 +100,7 @@ def run(monitor: Monitor, steps: Iterable[Step], close: bool) -> Run:
     while chunk := list(islice(steps, _CHUNK)):
         for step in chunk:
             kind, time, _ = step
-            if time > lib.LAST_TIME:
+            if time > _LARGEST:
                 raise StepRefused(step, Refused(10))
             answer = tick(memory, time) if kind is None else event(memory, kind, time)
             if answer:
@@ -131,7 +136,7 @@ def reasons_of(table: Table, steps: Iterable[Step], found: Run, at: Callable[[in
     def say(closed: bool) -> None:
         for row in ends.pop(number, ()):
             case = Case(table, table.rows[row], events, last.time, closed, at)
-            said[row] = table.rows[row].type.reason(case) or "nothing that could still come would meet it"
+            said[row] = table.rows[row].type.reason(case) or UNKNOWN
 
     for number, last in enumerate(steps, 1):
         if last.kind in events:
@@ -153,7 +158,9 @@ def check(table: Table, path: str, policy: Policy = Policy(), progress: Progress
         with nullcontext() if progress is None else progress(log):
             found = run(monitor, log.steps(), policy.close)
         outcome.lines, outcome.events = log.read, log.events
-        why = reasons_of(table, log.steps(), found, log.at) if found.broken else {}
+        # A log that has grown since is read as far as before.
+        again = islice(log.steps(), found.steps - policy.close)
+        why = reasons_of(table, again, found, log.at) if found.broken else {}
     except LogError as error:
         outcome.error = str(error)
         return outcome
@@ -182,7 +189,7 @@ def _row(table: Table, log: Log, number: int, found: Run, why: dict[int, str]) -
     step = step or found.last
     outcome.place, outcome.time, outcome.where = step.place, step.time, f"{log.path}{log.where(step.place)}"
     at = "at the end" if outcome.by_close else f"at {shown(step.time, table.unit)}"
-    outcome.message = f"{outcome.where}: {table.row_name(number)} ({row.type.name}) broken {at}: {why[number]}"
+    outcome.message = f"{outcome.where}: {table.row_name(number)} ({row.type.name}) broken {at}: {why.get(number, UNKNOWN)}"
     return outcome
 
 
@@ -194,6 +201,7 @@ def _refusal(table: Table, refused: StepRefused) -> str:
     if number == 10:
         return text + "; --from-zero counts the stamps from the first one"
     if number == 12 and kind is not None:
-        rows = [table.row_name(i) for i, row in enumerate(table.rows) if row.kinds[:1] == (kind,) or len(row.kinds) > 2]
+        rows = [table.row_name(number) for number, row in enumerate(table.rows) if row.type.name in _WAITING
+                and kind in (row.kinds if "kinds" in row.values else row.kinds[:1])]
         return text + f" (one of {', '.join(rows)}): ask for less patience there" if rows else text
     return text

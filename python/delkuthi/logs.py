@@ -287,9 +287,13 @@ class Log:
         with open(self.path, "rb") as file:
             if file.read(1) != b"\x01":
                 raise LogError(self.path, "", str(Refused(13, 0)))
+            clock = 0
             for number, (place, kind, time) in enumerate(records(file), 1):
                 if time is None:
                     raise self.error(number, str(Refused(14, place)))
+                if kind is None and time <= clock and self.policy.unsorted == "refuse":
+                    raise self.error(number, str(Refused(11, place)))
+                clock = time
                 if self.progress is not None:
                     self.progress(10 if kind is None else 11)
                 yield Stamped(time, () if kind is None else (kind,), number)

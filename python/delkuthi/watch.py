@@ -15,7 +15,7 @@ from contextlib import contextmanager
 from typing import IO, Callable, Iterator
 
 from . import library as lib
-from .check import Run, reasons_of
+from .check import UNKNOWN, Run, reasons_of
 from .library import Refused
 from .logs import CanMapping, LogError, Step
 from .monitor import Monitor
@@ -132,7 +132,7 @@ class Watch:
         self.spool.seek(0, os.SEEK_END)
         for row in sorted(set(found.broken) - silent):
             at = "at the end" if step is None else f"at {shown(self.clock, self.table.unit)}"
-            self.say(f"{self.table.row_name(row)} ({self.table.rows[row].type.name}) broken {at}: {why[row]}")
+            self.say(f"{self.table.row_name(row)} ({self.table.rows[row].type.name}) broken {at}: {why.get(row, UNKNOWN)}")
 
     def steps(self) -> Iterator[Step]:
         """The steps so far, from the spool."""

@@ -5,6 +5,7 @@ from html.parser import HTMLParser
 
 import pytest
 from hypothesis import given
+from hypothesis import strategies as st
 
 from delkuthi import Table, report
 from delkuthi import check as check_module
@@ -70,6 +71,35 @@ def test_refusals_of_steps(tmp_path):
     assert (outcome.status, outcome.refused) == (2, 12)
     assert outcome.error.startswith(f"{path}:66: a at 64 ns refused with 12") and '"slow"' in outcome.error
     assert check(table, str(tmp_path / "none.csv")).error == f"{tmp_path}/none.csv: No such file or directory"
+
+
+@given(played(most=8), st.lists(st.tuples(st.none() | st.integers(0, 66), st.integers(0, 8)), max_size=8))
+def test_recordings_that_the_report_refuses(tmp_path, case, more):
+    """Where the report refuses a recording the check does too, and the other way round."""
+    table, steps = case
+    path = tmp_path / "a.bin"
+    data = b"".join(recording_bytes(steps + more))
+    path.write_bytes(data)
+    said = report(table, data)
+    outcome = check(table, str(path))
+    assert (outcome.error is not None) == said.startswith("refused")
+    if outcome.error is None:
+        assert f"closed {outcome.steps}\n" in said
+
+
+def test_a_log_that_grows(tmp_path, monkeypatch):
+    """Lines that come between the two readings do not matter."""
+    table = Table.from_text("unit ms\nevent a = 0\nevent b = 1\nDelay a -> b, 0 .. 9\n")
+    path = tmp_path / "a.csv"
+    path.write_text("time,event\n1,a\n")
+
+    def grown(*arguments):
+        path.write_text("time,event\n1,a\n2,b\n")
+        return original(*arguments)
+
+    original = check_module.reasons_of
+    monkeypatch.setattr(check_module, "reasons_of", grown)
+    assert check(table, str(path)).broken[0].message.endswith("the a at 1 ms (line 2) had no b yet, due by 10 ms")
 
 
 def test_json():

@@ -185,6 +185,9 @@ def test_recordings(tmp_path):
     path.write_bytes(path.read_bytes() + b"\x00\x07")
     with pytest.raises(LogError, match="record 4: refused with 14 at byte 33"):
         steps(path)
+    path.write_bytes(b"".join(recording_bytes([(0, 3), (None, 3)])))
+    with pytest.raises(LogError, match="record 2: refused with 11 at byte 12"):
+        steps(path)
     path.write_bytes(b"\x02")
     with pytest.raises(LogError, match="refused with 13"):
         steps(path)

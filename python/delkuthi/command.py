@@ -24,7 +24,7 @@ from .shrink import shortest
 from .table import Table
 from .text import TextError, grammar
 from .timeline import Scene, scene
-from .units import UNITS, in_unit
+from .units import NUMBER, UNITS, NotWhole, in_unit
 
 KEPT, BROKEN, REFUSED, NOT_WRITTEN = 0, 1, 2, 3
 #: A log of so many bytes takes long enough for a progress bar.
@@ -98,12 +98,15 @@ def progress_bar(log: Log) -> Iterator[None]:
 def _policy(given: argparse.Namespace, table: Table) -> Policy:
     until = None
     if given.until is not None:
-        match = re.fullmatch(r"([0-9]+(?:\.[0-9]+)?) ?([a-z]+)?", given.until)
+        match = re.fullmatch(rf"({NUMBER}) ?([a-z]+)?", given.until)
         if match is None or match[2] is not None and match[2] not in UNITS:
             raise LogError("--until", "", f"expected a time such as 300 ms, found {given.until}")
         if match[2] is not None and table.unit is None:
             raise LogError("--until", "", "the table has no unit line")
-        until = in_unit(match[1], match[2], table.unit)
+        try:
+            until = in_unit(match[1], match[2], table.unit)
+        except NotWhole as found:
+            raise LogError("--until", "", f"{found} is no whole number of {table.unit or 'units'}") from None
     return Policy(given.equal, given.unsorted, given.round, given.from_zero, until, not given.no_close, given.time_column,
                   given.event_column)
 

@@ -16,7 +16,7 @@ from typing import Callable, Iterable, Iterator, NamedTuple
 from .library import Refused
 from .recording import records
 from .table import CanSource, CsvSource, Table
-from .units import UNITS, NotWhole, cut_to_unit, in_unit, shown
+from .units import DIGITS, NUMBER, UNITS, NotWhole, cut_to_unit, in_unit, shown
 
 
 class Step(NamedTuple):
@@ -200,7 +200,7 @@ class Log:
             stamp = cells[time_place].strip()
             if delimiter == ";":
                 stamp = stamp.replace(",", ".")
-            if not re.fullmatch(r"[0-9]+(\.[0-9]*)?", stamp):
+            if not re.fullmatch(rf"{DIGITS}(\.[0-9]{{0,40}})?", stamp):
                 raise self.error(number, f"expected a time, found {stamp or 'nothing'}")
             yield Stamped(self._time(stamp, unit, number), kinds.get(cells[event_place].strip(), ()), number)
 
@@ -225,7 +225,7 @@ class Log:
 
     # CAN
 
-    _CANDUMP = re.compile(r"\s*\((\d+\.\d+)\)\s+(\S+)\s+([0-9A-Fa-f]+)#(#[0-9A-Fa-f])?([0-9A-Fa-f]*|R[0-9]*)(?:\s+[RT])?\s*$")
+    _CANDUMP = re.compile(rf"\s*\(({NUMBER})\)\s+(\S+)\s+([0-9A-Fa-f]{{1,8}})#(#[0-9A-Fa-f])?([0-9A-Fa-f]*|R[0-9]*)(?:\s+[RT])?\s*$")
 
     def _candump(self) -> Iterator[Stamped]:
         mapping = CanMapping(self.table)

@@ -19,7 +19,7 @@ from . import library as lib
 from .library import Refused
 from .rowtypes import BY_NAME, TYPES, Field, RowType, Value
 from .table import CanSource, CsvSource, Event, KeySource, Row, Source, Table, table_places
-from .units import UNITS, NotWhole, exact, in_unit
+from .units import DIGITS, NUMBER, UNITS, NotWhole, exact, in_unit
 
 GRAMMAR = (__doc__ or "").split(".. code-block:: text\n\n")[1]
 
@@ -159,7 +159,7 @@ class _Parser:
             raise line.error(f"a second event with the name {name}", start)
         line.demand("=")
         start = line.column
-        kind = int(line.take(r"\d+", f"a kind from 0 to {lib.LAST_KIND}") or 0)
+        kind = int(line.take(DIGITS, f"a kind from 0 to {lib.LAST_KIND}") or 0)
         if kind > lib.LAST_KIND:
             raise line.error(f"expected a kind from 0 to {lib.LAST_KIND}, found {kind}", start)
         for event in self.events:
@@ -199,7 +199,7 @@ class _Parser:
             return tuple(kinds)
         if part.role == "count":
             start = line.column
-            count = int(line.take(r"\d+(?![\w.])", f"a whole number for {part.name}") or 0)
+            count = int(line.take(rf"{DIGITS}(?![\w.])", f"a whole number for {part.name}") or 0)
             if count > 255:
                 raise line.error(f"expected a {part.name} from 1 to 64, found {count}", start)
             return count
@@ -211,7 +211,7 @@ class _Parser:
         start = line.column
         found = line.take(r"\w+", f"an event for {what}")
         assert found is not None
-        if re.fullmatch(r"[0-9]+", found):
+        if re.fullmatch(DIGITS, found):
             if int(found) > 255:
                 raise line.error(f"expected a kind from 0 to {lib.LAST_KIND}, found {found}", start)
             return int(found)
@@ -226,7 +226,7 @@ class _Parser:
         start = line.column
         like = "50" if self.unit is None else f"50 {self.unit}"
         what = f"a time for {part.name}, such as {like}" + (", or none" if part.role == "limit" else "")
-        number = line.take(r"[0-9]+(\.[0-9]+)?", what)
+        number = line.take(NUMBER, what)
         assert number is not None
         written = line.take(r"[^\W\d]\w*(?=\W|$)") if self.follows_unit(line) else None
         if written is not None and self.unit is None:
@@ -252,7 +252,7 @@ def _source(line: _Line) -> Source:
     if not line.word("can"):
         raise line.expected("can, csv or key")
     start = line.column
-    digits = line.take(r"0[xX][0-9A-Fa-f]+(?!\w)", "an identifier such as 0x1A0") or "0x0"
+    digits = line.take(r"0[xX][0-9A-Fa-f]{1,8}(?!\w)", "an identifier such as 0x1A0") or "0x0"
     identifier, extended = int(digits, 16), len(digits) >= 10 or int(digits, 16) > 0x7FF
     if identifier >= 2**29:
         raise line.error("expected an identifier of at most 29 bits, 0x1FFFFFFF", start)

@@ -1,32 +1,38 @@
-"""Units of time: reading a time as written, and writing one for a person."""
+"""Units of time: reading a time as written, and writing one for a person. All of it is exact."""
 from __future__ import annotations
-
-from decimal import Decimal
 
 #: How many nanoseconds each unit has, the smallest first.
 UNITS = {"ns": 1, "us": 10**3, "ms": 10**6, "s": 10**9, "min": 60 * 10**9, "h": 3600 * 10**9}
+#: What a number looks like: not longer than any time needs.
+DIGITS = r"[0-9]{1,40}"
+NUMBER = rf"{DIGITS}(?:\.{DIGITS})?"
 
 
 class NotWhole(ValueError):
     """A time that is no whole number of the unit it has to be in."""
 
 
-def in_unit(number: str, written: str | None, unit: str | None) -> int:
-    """The whole number of ``unit`` that ``number`` of ``written`` is; without ``written`` it is in ``unit`` already."""
-    value = Decimal(number)
+def _ratio(number: str, written: str | None, unit: str | None) -> tuple[int, int]:
+    """How many of ``unit`` a ``number`` of ``written`` is, as a fraction; without ``written`` it is in ``unit`` already."""
+    whole, _, part = number.partition(".")
+    above, below = int(whole + part), 10 ** len(part)
     if written is not None and unit is not None:
-        value = value * UNITS[written] / UNITS[unit]
-    if value != value.to_integral_value():
+        above, below = above * UNITS[written], below * UNITS[unit]
+    return above, below
+
+
+def in_unit(number: str, written: str | None, unit: str | None) -> int:
+    """The whole number of ``unit`` that ``number`` of ``written`` is; :class:`NotWhole` if it is none."""
+    above, below = _ratio(number, written, unit)
+    if above % below:
         raise NotWhole(f"{number} {written or unit or ''}".strip())
-    return int(value)
+    return above // below
 
 
 def cut_to_unit(number: str, written: str | None, unit: str | None) -> int:
     """As :func:`in_unit`, but a part of a unit is left out: the time counts as the whole one before it."""
-    value = Decimal(number)
-    if written is not None and unit is not None:
-        value = value * UNITS[written] / UNITS[unit]
-    return int(value.to_integral_value(rounding="ROUND_FLOOR"))
+    above, below = _ratio(number, written, unit)
+    return above // below
 
 
 def exact(time: int, unit: str | None) -> str:
@@ -49,8 +55,6 @@ def shown(time: int, unit: str | None) -> str:
         name = "us" if nanoseconds >= 10**3 or unit != "ns" else "ns"
     else:
         name = "ms" if nanoseconds < 10**10 else "s"
-    value = Decimal(nanoseconds) / UNITS[name]
-    text = f"{value:f}"
-    if "." in text:
-        text = text.rstrip("0").rstrip(".")
-    return f"{text} {name}"
+    whole, part = divmod(nanoseconds, UNITS[name])
+    digits = f"{part:0{len(str(UNITS[name])) - 1}d}".rstrip("0") if part else ""
+    return f"{whole}.{digits} {name}" if digits else f"{whole} {name}"

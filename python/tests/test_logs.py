@@ -67,6 +67,7 @@ def test_csv_errors(tmp_path):
     assert error(path, "time,event\n1,pedal\n2\n") == "a.csv:3: expected 2 columns, found 1"
     assert error(path, "time,event\n1,pedal\nsoon,light\n") == "a.csv:3: expected a time, found soon"
     assert error(path, "time,event\n,pedal\n") == "a.csv:2: expected a time, found nothing"
+    assert error(path, f"time,event\n{'9' * 5000},pedal\n").startswith("a.csv:2: expected a time, found 999")
     assert error(path, "time,event\n-1,pedal\n") == "a.csv:2: expected a time, found -1"
     assert error(path, "time,event\n0.5,pedal\n").startswith("a.csv:2: the stamp 0.5 us is no whole number of us: take a finer unit")
     path.write_bytes(b"time,event\n1,\xff\n")

@@ -84,6 +84,12 @@ def test_errors_say_line_and_column(text, message):
     assert not isinstance(error.value, Refused)
 
 
+@pytest.mark.parametrize("before, column", [("Order 0 -> ", 12), ("Delay 0 -> 1, ", 15), ("Repeat 0 span ", 15), ("event a = ", 11)])
+def test_numbers_of_thousands_of_digits(before, column):
+    with pytest.raises(TextError, match=f"^t:1:{column}: expected a"):
+        Table.from_text(before + "9" * 5000, "t")
+
+
 REFUSALS = [
     ("Order 0 -> 1\n  Delay 3 -> 3, 1 .. 2", 5, 2, 14, "Delay, target"),
     ("StrongSynchronization 1 2 1, tolerance 5", 5, 1, 23, "StrongSynchronization, kinds"),

@@ -396,6 +396,8 @@ def main(arguments: Sequence[str] | None = None) -> int:
     except Refused as error:
         print(f"{getattr(given, 'table', 'delkuthi')}: {error}", file=sys.stderr)
         return REFUSED
+    except KeyboardInterrupt:
+        return 130
     except NotWritten as error:
         print(f"delkuthi: could not be written: {error}", file=sys.stderr)
         # What is left in the buffer cannot be written either.

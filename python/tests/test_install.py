@@ -1,46 +1,56 @@
-"""The package installed by pip, without a network, in an environment of its own."""
+"""The library installed by make and the package by pip, without a network, in an environment of its own."""
 import os
 import subprocess
-import sys
 import venv
+
+import pytest
 
 from delkuthi import __version__
 
 from conftest import EXAMPLES, ROOT
 
 
-def test_pip_install_without_a_network(tmp_path):
-    venv.create(tmp_path / "env", with_pip=True)
-    bin_folder = tmp_path / "env" / "bin"
+@pytest.fixture(scope="module")
+def environment(tmp_path_factory):
+    """A folder with `make install` and `pip install ./python` done in it, in this order; gives what runs a command of it."""
+    folder = tmp_path_factory.mktemp("installed")
+    venv.create(folder, with_pip=True)
     # No index can be reached, so whatever had to be fetched would fail.
-    clean = {name: value for name, value in os.environ.items() if name != "PYTHONPATH"}
+    clean = {name: value for name, value in os.environ.items() if name not in ("PYTHONPATH", "DELKUTHI_LIB")}
     clean.update(PIP_INDEX_URL="http://127.0.0.1:9/simple", PIP_RETRIES="0", PIP_DISABLE_PIP_VERSION_CHECK="1")
-    done = subprocess.run([bin_folder / "pip", "install", "--quiet", str(ROOT / "python")], env=clean, capture_output=True, text=True)
-    assert done.returncode == 0, done.stderr
-    version = subprocess.run([bin_folder / "delkuthi", "--version"], env=clean, capture_output=True, text=True)
-    assert version.stdout == f"delkuthi {__version__}, library {__version__}\n"
-    checked = subprocess.run([bin_folder / "delkuthi", "check", "drive.txt", "drive.csv"], cwd=EXAMPLES, env=clean,
-                             capture_output=True, text=True)
-    assert (checked.returncode, checked.stdout) == (1, (EXAMPLES / "messages.txt").read_text(encoding="utf-8"))
-    candump = subprocess.run([bin_folder / "delkuthi", "check", "drive.txt", "drive.log", "--plot", tmp_path / "a.svg"], cwd=EXAMPLES,
-                             env=clean, capture_output=True, text=True)
-    assert candump.returncode == 1 and (tmp_path / "a.svg").exists()
-    for ending, needs in ((".blf", "python3-can"), (".asc", "python3-can")):
-        missing = subprocess.run([bin_folder / "delkuthi", "check", "drive.txt", f"drive{ending}"], cwd=EXAMPLES, env=clean,
-                                 capture_output=True, text=True)
-        assert missing.returncode == 2 and needs in missing.stderr
-    picture = subprocess.run([bin_folder / "delkuthi", "check", "drive.txt", "drive.csv", "--plot", tmp_path / "a.png"],
-                             cwd=EXAMPLES, env=clean, capture_output=True, text=True)
-    assert picture.returncode == 2 and "python3-matplotlib" in picture.stderr
+
+    def run(name, *words, cwd=EXAMPLES):
+        done = subprocess.run([folder / "bin" / name, *map(str, words)], cwd=cwd, env=clean, capture_output=True, text=True)
+        return done.returncode, done.stdout, done.stderr
+
+    built = [f"PREFIX={folder}", f"BUILD={folder}/build", f"DELKUTHI_LIB={os.environ['DELKUTHI_LIB']}"]
+    made = subprocess.run(["make", "--silent", "install", *built], cwd=ROOT, env=clean, capture_output=True, text=True)
+    assert made.returncode == 0, made.stderr
+    status, _, error = run("delkuthi", "check", "drive.txt", "drive.csv")
+    assert status == 2 and "takes no arguments" in error, "the program of `make install`"
+    status, _, error = run("pip", "install", "--quiet", ROOT / "python")
+    assert status == 0, error
+    return run
 
 
-def test_the_library_of_make_install(tmp_path):
-    """The package finds the shared library that `make install` has put into a prefix."""
-    lib = tmp_path / "lib"
-    lib.mkdir()
-    built = ROOT / "build"
-    for path in built.glob("libdelkuthi.so*"):
-        (lib / path.name).symlink_to(path.resolve())
-    done = subprocess.run([sys.executable, "-m", "delkuthi", "--version"], env={**os.environ, "DELKUTHI_LIB": str(lib)},
-                          capture_output=True, text=True)
-    assert done.stdout == f"delkuthi {__version__}, library {__version__}\n"
+def test_the_command(environment):
+    """It finds the library that make installed, and needs no other package for the drive."""
+    assert environment("delkuthi", "--version") == (0, f"delkuthi {__version__}, library {__version__}\n", "")
+    messages = (EXAMPLES / "messages.txt").read_text(encoding="utf-8")
+    assert environment("delkuthi", "check", "drive.txt", "drive.csv") == (1, messages, "")
+    assert environment("python3", "-m", "delkuthi", "check", "drive.txt", "drive.csv") == (1, messages, "")
+    assert environment("delkuthi") == (1, (EXAMPLES / "report.txt").read_text(), "")
+
+
+def test_without_other_packages(environment, tmp_path):
+    """Candump logs, the page and the picture need none; where one is needed its name in Debian is said."""
+    words = ["--html", tmp_path / "a.html", "--plot", tmp_path / "a.svg", "--junit", tmp_path / "a.xml"]
+    assert environment("delkuthi", "check", "drive.txt", "drive.log", *words)[0] == 1
+    assert sorted(path.name for path in tmp_path.iterdir()) == ["a.html", "a.svg", "a.xml"]
+    for ending in (".blf", ".asc"):
+        status, _, error = environment("delkuthi", "check", "drive.txt", f"drive{ending}")
+        assert status == 2 and "python3-can" in error
+    status, _, error = environment("delkuthi", "watch", "drive.txt", "virtual:a")
+    assert status == 2 and "python3-can" in error
+    status, _, error = environment("delkuthi", "check", "drive.txt", "drive.csv", "--plot", tmp_path / "a.png")
+    assert status == 2 and "python3-matplotlib" in error

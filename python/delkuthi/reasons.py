@@ -230,6 +230,47 @@ def synchronization(case: Case) -> str | None:
     return None
 
 
+def _stages(row: Row, events: dict[int, Kind]) -> list[tuple[int, int, str, int]]:
+    """The events of an ExecutionTime row in the order of time: time, place, which of its fields, and the index in its kind."""
+    found = []
+    for name in ("start", "stop", "preempt", "resume"):
+        kind = events.get(row.values[name], Kind())  # type: ignore[arg-type]
+        found += [(time, place, name, index) for index, (time, place) in enumerate(zip(kind.times, kind.places))]
+    return sorted(found)
+
+
+#: What may come after each event of an ExecutionTime row; "stop" stands for the beginning too.
+_AFTER = {"stop": ("start",), "start": ("preempt", "stop"), "preempt": ("resume",), "resume": ("preempt", "stop")}
+
+
+def execution_time(case: Case) -> str | None:
+    """The first event out of its order, or the first run that is too short or too long, or the one without a stop."""
+    lower, upper = case.number("lower"), case.number("upper")
+    before, begun, since, taken, last = "stop", "", 0, 0, -1
+    for time, _, name, index in _stages(case.row, case.events):
+        event = case.event(case.number(name), index)
+        if time == last:
+            return f"{event} shares its time with another event of the row"
+        if name not in _AFTER[before]:
+            wanted = " or ".join(case.name(case.number(after)) for after in _AFTER[before])
+            return f"{event} came where a {wanted} is asked"
+        if before in ("start", "resume"):
+            taken += time - since
+        if name == "start":
+            begun, taken = event, 0
+        # Before the stop of a run that goes on after this event, at least one unit more is taken.
+        if taken + (name != "stop") > upper:
+            return f"the run that began with {begun} took more than {case.time(upper)}: {case.time(taken)} by {event}"
+        if name == "stop" and taken < lower:
+            return f"the run that began with {begun} took {case.time(taken)} up to {event}, where at least {case.time(lower)} is asked"
+        before, since, last = name, time, time
+    if before in ("start", "resume") and taken + case.clock - since > upper:
+        return case.missing(f"the run that began with {begun}", case.name(case.number("stop")), since + upper - taken)
+    if before != "stop":
+        return case.missing(f"the run that began with {begun}", case.name(case.number("stop")), None)
+    return None
+
+
 class Window(NamedTuple):
     """Where an event of a kind may come, or has to: from ``begin`` to ``end``, or without an end."""
 
@@ -291,3 +332,18 @@ def synchronization_windows(row: Row, times: Times) -> Iterator[Window]:
         first = min(group[index] for group in groups if index < len(group))
         for kind in row.kinds:
             yield Window(kind, first, first + row.values["tolerance"])  # type: ignore[operator]
+
+
+def execution_windows(row: Row, times: Times) -> Iterator[Window]:
+    """From each start and each resume the stretch in which the stop can come if nothing else comes before."""
+    values: dict[str, int] = row.values  # type: ignore[assignment]
+    stages = sorted((time, name) for name in ("start", "stop", "preempt", "resume") for time in times.get(values[name], ()))
+    taken = since = 0
+    for time, name in stages:
+        if name == "start":
+            taken = 0
+        elif name != "resume":
+            taken += time - since
+        since = time
+        if name in ("start", "resume") and taken <= values["upper"]:
+            yield Window(values["stop"], time + max(values["lower"] - taken, 1), time + values["upper"] - taken)

@@ -83,6 +83,9 @@ TYPES = (
             "as many targets as sources, none before its source", reasons.order, reasons.order_windows),
     RowType(7, "StrongSynchronization", "{kinds:kinds}, tolerance {tolerance:time}",
             "the events of all kinds in groups within tolerance", reasons.synchronization, reasons.synchronization_windows),
+    RowType(8, "ExecutionTime",
+            "{start:kind} -> {stop:kind}, preempt {preempt:kind}, resume {resume:kind}, {lower:time} .. {upper:time}",
+            "from each start to its stop, without what lies from preempt to resume", reasons.execution_time, reasons.execution_windows),
 )
 BY_NUMBER = {row_type.number: row_type for row_type in TYPES}
 BY_NAME = {row_type.name: row_type for row_type in TYPES}

@@ -10,13 +10,13 @@ from delkuthi.reasons import Case, Kind
 
 from strategies import played
 
-EVENTS = "unit ms\nevent a = 0\nevent b = 1\nevent c = 2\n"
+EVENTS = "unit ms\nevent a = 0\nevent b = 1\nevent c = 2\nevent d = 3\n"
 
 
 def reason(row, steps, close=False):
     """What is said of a row after steps such as ``a1 b5 t9``; also that it is broken, and by the last of them."""
     table = Table.from_text(EVENTS + row)
-    taken = [Step("abc".index(step[0]) if step[0] != "t" else None, int(step[1:]), number)
+    taken = [Step("abcd".index(step[0]) if step[0] != "t" else None, int(step[1:]), number)
              for number, step in enumerate(steps.split(), 1)]
     found = run(Monitor(table), taken, close)
     assert found.broken[0][0] == len(taken) + close
@@ -52,7 +52,19 @@ CASES = [
     ("StrongSynchronization a b c, tolerance 2", "b5 c6 t8", "the group that begins with the b at 5 ms (line 1) had no a by 7 ms"),
     ("StrongSynchronization a b c, tolerance 2", "b5 c6 a8", "the group that begins with the b at 5 ms (line 1) had no a by 7 ms"),
 ]
+RUN = "ExecutionTime a -> b, preempt c, resume d, 2 .. 5"
+CASES += [
+    (RUN, "a0 t6", "the run that began with the a at 0 ms (line 1) had no b by 5 ms"),
+    (RUN, "a0 c2 d9 t13", "the run that began with the a at 0 ms (line 1) had no b by 12 ms"),
+    (RUN, "a0 b1", "the run that began with the a at 0 ms (line 1) took 1 ms up to the b at 1 ms (line 2), where at least 2 ms is asked"),
+    (RUN, "a0 c5", "the run that began with the a at 0 ms (line 1) took more than 5 ms: 5 ms by the c at 5 ms (line 2)"),
+    (RUN, "a0 b6", "the run that began with the a at 0 ms (line 1) took more than 5 ms: 6 ms by the b at 6 ms (line 2)"),
+    (RUN, "a0 d2", "the d at 2 ms (line 2) came where a c or b is asked"),
+    (RUN, "b0", "the b at 0 ms (line 1) came where a a is asked"),
+    (RUN, "a0 c0", "the c at 0 ms (line 2) shares its time with another event of the row"),
+]
 AT_THE_END = [
+    (RUN, "a0 c2", "the recording ended at 2 ms, and the run that began with the a at 0 ms (line 1) had no b yet"),
     ("Delay a -> b, 2 .. 3", "a10", "the recording ended at 10 ms, and the a at 10 ms (line 1) had no b yet, due from 12 ms to 13 ms"),
     ("Delay a -> b, 2 .. none", "a10", "the recording ended at 10 ms, and the a at 10 ms (line 1) had no b yet, due from 12 ms on"),
     ("Delay a -> b, 0 .. 3", "a10", "the recording ended at 10 ms, and the a at 10 ms (line 1) had no b yet, due by 13 ms"),

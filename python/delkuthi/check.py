@@ -55,6 +55,7 @@ class Outcome:
     closed: bool = False
     error: str | None = None
     refused: int | None = None
+    page: str | None = None
 
     @property
     def broken(self) -> list[RowOutcome]:
@@ -171,7 +172,7 @@ def check(table: Table, path: str, policy: Policy = Policy(), progress: Progress
         outcome.error = f"{path}{log.where(refused.step.place)}: {_refusal(table, refused)}"
         outcome.refused = refused.refusal.number
         return outcome
-    outcome.steps, outcome.clock = found.steps, found.last.time
+    outcome.steps, outcome.clock, outcome.page = found.steps, found.last.time, monitor.page()
     outcome.rows = [_row(table, log, number, found, why) for number in range(len(table.rows))]
     for row in outcome.rows:
         if row.verdict != "broken":

@@ -151,6 +151,9 @@ def _tell(given: argparse.Namespace, outcome: Outcome) -> None:
         print(f"{outcome.log}: no line is an event of the table: do its event lines name what the log has?", file=sys.stderr)
     if given.json:
         return
+    if given.page:
+        _out(outcome.page or "")
+        return
     count = len(outcome.rows)
     kept = sum(row.verdict == "kept" for row in outcome.rows)
     still = sum(row.verdict == "open" for row in outcome.rows)
@@ -317,6 +320,7 @@ def _add_check(commands) -> None:
     one.add_argument("log", metavar="LOG", nargs="+", help=".csv, .log (candump), .bin; with python-can .asc, .blf, .trc ..")
     one.add_argument("--json", action="store_true", help="all of it as JSON on standard output")
     one.add_argument("--junit", metavar="FILE", help="a JUnit file for all logs")
+    one.add_argument("--page", action="store_true", help="the library's printed page instead of the messages")
     one.add_argument("--html", metavar="FILE", help="a page with pictures that needs no network")
     one.add_argument("--plot", metavar="FILE", help="a picture: SVG, or PNG by matplotlib")
     one.add_argument("--jobs", metavar="N", type=_positive, default=1, help="check so many logs at a time")

@@ -76,6 +76,7 @@ def _calls() -> dict[str, tuple]:
         "delkuthi_row_verdict": (ctypes.c_uint8, [monitor, number]),
         "delkuthi_row_step": (number, [monitor, number]),
         "delkuthi_rows": (number, [monitor]),
+        "delkuthi_page": (length, [monitor, data, length]),
         "delkuthi_report": (length, [data, length, data, length, data, length]),
     }
 

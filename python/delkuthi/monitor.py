@@ -62,6 +62,12 @@ class Monitor:
         """What each row reads, in the order of the table."""
         return [self.verdict(row) for row in range(self._library.delkuthi_rows(self._memory))]
 
+    def page(self) -> str:
+        """The printed page: for each row a line of 72 characters with its number, type, verdict and step."""
+        buffer = ctypes.create_string_buffer(lib.PAGE_LIMIT)
+        written = self._library.delkuthi_page(self._memory, buffer, lib.PAGE_LIMIT)
+        return buffer.raw[:written].decode("ascii")
+
     def copy(self) -> Monitor:
         """A monitor of its own that goes on from here."""
         other = object.__new__(Monitor)

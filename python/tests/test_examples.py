@@ -13,6 +13,7 @@ from conftest import EXAMPLES, ROOT
 #: Each stored file, and the words of the command that give it; OUT stands for the file.
 STORED = {
     "messages.txt": ["check", "drive.txt", "drive.csv"],
+    "page.txt": ["check", "drive.txt", "drive.log", "--page"],
     "drive.svg": ["check", "drive.txt", "drive.csv", "--plot", "OUT"],
     "drive.html": ["check", "drive.txt", "drive.csv", "--html", "OUT"],
     "drive.xml": ["check", "drive.txt", "drive.csv", "drive.log", "--junit", "OUT"],

@@ -91,6 +91,24 @@ def test_the_report_says_what_the_monitor_says(case):
     assert report(table, b"".join(recording_bytes(steps))) == "".join(line + "\n" for line in lines)
 
 
+@given(played())
+def test_the_page_says_what_the_monitor_says(case):
+    """Read by its columns the page has the verdicts, closed or not, and a line of hyphens for each 16 rows."""
+    table, steps = case
+    monitor = Monitor(table)
+    for kind, time in steps:
+        monitor.tick(time) if kind is None else monitor.event(kind, time)
+    for closed in (False, True):
+        if closed:
+            monitor.close()
+        lines = monitor.page().splitlines()
+        assert all(len(line) == 72 for line in lines) and lines[0] == "-" * 72
+        rows = [line for line in lines if not line.startswith("-")]
+        read = [(int(line[:3]), line[5:29].rstrip(), " ".join(line[29:57].split())) for line in rows]
+        expected = [(number, row.type.name, str(monitor.verdict(number))) for number, row in enumerate(table.rows)]
+        assert read == expected
+
+
 def test_events_by_name():
     table = Table.from_text("event pedal = 5\nevent light = 6\nDelay pedal -> light, 0 .. 3\n")
     monitor = Monitor(table)

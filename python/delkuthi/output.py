@@ -65,7 +65,7 @@ body { font: 15px/1.45 system-ui, sans-serif; margin: 2rem auto; max-width: 1080
 h1 { font-size: 1.4rem; margin: 0 0 .3rem } h2 { font-size: 1.1rem; margin: 2rem 0 .5rem }
 table { border-collapse: collapse; width: 100% }
 th, td { text-align: left; padding: .35rem .6rem; border-bottom: 1px solid #ddd; vertical-align: top }
-th { font-weight: 600; background: #f5f5f5 } code { font: 13px/1.4 ui-monospace, monospace }
+td:last-child { white-space: nowrap } th { font-weight: 600; background: #f5f5f5 } code { font: 13px/1.4 ui-monospace, monospace }
 .kept { color: #1b6e3c; font-weight: 600 } .broken { color: #c8102e; font-weight: 600 } .open { color: #6b5900; font-weight: 600 }
 .why { background: #fdf1f2; border-left: 4px solid #c8102e; padding: .5rem .8rem; margin: .6rem 0 }
 .error { background: #fff6e0; border-left: 4px solid #b07a00; padding: .5rem .8rem }

@@ -160,13 +160,15 @@ def svg(picture: Scene) -> str:
         for time in times:
             tip = escape(f"{name} at {shown(time, picture.unit)}")
             out.append(f"<path d='M{x(time)} {middle - 8} v16' stroke='#111' stroke-width='1.8'><title>{tip}</title></path>")
+    lines, labels = [], []
     for place, (time, label) in enumerate(picture.marks):
         y = 18 + 15 * place
-        right = x(time) > _WIDTH * 0.7
-        anchor, dx = ("end", -5) if right else ("start", 5)
-        out.append(f"<path d='M{x(time)} {y - 8} V{bottom}' stroke='{BROKEN}' stroke-width='1.4' stroke-dasharray='4 2'/>")
+        anchor, dx = ("end", -5) if x(time) > _WIDTH * 0.7 else ("start", 5)
+        lines.append(f"<path d='M{x(time)} {y - 8} V{bottom}' stroke='{BROKEN}' stroke-width='1.4' stroke-dasharray='4 2'/>")
         text = escape(f"{label}, {shown(time, picture.unit)}")
-        out.append(f"<text x='{x(time) + dx}' y='{y}' text-anchor='{anchor}' fill='{BROKEN}' font-weight='bold'>{text}</text>")
+        labels.append(f"<text x='{x(time) + dx}' y='{y}' text-anchor='{anchor}' fill='{BROKEN}' font-weight='bold' "
+                      f"paint-order='stroke' stroke='white' stroke-width='4'>{text}</text>")
+    out += lines + labels
     out.append("</svg>")
     return "\n".join(out) + "\n"
 

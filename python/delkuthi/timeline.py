@@ -160,6 +160,13 @@ def svg(picture: Scene) -> str:
         for time in times:
             tip = escape(f"{name} at {shown(time, picture.unit)}")
             out.append(f"<path d='M{x(time)} {middle - 8} v16' stroke='#111' stroke-width='1.8'><title>{tip}</title></path>")
+    out += _marks_svg(picture, x, bottom)
+    out.append("</svg>")
+    return "\n".join(out) + "\n"
+
+
+def _marks_svg(picture: Scene, x, bottom: int) -> list[str]:
+    """The steps that broke a row: all lines, and then all labels before them."""
     lines, labels = [], []
     for place, (time, label) in enumerate(picture.marks):
         y = 18 + 15 * place
@@ -168,9 +175,7 @@ def svg(picture: Scene) -> str:
         text = escape(f"{label}, {shown(time, picture.unit)}")
         labels.append(f"<text x='{x(time) + dx}' y='{y}' text-anchor='{anchor}' fill='{BROKEN}' font-weight='bold' "
                       f"paint-order='stroke' stroke='white' stroke-width='4'>{text}</text>")
-    out += lines + labels
-    out.append("</svg>")
-    return "\n".join(out) + "\n"
+    return lines + labels
 
 
 def _shade_svg(shade: Shade, picture: Scene, x, top: int) -> str:

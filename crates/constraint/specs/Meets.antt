@@ -82,7 +82,7 @@ pub record Execution : Type 0 where
   pub pauses : List (ℕ × ℕ)
   pub stops : ℕ
 
--- how long it is preempted, and its running time: stop minus start, less that
+-- how long it is preempted, and its running time: stop minus start, less that; as times rise, no difference is cut off at 0 (`running-exact`)
 abbrev pub paused : List (ℕ × ℕ) → ℕ
 paused [] = 0
 paused (p ∷ ps) = (p .1 - p .0) + paused ps

@@ -81,6 +81,12 @@ module _ (start stop preempt resume lower upper : ℕ) where
   paused-within free [] s later r = omega (arith, r .0)
   paused-within free (p ∷ ps) s later r = omega (arith, r .0, r .1 .0, paused-within (p .1 + 1) ps s later (r .1 .1))
 
+  -- so the running time is a true difference: nothing of it is cut off at 0
+  pub running-exact : (free : ℕ) (x : Execution) (xs : List Execution) → RisesFrom free (executionEvents start stop preempt resume (x ∷ xs))
+      → x .starts + paused (x .pauses) + running x ≡ x .stops
+  running-exact free x xs r =
+      omega (arith, paused-within (x .starts + 1) (x .pauses) (x .stops) (executionEvents start stop preempt resume xs) (r .1))
+
   -- the running time is how long it has run, and what is left to its stop, less the pauses
   runs-end : (pauses : List (ℕ × ℕ)) (ran free s : ℕ) (later : List (ℕ × ℕ)) → RisesFrom free (EndOf pauses s later)
       → lower + paused pauses + free ≤ ran + s + 1 → ran + s + 1 ≤ upper + paused pauses + free

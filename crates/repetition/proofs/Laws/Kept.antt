@@ -130,8 +130,8 @@ module _ (rule : Rule) where
     module _ (asked : Asked rule) (t : ℕ) (small : t ≤ lastTime) (rising : Rising (events ++ (t ∷ []))) where
       abbrev pub IsNext : ℕ → ℕ → Type 0
       IsNext =
-          Next (rule .span) (rule .lower) (rule .upper) (rule .jitter) (asked .positive) (asked .given) events (row .lows) (row .highs) (row .keeps) t
-          rising
+          Next (rule .span) (rule .lower) (rule .upper) (rule .jitter) (asked .positive) (asked .given) events (row .lows) (row .highs)
+          (row .keeps) t rising
 
       few-events : ltb (points kept) (rule .span) ≡ true → length events < rule .span
       few-events e = omega (arith, ltb-true (points kept) (rule .span) e, kept-points)

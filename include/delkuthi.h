@@ -106,9 +106,11 @@
  *   7 StrongSynchronization   n from 2 to 4, n kinds, tolerance        10 + n
  *   8 ExecutionTime           start, stop, preempt, resume,
  *                             lower, upper                                 21
+ *  10 Repetition              event, span, lower, upper, jitter            27
  *
- * Spans and maxima go from 1 to 64. Where the upper of type 1, 3 or 4 is
- * 2^64 - 1, DELKUTHI_NO_LIMIT, there is no upper limit.
+ * Spans and maxima go from 1 to 64, the span of type 10 from 1 to 8. Where the
+ * upper of type 1, 3 or 4 is 2^64 - 1, DELKUTHI_NO_LIMIT, there is no upper
+ * limit. There is no type 9.
  *
  * A host need not count these bytes: it makes rows by their fields' names, and
  * delkuthi_make_table writes the table. A Delay and an Order, say:
@@ -175,6 +177,11 @@
  *                 the clock once the running time is past upper, a preempt
  *                 after which no time is left to run, and a close after a
  *                 start and before its stop.
+ *  10 Repetition  Each event is 0 to jitter after a hidden point of its own.
+ *                 The points are at least 0 and rise, and a point is lower to
+ *                 upper after the one span places before it. An event for
+ *                 which there is no such point breaks the row; the first span
+ *                 events never do. Silence and the close break nothing.
  *
  *
  * A BENCH LOOP
@@ -509,6 +516,16 @@ static inline delkuthi_row delkuthi_execution_time(uint8_t start, uint8_t stop,
     row.body[3] = preempt;
     row.body[4] = resume;
     return delkuthi_row_time(delkuthi_row_time(row, 5, lower), 13, upper);
+}
+
+static inline delkuthi_row delkuthi_repetition(uint8_t event, uint8_t span,
+                                               uint64_t lower, uint64_t upper,
+                                               uint64_t jitter)
+{
+    delkuthi_row row = delkuthi_row_bytes(10, event, span);
+
+    row = delkuthi_row_time(delkuthi_row_time(row, 3, lower), 11, upper);
+    return delkuthi_row_time(row, 19, jitter);
 }
 
 /* The table writer; rows_size is in bytes. delkuthi_make_table calls it. */

@@ -12,12 +12,12 @@ use borrow.Author.Tests.{eq-eqb, ne-eqb}
 use Rattle.constraint.specs.Limits.{lastKind}
 use Rattle.constraint.specs.Steps.{Step, event, tick, close, at, times, among, own, clockFrom, clock, closed}
 use Rattle.constraint.specs.Meets.{NotLater, Meets, MeetsDelay, MeetsStrongDelay, MeetsRepeat, MeetsSporadic, MeetsBurst, MeetsOrder}
-use Rattle.constraint.specs.Meets.{MeetsStrongSynchronization, MeetsExecutionTime}
+use Rattle.constraint.specs.Meets.{MeetsStrongSynchronization, MeetsExecutionTime, MeetsRepetition}
 use Rattle.constraint.specs.Continuation.{EventInOrder, Continues, stop, more, Open}
 use Rattle.constraint.specs.Accepted.{kinds}
 use Rattle.constraint.specs.declared.Constraint.{Constraint}
 use Rattle.constraint.specs.declared.Constraint.the-variants.{Delay, StrongDelay, Repeat, Sporadic, Burst, Order, StrongSynchronization2, StrongSynchronization3, StrongSynchronization4}
-use Rattle.constraint.specs.declared.Constraint.the-variants.{ExecutionTime}
+use Rattle.constraint.specs.declared.Constraint.the-variants.{ExecutionTime, Repetition}
 use Rattle.constraint.proofs.Lists.{split, both, Each, each-none, each-cons, Rising, rising-right, rising-across, rising-snoc}
 use Rattle.constraint.proofs.History.{times-append, times-own, times-tick, times-close, own-append, own-tick, own-close, clock-append, clock-later, clock-event, clock-tick, clock-close, closed-event, closed-tick, closed-close, Accepts, with-time}
 
@@ -94,6 +94,8 @@ meets-same-times (StrongSynchronization3 x y z tolerance) a b in-order same earl
 meets-same-times (StrongSynchronization4 x y z w tolerance) a b in-order same earlier m = synchronized-same (x ∷ y ∷ z ∷ w ∷ []) tolerance a b same m
 meets-same-times (ExecutionTime x y z w lower upper) a b in-order same earlier m =
     subst (MeetsExecutionTime x y z w lower upper) in-order m
+meets-same-times (Repetition kind span lower upper jitter) a b in-order same earlier m =
+    subst (MeetsRepetition span lower upper jitter) (same 0 (omega arith)) m
 
 pub meets-same : (c : Constraint) (a b : List Step) → own (kinds c) a ≡ own (kinds c) b → clock b ≤ clock a → Meets c a → Meets c b
 meets-same c a b same earlier m = meets-same-times c a b same (same-times (kinds c) a b same) earlier m

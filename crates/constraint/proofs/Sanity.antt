@@ -12,7 +12,7 @@ use Rattle.constraint.specs.Limits.{noLimit}
 use Rattle.constraint.specs.Steps.{Step, event, tick, at, times, clockFrom, own}
 use Rattle.constraint.specs.Meets.{Between, NotLater, Apart, SpansApart, AtLeastApart, HiddenPoints, Execution, Executes, paused, pauseEvents, executionEvents}
 use Rattle.constraint.specs.Meets.{Meets, MeetsDelay, MeetsStrongDelay, MeetsRepeat, MeetsSporadic, MeetsBurst, MeetsOrder}
-use Rattle.constraint.specs.Meets.{MeetsStrongSynchronization, MeetsExecutionTime}
+use Rattle.constraint.specs.Meets.{MeetsStrongSynchronization, MeetsExecutionTime, MeetsRepetition}
 use Rattle.constraint.specs.Waiting.{answered}
 use Rattle.constraint.specs.Continuation.{BrokenAt}
 use Rattle.constraint.specs.Questions.{Question, Judged}
@@ -22,7 +22,7 @@ use Rattle.constraint.specs.declared.Answer.{Answer}
 use Rattle.constraint.specs.declared.Answer.the-variants.{Taken, Refused}
 use Rattle.constraint.specs.declared.Constraint.{Constraint}
 use Rattle.constraint.specs.declared.Constraint.the-variants.{Delay, StrongDelay, Repeat, Sporadic, Burst, Order, StrongSynchronization2, StrongSynchronization3, StrongSynchronization4}
-use Rattle.constraint.specs.declared.Constraint.the-variants.{ExecutionTime}
+use Rattle.constraint.specs.declared.Constraint.the-variants.{ExecutionTime, Repetition}
 use Rattle.constraint.proofs.Judged.{judged-once}
 use Rattle.constraint.proofs.Verdicts.{open-of-meets}
 
@@ -55,7 +55,7 @@ run-some rows (s ∷ calls) steps none =
 
 -- no event at all meets every definition
 pub meets-none : (c : Constraint) → Meets c []
-unfolding Meets MeetsDelay MeetsStrongDelay SpansApart MeetsRepeat MeetsSporadic MeetsBurst MeetsOrder MeetsStrongSynchronization MeetsExecutionTime times own
+unfolding Meets MeetsDelay MeetsStrongDelay SpansApart MeetsRepeat MeetsSporadic MeetsBurst MeetsOrder MeetsStrongSynchronization MeetsExecutionTime MeetsRepetition times own
 meets-none (Delay source target lower upper) = λ i h. absurd (omega arith)
 meets-none (StrongDelay source target lower upper) = (refl, λ i h. absurd (omega arith))
 meets-none (Repeat kind span lower upper) = (λ i h. absurd (omega arith), λ i h end. absurd (omega arith))
@@ -73,6 +73,8 @@ meets-none (StrongSynchronization2 a b tolerance) = λ j k h g. (refl, λ i l. a
 meets-none (StrongSynchronization3 a b c tolerance) = λ j k h g. (refl, λ i l. absurd (omega arith))
 meets-none (StrongSynchronization4 a b c d tolerance) = λ j k h g. (refl, λ i l. absurd (omega arith))
 meets-none (ExecutionTime start stop preempt resume lower upper) = ([], record { are = refl; rise = λ i h. absurd (omega arith); run = tt })
+meets-none (Repetition kind span lower upper jitter) =
+    ([], record { one-each = refl; near = λ i h. absurd (omega arith); rise = λ i h. absurd (omega arith); apart = λ i h. absurd (omega arith) })
 
 -- so the step at which a row broke is one that was taken
 pub broken-counted : (c : Constraint) (steps : List Step) (n : ℕ) → BrokenAt c steps n → 0 < n
@@ -111,7 +113,7 @@ unlimited-repeat-as-before span lower events now = (λ m. m .0, λ m. (m, λ i h
 
 pub unlimited-sporadic-as-before : (lower jitter minimum : ℕ) (events : List ℕ) (now : ℕ)
     → MeetsSporadic lower noLimit jitter minimum events now
-    ↔ (((points : List ℕ) × HiddenPoints lower noLimit jitter events points) × AtLeastApart minimum events)
+    ↔ (((points : List ℕ) × HiddenPoints 1 lower noLimit jitter events points) × AtLeastApart minimum events)
 unfolding MeetsSporadic
 unlimited-sporadic-as-before lower jitter minimum events now = (
   λ m. ((m .0 .0, m .0 .1), m .1),
@@ -339,3 +341,43 @@ execution-time-contingent =
     short : (executions : List Execution) → Executes 0 1 2 3 2 5 ((0, 0) ∷ (1, 1) ∷ []) executions → ⊥
     short [] x = let z : _≡_ {A = ℕ} 2 0 = ap length (x .are) in omega arith
     short (e ∷ es) x = too-short (e .pauses) (e .starts) (e .stops) (executionEvents 0 1 2 3 es) (x .are) (x .run .0 .0)
+
+-- the points must rise besides: each of the two chains taken singly has its points in both lists
+pub repetition-contingent : Contingent (Repetition 0 2 10 10 5) (event 0 5 ∷ event 0 16 ∷ event 0 17 ∷ event 0 29 ∷ [])
+    (event 0 5 ∷ event 0 16 ∷ event 0 17 ∷ event 0 31 ∷ [])
+unfolding Meets MeetsRepetition times
+repetition-contingent =
+    record {
+      can-be-met = (5 ∷ 14 ∷ 15 ∷ 24 ∷ [], record { one-each = refl; near = λ i h. near i h; rise = λ i h. rise i h; apart = λ i h. apart i h });
+      can-be-missed = λ m. let points = m .1 in
+          omega (
+            arith,
+            points .near 0 (omega arith),
+            points .near 3 (omega arith),
+            points .rise 1 (omega arith),
+            far (at (m .0) 0) (at (m .0) 2) (points .apart 0 (omega arith) .1),
+            far (at (m .0) 1) (at (m .0) 3) (points .apart 1 (omega arith) .1),
+          );
+    }
+  where
+    near : (i : ℕ) → i < 4 → Between 0 5 (at (5 ∷ 14 ∷ 15 ∷ 24 ∷ []) i) (at (5 ∷ 16 ∷ 17 ∷ 29 ∷ []) i)
+    near zero h = (omega arith, omega arith)
+    near (suc zero) h = (omega arith, omega arith)
+    near (suc (suc zero)) h = (omega arith, omega arith)
+    near (suc (suc (suc zero))) h = (omega arith, omega arith)
+    near (suc (suc (suc (suc i)))) h = absurd (omega arith)
+
+    rise : (i : ℕ) → i + 1 < 4 → at (5 ∷ 14 ∷ 15 ∷ 24 ∷ []) i < at (5 ∷ 14 ∷ 15 ∷ 24 ∷ []) (i + 1)
+    rise zero h = omega arith
+    rise (suc zero) h = omega arith
+    rise (suc (suc zero)) h = omega arith
+    rise (suc (suc (suc i))) h = absurd (omega arith)
+
+    apart : (i : ℕ) → i + 2 < 4 → Apart 10 10 (at (5 ∷ 14 ∷ 15 ∷ 24 ∷ []) i) (at (5 ∷ 14 ∷ 15 ∷ 24 ∷ []) (i + 2))
+    apart zero h = (omega arith, inr (omega arith))
+    apart (suc zero) h = (omega arith, inr (omega arith))
+    apart (suc (suc i)) h = absurd (omega arith)
+
+    far : (x y : ℕ) → (10 ≡ noLimit) ⊎ (y ≤ x + 10) → y ≤ x + 10
+    far x y (inl e) = absurd (omega arith)
+    far x y (inr h) = h

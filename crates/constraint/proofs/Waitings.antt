@@ -9,7 +9,7 @@ use Rattle.constraint.specs.Waiting.{unanswered, largest, least, begunIn
 use Rattle.constraint.specs.Accepted.{kinds}
 use Rattle.constraint.specs.declared.Constraint.{Constraint}
 use Rattle.constraint.specs.declared.Constraint.the-variants.{Delay, StrongDelay, Repeat, Sporadic, Burst, Order, StrongSynchronization2, StrongSynchronization3, StrongSynchronization4}
-use Rattle.constraint.specs.declared.Constraint.the-variants.{ExecutionTime}
+use Rattle.constraint.specs.declared.Constraint.the-variants.{ExecutionTime, Repetition}
 use Rattle.constraint.proofs.Lists.{each-tail}
 use Rattle.constraint.proofs.Continuations.{SameTimes, same-times}
 
@@ -34,6 +34,7 @@ waiting-same-times (StrongSynchronization2 x y tolerance) a b same = groups-same
 waiting-same-times (StrongSynchronization3 x y z tolerance) a b same = groups-same (x ∷ y ∷ z ∷ []) a b same
 waiting-same-times (StrongSynchronization4 x y z w tolerance) a b same = groups-same (x ∷ y ∷ z ∷ w ∷ []) a b same
 waiting-same-times (ExecutionTime start stop preempt resume lower upper) a b same = refl
+waiting-same-times (Repetition event span lower upper jitter) a b same = refl
 
 pub waiting-same : (c : Constraint) (a b : List Step) → own (kinds c) a ≡ own (kinds c) b → waiting c a ≡ waiting c b
 waiting-same c a b same = waiting-same-times c a b (same-times (kinds c) a b same)

@@ -1,6 +1,5 @@
 -- Questions 3 to 7, row by row, as fresh and the table writer put them (§9.7). Question 4 is always answered "yes" here, as every
 -- `Constraint` has a known type and n.
--- Every `Constraint` has a type from 1 to 8 and an n from 2 to 4, so its answer to 4 is yes.
 use Prim.Native.Nat.{ℕ, _+_, _≤_, _<_}
 use mathlib.Core.Path.{_≡_}
 use mathlib.Core.List.{List, [], _∷_, _++_}

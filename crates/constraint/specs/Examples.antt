@@ -1,6 +1,6 @@
--- The contract's examples 1 to 12 (§10.1 to §10.12), those of Delays without an upper limit and those of signals that stop: a row, calls
--- that are all taken, and what the row reads after them.
-use Prim.Native.Nat.{ℕ, zero, suc, _+_}
+-- The contract's examples 1 to 12 (§10.1 to §10.12), those of Delays without an upper limit, of signals that stop, of ExecutionTime and of
+-- Repetition: a row, calls that are all taken, and what the row reads after them.
+use Prim.Native.Nat.{ℕ, zero, suc, _+_, _-_}
 use mathlib.Core.List.{List, [], _∷_, _++_}
 use lib.ListN.{replicate}
 use Rattle.constraint.specs.Limits.{lastTime, noLimit}
@@ -9,7 +9,7 @@ use Rattle.constraint.specs.declared.Answer.the-variants.{Taken, Refused
 use Rattle.constraint.specs.declared.Call.{Call}
 use Rattle.constraint.specs.declared.Call.the-variants.{Event, Tick, Close}
 use Rattle.constraint.specs.declared.Constraint.{Constraint}
-use Rattle.constraint.specs.declared.Constraint.the-variants.{Delay, StrongDelay, Repeat, Sporadic, Burst, Order, StrongSynchronization2, ExecutionTime}
+use Rattle.constraint.specs.declared.Constraint.the-variants.{Delay, StrongDelay, Repeat, Sporadic, Burst, Order, StrongSynchronization2, ExecutionTime, Repetition}
 use Rattle.constraint.specs.declared.Verdict.{Verdict}
 use Rattle.constraint.specs.declared.Verdict.the-variants.{Open, Kept, Broken}
 
@@ -155,6 +155,54 @@ execution-times =
     ∷ reads (ExecutionTime 0 1 2 3 0 0) (Tick 7 ∷ Close ∷ []) Kept
     ∷ reads (ExecutionTime 0 1 2 3 1 1) (Event 0 7 ∷ Event 1 8 ∷ Close ∷ []) Kept
     ∷ reads (ExecutionTime 0 1 2 3 1 1) (Event 0 7 ∷ Event 2 8 ∷ []) (Broken 2)
+    ∷ []
+
+-- §5.10 to §5.10.4: Repetition
+abbrev pub repetitions : List Example
+repetitions =
+    -- §5.10.2: the points rise; each chain taken singly has its points
+    reads (Repetition 0 2 10 10 5) (Event 0 5 ∷ Event 0 16 ∷ Event 0 17 ∷ Event 0 29 ∷ Close ∷ []) Kept
+    ∷ reads (Repetition 0 2 10 10 5) (Event 0 5 ∷ Event 0 16 ∷ Event 0 17 ∷ Event 0 30 ∷ []) (Broken 4)
+    ∷ reads (Repetition 0 2 10 10 5) (Event 0 5 ∷ Event 0 16 ∷ Event 0 17 ∷ Event 0 31 ∷ []) (Broken 4)
+    ∷ reads (Repetition 0 2 10 10 5) (Event 0 5 ∷ Event 0 16 ∷ Event 0 17 ∷ Event 0 29 ∷ Event 0 30 ∷ Event 0 39 ∷ []) Open
+    ∷ reads (Repetition 0 2 10 10 5) (Event 0 5 ∷ Event 0 16 ∷ Event 0 17 ∷ Event 0 29 ∷ Event 0 30 ∷ Event 0 40 ∷ []) (Broken 6)
+    ∷ reads (Repetition 0 2 0 2 1) (Event 0 0 ∷ Event 0 2 ∷ Event 0 3 ∷ Event 0 5 ∷ []) (Broken 4)
+    ∷ reads (Repetition 0 2 2 2 3) (Event 0 3 ∷ Event 0 4 ∷ Event 0 8 ∷ Event 0 9 ∷ []) Open
+    ∷ reads (Repetition 0 2 2 2 3) (Event 0 3 ∷ Event 0 5 ∷ Event 0 8 ∷ Event 0 10 ∷ []) (Broken 4)
+    ∷ reads (Repetition 0 3 0 3 10) (Event 0 4 ∷ Event 0 14 ∷ Event 0 15 ∷ Event 0 17 ∷ []) Open
+    ∷ reads (Repetition 0 3 0 3 10) (Event 0 4 ∷ Event 0 14 ∷ Event 0 15 ∷ Event 0 18 ∷ []) (Broken 4)
+    -- §5.10: points span places apart are lower to upper apart
+    ∷ reads (Repetition 0 2 4 5 1) (Event 0 1 ∷ Event 0 3 ∷ Event 0 5 ∷ Event 0 8 ∷ Event 0 10 ∷ []) Open
+    ∷ reads (Repetition 0 8 80 80 0)
+    (Event 0 0 ∷ Event 0 10 ∷ Event 0 20 ∷ Event 0 30 ∷ Event 0 40 ∷ Event 0 50 ∷ Event 0 60 ∷ Event 0 70 ∷ Event 0 80 ∷ Event 0 90 ∷ [])
+    Open
+    ∷ reads (Repetition 0 8 80 80 0)
+    (Event 0 0 ∷ Event 0 10 ∷ Event 0 20 ∷ Event 0 30 ∷ Event 0 40 ∷ Event 0 50 ∷ Event 0 60 ∷ Event 0 70 ∷ Event 0 80 ∷ Event 0 91 ∷ [])
+    (Broken 10)
+    -- §5.10.1: the first span events never break it; the next one does where upper is below the span
+    ∷ reads (Repetition 0 2 0 1 9) (Event 0 10 ∷ Event 0 11 ∷ Close ∷ []) Kept
+    ∷ reads (Repetition 0 2 0 1 9) (Event 0 10 ∷ Event 0 11 ∷ Event 0 12 ∷ []) (Broken 3)
+    ∷ reads (Repetition 0 2 0 0 0) (Event 0 0 ∷ Event 0 2 ∷ Close ∷ []) Kept
+    ∷ reads (Repetition 0 2 0 10 0) (Event 0 0 ∷ Event 0 100 ∷ []) Open
+    ∷ reads (Repetition 0 2 0 10 0) (Event 0 0 ∷ Event 0 100 ∷ Event 0 101 ∷ []) (Broken 3)
+    -- §5.10.3: a span of 1
+    ∷ reads (Repetition 0 1 5 5 2) (Event 0 2 ∷ Event 0 9 ∷ Event 0 14 ∷ []) Open
+    ∷ reads (Repetition 0 1 5 5 2) (Event 0 2 ∷ Event 0 9 ∷ Event 0 16 ∷ []) (Broken 3)
+    ∷ reads (Repetition 0 1 10 10 5) (Event 0 2 ∷ Event 0 10 ∷ []) Open
+    ∷ reads (Repetition 0 1 10 10 5) (Event 0 2 ∷ Event 0 9 ∷ []) (Broken 2)
+    ∷ reads (Repetition 0 1 0 0 4) (Event 0 9 ∷ []) Open
+    ∷ reads (Repetition 0 1 0 0 4) (Event 0 9 ∷ Event 0 10 ∷ []) (Broken 2)
+    ∷ reads (Repetition 0 1 0 0 1) (Event 0 0 ∷ Event 0 1 ∷ []) (Broken 2)
+    ∷ reads (Repetition 0 1 0 0 1) (Event 0 1 ∷ Event 0 2 ∷ []) (Broken 2)
+    ∷ reads (Repetition 0 1 2 2 1) (Event 0 0 ∷ Event 0 1 ∷ []) (Broken 2)
+    -- §5.10.4: silence and the close break nothing
+    ∷ reads (Repetition 0 1 5 5 0) (Event 0 0 ∷ Tick 6 ∷ Tick lastTime ∷ Close ∷ []) Kept
+    ∷ reads (Repetition 0 2 10 10 5) (Event 0 5 ∷ Event 9 1000 ∷ Event 0 1001 ∷ []) Open
+    ∷ reads (Repetition 0 2 10 10 5) (Tick lastTime ∷ Close ∷ []) Kept
+    -- the last time
+    ∷ reads (Repetition 0 2 0 lastTime lastTime) (Event 0 0 ∷ Event 0 1 ∷ Event 0 2 ∷ Event 0 lastTime ∷ []) Open
+    ∷ reads (Repetition 0 2 lastTime lastTime lastTime) (Event 0 0 ∷ Event 0 1 ∷ Event 0 lastTime ∷ []) Open
+    ∷ reads (Repetition 0 2 lastTime lastTime lastTime) (Event 0 0 ∷ Event 0 1 ∷ Event 0 (lastTime - 1) ∷ []) (Broken 3)
     ∷ []
 
 -- §5.3.5: a table of two rows: sources crowd the first, and the second falls silent

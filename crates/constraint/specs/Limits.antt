@@ -17,9 +17,12 @@ noLimit = 2 ^ 64 - 1
 abbrev pub rowLimit : ℕ
 rowLimit = 32
 
--- §4.6: how large spans and maxima are at most
+-- §4.6: how large spans and maxima are at most, and the span of a Repetition
 abbrev pub spanLimit : ℕ
 spanLimit = 64
+
+abbrev pub repetitionSpanLimit : ℕ
+repetitionSpanLimit = 8
 
 -- §6.5: how many wait in a row at most
 abbrev pub waitingLimit : ℕ

@@ -1,4 +1,4 @@
--- What each row asks of all events together, some of the clock too (§2.2, §5.1 to §5.8).
+-- What each row asks of all events together, some of the clock too (§2.2, §5.1 to §5.10).
 use Prim.Native.Nat.{ℕ, _+_, _-_, _≤_, _<_}
 use mathlib.Core.Path.{_≡_}
 use mathlib.Core.List.{List, [], _∷_, _++_, map}
@@ -8,7 +8,7 @@ use Rattle.constraint.specs.Limits.{noLimit}
 use Rattle.constraint.specs.Steps.{Step, at, times, own, clock}
 use Rattle.constraint.specs.declared.Constraint.{Constraint}
 use Rattle.constraint.specs.declared.Constraint.the-variants.{Delay, StrongDelay, Repeat, Sporadic, Burst, Order, StrongSynchronization2, StrongSynchronization3, StrongSynchronization4}
-use Rattle.constraint.specs.declared.Constraint.the-variants.{ExecutionTime}
+use Rattle.constraint.specs.declared.Constraint.the-variants.{ExecutionTime, Repetition}
 
 -- y is lower to upper after x, both ends included
 abbrev pub Between : ℕ → ℕ → ℕ → ℕ → Type 0
@@ -45,21 +45,25 @@ MeetsRepeat span lower upper events now =
 abbrev pub AtLeastApart : ℕ → List ℕ → Type 0
 AtLeastApart minimum events = SpansApart 1 minimum noLimit events
 
--- §5.4: a point for each event, at most jitter before it; the points rise, and neighbours among them are lower to upper apart
-pub record HiddenPoints (lower upper jitter : ℕ) (events points : List ℕ) : Type 0 where
+-- §5.4, §5.10: a point for each event, at most jitter before it; the points rise, and those span places apart are lower to upper apart
+pub record HiddenPoints (span lower upper jitter : ℕ) (events points : List ℕ) : Type 0 where
   pub one-each : length points ≡ length events
   pub near : (i : ℕ) → i < length events → Between 0 jitter (at points i) (at events i)
   pub rise : (i : ℕ) → i + 1 < length events → at points i < at points (i + 1)
-  pub apart : (i : ℕ) → i + 1 < length events → Apart lower upper (at points i) (at points (i + 1))
+  pub apart : (i : ℕ) → i + span < length events → Apart lower upper (at points i) (at points (i + span))
 
 -- §5.4: the last point, where there is one, is at most upper and jitter before the clock now
 abbrev pub LastNotLater : ℕ → ℕ → List ℕ → ℕ → Type 0
 LastNotLater upper jitter points now = (i : ℕ) → i + 1 ≡ length points → NotLater upper (at points i + jitter) now
 
--- §5.4: the same points do both, and neighbours among the events are at least minimum apart
+-- §5.4: the same points, of span 1, do both, and neighbours among the events are at least minimum apart
 unfoldable pub MeetsSporadic : ℕ → ℕ → ℕ → ℕ → List ℕ → ℕ → Type 0
 MeetsSporadic lower upper jitter minimum events now =
-    ((points : List ℕ) × HiddenPoints lower upper jitter events points × LastNotLater upper jitter points now) × AtLeastApart minimum events
+    ((points : List ℕ) × HiddenPoints 1 lower upper jitter events points × LastNotLater upper jitter points now) × AtLeastApart minimum events
+
+-- §5.10: there are points of the span
+unfoldable pub MeetsRepetition : ℕ → ℕ → ℕ → ℕ → List ℕ → Type 0
+MeetsRepetition span lower upper jitter events = (points : List ℕ) × HiddenPoints span lower upper jitter events points
 
 -- §5.5: events maximum places apart are at least len apart, and neighbours at least minimum
 unfoldable pub MeetsBurst : ℕ → ℕ → ℕ → List ℕ → Type 0
@@ -128,3 +132,4 @@ Meets (StrongSynchronization3 a b c tolerance) steps = MeetsStrongSynchronizatio
 Meets (StrongSynchronization4 a b c d tolerance) steps = MeetsStrongSynchronization (a ∷ b ∷ c ∷ d ∷ []) tolerance steps
 Meets (ExecutionTime start stop preempt resume lower upper) steps =
     MeetsExecutionTime start stop preempt resume lower upper (own (start ∷ stop ∷ preempt ∷ resume ∷ []) steps)
+Meets (Repetition event span lower upper jitter) steps = MeetsRepetition span lower upper jitter (times event steps)

@@ -27,6 +27,8 @@ pub const NO_LIMIT: u64 = 18446744073709551615;
 pub const ROW_LIMIT: usize = 32;
 // The largest span or maximum.
 pub const SPAN_LIMIT: u8 = 64;
+// The largest span of a Repetition.
+pub const REPETITION_SPAN_LIMIT: u8 = 8;
 // How many a row keeps waiting at most.
 pub const WAITING_LIMIT: usize = 64;
 
@@ -92,6 +94,13 @@ pub enum Constraint {
         resume: u8,
         lower: u64,
         upper: u64,
+    },
+    Repetition {
+        event: u8,
+        span: u8,
+        lower: u64,
+        upper: u64,
+        jitter: u64,
     },
 }
 
@@ -187,6 +196,12 @@ const EXECUTION_TIME: Line = Line {
     times: [LOWER, UPPER, 0, 0],
 };
 
+const REPETITION: Line = Line {
+    form: 10,
+    bytes: [KIND, REPETITION_SPAN_LIMIT, 0, 0, 0],
+    times: [LOWER, UPPER, PLAIN, 0],
+};
+
 impl Constraint {
     // The fields as numbers.
     pub fn fields(self) -> Fields
@@ -274,6 +289,17 @@ impl Constraint {
                 EXECUTION_TIME,
                 [start, stop, preempt, resume, 0],
                 [lower, upper, 0, 0],
+            ),
+            Constraint::Repetition {
+                event,
+                span,
+                lower,
+                upper,
+                jitter,
+            } => Fields::new(
+                REPETITION,
+                [event, span, 0, 0, 0],
+                [lower, upper, jitter, 0],
             ),
         }
     }

@@ -10,7 +10,8 @@ use Rattle.constraint.specs.Steps.{Step}
 use Rattle.constraint.specs.Continuation.{Reads}
 use Rattle.constraint.specs.Run.{stepFor, Run, done, call}
 use Rattle.constraint.specs.Promise.{ReadsRow, row, play, Played}
-use Rattle.constraint.specs.Examples.{Example, examples, unlimited-delays, silences, execution-times, crowdedRows, crowdedCalls, crowdedAnswers}
+use Rattle.constraint.specs.Examples.{Example, examples, unlimited-delays, silences, execution-times, repetitions}
+use Rattle.constraint.specs.Examples.{crowdedRows, crowdedCalls, crowdedAnswers}
 use Rattle.constraint.specs.declared.Answer.{Answer}
 use Rattle.constraint.specs.declared.Answer.the-variants.{Taken, Refused}
 use Rattle.constraint.specs.declared.Call.{Call}
@@ -28,6 +29,7 @@ use Rattle.points.specs.Sporadic.{laterSporadic, decideSporadic}
 use Rattle.pairs.specs.Order.{changesTo, decideOrder}
 use Rattle.groups.specs.StrongSynchronization.{decideStrongSynchronization}
 use Rattle.phases.specs.ExecutionTime.{whileIdle, whileRunning, whilePreempted, decideExecutionTime}
+use Rattle.repetition.specs.Repetition.{placed, decideRepetition}
 use Rattle.row.specs.Machine.{rowOf, brokenRow, applied, changedRow, rowStep, rowVerdict}
 use Rattle.queue.specs.Ring.{ring, pushRing, putRing}
 use Rattle.monitor.specs.Machine.{monitorOf, mapFirst, anyFirst, takenCall, stepOf, verdictOf}
@@ -99,6 +101,10 @@ execution-times-computed : allCompute execution-times ≡ true
 unfolding allCompute computes playOf allTaken isVerdict play monitorOf mapFirst anyFirst takenCall stepOf verdictOf rowOf brokenRow applied changedRow rowStep rowVerdict ring pushRing putRing whileIdle whileRunning whilePreempted decideExecutionTime
 execution-times-computed = refl
 
+repetitions-computed : allCompute repetitions ≡ true
+unfolding allCompute computes playOf allTaken isVerdict play monitorOf mapFirst anyFirst takenCall stepOf verdictOf rowOf brokenRow applied changedRow rowStep rowVerdict ring pushRing putRing placed decideRepetition
+repetitions-computed = refl
+
 -- ---- so each reads by the definitions what the machine computes
 
 -- calls that are all taken are the steps accepted
@@ -148,6 +154,10 @@ silences-hold = all-read silences silences-computed
 -- §5.8.1 to §5.8.6
 pub execution-times-hold : AllRead execution-times
 execution-times-hold = all-read execution-times execution-times-computed
+
+-- §5.10 to §5.10.4
+pub repetitions-hold : AllRead repetitions
+repetitions-hold = all-read repetitions repetitions-computed
 
 -- ---- a table of two rows
 

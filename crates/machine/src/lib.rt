@@ -7,7 +7,7 @@ pub mod parts;
 // The constraint's fields as numbers. A field that a type does not have is 0; a kind that it does not have is 64.
 #[repr(C)]
 pub struct Rule {
-    // the type, 1 to 8
+    // the type, 1 to 8 or 10
     pub form: u64,
     // source, event, start or first kind
     pub first: u64,

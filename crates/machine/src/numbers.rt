@@ -71,6 +71,13 @@ pub fn rule_of(c: Constraint) -> Rule
             lower,
             upper,
         } => group_rule(8, start, stop, preempt, resume, lower, upper),
+        Constraint::Repetition {
+            event,
+            span,
+            lower,
+            upper,
+            jitter,
+        } => pair_rule(10, event, NO_KIND, span, lower, upper, jitter, 0),
     }
 }
 

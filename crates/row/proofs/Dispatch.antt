@@ -9,11 +9,11 @@ use lib.Dec.{eqb}
 -- the number is none of those that the code names
 abbrev pub NoneOf : ℕ → Type 0
 NoneOf n =
-    (((((Unit {0} × (n ≡ 1 → ⊥)) × (n ≡ 2 → ⊥)) × ((n ≡ 3) ⊎ (n ≡ 5) → ⊥)) × (n ≡ 4 → ⊥)) × (n ≡ 6 → ⊥)) × (n ≡ 8 → ⊥)
+    ((((((Unit {0} × (n ≡ 1 → ⊥)) × (n ≡ 2 → ⊥)) × ((n ≡ 3) ⊎ (n ≡ 5) → ⊥)) × (n ≡ 4 → ⊥)) × (n ≡ 6 → ⊥)) × (n ≡ 8 → ⊥)) × (n ≡ 10 → ⊥)
 
-module _ {A : Type 0} (n : ℕ) (a b c d e f g : A) where
+module _ {A : Type 0} (n : ℕ) (a b c d e f g h : A) where
   abbrev pub chosen : A
-  chosen = cond (eqb n 1) a (cond (eqb n 2) b (cond (eqb n 3 || eqb n 5) c (cond (eqb n 4) d (cond (eqb n 6) e (cond (eqb n 8) f g)))))
+  chosen = cond (eqb n 1) a (cond (eqb n 2) b (cond (eqb n 3 || eqb n 5) c (cond (eqb n 4) d (cond (eqb n 6) e (cond (eqb n 8) f (cond (eqb n 10) g h))))))
 
   pub form-1 : n ≡ 1 → chosen ≡ a
   form-1 is = rw is
@@ -33,14 +33,18 @@ module _ {A : Type 0} (n : ℕ) (a b c d e f g : A) where
   pub form-8 : n ≡ 8 → chosen ≡ f
   form-8 is = rw is
 
-  pub form-none : NoneOf n → chosen ≡ g
+  pub form-10 : n ≡ 10 → chosen ≡ g
+  form-10 is = rw is
+
+  pub form-none : NoneOf n → chosen ≡ h
   form-none is =
       rw (
-        ne-eqb n 1 (is .0 .0 .0 .0 .0 .1),
-        ne-eqb n 2 (is .0 .0 .0 .0 .1),
-        ne-eqb n 3 (λ x. is .0 .0 .0 .1 (inl x)),
-        ne-eqb n 5 (λ x. is .0 .0 .0 .1 (inr x)),
-        ne-eqb n 4 (is .0 .0 .1),
-        ne-eqb n 6 (is .0 .1),
-        ne-eqb n 8 (is .1),
+        ne-eqb n 1 (is .0 .0 .0 .0 .0 .0 .1),
+        ne-eqb n 2 (is .0 .0 .0 .0 .0 .1),
+        ne-eqb n 3 (λ x. is .0 .0 .0 .0 .1 (inl x)),
+        ne-eqb n 5 (λ x. is .0 .0 .0 .0 .1 (inr x)),
+        ne-eqb n 4 (is .0 .0 .0 .1),
+        ne-eqb n 6 (is .0 .0 .1),
+        ne-eqb n 8 (is .0 .1),
+        ne-eqb n 10 (is .1),
       )

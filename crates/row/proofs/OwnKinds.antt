@@ -13,7 +13,7 @@ use Rattle.constraint.specs.Steps.{at, among}
 use Rattle.constraint.specs.Accepted.{kinds}
 use Rattle.constraint.specs.declared.Constraint.{Constraint}
 use Rattle.constraint.specs.declared.Constraint.the-variants.{Delay, StrongDelay, Repeat, Sporadic, Burst, Order}
-use Rattle.constraint.specs.declared.Constraint.the-variants.{StrongSynchronization2, StrongSynchronization3, StrongSynchronization4, ExecutionTime}
+use Rattle.constraint.specs.declared.Constraint.the-variants.{StrongSynchronization2, StrongSynchronization3, StrongSynchronization4, ExecutionTime, Repetition}
 use Rattle.constraint.proofs.Lists.{split, or-true, both, Each}
 use Rattle.machine.specs.Rule.{noKind, ruleOf}
 use Rattle.row.specs.Machine.{concerns, noEvent}
@@ -44,6 +44,7 @@ concerns-among (StrongSynchronization2 a b tolerance) k = refl
 concerns-among (StrongSynchronization3 a b c tolerance) k = refl
 concerns-among (StrongSynchronization4 a b c d tolerance) k = refl
 concerns-among (ExecutionTime start stop preempt resume lower upper) k = refl
+concerns-among (Repetition event span lower upper jitter) k = refl
 
 pub concerns-own : (c : Constraint) (k : ℕ) → ¬ (k ≡ noKind) → concerns (ruleOf c) k ≡ among k (kinds c)
 concerns-own c k h = concerns-among c k ∙ among-absent k (4 - length (kinds c)) (kinds c) h

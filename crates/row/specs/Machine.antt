@@ -22,6 +22,7 @@ use Rattle.spans.specs.Repeat.{decideRepeat}
 use Rattle.points.specs.Sporadic.{decideSporadic}
 use Rattle.groups.specs.StrongSynchronization.{decideStrongSynchronization}
 use Rattle.phases.specs.ExecutionTime.{decideExecutionTime}
+use Rattle.repetition.specs.Repetition.{decideRepetition}
 use Rattle.row.specs.declared.Occurrence.{Occurrence}
 use Rattle.row.specs.declared.Row.{Row}
 use Rattle.row.specs.declared.RowStep.{RowStep}
@@ -35,7 +36,8 @@ decide rule =
     (cond (eqb (rule .form) 4) (decideSporadic rule)
     (cond (eqb (rule .form) 6) (decideOrder rule)
     (cond (eqb (rule .form) 8) (decideExecutionTime rule)
-    (decideStrongSynchronization rule))))))
+    (cond (eqb (rule .form) 10) (decideRepetition rule)
+    (decideStrongSynchronization rule)))))))
 
 -- the event is of one of the row's kinds
 abbrev pub concerns : Rule → ℕ → Bool

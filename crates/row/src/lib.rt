@@ -67,6 +67,7 @@ pub fn decide(
         4 => sporadic::decide(rule, marks, t),
         6 => order::decide(rule, marks, kind, t),
         8 => execution_time::decide(rule, marks, kind, t),
+        10 => repetition::decide(rule, marks, times, head, len, t),
         _ => strong_synchronization::decide(rule, marks, times, head, len, kind, t),
     }
 }

@@ -34,7 +34,7 @@ rawTable bytes = record { rows = tableOf (rawRows bytes (rawEntries bytes)) .row
 
 -- §8.4, where the type gives the length: the type is one that the list of lengths has, and the n is known
 pub record TypeKnown (t n : ℕ) : Type 0 where
-  pub type-known : (1 ≤ t) × (t < length lengths)
+  pub type-known : 0 < at lengths t
   pub n-known : t ≡ 7 → (2 ≤ n) × (n ≤ 4)
 
 abbrev pub KnownAt : List ℕ → ℕ → Type 0

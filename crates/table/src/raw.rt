@@ -1,5 +1,6 @@
 // Rows given as raw bytes, 34 for each: a row's type byte and fields, and behind them bytes that do not matter.
 use super::WriteAnswer;
+use super::body::length_of;
 use super::body::row_of;
 use constraint::Answer;
 use constraint::Table;
@@ -21,14 +22,11 @@ fn entries_of(count: usize) -> usize
     constraint::ROW_LIMIT
 }
 
-// Question 4 of a type byte and the byte behind it: is the type 1 to 8, and n in range?
+// Question 4 of a type byte and the byte behind it: is there a length for the type, and is n in range?
 fn type_known(form: u8, n: u8) -> bool
     ensures { λ r. ⌜ Decides (TypeKnown form n) r ⌝ }
 {
-    if form < 1 {
-        return false;
-    }
-    if 8 < form {
+    if length_of(form, 0) == 0 {
         return false;
     }
     if form == 7 {

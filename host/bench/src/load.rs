@@ -1,4 +1,4 @@
-//! Tables of 32 rows of all eight types, and drives over which every row stays open until the close.
+//! Tables of 32 rows of all nine types, and drives over which every row stays open until the close.
 
 use model::{Constraint, NO_LIMIT, Step, recording_bytes, table_bytes};
 
@@ -105,6 +105,12 @@ fn sporadic(event: Signal, upper: u64) -> Constraint {
     Constraint::Sporadic { event: event.kind, lower, upper, jitter: WOBBLE, minimum: PERIOD - WOBBLE }
 }
 
+/// Points in a rhythm, so many places apart.
+fn repetition(event: Signal, span: u8) -> Constraint {
+    let length = u64::from(span) * PERIOD;
+    Constraint::Repetition { event: event.kind, span, lower: length, upper: length, jitter: WOBBLE }
+}
+
 /// The lags, spans, maxima and uppers of the rows of one type.
 const LAGS: [u64; 5] = [0, 4, 16, 40, 60];
 const SPANS: [u8; 5] = [1, 2, 8, 32, 64];
@@ -116,7 +122,7 @@ pub fn sparse(events: usize) -> Load {
     let mut signals = Signals::default();
     let mut rows: Vec<Constraint> = LAGS.iter().map(|lag| delay(signals.pair(*lag))).collect();
     rows.extend(LAGS.map(|lag| strong_delay(signals.pair(lag))));
-    rows.extend(LAGS[..3].iter().map(|lag| order(signals.pair(*lag))));
+    rows.extend(LAGS[..2].iter().map(|lag| order(signals.pair(*lag))));
     let repeated = SPANS.map(|span| (signals.next(0), span));
     rows.extend(repeated.map(|(event, span)| repeat(event, span)));
     rows.extend(repeated.iter().zip(MAXIMA).map(|((event, _), maximum)| burst(*event, maximum)));
@@ -127,6 +133,7 @@ pub fn sparse(events: usize) -> Load {
     }
     let [start, preempt, resume, stop] = [0; 4].map(|lag| signals.next(lag));
     rows.push(execution_time(start, Some((preempt, resume)), stop));
+    rows.push(repetition(signals.next(0), 8));
     Load { name: "sparse", rows, steps: signals.drive(events) }
 }
 
@@ -137,12 +144,13 @@ pub fn dense(events: usize) -> Load {
     let third = signals.next(0);
     let mut rows = vec![delay(pair); 5];
     rows.extend(vec![strong_delay(pair); 5]);
-    rows.extend(vec![order((pair.0, third)); 3]);
+    rows.extend(vec![order((pair.0, third)); 2]);
     rows.extend(SPANS.map(|span| repeat(third, span)));
     rows.extend(MAXIMA.map(|maximum| burst(third, maximum)));
     rows.extend(UPPERS.map(|upper| sporadic(third, upper)));
     rows.extend(vec![synchronization(&[pair.0, third, pair.1]); 5]);
     rows.push(execution_time(pair.0, None, third));
+    rows.push(repetition(third, 8));
     Load { name: "dense", rows, steps: signals.drive(events) }
 }
 

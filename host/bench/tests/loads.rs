@@ -6,7 +6,7 @@ use bench::plain::report::report;
 use model::random::Random;
 use model::random::recordings::{damaged_recording, recording};
 use model::random::tables::{any_table, damaged_table};
-use model::{LAST_TYPE, Verdict, report_text, table_bytes};
+use model::{TYPES, Verdict, report_text, table_bytes};
 
 fn loads(events: usize) -> [Load; 2] {
     [sparse(events), dense(events)]
@@ -17,7 +17,7 @@ fn thirty_two_rows_of_all_types() {
     for load in loads(10) {
         let types = |row: &model::Constraint| row.type_byte();
         assert_eq!(load.rows.len(), 32);
-        assert!((1..=LAST_TYPE).all(|type_byte| load.rows.iter().map(types).any(|one| one == type_byte)));
+        assert!(TYPES.iter().all(|type_byte| load.rows.iter().map(types).any(|one| one == *type_byte)));
     }
     assert_eq!((sparse(1_000).concerned(), dense(1_000).concerned()), ((1, 2), (15, 22)));
 }

@@ -110,6 +110,10 @@ fn row(line: &str) -> Option<Constraint> {
             let (lower, upper) = bounds();
             Constraint::ExecutionTime { start, stop, preempt, resume, lower, upper }
         }
+        "Repetition" => {
+            let (lower, upper) = bounds();
+            Constraint::Repetition { event: byte("event"), span: byte("span"), lower, upper, jitter: time("jitter") }
+        }
         _ => panic!("no type: {line}"),
     })
 }

@@ -18,6 +18,9 @@ pub fn row_of(row: &Constraint) -> Row<'_> {
         Constraint::ExecutionTime { start, stop, preempt, resume, lower, upper } => {
             Row::ExecutionTime { start, stop, preempt, resume, lower, upper }
         }
+        Constraint::Repetition { event, span, lower, upper, jitter } => {
+            Row::Repetition { event, span, lower, upper, jitter }
+        }
     }
 }
 
@@ -47,6 +50,9 @@ pub fn numbers_of(row: &Constraint) -> String {
         }
         Constraint::ExecutionTime { start, stop, preempt, resume, lower, upper } => {
             (8, vec![start, stop, preempt, resume], vec![lower, upper])
+        }
+        Constraint::Repetition { event, span, lower, upper, jitter } => {
+            (10, vec![event, span], vec![lower, upper, jitter])
         }
     };
     let byte = |i| bytes.get(i).copied().unwrap_or(0).to_string();

@@ -253,7 +253,7 @@ fn the_monitors_memory() {
 }
 
 /// A row of each type, and of each number of kinds, that stays open for a while.
-fn one_of_each() -> [Constraint; 11] {
+fn one_of_each() -> [Constraint; 12] {
     let synchronization = |kinds: &[u8]| Constraint::StrongSynchronization { kinds: kinds.to_vec(), tolerance: 50 };
     [
         Constraint::Delay { source: 0, target: 1, lower: 2, upper: 30 },
@@ -267,6 +267,7 @@ fn one_of_each() -> [Constraint; 11] {
         synchronization(&[0, 1, 2]),
         synchronization(&[0, 1, 2, 3]),
         Constraint::ExecutionTime { start: 0, stop: 1, preempt: 2, resume: 3, lower: 2, upper: 50 },
+        Constraint::Repetition { event: 0, span: 8, lower: 0, upper: 90, jitter: 9 },
     ]
 }
 

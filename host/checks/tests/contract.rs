@@ -42,7 +42,7 @@ fn the_examples_are_so() {
     let said: usize = examples.iter().map(play).sum();
     assert!(examples.len() >= 40 && said >= 80, "{} examples with {said} verdicts", examples.len());
     let types: HashSet<u8> = examples.iter().flat_map(|example| &example.rows).map(Constraint::type_byte).collect();
-    assert_eq!(types.len(), 8);
+    assert_eq!(types, HashSet::from(model::TYPES));
 }
 
 #[test]

@@ -177,7 +177,8 @@ fn the_rust_crates_numbers_are_the_headers() {
 
 #[test]
 fn the_models_numbers_are_the_crates() {
-    use model::constraint::{LAST_KIND, LAST_TIME, NO_LIMIT, ROW_LIMIT, SPAN_LIMIT, WAITING_LIMIT};
+    use model::constraint::{LAST_KIND, LAST_TIME, NO_LIMIT, REPETITION_SPAN_LIMIT, ROW_LIMIT};
+    use model::constraint::{SPAN_LIMIT, WAITING_LIMIT};
     use model::report::{RECORDING_SIZE_LIMIT, TABLE_SIZE_LIMIT};
     const PROGRAM: &str = "crates/delkuthi/src/lib.rt";
     let limits = [
@@ -186,6 +187,7 @@ fn the_models_numbers_are_the_crates() {
         (NO_LIMIT, CONSTRAINT, "NO_LIMIT", "noLimit"),
         (ROW_LIMIT as u64, CONSTRAINT, "ROW_LIMIT", "rowLimit"),
         (SPAN_LIMIT.into(), CONSTRAINT, "SPAN_LIMIT", "spanLimit"),
+        (REPETITION_SPAN_LIMIT.into(), CONSTRAINT, "REPETITION_SPAN_LIMIT", "repetitionSpanLimit"),
         (WAITING_LIMIT as u64, CONSTRAINT, "WAITING_LIMIT", "waitingLimit"),
         (TABLE_SIZE_LIMIT as u64, PROGRAM, "TABLE_SIZE_LIMIT", "tableSizeLimit"),
         (RECORDING_SIZE_LIMIT as u64, PROGRAM, "RECORDING_SIZE_LIMIT", "recordingSizeLimit"),

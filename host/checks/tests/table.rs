@@ -6,7 +6,7 @@ use model::notation::order;
 use model::random::Random;
 use model::random::seen::Seen;
 use model::random::tables::{any_table, damaged_rows, damaged_table, table};
-use model::{Constraint, LAST_TYPE, Refusal, read_table, table_bytes, write_table};
+use model::{Constraint, Refusal, TYPES, read_table, table_bytes, write_table};
 
 /// What a buffer is filled with, so that a byte written is noticed.
 const FILL: u8 = 0xA5;
@@ -110,7 +110,7 @@ fn every_byte_changed() {
     let mut random = Random::new(305);
     let mut seen = Seen::default();
     let pool = [0, 1, 2, 3];
-    for type_byte in 1..=LAST_TYPE {
+    for type_byte in TYPES {
         let row =
             model::random::tables::row_of_type(&mut random, type_byte, model::random::tables::Scale::Small, &pool);
         let bytes = table_bytes(&[row, order()]);

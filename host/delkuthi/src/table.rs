@@ -33,6 +33,8 @@ pub enum Row<'a> {
     StrongSynchronization { kinds: &'a [u8], tolerance: u64 },
     /// From each `start` to its `stop`, less the stretches from `preempt` to `resume`, it runs for `lower` to `upper`.
     ExecutionTime { start: u8, stop: u8, preempt: u8, resume: u8, lower: u64, upper: u64 },
+    /// Each event is 0 to `jitter` after a hidden point; points `span` places apart, 1 to 8, are `lower` to `upper` apart.
+    Repetition { event: u8, span: u8, lower: u64, upper: u64, jitter: u64 },
 }
 
 /// Writes the table of some rows; gives the number of bytes written. Bytes after those written stay as they were. On a
@@ -71,6 +73,7 @@ impl Row<'_> {
             Row::ExecutionTime { start, stop, preempt, resume, lower, upper } => {
                 body(&[8, start, stop, preempt, resume], &[lower, upper])
             }
+            Row::Repetition { event, span, lower, upper, jitter } => body(&[10, event, span], &[lower, upper, jitter]),
         }
     }
 }

@@ -10,11 +10,13 @@ pub const NO_LIMIT: u64 = u64::MAX;
 pub const ROW_LIMIT: usize = 32;
 /// How large spans and maxima are at most (§4.6).
 pub const SPAN_LIMIT: u8 = 64;
+/// How large the span of a Repetition is at most (§4.6).
+pub const REPETITION_SPAN_LIMIT: u8 = 8;
 /// How many wait in a row at most (§6.5).
 pub const WAITING_LIMIT: usize = 64;
 
-/// The types of rows are 1 to this.
-pub const LAST_TYPE: u8 = 8;
+/// The types of rows (§4.5).
+pub const TYPES: [u8; 9] = [1, 2, 3, 4, 5, 6, 7, 8, 10];
 
 /// A row of a table: its type and fields. Any values can stand in the fields; the questions say which are accepted.
 ///
@@ -37,6 +39,8 @@ pub enum Constraint {
     StrongSynchronization { kinds: Vec<u8>, tolerance: u64 },
     /// Type 8.
     ExecutionTime { start: u8, stop: u8, preempt: u8, resume: u8, lower: u64, upper: u64 },
+    /// Type 10.
+    Repetition { event: u8, span: u8, lower: u64, upper: u64, jitter: u64 },
 }
 
 impl Constraint {
@@ -51,6 +55,7 @@ impl Constraint {
             Constraint::Order { .. } => 6,
             Constraint::StrongSynchronization { .. } => 7,
             Constraint::ExecutionTime { .. } => 8,
+            Constraint::Repetition { .. } => 10,
         }
     }
 
@@ -60,9 +65,10 @@ impl Constraint {
             Constraint::Delay { source, target, .. }
             | Constraint::StrongDelay { source, target, .. }
             | Constraint::Order { source, target } => vec![*source, *target],
-            Constraint::Repeat { event, .. } | Constraint::Sporadic { event, .. } | Constraint::Burst { event, .. } => {
-                vec![*event]
-            }
+            Constraint::Repeat { event, .. }
+            | Constraint::Sporadic { event, .. }
+            | Constraint::Burst { event, .. }
+            | Constraint::Repetition { event, .. } => vec![*event],
             Constraint::StrongSynchronization { kinds, .. } => kinds.clone(),
             Constraint::ExecutionTime { start, stop, preempt, resume, .. } => vec![*start, *stop, *preempt, *resume],
         }

@@ -35,7 +35,9 @@ pub mod steps;
 pub mod table;
 pub mod waiting;
 
-pub use constraint::{Constraint, LAST_KIND, LAST_TIME, LAST_TYPE, NO_LIMIT, ROW_LIMIT, SPAN_LIMIT, WAITING_LIMIT};
+pub use constraint::{
+    Constraint, LAST_KIND, LAST_TIME, NO_LIMIT, REPETITION_SPAN_LIMIT, ROW_LIMIT, SPAN_LIMIT, TYPES, WAITING_LIMIT,
+};
 pub use meets::meets;
 pub use monitor::{Monitor, Verdict};
 pub use open::open;

@@ -1,4 +1,4 @@
-//! What each row asks of all events together, some of the clock too (§5.1 to §5.8).
+//! What each row asks of all events together, some of the clock too (§5.1 to §5.10).
 
 use crate::constraint::{Constraint, NO_LIMIT};
 use crate::executions::Executions;
@@ -18,7 +18,7 @@ pub fn meets(constraint: &Constraint, events: &impl Events) -> bool {
             spans_apart(*span, *lower, *upper, events) && not_silent(*span, *upper, events, clock)
         }
         Constraint::Sporadic { event, lower, upper, jitter, minimum } => {
-            let spacing = Spacing { lower: *lower, upper: *upper, jitter: *jitter };
+            let spacing = Spacing { span: 1, lower: *lower, upper: *upper, jitter: *jitter };
             spacing.has_hidden_points(times(event), events.clock()) && at_least_apart(*minimum, times(event))
         }
         Constraint::Burst { event, maximum, length, minimum } => burst(*maximum, *length, *minimum, times(event)),
@@ -30,6 +30,10 @@ pub fn meets(constraint: &Constraint, events: &impl Events) -> bool {
         Constraint::ExecutionTime { lower, upper, .. } => {
             let executions = Executions::of(constraint, events);
             executions.rise() && executions.run_for(*lower, *upper)
+        }
+        Constraint::Repetition { event, span, lower, upper, jitter } => {
+            let spacing = Spacing { span: usize::from(*span), lower: *lower, upper: *upper, jitter: *jitter };
+            spacing.has_points(times(event))
         }
     }
 }

@@ -45,3 +45,7 @@ pub fn synchronization(n: u8, tolerance: u64) -> Constraint {
 pub fn execution_time(lower: u64, upper: u64) -> Constraint {
     Constraint::ExecutionTime { start: 0, stop: 1, preempt: 2, resume: 3, lower, upper }
 }
+
+pub fn repetition(span: u8, lower: u64, upper: u64, jitter: u64) -> Constraint {
+    Constraint::Repetition { event: 0, span, lower, upper, jitter }
+}

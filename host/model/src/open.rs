@@ -20,7 +20,7 @@ pub fn open(constraint: &Constraint, recorded: &History) -> bool {
 /// The earliest continuation that the row can use: if any continuation meets the row, this one does.
 ///
 /// - After the close it is the empty one (§2.3).
-/// - Repeat, Sporadic and Burst speak of each event together with earlier ones, or with the clock where a later one
+/// - Repeat, Sporadic, Burst and Repetition speak of each event together with earlier ones, or with the clock where a later one
 ///   is wanted. What is true with a continuation, at the clock that it closes at, is true without it at the clock
 ///   now: a later event that was in time is no earlier than now. So the empty one will do.
 /// - Delay needs a target for each source that has none, and a continuation's own sources only ask for more.
@@ -35,7 +35,10 @@ pub fn earliest_continuation(constraint: &Constraint, recorded: &History) -> Vec
         return Vec::new();
     }
     match constraint {
-        Constraint::Repeat { .. } | Constraint::Sporadic { .. } | Constraint::Burst { .. } => Vec::new(),
+        Constraint::Repeat { .. }
+        | Constraint::Sporadic { .. }
+        | Constraint::Burst { .. }
+        | Constraint::Repetition { .. } => Vec::new(),
         Constraint::Delay { source, target, lower, upper } => targets(recorded, *source, *target, *lower, *upper),
         Constraint::StrongDelay { source, target, lower, .. } => partners(recorded, *source, *target, *lower),
         Constraint::Order { source, target } => partners(recorded, *source, *target, 0),

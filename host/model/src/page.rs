@@ -46,5 +46,6 @@ fn name(row: &Constraint) -> &'static str {
         Constraint::Order { .. } => "Order",
         Constraint::StrongSynchronization { .. } => "StrongSynchronization",
         Constraint::ExecutionTime { .. } => "ExecutionTime",
+        Constraint::Repetition { .. } => "Repetition",
     }
 }

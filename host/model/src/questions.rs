@@ -1,6 +1,6 @@
 //! The questions put to rows and steps (§8.3 to §8.11), in their order (§9.5, §9.7).
 
-use crate::constraint::{Constraint, LAST_KIND, LAST_TIME, NO_LIMIT, ROW_LIMIT, SPAN_LIMIT};
+use crate::constraint::{Constraint, LAST_KIND, LAST_TIME, NO_LIMIT, REPETITION_SPAN_LIMIT, ROW_LIMIT, SPAN_LIMIT};
 use crate::steps::{History, Step};
 
 /// The answer to a call: taken, or refused with the number of the first question answered "no".
@@ -65,6 +65,9 @@ fn in_range(row: &Constraint) -> bool {
         Constraint::Order { .. } => true,
         Constraint::StrongSynchronization { tolerance, .. } => time(tolerance),
         Constraint::ExecutionTime { lower, upper, .. } => time(lower) && time(upper),
+        Constraint::Repetition { span, lower, upper, jitter, .. } => {
+            (1..=REPETITION_SPAN_LIMIT).contains(span) && time(lower) && time(upper) && time(jitter)
+        }
     }
 }
 
@@ -75,7 +78,8 @@ fn lower_first(row: &Constraint) -> bool {
         | Constraint::StrongDelay { lower, upper, .. }
         | Constraint::Repeat { lower, upper, .. }
         | Constraint::Sporadic { lower, upper, .. }
-        | Constraint::ExecutionTime { lower, upper, .. } => lower <= upper,
+        | Constraint::ExecutionTime { lower, upper, .. }
+        | Constraint::Repetition { lower, upper, .. } => lower <= upper,
         Constraint::Burst { .. } | Constraint::Order { .. } | Constraint::StrongSynchronization { .. } => true,
     }
 }

@@ -3,6 +3,7 @@
 pub mod calls;
 pub mod executions;
 pub mod recordings;
+pub mod repetitions;
 pub mod seen;
 pub mod tables;
 

@@ -31,7 +31,7 @@ pub fn open_within(constraint: &Constraint, recorded: &History, last: u64) -> bo
 ///   clock + 1, clock + 2 and so on; its further sources are not after recorded targets.
 /// - ExecutionTime: of a continuation that meets the row keep what ends the execution that is begun, without further
 ///   pairs: a resume, right after the clock at the latest, and a stop once it has run for lower.
-/// - Repeat, Sporadic, Burst: drop all; what is said of the recorded events alone, at the clock now, stays true. A few
+/// - Repeat, Sporadic, Burst, Repetition: drop all; what is said of the recorded events alone, at the clock now, stays true. A few
 ///   more places are searched to see that they change nothing.
 pub fn reach(constraint: &Constraint, recorded: &History) -> u64 {
     let clock = recorded.clock();
@@ -47,7 +47,10 @@ pub fn reach(constraint: &Constraint, recorded: &History) -> u64 {
         }
         Constraint::StrongSynchronization { tolerance, .. } => clock + tolerance,
         Constraint::ExecutionTime { lower, .. } => clock + 1 + lower.max(&1),
-        Constraint::Repeat { .. } | Constraint::Sporadic { .. } | Constraint::Burst { .. } => clock + 3,
+        Constraint::Repeat { .. }
+        | Constraint::Sporadic { .. }
+        | Constraint::Burst { .. }
+        | Constraint::Repetition { .. } => clock + 3,
     }
 }
 

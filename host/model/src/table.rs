@@ -1,10 +1,10 @@
 //! The table's bytes (§4.1 to §4.7) and the table's questions (§9.3).
 
-use crate::constraint::{Constraint, LAST_TYPE, ROW_LIMIT};
+use crate::constraint::{Constraint, ROW_LIMIT, TYPES};
 use crate::questions::{Refusal, ask, fields_questions, rows_questions};
 
 /// The length of each type (§4.5), by the type byte; to type 7 its n is added.
-const LENGTHS: [usize; 9] = [0, 19, 19, 19, 34, 19, 3, 10, 21];
+const LENGTHS: [usize; 11] = [0, 19, 19, 19, 34, 19, 3, 10, 21, 0, 27];
 
 /// A field, of one byte or of eight (§4.4).
 enum Field {
@@ -37,6 +37,9 @@ fn fields(row: &Constraint) -> Vec<Field> {
         }
         Constraint::ExecutionTime { start, stop, preempt, resume, lower, upper } => {
             vec![Byte(*start), Byte(*stop), Byte(*preempt), Byte(*resume), Time(*lower), Time(*upper)]
+        }
+        Constraint::Repetition { event, span, lower, upper, jitter } => {
+            vec![Byte(*event), Byte(*span), Time(*lower), Time(*upper), Time(*jitter)]
         }
     }
 }
@@ -121,7 +124,7 @@ fn shape_fits(body: &[u8]) -> bool {
     match body {
         [7, n, ..] => (2..=4).contains(n) && body.len() == LENGTHS[7] + usize::from(*n),
         [7] | [] => false,
-        [type_byte, ..] => (1..=LAST_TYPE).contains(type_byte) && body.len() == LENGTHS[usize::from(*type_byte)],
+        [type_byte, ..] => TYPES.contains(type_byte) && body.len() == LENGTHS[usize::from(*type_byte)],
     }
 }
 
@@ -149,6 +152,9 @@ fn constraint_of(body: &[u8]) -> Constraint {
             lower: time(5),
             upper: time(13),
         },
+        10 => {
+            Constraint::Repetition { event: body[1], span: body[2], lower: time(3), upper: time(11), jitter: time(19) }
+        }
         _ => {
             let end = 2 + usize::from(body[1]);
             Constraint::StrongSynchronization { kinds: body[2..end].to_vec(), tolerance: time(end) }

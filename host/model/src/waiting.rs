@@ -25,6 +25,7 @@ pub fn waiting(constraint: &Constraint, recorded: &History) -> usize {
         | Constraint::Sporadic { .. }
         | Constraint::Burst { .. }
         | Constraint::Order { .. }
-        | Constraint::ExecutionTime { .. } => 0,
+        | Constraint::ExecutionTime { .. }
+        | Constraint::Repetition { .. } => 0,
     }
 }

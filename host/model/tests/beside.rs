@@ -8,7 +8,7 @@ use model::random::Random;
 use model::random::calls::Play;
 use model::random::seen::Seen;
 use model::random::tables::{Scale, pool, row, row_of_type};
-use model::{Constraint, LAST_KIND, LAST_TYPE, Monitor, Step, Verdict};
+use model::{Constraint, LAST_KIND, Monitor, Step, TYPES, Verdict};
 
 /// A table with a place for the row that it shares.
 struct Shared {
@@ -73,7 +73,7 @@ fn two_lists(random: &mut Random, row: &Constraint, first: &Shared, second: &Sha
 fn the_row_reads_the_same_after_each_place() {
     let mut random = Random::new(70);
     let (mut seen, mut different) = (Seen::default(), 0);
-    for type_byte in (1..=LAST_TYPE).cycle().take(4_000) {
+    for type_byte in TYPES.into_iter().cycle().take(4_500) {
         let (row, first, second) = two_tables(&mut random, type_byte);
         let (one, other) = two_lists(&mut random, &row, &first, &second);
         assert!(beside(&row, &one, &other), "{row:?} {one:?} {other:?}");
@@ -90,7 +90,7 @@ fn the_row_reads_the_same_after_each_place() {
 fn other_rows_change_no_verdict_while_none_has_64() {
     let mut random = Random::new(71);
     let mut seen = Seen::default();
-    for type_byte in (1..=LAST_TYPE).cycle().take(3_200) {
+    for type_byte in TYPES.into_iter().cycle().take(3_600) {
         let (row, first, second) = two_tables(&mut random, type_byte);
         let mut play = Play::new(random.fork(), &first.rows, 100);
         let mut monitor = fresh(&second.rows);
@@ -163,7 +163,7 @@ fn one_later(random: &mut Random, table: &Shared, row: &Constraint, list: &[Step
 fn a_clock_one_later_can_change_what_the_row_reads() {
     let mut random = Random::new(72);
     let (mut tried, mut changed) = (0, 0);
-    for type_byte in (1..=LAST_TYPE).cycle().take(2_000) {
+    for type_byte in TYPES.into_iter().cycle().take(2_000) {
         let (row, table, _) = two_tables(&mut random, type_byte);
         let mut play = Play::new(random.fork(), &table.rows, 40);
         while play.call().is_some() {}

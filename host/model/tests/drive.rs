@@ -54,6 +54,7 @@ fn rows() -> Vec<Constraint> {
             lower: 2 * ms,
             upper: 6 * ms,
         },
+        Constraint::Repetition { event: CAMERA_FRAME, span: 2, lower: 80 * ms, upper: 80 * ms, jitter: 3 * ms },
     ]
 }
 

@@ -2,7 +2,7 @@
 
 mod common;
 
-use common::{burst, delay, order, recorded, repeat, sporadic, strong_delay, synchronization};
+use common::{burst, delay, order, recorded, repeat, repetition, sporadic, strong_delay, synchronization};
 use model::hidden_points::Spacing;
 use model::random::Random;
 use model::random::tables::Scale;
@@ -88,13 +88,35 @@ fn hidden_points_beside_the_search() {
             continue;
         }
         let upper = *random.pick(&[0, 1, 2, 3, 4, 5, NO_LIMIT]);
-        let spacing = Spacing { lower: random.below(4).min(upper), upper, jitter: random.below(7) };
+        let spacing = Spacing { span: 1, lower: random.below(4).min(upper), upper, jitter: random.below(7) };
         let clock = events.last().map_or(0, |last| last + random.below(8));
         let searched = spacing.has_hidden_points_by_search(&events, clock);
         assert_eq!(spacing.has_hidden_points(&events, clock), searched, "{spacing:?} of {events:?} at {clock}");
         found += u64::from(searched);
     }
     assert!((2_000..18_000).contains(&found), "{found}");
+}
+
+#[test]
+fn points_of_a_span_beside_the_search() {
+    let mut random = Random::new(10);
+    let mut found = [[0; 2]; 5];
+    let mut by_the_rise = 0;
+    for _ in 0..20_000 {
+        let number = random.below(8);
+        let times: Vec<u64> = (0..12).filter(|_| random.chance(60)).take(number as usize).collect();
+        let span = 1 + random.place(4);
+        let upper = random.below(9);
+        let lower = if random.chance(40) { upper } else { random.below(9).min(upper) };
+        let spacing = Spacing { span, lower, upper, jitter: random.below(6) };
+        let searched = spacing.has_points_by_search(&times);
+        assert_eq!(spacing.has_points(&times), searched, "{spacing:?} of {times:?}");
+        assert!(!searched || spacing.each_chain_has_points(&times), "{spacing:?} of {times:?}");
+        by_the_rise += u64::from(!searched && span <= upper as usize && spacing.each_chain_has_points(&times));
+        found[span][usize::from(searched)] += u64::from(times.len() > span);
+    }
+    let often = |counts: &[u64; 2]| counts.iter().all(|count| *count > 100);
+    assert!(found[1..].iter().all(often) && by_the_rise > 10, "{found:?}, {by_the_rise} by the rise alone");
 }
 
 /// Do two events contradict each other: the later too early or too late for any points between?
@@ -123,7 +145,8 @@ fn no_hidden_points_has_a_contradiction() {
         let gap = events.windows(2).map(|pair| pair[1] - pair[0]).max().unwrap_or(1);
         let any = scale.time(&mut random);
         let upper = *random.pick(&[NO_LIMIT, gap, gap + 1, gap / 2 + 2, any]);
-        let spacing = Spacing { lower: scale.time(&mut random).min(upper), upper, jitter: gap / (1 + random.below(4)) };
+        let (lower, jitter) = (scale.time(&mut random).min(upper), gap / (1 + random.below(4)));
+        let spacing = Spacing { span: 1, lower, upper, jitter };
         // at the last event's own time the clock asks nothing that the point there does not
         let points = spacing.has_hidden_points(&events, events.last().copied().unwrap_or(0));
         assert_eq!(points, !contradiction(&spacing, &events), "{spacing:?} of {events:?}");
@@ -165,6 +188,39 @@ fn sporadic_corners() {
     // three events need three points: 0, 1 and 2
     assert!(of(&sporadic(0, NO_LIMIT, 9, 0), "0@0, 0@1, 0@2"));
     assert!(!of(&sporadic(2, NO_LIMIT, 9, 0), "0@0, 0@1"));
+}
+
+#[test]
+fn repetition_corners() {
+    // each chain taken singly has its points, 31 included
+    assert!(of(&repetition(2, 10, 10, 5), "0@5, 0@16, 0@17, 0@29"));
+    assert!(!of(&repetition(2, 10, 10, 5), "0@5, 0@16, 0@17, 0@30"));
+    assert!(!of(&repetition(2, 10, 10, 5), "0@5, 0@16, 0@17, 0@31"));
+    // a list as long as the span is always its own points; one longer needs an upper of the span at least
+    assert!(of(&repetition(2, 0, 1, 9), "0@10, 0@11") && !of(&repetition(2, 0, 1, 9), "0@10, 0@11, 0@12"));
+    assert!(of(&repetition(2, 0, 10, 0), "0@0, 0@100") && !of(&repetition(2, 0, 10, 0), "0@0, 0@100, 0@101"));
+    assert!(of(&repetition(8, 0, 8, 0), "0@1, 0@2, 0@3, 0@4, 0@5, 0@6, 0@7, 0@8, 0@9"));
+    // no point below 0, and a span of 1 is a Sporadic without a minimum
+    assert!(!of(&repetition(1, 2, 2, 1), "0@0, 0@1") && of(&repetition(1, 2, 2, 1), "0@0, 0@2"));
+    assert!(of(&repetition(2, 0, 72057594037927935, 72057594037927935), "0@0, 0@1, 0@2, 0@72057594037927935"));
+    // silence is without effect
+    assert!(of(&repetition(1, 5, 5, 0), "0@0, tick 72057594037927935"));
+}
+
+#[test]
+fn a_span_of_one_is_a_sporadic() {
+    let mut random = Random::new(1010);
+    for _ in 0..20_000 {
+        let scale = *random.pick(&[Scale::Small, Scale::Patient, Scale::Extreme]);
+        let number = random.below(9);
+        let events = events_at(&[rising(&mut random, number, scale)]);
+        let (lower, upper, jitter) = (scale.time(&mut random), scale.time(&mut random), scale.time(&mut random));
+        let lower = lower.min(upper);
+        // at the last event's own time the clock asks nothing that the point there does not
+        let alike =
+            (meets(&repetition(1, lower, upper, jitter), &events), meets(&sporadic(lower, upper, jitter, 0), &events));
+        assert_eq!(alike.0, alike.1, "{lower} to {upper}, {jitter} of {events:?}");
+    }
 }
 
 #[test]

@@ -8,7 +8,7 @@ use model::open::earliest_continuation;
 use model::random::Random;
 use model::random::tables::{Scale, row_of_type};
 use model::search::{open_by_search, open_within, reach};
-use model::{Constraint, History, LAST_TYPE, NO_LIMIT, Step, open};
+use model::{Constraint, History, NO_LIMIT, Step, TYPES, open};
 
 /// The kinds that the small rows use.
 const KINDS: [u8; 4] = [0, 1, 2, 3];
@@ -100,6 +100,11 @@ fn execution_time_beside_the_search() {
     compare(8, 1_000);
 }
 
+#[test]
+fn repetition_beside_the_search() {
+    compare(10, 8_000);
+}
+
 /// Compares both decisions after every list of at most so many steps that can be accepted, up to a last time.
 fn compare_all(row: &Constraint, recorded: &History, last: u64, steps: usize) -> u64 {
     assert_eq!(open(row, recorded), open_by_search(row, recorded), "{row:?} after {recorded:?}");
@@ -139,7 +144,7 @@ fn every_short_history_beside_the_search() {
 fn the_earliest_continuation_is_one_and_later_places_add_nothing() {
     let mut random = Random::new(99);
     for _ in 0..6_000 {
-        let type_byte = random.from_to(1, LAST_TYPE.into()) as u8;
+        let type_byte = *random.pick(&TYPES);
         let row = small_row(&mut random, type_byte);
         let mut recorded = History::default();
         for _ in 0..1 + random.below(6) {

@@ -55,7 +55,7 @@ fn every_refusal_comes_up() {
 fn many_long_lists() {
     let mut random = Random::new(18);
     let mut seen = Seen::default();
-    for _ in 0..1_000 {
+    for _ in 0..2_000 {
         let rows = 8 + random.place(25);
         let rows = table(&mut random, rows);
         let number = 100 + random.place(101);

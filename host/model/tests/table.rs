@@ -2,7 +2,7 @@
 
 mod common;
 
-use common::{burst, delay, execution_time, order, repeat, sporadic, strong_delay, synchronization};
+use common::{burst, delay, execution_time, order, repeat, repetition, sporadic, strong_delay, synchronization};
 use model::random::Random;
 use model::random::seen::Seen;
 use model::random::tables::{any_table, damaged_rows, damaged_table};
@@ -33,6 +33,7 @@ fn every_type_in_bytes() {
         synchronization(3, 2),
         synchronization(4, 3),
         execution_time(2, 5),
+        repetition(8, 5, 6, 7),
     ];
     let bytes = hex("01
         0013 01 00 01 0000000000000002 0000000000000003
@@ -44,7 +45,8 @@ fn every_type_in_bytes() {
         000C 07 02 00 01 0000000000000001
         000D 07 03 00 01 02 0000000000000002
         000E 07 04 00 01 02 03 0000000000000003
-        0015 08 00 01 02 03 0000000000000002 0000000000000005");
+        0015 08 00 01 02 03 0000000000000002 0000000000000005
+        001B 0A 00 08 0000000000000005 0000000000000006 0000000000000007");
     assert_eq!(table_bytes(&rows), bytes);
     assert_eq!(read_table(&bytes), Ok(rows.to_vec()));
 }
@@ -72,7 +74,16 @@ fn version_and_whole_rows() {
 
 #[test]
 fn shape() {
-    for row in ["0000", "0001 00", "0001 08", "0003 08 00 01", "0003 09 00 01", "0003 00 00 01", "0003 FF 00 01"] {
+    for row in [
+        "0000",
+        "0001 00",
+        "0001 08",
+        "0003 08 00 01",
+        "0003 09 00 01",
+        "0013 09 00 01 0000000000000002 0000000000000003",
+        "0003 00 00 01",
+        "0003 FF 00 01",
+    ] {
         assert_eq!(refused(&hex(&format!("01 {row}"))), (4, 1), "{row}");
     }
     // the length of another type, no n, an n out of range, an n that the length does not suit
@@ -83,6 +94,8 @@ fn shape() {
     assert_eq!(refused(&hex("01 000F 07 05 00 01 02 03 04 0000000000000001")), (4, 1));
     assert_eq!(refused(&hex("01 000C 07 03 00 01 0000000000000001")), (4, 1));
     assert_eq!(refused(&hex("01 0014 08 00 01 02 03 0000000000000002 00000000000005")), (4, 1));
+    assert_eq!(refused(&hex("01 001A 0A 00 08 0000000000000005 0000000000000006 00000000000007")), (4, 1));
+    assert_eq!(refused(&hex("01 001B 0B 00 08 0000000000000005 0000000000000006 0000000000000007")), (4, 1));
     assert_eq!(refused(&hex("01 0016 08 00 01 02 03 0000000000000002 0000000000000005 00")), (4, 1));
 }
 
@@ -113,6 +126,9 @@ fn fields_in_order() {
     assert_eq!(execution(0, 1, 2, 64, 2, 5), (5, 6));
     assert_eq!(execution(0, 1, 2, 3, 2, u64::MAX), (6, 6));
     assert_eq!(execution(0, 1, 2, 3, 6, 5), (7, 6));
+    assert_eq!((number(repetition(0, 1, 2, 3)), number(repetition(9, 1, 2, 3))), ((6, 6), (6, 6)));
+    assert_eq!((number(repetition(8, 2, 1, 3)), number(repetition(8, 1, u64::MAX, 3))), ((7, 6), (6, 6)));
+    assert_eq!(number(repetition(8, 1, 2, LAST_TIME + 1)), (6, 6));
     // the first bad row counts, whatever stands in later ones
     assert_eq!(refused(&table_bytes(&[delay(0, 1, 1, 0), delay(64, 1, 0, 0)])), (7, 1));
 }

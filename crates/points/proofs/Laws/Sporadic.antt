@@ -34,7 +34,7 @@ use Rattle.machine.proofs.Spans.{apart-first, apart-more, LastIs, last-none, la
 use Rattle.points.proofs.Laws.Points.{points-none, points-first, NextPoint, points-more, points-near, points-next}
 
 abbrev PointsOf : Rule → List ℕ → List ℕ → Type 0
-PointsOf rule events points = HiddenPoints (rule .lower) (rule .upper) (rule .jitter) events points
+PointsOf rule events points = HiddenPoints 1 (rule .lower) (rule .upper) (rule .jitter) events points
 
 -- the point of the n-th event from 0, which is the last, can be at each place from low to high and at no other
 record Places (rule : Rule) (events : List ℕ) (n low high : ℕ) : Type 0 where
@@ -140,7 +140,7 @@ module _ (rule : Rule) (events : List ℕ) (t : ℕ) (small : t ≤ lastTime) wh
         before : (marks .low ≤ at points n) × (at points n ≤ marks .high)
         before =
             rw (getD-take (length events) points n 0 (omega arith)) at
-            (places .no-other (take (length events) points) (points-first (rule .lower) (rule .upper) (rule .jitter) events (t ∷ []) points hidden))
+            (places .no-other (take (length events) points) (points-first 1 (rule .lower) (rule .upper) (rule .jitter) events (t ∷ []) points hidden))
 
     later-points : (p q : ℕ) → NextAt rule t p q → (points : List ℕ) × PointsOf rule events points × (at points n ≡ p)
         → (points : List ℕ) × PointsOf rule (events ++ (t ∷ [])) points × (at points (length events) ≡ q)
@@ -215,7 +215,7 @@ module _ (rule : Rule) (events : List ℕ) (marks : Marks) (kept : List ℕ) (ke
 
 -- the last of the first points has another behind it, whose event is not before now, or the clock that all close at is early
 last-first : (lower upper jitter : ℕ) (xs ys points : List ℕ) (now later : ℕ) → now ≤ later → Each (λ y. now ≤ y) ys
-    → HiddenPoints lower upper jitter (xs ++ ys) points → LastNotLater upper jitter points later
+    → HiddenPoints 1 lower upper jitter (xs ++ ys) points → LastNotLater upper jitter points later
     → LastNotLater upper jitter (take (length xs) points) now
 last-first lower upper jitter xs ys points now later h after hidden last i e =
     rw (getD-take (length xs) points i 0 (omega (arith, count)))
@@ -239,7 +239,7 @@ unfolding MeetsSporadic
 sporadic-first lower upper jitter minimum xs ys now later h after ((points, hidden, last), apart) = (
   (
     take (length xs) points,
-    points-first lower upper jitter xs ys points hidden,
+    points-first 1 lower upper jitter xs ys points hidden,
     last-first lower upper jitter xs ys points now later h after hidden last,
   ),
   apart-first 1 minimum noLimit xs ys apart,

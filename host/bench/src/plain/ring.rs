@@ -35,6 +35,12 @@ impl Ring {
         if self.is_empty() { None } else { Some(self.times[self.head]) }
     }
 
+    /// The oldest two. There must be so many.
+    pub fn two(&self) -> (u64, u64) {
+        debug_assert!(self.length > 1);
+        (self.times[self.head], self.times[(self.head + 1) % SIZE])
+    }
+
     /// Takes the oldest time away.
     pub fn pop(&mut self) -> Option<u64> {
         let first = self.first()?;

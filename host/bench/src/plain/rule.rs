@@ -23,6 +23,8 @@ pub enum Rule {
     StrongSynchronization { kinds: [u8; 4], n: usize, tolerance: u64, begun: Ring, counts: [usize; 4] },
     /// The phase of the execution, its last event, and how long it has run up to that event.
     ExecutionTime { kinds: [u8; 4], lower: u64, upper: u64, phase: Phase, last: u64, ran: u64 },
+    /// From where to where each of the last hidden points can be, as many as the span: low and high in turn.
+    Repetition { span: u64, lower: u64, upper: u64, jitter: u64, places: Ring },
 }
 
 /// Between two executions, in a running one, or in a preempted one.
@@ -57,6 +59,9 @@ impl Rule {
                 let kinds = [start, stop, preempt, resume];
                 Rule::ExecutionTime { kinds, lower, upper, phase: Phase::Idle, last: NEVER, ran: 0 }
             }
+            Constraint::Repetition { span, lower, upper, jitter, .. } => {
+                Rule::Repetition { span: span.into(), lower, upper, jitter, places: Ring::default() }
+            }
         }
     }
 
@@ -70,7 +75,11 @@ impl Rule {
             Rule::StrongSynchronization { kinds, begun, counts, .. } => {
                 begun.is_full() && counts[place(kinds, kind)] == begun.length()
             }
-            Rule::Repeat { .. } | Rule::Sporadic { .. } | Rule::Order { .. } | Rule::ExecutionTime { .. } => false,
+            Rule::Repeat { .. }
+            | Rule::Sporadic { .. }
+            | Rule::Order { .. }
+            | Rule::ExecutionTime { .. }
+            | Rule::Repetition { .. } => false,
         }
     }
 
@@ -105,6 +114,7 @@ impl Rule {
                 true
             }
             Rule::ExecutionTime { .. } => self.execution_event(kind, time),
+            Rule::Repetition { .. } => self.repetition_event(time),
         }
     }
 
@@ -138,6 +148,24 @@ impl Rule {
         fits && later
     }
 
+    /// A Repetition's event: a point is lower to upper behind the one span places before; while there is none, it leaves
+    /// a place for each that is still to come before the first one's upper.
+    fn repetition_event(&mut self, time: u64) -> bool {
+        let Rule::Repetition { span, lower, upper, jitter, places } = self else { return true };
+        let number = places.length() as u64 / 2;
+        let near = time.saturating_sub(*jitter);
+        let first = (number > 0).then(|| places.two()).unwrap_or((0, time));
+        let low = if number < *span { near } else { near.max(first.0.saturating_add(*lower)) };
+        let high = time.min(first.1.saturating_add(upper.saturating_sub(*span)).saturating_add(number));
+        if number == *span {
+            places.pop();
+            places.pop();
+        }
+        places.push(low);
+        places.push(high);
+        number < *span || (*span <= *upper && low <= high)
+    }
+
     /// The last clock at which the row is open if none of its events comes.
     pub fn due(&self) -> u64 {
         match self {
@@ -151,7 +179,7 @@ impl Rule {
             Rule::Sporadic { last: NEVER, .. } => NEVER,
             Rule::Sporadic { upper, jitter, high, .. } => high.saturating_add(*upper).saturating_add(*jitter),
             Rule::ExecutionTime { upper, phase: Phase::Running, last, ran, .. } => last + (upper - ran),
-            Rule::ExecutionTime { .. } => NEVER,
+            Rule::ExecutionTime { .. } | Rule::Repetition { .. } => NEVER,
         }
     }
 
@@ -163,7 +191,7 @@ impl Rule {
             Rule::Order { ahead, early, .. } => *ahead == 0 && *early == NEVER,
             Rule::StrongSynchronization { begun, .. } => begun.is_empty(),
             Rule::ExecutionTime { phase, .. } => *phase == Phase::Idle,
-            Rule::Repeat { .. } | Rule::Sporadic { .. } => true,
+            Rule::Repeat { .. } | Rule::Sporadic { .. } | Rule::Repetition { .. } => true,
         }
     }
 
@@ -172,7 +200,11 @@ impl Rule {
         match self {
             Rule::Delay { waiting, .. } | Rule::StrongDelay { waiting, .. } => waiting.is_full(),
             Rule::StrongSynchronization { begun, .. } => begun.is_full(),
-            Rule::Repeat { .. } | Rule::Sporadic { .. } | Rule::Order { .. } | Rule::ExecutionTime { .. } => false,
+            Rule::Repeat { .. }
+            | Rule::Sporadic { .. }
+            | Rule::Order { .. }
+            | Rule::ExecutionTime { .. }
+            | Rule::Repetition { .. } => false,
         }
     }
 }

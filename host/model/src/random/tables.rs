@@ -1,7 +1,9 @@
 //! Random tables: accepted ones, rows that are to be refused, and damaged bytes.
 
 use super::Random;
-use crate::constraint::{Constraint, LAST_KIND, LAST_TIME, LAST_TYPE, NO_LIMIT, ROW_LIMIT, SPAN_LIMIT};
+use crate::constraint::{
+    Constraint, LAST_KIND, LAST_TIME, NO_LIMIT, REPETITION_SPAN_LIMIT, ROW_LIMIT, SPAN_LIMIT, TYPES,
+};
 use crate::table::table_bytes;
 
 /// How large the times of a row are.
@@ -101,6 +103,10 @@ pub fn row_of_type(random: &mut Random, type_byte: u8, scale: Scale, pool: &[u8]
             let (start, stop, preempt, resume) = (kinds[0], kinds[1], kinds[2], kinds[3]);
             Constraint::ExecutionTime { start, stop, preempt, resume, lower, upper }
         }
+        10 => {
+            let span = random.from_to(1, REPETITION_SPAN_LIMIT.into()) as u8;
+            Constraint::Repetition { event, span, lower, upper, jitter: scale.time(random) }
+        }
         _ => {
             let number = 2 + random.place(3);
             Constraint::StrongSynchronization { kinds: different(random, pool, number), tolerance: upper }
@@ -110,7 +116,7 @@ pub fn row_of_type(random: &mut Random, type_byte: u8, scale: Scale, pool: &[u8]
 
 /// An accepted row of any type.
 pub fn row(random: &mut Random, scale: Scale, pool: &[u8]) -> Constraint {
-    let type_byte = random.from_to(1, LAST_TYPE.into()) as u8;
+    let type_byte = *random.pick(&TYPES);
     row_of_type(random, type_byte, scale, pool)
 }
 
@@ -184,12 +190,19 @@ fn damage_row(random: &mut Random, row: &mut Constraint) {
             3 => *upper = odd_time(random),
             _ => (*lower, *upper) = (*upper, *lower),
         },
-        _ => damage_repetition(random, row),
+        Constraint::Repetition { event, span, lower, upper, jitter } => match choice {
+            0 => *event = odd_kind(random),
+            1 => *span = *random.pick(&[0, REPETITION_SPAN_LIMIT, REPETITION_SPAN_LIMIT + 1, SPAN_LIMIT, 255]),
+            2 => *[lower, upper, jitter][random.place(3)] = odd_time(random),
+            3 => *upper = NO_LIMIT,
+            _ => (*lower, *upper) = (*upper, *lower),
+        },
+        _ => damage_repeated(random, row),
     }
 }
 
 /// The same for a Repeat, Sporadic or Burst row.
-fn damage_repetition(random: &mut Random, row: &mut Constraint) {
+fn damage_repeated(random: &mut Random, row: &mut Constraint) {
     let odd_span = *random.pick(&[0, SPAN_LIMIT, SPAN_LIMIT + 1, 255]);
     match (row, random.below(5)) {
         (

@@ -45,6 +45,10 @@ returns-10 : tie.Need-returns-10
 unfolding fieldsAs
 returns-10 c = rw (c .before .before .self10 .given .1, c .new10 .ensures) (record { typed = refl; all = refl; bytes = refl; times = refl })
 
+returns-11 : tie.Need-returns-11
+unfolding fieldsAs
+returns-11 c = rw (c .before .before .self11 .given .1, c .new11 .ensures) (record { typed = refl; all = refl; bytes = refl; times = refl })
+
 pub fields-spec : {M : Type 1} → statement M
 fields-spec =
     tie.close
@@ -59,6 +63,7 @@ fields-spec =
     (λ c. c .match .keys8) free
     (λ c. c .match .keys9) free
     (λ c. c .match .keys10) free
+    (λ c. c .match .keys11) free
     returns
     returns-2
     returns-3
@@ -68,4 +73,5 @@ fields-spec =
     returns-7
     returns-8
     returns-9
-    returns-10)
+    returns-10
+    returns-11)

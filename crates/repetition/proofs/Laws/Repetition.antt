@@ -1,0 +1,156 @@
+-- Repetition: what the row keeps tells the places of the next point, and where each event has one there are points. So the machine's test tells
+-- whether the events still have points, for every span by one argument.
+use Prim.Native.Nat.{ℕ, _+_, _≤_}
+use native.Mathlib.Omega.{arith}
+use mathlib.Core.Path.{_≡_, refl, ap}
+use mathlib.Core.Bool.{Bool, true, false, cond}
+use mathlib.Core.List.{List, [], _∷_, _++_}
+use mathlib.Core.Logic.{_↔_}
+use lib.ListN.{length, take}
+use lib.Dec.{ltb}
+use borrow.Author.Tests.{ltb-true, ltb-false}
+use Rattle.constraint.specs.Limits.{lastTime, noLimit}
+use Rattle.constraint.specs.Meets.{Meets, MeetsRepetition}
+use Rattle.constraint.specs.Waiting.{waiting}
+use Rattle.constraint.specs.Accepted.{InRange, LowerFirst}
+use Rattle.constraint.specs.declared.Constraint.the-variants.{Repetition}
+use Rattle.constraint.proofs.Lists.{split, Rising}
+use Rattle.queue.specs.declared.Edit.the-variants.{PushTwo}
+use Rattle.machine.specs.Rule.{ruleOf}
+use Rattle.machine.specs.Parts.{goesOn, breaking}
+use Rattle.machine.specs.declared.Rule.{Rule}
+use Rattle.machine.specs.declared.Marks.{Marks}
+use Rattle.machine.specs.declared.Change.{Change}
+use Rattle.machine.proofs.Exact.{Sound, Exact}
+use Rattle.machine.proofs.Tests.{Tells, holds, fails, tells-leb, tells-and}
+use Rattle.machine.proofs.OneKind.{Turns, exactOneKind}
+use Rattle.points.proofs.Laws.Points.{points-first}
+use Rattle.repetition.specs.Repetition.{points, hasPlace, placed, decideRepetition}
+use Rattle.repetition.proofs.Laws.Chains.{Fitting, keeps-more, keeps-says, next-breaks}
+use Rattle.repetition.proofs.Laws.Kept.{Asked, KeepsLast, last-none, kept-points, kept-few, newLow, newHigh, IsNext, is-next, newest-more}
+
+-- the clock and the marks say nothing here
+abbrev SaysRepetition : Rule → List ℕ → ℕ → Type 0
+SaysRepetition rule events now = MeetsRepetition (rule .span) (rule .lower) (rule .upper) (rule .jitter) events
+
+abbrev KeepsRepetition : Rule → List ℕ → Marks → List ℕ → Type 0
+KeepsRepetition rule events marks kept = KeepsLast rule events kept
+
+abbrev dueRepetition : Marks → List ℕ → ℕ
+dueRepetition marks kept = noLimit
+
+-- ---- Events
+
+module _ (rule : Rule) (asked : Asked rule) (events : List ℕ) (marks : Marks) (kept : List ℕ) (row : KeepsLast rule events kept) (t : ℕ)
+    (rising : Rising (events ++ (t ∷ []))) (small : t ≤ lastTime) where
+  abbrev low : ℕ
+  low = newLow rule events kept row asked t small rising
+
+  abbrev high : ℕ
+  high = newHigh rule events kept row asked t small rising
+
+  next : IsNext rule events kept row asked t small rising low high
+  next = is-next rule events kept row asked t small rising
+
+  abbrev Fits : Type 0
+  Fits =
+      Fitting (rule .span) (rule .lower) (rule .upper) (rule .jitter) (asked .positive) (asked .given) events (row .lows) (row .highs) (row .keeps)
+      t rising low high
+
+  abbrev TurnsRepetition : Change → Type 0
+  TurnsRepetition = Turns (SaysRepetition rule) (KeepsRepetition rule) dueRepetition events kept t
+
+  -- the row goes on: as many numbers leave as are not of the last span any more
+  goes-on : Fits → (dropped : ℕ) → cond (ltb (points kept) (rule .span)) 0 2 ≡ dropped
+      → TurnsRepetition (goesOn (PushTwo dropped low high) marks noLimit true)
+  goes-on fits dropped is =
+      record {
+        live = record {
+          lows = row .lows ++ (low ∷ []);
+          highs = row .highs ++ (high ∷ []);
+          keeps = keeps-more (rule .span) (rule .lower) (rule .upper) (rule .jitter) (asked .positive) (asked .given) events (row .lows) (row .highs)
+              (row .keeps) t rising low high next fits;
+          newest = newest-more rule events kept row asked t small rising low high dropped is;
+        };
+        due-is = refl;
+        kept-is = refl;
+        in-time = omega arith;
+      }
+
+  breaks : ¬ Fits → TurnsRepetition breaking
+  unfolding MeetsRepetition
+  breaks none =
+      next-breaks (rule .span) (rule .lower) (rule .upper) (rule .jitter) (asked .positive) (asked .given) events (row .lows) (row .highs)
+      (row .keeps) t rising low high next none
+
+  -- an event after the first span
+  later-event : ltb (points kept) (rule .span) ≡ false
+      → TurnsRepetition (cond (hasPlace rule low high) (goesOn (PushTwo 2 low high) marks noLimit true) breaking)
+  later-event full = turn has-place
+    where
+      many : rule .span ≤ length events
+      many = omega (arith, ltb-false (points kept) (rule .span) full, kept-points rule events kept row)
+
+      has-place : Tells ((rule .span ≤ rule .upper) × (low ≤ high)) (hasPlace rule low high)
+      has-place = tells-and (tells-leb (rule .span) (rule .upper)) (tells-leb low high)
+
+      turn : {test : Bool} → Tells ((rule .span ≤ rule .upper) × (low ≤ high)) test
+          → TurnsRepetition (cond test (goesOn (PushTwo 2 low high) marks noLimit true) breaking)
+      turn (holds both) = goes-on (λ m. both) 2 (ap (λ b. cond b 0 2) full)
+      turn (fails none) = breaks (λ fits. none (fits many))
+
+  repetition-event : (kind : ℕ) → TurnsRepetition (decideRepetition rule marks kept kind t)
+  unfolding decideRepetition placed
+  repetition-event kind =
+      split (ltb (points kept) (rule .span))
+      (λ b. TurnsRepetition (cond b (goesOn (PushTwo 0 low high) marks noLimit true)
+      (cond (hasPlace rule low high) (goesOn (PushTwo 2 low high) marks noLimit true) breaking)))
+      (λ few. goes-on
+      (λ many. absurd (omega (arith, ltb-true (points kept) (rule .span) few, kept-points rule events kept row))) 0 (ap (λ b. cond b 0 2) few))
+      later-event
+
+-- ---- Open
+
+repetition-first : (span lower upper jitter : ℕ) (xs ys : List ℕ) → MeetsRepetition span lower upper jitter (xs ++ ys)
+    → MeetsRepetition span lower upper jitter xs
+unfolding MeetsRepetition
+repetition-first span lower upper jitter xs ys (points, hidden) = (take (length xs) points, points-first span lower upper jitter xs ys points hidden)
+
+-- at every clock
+repetition-says : (rule : Rule) → 1 ≤ rule .span → rule .lower ≤ rule .upper → (events kept : List ℕ) (now : ℕ) → Rising events → now ≤ lastTime
+    → KeepsLast rule events kept → SaysRepetition rule events now ↔ (now ≤ noLimit)
+unfolding MeetsRepetition
+repetition-says rule positive possible events kept now rising small row = (
+  λ m. omega arith,
+  λ soon. keeps-says (rule .span) (rule .lower) (rule .upper) (rule .jitter) positive possible events (row .lows) (row .highs) (row .keeps) rising,
+)
+
+-- ---- Exact
+
+pub exactRepetition : (kind span lower upper jitter : ℕ) → Sound (Repetition kind span lower upper jitter)
+    → Exact (Repetition kind span lower upper jitter) (decideRepetition (ruleOf (Repetition kind span lower upper jitter)))
+unfolding Meets waiting InRange LowerFirst
+exactRepetition kind span lower upper jitter sound =
+    exactOneKind (Repetition kind span lower upper jitter) (decideRepetition rule)
+    (record {
+      kind = kind;
+      Says = SaysRepetition rule;
+      Keeps = KeepsRepetition rule;
+      due = dueRepetition;
+      one-kind = refl;
+      no-words = refl;
+      meets = λ steps. (λ m. m, λ m. m);
+      waits-none = λ steps. refl;
+      says-first = λ xs ys now later h after m. repetition-first span lower upper jitter xs ys m;
+      keeps-none = last-none rule;
+      due-none = refl;
+      keeps-says = λ now rising small row. repetition-says rule (sound .in-range .0) (sound .lower-first) _ _ now rising small row;
+      keeps-few = λ row. omega (arith, kept-few rule _ _ row, sound .in-range .1);
+      keeps-event = λ t rising small row soon. repetition-event rule asked _ _ _ row t rising small kind;
+    })
+  where
+    rule : Rule
+    rule = ruleOf (Repetition kind span lower upper jitter)
+
+    asked : Asked rule
+    asked = record { positive = sound .in-range .0; given = sound .in-range .2 .1 .0; small-lower = sound .in-range .2 .0 }

@@ -1,0 +1,2 @@
+-- Why the machine of Repetition is exact.
+pub mod Laws

@@ -1,0 +1,2 @@
+-- The machine of Repetition.
+pub mod Repetition

@@ -1,0 +1,87 @@
+// Repetition: for the hidden point of each of the last span events, or of all while they are fewer, the places where it can be, from
+// a low to a high. These stand in turn, the oldest first, and an event puts in two numbers.
+use constraint::NO_LIMIT;
+use machine::Change;
+use machine::Marks;
+use machine::Rule;
+use machine::parts;
+use queue::Edit;
+use queue::SIZE;
+use queue::minus;
+use queue::time_at;
+ghost use mathlib.Core.Path.{_≡_};
+ghost use Prim.Native.Nat.{ℕ};
+ghost use Rattle.queue.specs.Ring.{ring};
+ghost use Rattle.repetition.specs.Repetition.{firstHigh, lowest, highest, placed, decideRepetition};
+
+// What an event makes of the row.
+pub fn decide(
+    rule: Rule,
+    marks: Marks,
+    times: &[u64; SIZE],
+    head: usize,
+    len: usize,
+    t: u64,
+) -> Change
+    ensures { λ r. ⌜ ((kind : ℕ) → r ≡ decideRepetition rule marks (ring (now (times .entry)) head len) kind t) ⌝ }
+{
+    let n = (len / 2) as u64;
+    let low = lowest(rule, n, parts::front(times, head, len), t);
+    let high = highest(rule, n, first_high(times, head, len, t), t);
+    placed(rule, marks, n, low, high)
+}
+
+// The last place where the oldest point can be; t where there is none.
+fn first_high(times: &[u64; SIZE], head: usize, len: usize, t: u64) -> u64
+    ensures { λ r. ⌜ r ≡ firstHigh (ring (now (times .entry)) head len) t ⌝ }
+{
+    if len < 2 {
+        return t;
+    }
+    time_at(times, head, 1)
+}
+
+// The first place where the point of an event at t can be, n points being kept and the oldest at low or later: one of the first
+// span is tied to no earlier one from below.
+fn lowest(rule: Rule, n: u64, low: u64, t: u64) -> u64
+    ensures { λ r. ⌜ r ≡ lowest rule n low t ⌝ }
+{
+    let near = minus(t, rule.jitter);
+    if n < rule.span {
+        return near;
+    }
+    parts::larger(near, parts::plus(low, rule.lower))
+}
+
+// The last place where the point of an event at t can be, n points being kept and the oldest at high or earlier: upper behind
+// that, less one place for each point that is still to come before the span is over.
+fn highest(rule: Rule, n: u64, high: u64, t: u64) -> u64
+    ensures { λ r. ⌜ r ≡ highest rule n high t ⌝ }
+{
+    let start = parts::plus(high, minus(rule.upper, rule.span));
+    parts::smaller(t, parts::plus(start, n))
+}
+
+// The row goes on with a point that can be from low to high, n points being kept: with each of the first span; with a later one
+// where there is such a place, and then the oldest leaves.
+fn placed(rule: Rule, marks: Marks, n: u64, low: u64, high: u64) -> Change
+    ensures { λ r. ⌜ r ≡ placed rule marks n low high ⌝ }
+{
+    if n < rule.span {
+        let edit = Edit::PushTwo {
+            dropped: 0,
+            first: low,
+            second: high,
+        };
+        return parts::goes_on(edit, marks, NO_LIMIT, true);
+    }
+    if rule.span <= rule.upper && low <= high {
+        let edit = Edit::PushTwo {
+            dropped: 2,
+            first: low,
+            second: high,
+        };
+        return parts::goes_on(edit, marks, NO_LIMIT, true);
+    }
+    parts::breaking()
+}

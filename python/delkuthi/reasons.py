@@ -200,6 +200,38 @@ def sporadic(case: Case) -> str | None:
     return None
 
 
+def _spans(row: Row, times: list[int]) -> Iterator[tuple[int, int]]:
+    """For each event of a Repetition but the first span ones, and for the next, the first and the last time at which it could come."""
+    span, lower, upper, jitter = (int(row.values[name]) for name in ("span", "lower", "upper", "jitter"))  # type: ignore[arg-type]
+    kept: list[tuple[int, int]] = []
+    for time in [*times, None]:
+        n = len(kept)
+        low, high = kept[0] if kept else (0, 0 if time is None else time)
+        if n == span:
+            yield low + lower, high + upper + jitter
+        if time is None:
+            return
+        first = max(time - jitter, low + lower if n == span else 0)
+        kept.append((first, min(time, high + upper if n == span else high + max(upper - span, 0) + n)))
+        del kept[: len(kept) - span]
+
+
+def repetition(case: Case) -> str | None:
+    """The first event for which no point is left."""
+    kind, span = case.number("event"), case.number("span")
+    times = case.of("event").times
+    for index, (time, (first, last)) in enumerate(zip(times[span:], _spans(case.row, times)), span):
+        if case.number("upper") < span:
+            return f"{case.event(kind, index)} is one more than {span}, and points that rise are more than upper apart"
+        if time < first:
+            return f"{case.event(kind, index)} came too early: with the events before it no point fits before {case.time(first)}"
+        if time > last:
+            return f"{case.event(kind, index)} came too late: after the events before it the last moment was {case.time(last)}"
+        if first > last - case.number("jitter"):
+            return f"for {case.event(kind, index)} no point is left by the events before it"
+    return None
+
+
 def burst(case: Case) -> str | None:
     """The first event that is one too many, or too close."""
     kind, maximum = case.number("event"), case.number("maximum")
@@ -304,6 +336,13 @@ def sporadic_windows(row: Row, times: Times) -> Iterator[Window]:
     """For each event but the first the stretch in which it can come after those before it."""
     kind: int = row.values["event"]  # type: ignore[assignment]
     for begin, end in list(_points(row, times.get(kind, [])))[1:]:
+        yield Window(kind, begin, end)
+
+
+def repetition_windows(row: Row, times: Times) -> Iterator[Window]:
+    """For each event but the first span ones the stretch in which it can come after those before it."""
+    kind: int = row.values["event"]  # type: ignore[assignment]
+    for begin, end in _spans(row, times.get(kind, [])):
         yield Window(kind, begin, end)
 
 

@@ -8,7 +8,7 @@ from typing import Iterable
 
 from . import library as lib
 from .library import Refused
-from .rowtypes import BY_NAME, RowType, Value, row_bytes, row_values
+from .rowtypes import MOST, BY_NAME, RowType, Value, row_bytes, row_values
 
 
 @dataclass(frozen=True)
@@ -90,7 +90,7 @@ class Row:
                 seen.add(kind)
             if number == 4 and part.role == "kinds":
                 return part.name
-            if number == 6 and part.role in ("time", "limit", "count") and not _in_range(part.role, value):
+            if number == 6 and part.role in ("time", "limit", *MOST) and not _in_range(part.role, value):
                 return part.name
         return self.type.bounds[0] if number == 7 and self.type.bounds else None
 
@@ -104,8 +104,8 @@ def _kinds(role: str, value: Value) -> tuple[int, ...]:
 
 def _in_range(role: str, value: Value) -> bool:
     assert isinstance(value, int)
-    if role == "count":
-        return 1 <= value <= 64
+    if role in MOST:
+        return 1 <= value <= MOST[role]
     return value <= lib.LAST_TIME or role == "limit" and value == lib.NO_LIMIT
 
 

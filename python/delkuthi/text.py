@@ -17,7 +17,7 @@ import re
 
 from . import library as lib
 from .library import Refused
-from .rowtypes import BY_NAME, TYPES, Field, RowType, Value
+from .rowtypes import MOST, BY_NAME, TYPES, Field, RowType, Value
 from .table import CanSource, CsvSource, Event, KeySource, Row, Source, Table, table_places
 from .units import DIGITS, NUMBER, UNITS, NotWhole, exact, in_unit
 
@@ -197,11 +197,11 @@ class _Parser:
             while len(kinds) < 4 and not line.ended() and not line.text.startswith(",", line.place):
                 kinds.append(self.kind(line, "kinds"))
             return tuple(kinds)
-        if part.role == "count":
+        if part.role in MOST:
             start = line.column
             count = int(line.take(rf"{DIGITS}(?![\w.])", f"a whole number for {part.name}") or 0)
             if count > 255:
-                raise line.error(f"expected a {part.name} from 1 to 64, found {count}", start)
+                raise line.error(f"expected a {part.name} from 1 to {MOST[part.role]}, found {count}", start)
             return count
         if part.role == "limit" and line.word("none"):
             return lib.NO_LIMIT
@@ -321,7 +321,7 @@ def _value_text(row: Row, part: Field, names: dict[int, str], unit: str | None) 
         return names.get(value, str(value))
     if part.role == "limit" and value == lib.NO_LIMIT:
         return "none"
-    return str(value) if part.role == "count" else exact(value, unit)
+    return str(value) if part.role in MOST else exact(value, unit)
 
 
 def _quoted(name: str | None) -> str:

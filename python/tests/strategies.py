@@ -2,7 +2,7 @@
 from hypothesis import strategies as st
 
 from delkuthi.library import LAST_TIME, NO_LIMIT
-from delkuthi.rowtypes import TYPES
+from delkuthi.rowtypes import MOST, TYPES
 from delkuthi.table import CanSource, CsvSource, Event, KeySource, Row, Table
 from delkuthi.units import UNITS
 
@@ -22,8 +22,8 @@ def rows(draw, pool=st.integers(0, 63), some_times=times, names=st.none()):
         elif part.role == "kind":
             values[part.name] = kinds[taken]
             taken += 1
-        elif part.role == "count":
-            values[part.name] = draw(st.integers(1, 64) if some_times is times else st.integers(1, 3))
+        elif part.role in MOST:
+            values[part.name] = draw(st.integers(1, MOST[part.role] if some_times is times else 3))
         else:
             values[part.name] = draw(some_times)
     if row_type.bounds:

@@ -1,0 +1,2 @@
+-- What the reader of late stamps computes and promises.
+pub mod Machine

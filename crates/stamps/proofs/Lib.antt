@@ -1,1 +1,5 @@
--- Why the words are the definition's.
+-- Why the words are the definition's, and the monitor's where no stamp is late.
+pub mod Laws
+pub mod Pass
+pub mod Rows
+pub mod Agreement

@@ -67,13 +67,14 @@ callAfter a s (Call.Event k t) = cond (eqb k (a .event)) (stampAfter a s t) s
 callAfter a s (Call.Tick t) = s
 callAfter a s Call.Close = s
 
--- what the row reads at the clock
+-- what the row reads at the clock, behind a stamp and in any case
+unfoldable pub closeVerdict : Asked → Stamps → ℕ → StampedVerdict
+closeVerdict a s now =
+    cond (s .each && leb now (plus (s .earliest) (a .upper))) StampedVerdict.Kept
+    (cond (s .some && leb now (plus (s .high) (a .upper))) StampedVerdict.Unsure StampedVerdict.Broken)
+
 unfoldable pub verdictAt : Asked → Stamps → ℕ → StampedVerdict
-verdictAt a s now =
-    cond (s .any)
-    (cond (s .each && leb now (plus (s .earliest) (a .upper))) StampedVerdict.Kept
-    (cond (s .some && leb now (plus (s .high) (a .upper))) StampedVerdict.Unsure StampedVerdict.Broken))
-    StampedVerdict.Kept
+verdictAt a s now = cond (s .any) (closeVerdict a s now) StampedVerdict.Kept
 
 -- a pass over a recording: refused, or what a row of these fields reads after it, where they are in range
 pub record Passes (bytes : List ℕ) (a : Asked) (r : Passed) : Type 0 where

@@ -1,6 +1,5 @@
 // Stamps known within a range: whether a Repeat row of span 1 is kept for each choice of true times, for none, or for some.
 use constraint::Call;
-use constraint::Constraint;
 use constraint::LAST_TIME;
 use constraint::NO_LIMIT;
 use constraint::StampedAnswer;
@@ -17,7 +16,7 @@ ghost use mathlib.Core.Bool.{_&&_};
 ghost use lib.Dec.{leb};
 ghost use Rattle.machine.specs.Parts.{plus};
 ghost use Rattle.constraint.specs.Stamps.{AnswersStamps};
-ghost use Rattle.stamps.specs.Machine.{nextLow, nextHigh, noStamps, firstStamp, pairFits, laterStamp, stampAfter, callAfter, verdictAt, Passes, Finds};
+ghost use Rattle.stamps.specs.Machine.{nextLow, nextHigh, noStamps, firstStamp, pairFits, laterStamp, stampAfter, callAfter, closeVerdict, verdictAt, Passes, Finds};
 
 // A Repeat row of span 1, and by how much its stamps are late at most.
 pub struct Asked {
@@ -189,9 +188,16 @@ impl Stamps {
     fn verdict(self, asked: Asked, now: u64) -> StampedVerdict
         ensures { λ r. ⌜ r ≡ verdictAt asked self now ⌝ }
     {
-        if !self.any {
-            return StampedVerdict::Kept;
+        if self.any {
+            return self.reads(asked, now);
         }
+        StampedVerdict::Kept
+    }
+
+    // What it reads there where there was a stamp.
+    fn reads(self, asked: Asked, now: u64) -> StampedVerdict
+        ensures { λ r. ⌜ r ≡ closeVerdict asked self now ⌝ }
+    {
         if both(self.each, in_time(self.earliest, asked.upper, now)) {
             return StampedVerdict::Kept;
         }
@@ -225,7 +231,8 @@ fn pass(bytes: &[u8], asked: Asked) -> Passed
                 verdict: StampedVerdict::Kept,
             };
         }
-        stamps = stamps.after(asked, read.call);
+        let call = read.call;
+        stamps = stamps.after(asked, call);
         let later = read.order;
         order = later;
         place = read.next;
@@ -253,29 +260,30 @@ fn no_row(number: u8) -> RowAsked
 fn row_of(table: Table, row: u64) -> RowAsked
     ensures { λ r. ⌜ Finds table row r ⌝ }
 {
-    if 32 <= row || table.count as u64 <= row {
+    if 32 <= row {
+        return no_row(15);
+    }
+    if table.count as u64 <= row {
         return no_row(15);
     }
     let i = row as usize;
     let entry = table.rows[i];
     let constraint = entry.constraint;
-    let Constraint::Repeat {
-        event,
-        span,
-        lower,
-        upper,
-    } = constraint
-    else {
+    let fields = constraint.fields();
+    let line = fields.line;
+    let bytes = fields.bytes;
+    let times = fields.times;
+    if line.form != 3 {
         return no_row(25);
-    };
-    if span != 1 {
+    }
+    if bytes[1] != 1 {
         return no_row(25);
     }
     RowAsked {
         number: 0,
-        event,
-        lower,
-        upper,
+        event: bytes[0],
+        lower: times[0],
+        upper: times[1],
     }
 }
 

@@ -28,7 +28,8 @@ use Rattle.constraint.proofs.Judged.{never, judged-none, judged-yes, judged-all
 use Rattle.constraint.proofs.History.{Valid, valid-none, valid-more, past-of, times-close, clock-close, closed-close}
 use Rattle.constraint.proofs.Runs.{accepts-taken, kept-exactly}
 use Rattle.table.proofs.Once.{reads-once}
-use Rattle.stamps.proofs.Pass.{record-accepts}
+use Rattle.stamps.proofs.Progress.{record-accepts}
+use Rattle.stamps.proofs.Answers.{within}
 
 -- ---- one word
 
@@ -121,10 +122,10 @@ module _ (bytes : List ℕ) where
 
   -- and it is the one over any rows that take every record
   pub order-of : (rows : List Constraint) {steps : List Step} → ReadsRecording rows bytes (recording-of steps) → ReadsInOrder bytes (recording-of steps)
-  order-of rows (version-taken one reads) = version-taken one (records-none rows reads)
+  order-of rows (version-taken one records) = version-taken one (records-none rows records)
 
   pub recording-valid : (rows : List Constraint) {steps : List Step} → ReadsRecording rows bytes (recording-of steps) → Valid steps
-  recording-valid rows (version-taken one reads) = records-valid rows reads valid-none
+  recording-valid rows (version-taken one records) = records-valid rows records valid-none
 
 -- ---- never late
 
@@ -172,3 +173,29 @@ module _ (k lower upper : ℕ) (steps : List Step) (valid : Valid steps) where
       met (subst (λ (t : Type 0). t) meets-is (kept-exactly (Repeat k 1 lower upper) after (valid-closed unclosed) (closed-close steps) Verdict.Kept reading .0 refl)) w r
   word-agrees unclosed (Verdict.Broken n) reading w r =
       unmet (λ m. let kept = kept-exactly (Repeat k 1 lower upper) after (valid-closed unclosed) (closed-close steps) (Verdict.Broken n) reading .1 (subst (λ (t : Type 0). t) (sym meets-is) m) in never (cc)) w r
+
+-- the call with late = 0 over a table and a recording whose every record the monitor takes: its answer is the word for what the row reads at the close
+pub stamps-agree : (table recording : List ℕ) (rows : List Constraint) (steps : List Step) (i k lower upper : ℕ) (v : Verdict) (answer : StampedAnswer)
+    → ReadsTable table (table-of rows) → ReadsRecording rows recording (recording-of steps) → closed steps ≡ false → RepeatRow rows i k lower upper
+    → Reads (Repeat k 1 lower upper) (steps ++ (close ∷ [])) v → AnswersStamps table recording i 0 answer → answer ≡ StampedAnswer.Reads (stampedOf v)
+stamps-agree table recording rows steps i k lower upper v answer read taken unclosed row reading (no-table n place refused) =
+    let same = reads-once table read refused in never (cc)
+stamps-agree table recording rows steps i k lower upper v answer read taken unclosed row reading (no-recording rows′ n place read′ refused) =
+    let same = order-once recording (order-of recording rows taken) refused in never (cc)
+stamps-agree table recording rows steps i k lower upper v answer read taken unclosed row reading (not-asked rows′ steps′ n read′ taken′ refused) =
+    let same : table-of rows′ ≡ table-of rows = reads-once table read′ read in
+    let rows-are : rows′ ≡ rows = cc in
+    let there : (k : ℕ) × ((lower : ℕ) × ((upper : ℕ) × RepeatRow rows i k lower upper)) = (k, (lower, (upper, row))) in
+    let all-yes : Judged (stampsQuestions rows i 0) Taken = judged-yes 15 _ _ Taken (within rows i _ row) (judged-yes 25 _ _ Taken there (judged-yes 10 _ _ Taken (omega arith) judged-none)) in
+    let never-so = judged-once (stampsQuestions rows i 0) (Refused n) Taken (subst (λ (l : List Constraint). Judged (stampsQuestions l i 0) (Refused n)) rows-are refused) all-yes in
+    never (cc)
+stamps-agree table recording rows steps i k lower upper v answer read taken unclosed row reading (reads rows′ steps′ k′ lower′ upper′ w read′ taken′ row′ small says) =
+    let same : table-of rows′ ≡ table-of rows = reads-once table read′ read in
+    let rows-are : rows′ ≡ rows = cc in
+    let same-steps : recording-of steps′ ≡ recording-of steps = order-once recording taken′ (order-of recording rows taken) in
+    let steps-are : steps′ ≡ steps = cc in
+    let k-is : k′ ≡ k = cc in
+    let lower-is : lower′ ≡ lower = cc in
+    let upper-is : upper′ ≡ upper = cc in
+    let word : ReadsStamps 0 lower upper (times k steps) (clock steps) w = rw (k-is, lower-is, upper-is, steps-are) at says in
+    ap (λ (x : StampedVerdict). StampedAnswer.Reads x) (word-agrees k lower upper steps (recording-valid recording rows taken) unclosed v reading w word)

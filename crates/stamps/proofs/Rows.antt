@@ -83,7 +83,11 @@ module _ (table : Table) (i : ℕ) where
         record {
           refused = λ more rows e few late.
               judged-yes 15 _ _ (Refused 25) (is-there rows e)
-              (judged-no 25 _ _ (λ (k, low, high, row).
+              (judged-no 25 _ _ (λ asked.
+              let k = asked .0 in
+              let low = asked .1 .0 in
+              let high = asked .1 .1 .0 in
+              let row = asked .1 .1 .1 in
               let same : getD (table .rows) i d .constraint ≡ Repeat k 1 low high = of-row rows k low high (row-there table rows i d e (is-there rows e)) row in
               let numbers = repeat-of k low high f (subst (λ (c : Constraint). Holds c f) same holds) in
               never (other (numbers .0) (numbers .1))));

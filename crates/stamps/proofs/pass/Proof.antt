@@ -7,7 +7,7 @@ use denote.Ref.{now}
 use Rattle.constraint.specs.Recording.{version-refused}
 use Rattle.constraint.proofs.Judged.{passed, failed}
 use Rattle.queue.proofs.Shared.{free}
-use Rattle.stamps.proofs.Pass.{PassedTo, pass-start, pass-more, pass-refused, pass-end}
+use Rattle.stamps.proofs.Progress.{PassedTo, pass-start, pass-more, pass-refused, pass-end}
 use Rattle.stamps.proofs.pass.Statement.{statement}
 use Rattle.stamps.proofs.pass.Tie as tie
 
@@ -36,9 +36,9 @@ loop-holds c =
 
 returns-2 : tie.Need-returns-2 Inv-loop μ-loop
 returns-2 c =
-    let at-read = c .before in
+    let at-read = c .before .before in
     let at-loop = at-read .before .before in
-    let args = at-loop .before .before .before .before .before .before .before .args in
+    let args = at-loop .before .before .before .before .before .before .args in
     record {
       refused = λ more. pass-refused (now (args .bytes)) (args .asked) (at-loop .loop .order) (at-loop .loop .stamps) (at-loop .loop .place) (at-loop .loop .inv) (at-read .before .loop-test .taken)
           (at-read .read .result) (at-read .read .ensures) (c .if2 .taken);
@@ -47,23 +47,23 @@ returns-2 c =
 
 loop-less : tie.Need-loop-less Inv-loop μ-loop
 loop-less c =
-    let at-read = c .before .before in
-    let next = at-read .read .ensures .next-is (omega (arith, c .before .if2 .left)) in
+    let at-read = c .before .before .before .before in
+    let next = at-read .read .ensures .next-is (omega (arith, c .before .before .if2 .left)) in
     omega (arith, next .0, next .1)
 
 loop-again : tie.Need-loop-again Inv-loop μ-loop
 loop-again c =
-    let at-read = c .before .before in
+    let at-read = c .before .before .before .before in
     let at-loop = at-read .before .before in
-    let args = at-loop .before .before .before .before .before .before .before .args in
-    rw (c .after .ensures)
+    let args = at-loop .before .before .before .before .before .before .args in
+    rw (c .before .after .ensures)
     (pass-more (now (args .bytes)) (args .asked) (at-loop .loop .order) (at-loop .loop .stamps) (at-loop .loop .place) (at-loop .loop .inv) (at-read .before .loop-test .taken)
-    (at-read .read .result) (at-read .read .ensures) (omega (arith, c .before .if2 .left)))
+    (at-read .read .result) (at-read .read .ensures) (omega (arith, c .before .before .if2 .left)))
 
 returns-3 : tie.Need-returns-3 Inv-loop μ-loop
 returns-3 c =
     let at-loop = c .before .before in
-    let args = at-loop .before .before .before .before .before .before .before .args in
+    let args = at-loop .before .before .before .before .before .before .args in
     record {
       refused = λ more. absurd (omega (arith, more));
       taken = λ e. rw (c .verdict .ensures)

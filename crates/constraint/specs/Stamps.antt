@@ -1,4 +1,4 @@
--- Stamps known within a range: what a Repeat row of span 1 reads at the close where each stamp may be late (§12.1 to §12.7).
+-- Stamps known within a range: what a Repeat row of span 1 reads at the close where each stamp may be late (§12.1 to §12.6).
 use Prim.Native.Nat.{ℕ, _+_, _≤_, _<_}
 use mathlib.Core.Path.{_≡_}
 use mathlib.Core.List.{List, [], _∷_}
@@ -39,7 +39,7 @@ pub data ReadsStamps (e lower upper : ℕ) (stamps : List ℕ) (now : ℕ) : Sta
 abbrev pub RepeatRow : List Constraint → ℕ → ℕ → ℕ → ℕ → Type 0
 RepeatRow rows i k lower upper = getElem? rows i ≡ some (Repeat k 1 lower upper)
 
--- §12.5: after those of table and recording, 15 (§8.15), 25 (§8.25), and 10 for e (§8.10)
+-- §12.5: after those of table and recording, 15 (§8.15), 25, and 10 for e (§8.10)
 abbrev pub stampsQuestions : List Constraint → ℕ → ℕ → List Question
 stampsQuestions rows i e =
     (15, i < length rows) ∷ (25, (k : ℕ) × ((lower : ℕ) × ((upper : ℕ) × RepeatRow rows i k lower upper))) ∷ (10, e ≤ lastTime) ∷ []

@@ -172,7 +172,7 @@ module _ (a : Asked) where
     pair-apart (narrow, wide) p q low high from to above = (omega arith, inr (omega arith))
 
     first-of : (points : List ℕ) → Chosen (a .late) more points → Chosen (a .late) events (take (length events) points)
-    first-of points c = points-first 0 noLimit (a .late) events (t ∷ []) points c
+    first-of points c = points-first 1 0 noLimit (a .late) events (t ∷ []) points c
 
     each-more : EachAs events true → PairsApart → EachAs more true
     unfolding SpansApart
@@ -243,7 +243,7 @@ module _ (a : Asked) where
         let place = later-place (rowRule a) events t small (marksWith low high) (known .n) (known .last) places small-lower points c in
         not (place .0, omega (arith, place .1 .0, place .1 .1))
     some-after low high false none tells = λ points c.
-        none (take (length events) points) (points-first (a .lower) (a .upper) (a .late) events (t ∷ []) points c)
+        none (take (length events) points) (points-first 1 (a .lower) (a .upper) (a .late) events (t ∷ []) points c)
 
     later-later : Later more (laterStamp a s t)
     unfolding laterStamp

@@ -205,9 +205,9 @@ module _ (a : Asked) where
           points ++ (q ∷ []),
           goes-on points c q (omega (arith, is, above)) from to,
           λ apart. not
-          (subst (λ (x : ℕ). Apart (a .lower) (a .upper) x q) (before-is points q c ∙ is)
-          (subst (λ (x : ℕ). Apart (a .lower) (a .upper) (at (points ++ (q ∷ [])) (known .n)) x) (last-is points q c)
-          (apart (known .n) (omega (arith, length-append points (q ∷ []), c .one-each, known .last))))),
+              (subst (λ (x : ℕ). Apart (a .lower) (a .upper) x q) (before-is points q c ∙ is)
+              (subst (λ (x : ℕ). Apart (a .lower) (a .upper) (at (points ++ (q ∷ [])) (known .n)) x) (last-is points q c)
+              (apart (known .n) (omega (arith, length-append points (q ∷ []), c .one-each, known .last))))),
         )
 
     next-above : s .earliest < next

@@ -64,7 +64,7 @@ module _ (bytes : List ℕ) (a : Asked) where
       before .steps,
       up-to-end bytes place (before .steps) o (before .read) end,
       λ small.
-      subst (λ (now : ℕ). ReadsStamps (a .late) (a .lower) (a .upper) (times (a .event) (before .steps)) (clock (before .steps)) (verdictAt a s now))
-      (sym (after-clock (before .steps) o (before .read .order)))
-      (reads-now a (times (a .event) (before .steps)) (clock (before .steps)) (past-of (after-valid (before .steps) o (before .read .order)) .small) s (before .keeps small)),
+          subst (λ (now : ℕ). ReadsStamps (a .late) (a .lower) (a .upper) (times (a .event) (before .steps)) (clock (before .steps)) (verdictAt a s now))
+          (sym (after-clock (before .steps) o (before .read .order)))
+          (reads-now a (times (a .event) (before .steps)) (clock (before .steps)) (past-of (after-valid (before .steps) o (before .read .order)) .small) s (before .keeps small)),
     )

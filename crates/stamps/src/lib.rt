@@ -16,6 +16,7 @@ ghost use mathlib.Core.Bool.{_&&_};
 ghost use lib.Dec.{leb};
 ghost use Rattle.machine.specs.Parts.{plus};
 ghost use Rattle.constraint.specs.Stamps.{AnswersStamps};
+ghost use Rattle.stamps.specs.Words.{Spells};
 ghost use Rattle.stamps.specs.Machine.{nextLow, nextHigh, noStamps, firstStamp, pairFits, laterStamp, stampAfter, callAfter, closeVerdict, verdictAt, Passes, Finds};
 
 // A Repeat row of span 1, and by how much its stamps are late at most.
@@ -54,6 +55,32 @@ pub struct RowAsked {
     pub event: u8,
     pub lower: u64,
     pub upper: u64,
+}
+
+// A word: the first len bytes.
+pub struct Spelling {
+    pub bytes: [u8; 6],
+    pub len: usize,
+}
+
+// The word for what a row reads: kept, broken or unsure.
+pub fn word(verdict: StampedVerdict) -> Spelling
+    ensures { λ r. ⌜ Spells verdict r ⌝ }
+{
+    match verdict {
+        StampedVerdict::Kept => Spelling {
+            bytes: *b"kept  ",
+            len: 4,
+        },
+        StampedVerdict::Broken => Spelling {
+            bytes: *b"broken",
+            len: 6,
+        },
+        StampedVerdict::Unsure => Spelling {
+            bytes: *b"unsure",
+            len: 6,
+        },
+    }
 }
 
 // The first place of a true time stamped t.

@@ -339,7 +339,10 @@ enum delkuthi_refusal {
     DELKUTHI_NO_ROW = 15, /* the table has no row of that number */
 
     /* A buffer (delkuthi_make_table). Lend a longer one. */
-    DELKUTHI_TABLE_ROOM = 16 /* it is too short for the table */
+    DELKUTHI_TABLE_ROOM = 16, /* it is too short for the table */
+
+    /* A row for late stamps (delkuthi_stamps). Ask for another row. */
+    DELKUTHI_NOT_REPEAT = 25 /* the row is not a Repeat of span 1 */
 
     /*
      * One more has no call of this header that answers it: 17, a file that is
@@ -387,6 +390,8 @@ static inline const char *delkuthi_refusal_text(uint8_t number)
         return "the buffer is too short";
     case 17:
         return "a file is too large";
+    case DELKUTHI_NOT_REPEAT:
+        return "the row is not a Repeat of span 1";
     default:
         return "a refusal without a text";
     }
@@ -649,6 +654,28 @@ size_t delkuthi_page(const delkuthi_monitor *monitor,
 size_t delkuthi_report(const uint8_t *table, size_t table_length,
                        const uint8_t *recording, size_t recording_length,
                        uint8_t *report, size_t report_length);
+
+/*
+ * Says what a Repeat row of span 1 reads at the close of a recording whose
+ * stamps may be late by up to `late`. A true time lies from `late` before its
+ * stamp to the stamp, not below 0, and the true times of the row's events rise
+ * strictly; the clock stands as recorded. The row's number counts from 0.
+ *
+ * Returns a word as below; or, if DELKUTHI_NUMBER of the answer is not
+ * DELKUTHI_TAKEN, a refusal with that number and DELKUTHI_PLACE: of the table
+ * (1 to 7), of a record or its step (8 to 14, never DELKUTHI_CROWDED); then, with
+ * the place 0, DELKUTHI_NO_ROW, DELKUTHI_NOT_REPEAT, and DELKUTHI_TIME_RANGE if
+ * `late` is above DELKUTHI_LAST_TIME. A place above 2^56 - 1 is given as that.
+ */
+uint64_t delkuthi_stamps(const uint8_t *table, size_t table_length,
+                         const uint8_t *recording, size_t recording_length,
+                         uint64_t row, uint64_t late);
+
+/* The word in an answer of delkuthi_stamps that is no refusal. */
+#define DELKUTHI_STAMPS_WORD(answer) ((answer) >> 8)
+#define DELKUTHI_STAMPS_KEPT   0 /* each choice of true times meets the row */
+#define DELKUTHI_STAMPS_BROKEN 1 /* none does */
+#define DELKUTHI_STAMPS_UNSURE 2 /* one does, and another does not */
 
 #ifdef __cplusplus
 }

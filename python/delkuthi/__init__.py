@@ -12,11 +12,11 @@ The verdicts are those of the proved library; reading text and logs is tested, n
 """
 from .library import VERSION as __version__
 from .library import LibraryMissing, Refused
-from .monitor import Monitor, Verdict, report
+from .monitor import Monitor, Verdict, report, stamps
 from .table import CanSource, CsvSource, Event, KeySource, Row, Table
 from .text import TextError, TextRefused
 
 __all__ = [
     "CanSource", "CsvSource", "Event", "KeySource", "LibraryMissing", "Monitor", "Refused", "Row", "Table", "TextError",
-    "TextRefused", "Verdict", "__version__", "report",
+    "TextRefused", "Verdict", "__version__", "report", "stamps",
 ]

@@ -16,7 +16,7 @@ from . import library as lib
 from .check import Outcome, check
 from .library import LibraryMissing, Refused
 from .logs import Log, LogError, Policy, Step
-from .monitor import report
+from .monitor import report, stamps
 from .output import as_html, as_json, as_junit
 from .plot import PlotMissing, write_plot
 from .recording import join, recording_bytes
@@ -39,6 +39,7 @@ examples:
   delkuthi table brake.txt -o table.bin                 the bytes that the library reads; and back to text
   delkuthi table --grammar                              how a text table is written
   delkuthi shrink brake.txt drive.csv "brake light"     the few lines that break the row by themselves
+  delkuthi stamps brake.txt drive.csv "wheel speed" "1 ms"  the row where stamps may be late by up to 1 ms
   delkuthi join brake.txt bus.log marker.csv -o drive.bin
 
 status: 0 every row kept, 1 a row broken, 2 something refused, 3 an output not written.
@@ -95,18 +96,21 @@ def progress_bar(log: Log) -> Iterator[None]:
             log.progress = None
 
 
+def _time(what: str, text: str, table: Table) -> int:
+    """A time in the table's unit, such as ``300 ms``."""
+    match = re.fullmatch(rf"({NUMBER}) ?([a-z]+)?", text)
+    if match is None or match[2] is not None and match[2] not in UNITS:
+        raise LogError(what, "", f"expected a time such as 300 ms, found {text}")
+    if match[2] is not None and table.unit is None:
+        raise LogError(what, "", "the table has no unit line")
+    try:
+        return in_unit(match[1], match[2], table.unit)
+    except NotWhole as found:
+        raise LogError(what, "", f"{found} is no whole number of {table.unit or 'units'}") from None
+
+
 def _policy(given: argparse.Namespace, table: Table) -> Policy:
-    until = None
-    if given.until is not None:
-        match = re.fullmatch(rf"({NUMBER}) ?([a-z]+)?", given.until)
-        if match is None or match[2] is not None and match[2] not in UNITS:
-            raise LogError("--until", "", f"expected a time such as 300 ms, found {given.until}")
-        if match[2] is not None and table.unit is None:
-            raise LogError("--until", "", "the table has no unit line")
-        try:
-            until = in_unit(match[1], match[2], table.unit)
-        except NotWhole as found:
-            raise LogError("--until", "", f"{found} is no whole number of {table.unit or 'units'}") from None
+    until = None if given.until is None else _time("--until", given.until, table)
     return Policy(given.equal, given.unsorted, given.round, given.from_zero, until, not given.no_close, given.time_column,
                   given.event_column)
 
@@ -261,6 +265,16 @@ def _shrink(given: argparse.Namespace) -> int:
     return BROKEN
 
 
+def _stamps(given: argparse.Namespace) -> int:
+    table = Table.read(given.table)
+    row = _row_number(table, given.row)
+    late = _time("LATE", given.late, table)
+    steps = ((step.kind, step.time) for step in Log(given.log, table, _policy(given, table)).steps())
+    word = stamps(table, b"".join(recording_bytes(steps)), row, late)
+    _out(f"{given.log}: {table.row_name(row)} is {word} with stamps late by up to {given.late}\n")
+    return KEPT if word == "kept" else BROKEN
+
+
 def _log_lines(log: Log, stretch: Sequence[Step]) -> Iterator[str]:
     """The lines of a text log that the steps are from; of other logs the steps."""
     if log.word != "line":
@@ -358,13 +372,16 @@ def _add_on_logs(commands) -> None:
         ("record", _record, None, "a log as a recording of the library"),
         ("join", _join, 2, "two logs with no event in common as one recording"),
         ("shrink", _shrink, None, "the few lines of a log that break a row by themselves"),
+        ("stamps", _stamps, None, "whether a row is kept, broken or unsure where stamps may be late"),
     ):
         one = commands.add_parser(name, help=text)
         one.add_argument("table", metavar="TABLE")
         one.add_argument("log", metavar="LOG", nargs=logs)
-        if name == "shrink":
+        if name in ("shrink", "stamps"):
             one.add_argument("row", metavar="ROW", help="a row's name or number")
-        else:
+        if name == "stamps":
+            one.add_argument("late", metavar="LATE", help="how late a stamp may be, such as 3 ms; the row is a Repeat of span 1")
+        elif name != "shrink":
             one.add_argument("-o", "--output", metavar="FILE", required=True)
         _log_options(one)
         one.set_defaults(run=run)

@@ -39,6 +39,7 @@ REFUSALS = {
     15: "there is no row of that number",
     16: "the buffer is too short",
     17: "a file is too large",
+    25: "the row is not a Repeat of span 1",
 }
 
 
@@ -77,6 +78,7 @@ def _calls() -> dict[str, tuple]:
         "delkuthi_row_step": (number, [monitor, number]),
         "delkuthi_rows": (number, [monitor]),
         "delkuthi_page": (length, [monitor, data, length]),
+        "delkuthi_stamps": (number, [data, length, data, length, number, number]),
         "delkuthi_report": (length, [data, length, data, length, data, length]),
     }
 

@@ -94,3 +94,13 @@ def report(table: Table | bytes, recording: bytes) -> str:
     buffer = ctypes.create_string_buffer(lib.REPORT_LIMIT)
     written = lib.library().delkuthi_report(data, len(data), recording, len(recording), buffer, lib.REPORT_LIMIT)
     return buffer.raw[:written].decode("ascii")
+
+
+def stamps(table: Table | bytes, recording: bytes, row: int, late: int) -> str:
+    """What a Repeat row of span 1 reads at the close where stamps may be late by up to ``late``: kept, broken or unsure."""
+    data = table if isinstance(table, bytes) else table.bytes()
+    number = row if 0 <= row < 2**64 else 2**64 - 1
+    answer = lib.library().delkuthi_stamps(data, len(data), recording, len(recording), number, _time(late))
+    if answer % 256:
+        raise Refused(answer % 256, answer // 256)
+    return ("kept", "broken", "unsure")[answer // 256]

@@ -55,7 +55,7 @@ def test_help_and_version(command):
     status, out, _ = command("--help")
     assert status == 0 and "delkuthi check brake.txt drive.csv" in out
     assert command("--version")[1] == f"delkuthi {__version__}, library {__version__}\n"
-    for name in ("check", "watch", "table", "record", "join", "shrink"):
+    for name in ("check", "watch", "table", "record", "join", "shrink", "stamps"):
         assert command(name, "--help")[0] == 0
 
 
@@ -163,6 +163,17 @@ def test_the_lines_that_matter(command):
     assert steps[0] == f"record {door - 1}: door_open 70100"
     assert command("shrink", TABLE, CSV, "wheel speed")[0] == 0
     assert command("shrink", TABLE, CSV, "nobody")[0] == 2
+
+
+def test_stamps_that_may_be_late(command):
+    """With no lateness it is what the check says of the row; with more of it neither of the two is sure."""
+    assert command("stamps", TABLE, CSV, "tyre pressure", "0 ms")[:2] == (1, f'{CSV}: "tyre pressure" is broken with stamps late by up to 0 ms\n')
+    assert command("stamps", TABLE, CSV, "wheel speed", "0")[0] == 0
+    assert command("stamps", TABLE, CSV, "wheel speed", "5 ms")[:2] == (1, f'{CSV}: "wheel speed" is unsure with stamps late by up to 5 ms\n')
+    status, _, error = command("stamps", TABLE, CSV, "brake light", "1 ms")
+    assert status == 2 and "refused with 25" in error
+    assert command("stamps", TABLE, CSV, "nobody", "1 ms")[0] == 2
+    assert command("stamps", TABLE, CSV, "wheel speed", "soon")[0] == 2
 
 
 def test_without_arguments_it_is_the_program(command, tmp_path):

@@ -23,6 +23,7 @@ pub mod Promise
 pub mod Bytes
 pub mod Table
 pub mod Recording
+pub mod Stamps
 pub mod Report
 pub mod Page
 pub mod Examples

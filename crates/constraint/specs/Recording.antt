@@ -45,3 +45,7 @@ pub data ReadsRecords (rows : List Constraint) (bytes : List ℕ) : List Step �
 pub data ReadsRecording (rows : List Constraint) (bytes : List ℕ) : RecordingRead → Type 0 where
   version-refused : ¬ VersionOne bytes → ReadsRecording rows bytes (recording-refused 13 0)
   version-taken : {read : RecordingRead} → VersionOne bytes → ReadsRecords rows bytes [] 1 read → ReadsRecording rows bytes read
+
+-- the recording's and the step's questions without 12 (§12.5): over no rows, where no row can have too many waiting
+abbrev pub ReadsInOrder : List ℕ → RecordingRead → Type 0
+ReadsInOrder bytes read = ReadsRecording [] bytes read

@@ -124,6 +124,20 @@ pub enum Verdict {
     Broken(u64),
 }
 
+// What a Repeat row of span 1 reads at the close where stamps may be late: kept for each choice of true times, broken for each, or
+// unsure, as the choices differ.
+pub enum StampedVerdict {
+    Kept,
+    Broken,
+    Unsure,
+}
+
+// The answer about such stamps: what the row reads, or refused with the number of the first question answered "no" and the place.
+pub enum StampedAnswer {
+    Reads(StampedVerdict),
+    Refused { number: u8, place: usize },
+}
+
 // An entry of a table: one row.
 pub struct Entry {
     pub constraint: Constraint,

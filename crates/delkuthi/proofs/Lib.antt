@@ -8,3 +8,4 @@ mod Numbers
 mod Walk
 mod RowNumbers
 pub mod Printing
+pub mod StampNumbers

@@ -58,11 +58,11 @@ row-short bytes i place c judged =
     (taken .room, omega (arith, shape-short (bodyAt bytes place) (taken .shape)))
 
 -- questions with numbers above 0 refuse with such a number
-AllAbove : List Question → Type 0
+unfoldable pub AllAbove : List Question → Type 0
 AllAbove [] = Unit {0}
 AllAbove (q ∷ later) = (0 < q .0) × AllAbove later
 
-number-above : (questions : List Question) (n : ℕ) → AllAbove questions → Judged questions (Refused n) → 0 < n
+pub number-above : (questions : List Question) (n : ℕ) → AllAbove questions → Judged questions (Refused n) → 0 < n
 unfolding AllAbove Judged
 number-above [] n above e = never (cc)
 number-above (q ∷ later) n above (inl h) = number-above later n (above .1) (h .1)

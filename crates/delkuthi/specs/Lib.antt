@@ -4,3 +4,4 @@ pub mod Telling
 pub mod Lent
 pub mod Tables
 pub mod Printed
+pub mod Stamps

@@ -3,6 +3,7 @@ pub mod lent;
 pub mod printed;
 mod records;
 mod report;
+pub mod stamped;
 pub mod tables;
 
 use text::Text;

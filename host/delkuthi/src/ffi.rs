@@ -25,4 +25,12 @@ unsafe extern "C" {
         report: *mut u8,
         report_length: usize,
     ) -> usize;
+    pub fn delkuthi_stamps(
+        table: *const u8,
+        table_length: usize,
+        recording: *const u8,
+        recording_length: usize,
+        row: u64,
+        late: u64,
+    ) -> u64;
 }

@@ -36,6 +36,7 @@ mod monitor;
 mod page;
 mod refusal;
 mod report;
+mod stamps;
 mod table;
 mod version;
 
@@ -43,6 +44,7 @@ pub use monitor::{Monitor, Verdict, WORDS};
 pub use page::PAGE_LIMIT;
 pub use refusal::{Refusal, refusal_text};
 pub use report::{REPORT_LIMIT, report};
+pub use stamps::{Stamped, stamped};
 pub use table::{NO_LIMIT, Row, TABLE_LIMIT, write_table};
 pub use version::{VERSION, library_version, matches};
 

@@ -65,6 +65,7 @@ pub const fn refusal_text(number: u8) -> &'static str {
         15 => "there is no row of that number",
         16 => "the buffer is too short",
         17 => "a file is too large",
+        25 => "the row is not a Repeat of span 1",
         _ => "a refusal without a text",
     }
 }

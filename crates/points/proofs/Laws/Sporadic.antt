@@ -33,14 +33,14 @@ use Rattle.machine.proofs.OneKind.{Turns, exactOneKind}
 use Rattle.machine.proofs.Spans.{apart-first, apart-more, LastIs, last-none, last-new, last-zero, last-some, far-enough}
 use Rattle.points.proofs.Laws.Points.{points-none, points-first, NextPoint, points-more, points-near, points-next}
 
-abbrev PointsOf : Rule → List ℕ → List ℕ → Type 0
+abbrev pub PointsOf : Rule → List ℕ → List ℕ → Type 0
 PointsOf rule events points = HiddenPoints 1 (rule .lower) (rule .upper) (rule .jitter) events points
 
 -- the point of the n-th event from 0, which is the last, can be at each place from low to high and at no other
-record Places (rule : Rule) (events : List ℕ) (n low high : ℕ) : Type 0 where
-  ordered : low ≤ high
-  each : (p : ℕ) → low ≤ p → p ≤ high → (points : List ℕ) × PointsOf rule events points × (at points n ≡ p)
-  no-other : (points : List ℕ) → PointsOf rule events points → (low ≤ at points n) × (at points n ≤ high)
+pub record Places (rule : Rule) (events : List ℕ) (n low high : ℕ) : Type 0 where
+  pub ordered : low ≤ high
+  pub each : (p : ℕ) → low ≤ p → p ≤ high → (points : List ℕ) × PointsOf rule events points × (at points n ≡ p)
+  pub no-other : (points : List ℕ) → PointsOf rule events points → (low ≤ at points n) × (at points n ≤ high)
 
 -- what the row keeps of its events: no times, the last, and the places of its point
 record KeepsSporadic (rule : Rule) (events : List ℕ) (marks : Marks) (kept : List ℕ) : Type 0 where
@@ -68,11 +68,11 @@ sporadic-none rule =
 -- ---- Events
 
 -- q can be the point of an event at t, behind the point p
-abbrev NextAt : Rule → ℕ → ℕ → ℕ → Type 0
+abbrev pub NextAt : Rule → ℕ → ℕ → ℕ → Type 0
 NextAt rule t p q = NextPoint (rule .lower) (rule .upper) p q × Between 0 (rule .jitter) q t
 
 -- q is one of the places from the lowest to the highest
-abbrev IsPlace : Rule → Marks → ℕ → ℕ → Type 0
+abbrev pub IsPlace : Rule → Marks → ℕ → ℕ → Type 0
 IsPlace rule marks t q = (lowest rule marks t ≤ q) × (q ≤ highest rule marks t)
 
 module _ (rule : Rule) (marks : Marks) (t : ℕ) (small : t ≤ lastTime) where
@@ -110,7 +110,7 @@ module _ (rule : Rule) (marks : Marks) (t : ℕ) (small : t ≤ lastTime) where
 
 module _ (rule : Rule) (events : List ℕ) (t : ℕ) (small : t ≤ lastTime) where
   -- the point of the first event
-  first-places : length events ≡ 0 → Places rule (events ++ (t ∷ [])) (length events) (t - rule .jitter) t
+  pub first-places : length events ≡ 0 → Places rule (events ++ (t ∷ [])) (length events) (t - rule .jitter) t
   first-places empty =
       record {
         ordered = omega arith;
@@ -128,7 +128,7 @@ module _ (rule : Rule) (events : List ℕ) (t : ℕ) (small : t ≤ lastTime) wh
 
   module _ (marks : Marks) (n : ℕ) (e : n + 1 ≡ length events) (places : Places rule events n (marks .low) (marks .high)) where
     -- the point of a later event
-    later-place : rule .lower ≤ lastTime → (points : List ℕ) → PointsOf rule (events ++ (t ∷ [])) points
+    pub later-place : rule .lower ≤ lastTime → (points : List ℕ) → PointsOf rule (events ++ (t ∷ [])) points
         → (stride (rule .lower) ≤ rule .upper) × IsPlace rule marks t (at points (length events))
     later-place small-lower points hidden =
         place-behind rule marks t small small-lower (at points n) (at points (length events)) (before .0) (before .1) (
@@ -154,7 +154,7 @@ module _ (rule : Rule) (events : List ℕ) (t : ℕ) (small : t ≤ lastTime) wh
         last : (m : ℕ) → m + 1 ≡ length events → p ≡ at points m
         last m f = let same : n ≡ m = omega arith in sym is ∙ ap (at points) same
 
-    later-places : rule .lower ≤ lastTime → stride (rule .lower) ≤ rule .upper → lowest rule marks t ≤ highest rule marks t
+    pub later-places : rule .lower ≤ lastTime → stride (rule .lower) ≤ rule .upper → lowest rule marks t ≤ highest rule marks t
         → Places rule (events ++ (t ∷ [])) (length events) (lowest rule marks t) (highest rule marks t)
     later-places small-lower possible ordered =
         record {

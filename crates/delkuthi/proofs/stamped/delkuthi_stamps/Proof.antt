@@ -1,0 +1,58 @@
+-- The number is that of the word, or that of the refusal, which is above 0, and its place.
+use native.Mathlib.Omega.{arith}
+use borrow.Author.Needs.{needs}
+use Prim.Native.Nat.{ℕ, _<_}
+use mathlib.Core.Path.{_≡_}
+use denote.Ref.{now}
+use Rattle.constraint.specs.Stamps.{AnswersStamps}
+use Rattle.constraint.specs.declared.StampedAnswer.{StampedAnswer}
+use Rattle.constraint.proofs.Judged.{never}
+use Rattle.queue.proofs.Shared.{free}
+use Rattle.delkuthi.proofs.StampNumbers.{stamped-above}
+use Rattle.delkuthi.proofs.stamped.delkuthi_stamps.Statement.{statement}
+use Rattle.delkuthi.proofs.stamped.delkuthi_stamps.Tie as tie
+
+-- what is told of a refusal
+refusal-told : (n place m at : ℕ) → 0 < n → n < 256 → StampedAnswer.Refused n place ≡ StampedAnswer.Refused m at → (0 < m) × (m < 256)
+refusal-told n place m at above below e = let same : n ≡ m = cc in (omega (arith, same, above), omega (arith, same, below))
+
+enum-known-answer : tie.Need-enum-known-answer
+enum-known-answer c = search needs
+
+enum-known-answer-2 : tie.Need-enum-known-answer-2
+enum-known-answer-2 c = search needs
+
+cast-result : tie.Need-cast-result
+cast-result c = search needs
+
+add-result : tie.Need-add-result
+add-result c = search needs
+
+returns : tie.Need-returns
+returns c =
+    let at-answer = c .before .before in
+    record {
+      answer = StampedAnswer.Reads (at-answer .answer .given .0 .0);
+      answers = rw (at-answer .answer .given .1) at (at-answer .before .before .read .ensures);
+      equals = c .verdict-number .ensures;
+      told = λ n place e. never (cc);
+    }
+
+returns-2 : tie.Need-returns-2
+returns-2 c =
+    let at-answer = c .before .before in
+    let args = at-answer .before .before .before .before .before .args in
+    let given = at-answer .answer2 .given in
+    let says : AnswersStamps (now (args .table)) (now (args .recording)) (args .row) (args .late) (StampedAnswer.Refused (given .0 .0) (given .0 .1 .0)) =
+    rw (given .1) at (at-answer .before .before .read .ensures) in
+    record {
+      answer = StampedAnswer.Refused (given .0 .0) (given .0 .1 .0);
+      answers = says;
+      equals = omega (arith, c .place-number .ensures);
+      told = λ n place e. refusal-told (given .0 .0) (given .0 .1 .0) n place (stamped-above _ _ _ _ _ _ says) (omega arith) e;
+    }
+
+pub delkuthi-stamps-spec : {M : Type 1} → statement M
+delkuthi-stamps-spec =
+    tie.close
+    (tie.spec free enum-known-answer free enum-known-answer-2 free cast-result add-result returns returns-2)

@@ -1,0 +1,209 @@
+-- A monitor over no rows has no row to crowd, so its clock, first free times and mark of the close alone answer each call; and what reading
+-- gives from a place on, over the steps read before it, is what it gives from the start.
+use Prim.Native.Nat.{ℕ, _+_, _≤_, _<_}
+use native.Mathlib.Omega.{arith}
+use mathlib.Core.Path.{_≡_, refl, sym, ap, subst, _∙_}
+use mathlib.Core.Bool.{Bool, true, false, cond}
+use mathlib.Core.List.{List, [], _∷_, _++_}
+use lib.ListN.{length, getD, set, replicate}
+use lib.Dec.{ltb}
+use borrow.Author.Tests.{lt-ltb, le-ltb}
+use Rattle.constraint.specs.Steps.{Step, clock}
+use Rattle.constraint.specs.Questions.{Judged}
+use Rattle.constraint.specs.Accepted.{rowsQuestions, Accepted}
+use Rattle.constraint.specs.Run.{stepFor, questions, Run, done, call}
+use Rattle.constraint.specs.Promise.{play}
+use Rattle.constraint.specs.Table.{lengthAt, bodyAt, VersionOne}
+use Rattle.constraint.specs.Recording.{callOf, RecordAt, recordQuestions, RecordingRead, recording-of, recording-refused, ReadsRecords, no-more, record-refused, record-taken}
+use Rattle.constraint.specs.Recording.{ReadsInOrder, version-taken}
+use Rattle.constraint.specs.declared.Answer.{Answer}
+use Rattle.constraint.specs.declared.Answer.the-variants.{Taken, Refused}
+use Rattle.constraint.specs.declared.Call.{Call}
+use Rattle.constraint.specs.declared.Constraint.{Constraint}
+use Rattle.constraint.proofs.Judged.{judged-none}
+use Rattle.constraint.proofs.History.{Valid, valid-none}
+use Rattle.constraint.proofs.Runs.{run-valid}
+use Rattle.constraint.proofs.Sanity.{run-once}
+use Rattle.row.proofs.Engine.{engine}
+use Rattle.monitor.specs.Machine.{monitorOf, anyFirst, refuses, takes, placeFor, refusalBy, occurrenceBy, freeAfter, closedAfter, crowds, takenCall, steppedBy, stepOf}
+use Rattle.monitor.specs.Contract.{step, after, Recorded, Steps}
+use Rattle.monitor.specs.declared.Monitor.{Monitor}
+use Rattle.monitor.specs.declared.Stepped.{Stepped}
+use Rattle.monitor.proofs.Following.{Follows}
+use Rattle.monitor.proofs.Demand.{start-follows, play-follows, steps-keep}
+use Rattle.recording.specs.Record.{CallAt}
+use Rattle.recording.proofs.Records.{record-judged, record-refused as record-not-there}
+use Rattle.order.specs.Order.{orderOf, After, Takes, refusedRead, AsksCall, ReadsNext}
+use Rattle.order.specs.declared.RecordRead.{RecordRead}
+use Rattle.order.specs.declared.Order.{Order}
+
+-- ---- a call, on the order's numbers
+
+-- the first free time of a call's kind
+abbrev pub freeFor : Order → Call → ℕ
+freeFor o s = getD (o .next) (placeFor s) 0
+
+-- the number of the first "no" to its questions but 12, or 0
+abbrev pub refusalOf : Order → Call → ℕ
+refusalOf o s = refusalBy s (o .closed) (o .clock) (freeFor o s)
+
+-- the order after it
+abbrev pub orderAfter : Order → Call → Order
+orderAfter o s =
+    record {
+      clock = occurrenceBy s (o .clock) .time;
+      next = set (o .next) (placeFor s) (freeAfter s (freeFor o s));
+      closed = closedAfter s (o .closed);
+    }
+
+-- ---- what it says of the monitor over no rows
+
+none-accepted : Accepted []
+unfolding rowsQuestions
+none-accepted = judged-none
+
+run-more : {rows : List Constraint} {steps end : List Step} {calls : List Call} {answers : List Answer} (s : Call) → Run rows steps calls answers end → Judged (questions rows end s) Taken
+    → Run rows steps (calls ++ (s ∷ [])) (answers ++ (Taken ∷ [])) (end ++ (stepFor s ∷ []))
+run-more s done judged = call s Taken judged done
+run-more s (call t a earlier rest) judged = call t a earlier (run-more s rest judged)
+
+pub starts : After [] (record { clock = 0; next = replicate 64 0; closed = 0 })
+unfolding after play monitorOf
+starts = record { calls = []; recorded = ([], done); is = refl }
+
+-- with no row none is crowded
+taken-step : (m : Monitor) (s : Call) (number : ℕ) → m .len ≡ 0 → number ≡ 0 → steppedBy m s number ≡ takes (takenCall m s)
+unfolding anyFirst
+taken-step m s number none e = rw (e, none)
+
+refused-step : (m : Monitor) (s : Call) (number : ℕ) → 0 < number → steppedBy m s number ≡ refuses number m
+refused-step m s number h = rw (lt-ltb 0 number h)
+
+module _ (steps : List Step) (o : Order) (before : After steps o) where
+  m : Monitor
+  m = after [] (before .calls)
+
+  follows : Follows engine [] steps m
+  unfolding after m
+  follows =
+      let played = play-follows engine [] [] (monitorOf []) (start-follows engine [] none-accepted) (before .calls) in
+      subst (λ (past : List Step). Follows engine [] past (play step (monitorOf []) (before .calls) .monitor)) (run-once [] (played .1) (before .recorded .1) .1) (played .2)
+
+  -- the clock is that of the steps, which could all be taken
+  pub after-valid : Valid steps
+  after-valid = run-valid (before .recorded .1) valid-none
+
+  pub after-clock : o .clock ≡ clock steps
+  unfolding m
+  after-clock = ap (λ (x : Order). x .clock) (before .is) ∙ follows .clock-is
+
+  module _ (s : Call) where
+    kept : Steps m s (stepOf m s)
+    kept = steps-keep engine m s
+
+    judged : Judged (questions [] steps s) (stepOf m s .answer)
+    unfolding m
+    judged =
+        let means = kept .means [] (before .calls) none-accepted refl .0 in
+        subst (λ (past : List Step). Judged (questions [] past s) (stepOf m s .answer)) (run-once [] (means .1 .1) (before .recorded .1) .1) (means .2)
+
+    same-number : refusalOf o s ≡ refusalOf (orderOf m) s
+    unfolding m
+    same-number = ap (λ (x : Order). refusalOf x s) (before .is)
+
+    pub call-refused : 0 < refusalOf o s → Judged (questions [] steps s) (Refused (refusalOf o s))
+    unfolding stepOf
+    call-refused h =
+        let number : 0 < refusalOf (orderOf m) s = subst (λ (n : ℕ). 0 < n) same-number h in
+        subst (λ (n : ℕ). Judged (questions [] steps s) (Refused n)) (sym same-number)
+        (subst (λ (x : Stepped). Judged (questions [] steps s) (x .answer)) (refused-step m s (refusalOf (orderOf m) s) number) judged)
+
+    stepped : refusalOf o s ≡ 0 → stepOf m s ≡ takes (takenCall m s)
+    unfolding stepOf
+    stepped e = taken-step m s (refusalOf (orderOf m) s) (follows .len-is) (sym same-number ∙ e)
+
+    pub call-taken : refusalOf o s ≡ 0 → Judged (questions [] steps s) Taken × After (steps ++ (stepFor s ∷ [])) (orderAfter o s)
+    unfolding takenCall m
+    call-taken e =
+        let yes-all : Judged (questions [] steps s) Taken = subst (λ (x : Stepped). Judged (questions [] steps s) (x .answer)) (stepped e) judged in (
+          yes-all,
+          record {
+            calls = before .calls ++ (s ∷ []);
+            recorded = (before .recorded .0 ++ (Taken ∷ []), run-more s (before .recorded .1) yes-all);
+            is = ap (λ (x : Order). orderAfter x s) (before .is)
+                ∙ ap (λ (x : Stepped). orderOf (x .monitor)) (sym (stepped e))
+                ∙ ap orderOf (kept .means [] (before .calls) none-accepted refl .1);
+          },
+        )
+
+-- ---- what the code promises of a call and of a record
+
+module _ (o : Order) (s : Call) (n : ℕ) (is : n ≡ refusalOf o s) where
+  pub takes-refused : 0 < n → Takes o s (record { number = n; order = o })
+  takes-refused h =
+      record {
+        taken = λ e. absurd (omega (arith, e, h));
+        refused = λ more steps before. subst (λ (x : ℕ). Judged (questions [] steps s) (Refused x)) (sym is) (call-refused steps o before s (subst (λ (x : ℕ). 0 < x) is h));
+        as-it-was = λ more. refl;
+      }
+
+  pub takes-taken : n ≤ 0 → (later : Order) → later ≡ orderAfter o s → Takes o s (record { number = 0; order = later })
+  takes-taken h later e =
+      record {
+        taken = λ zero steps before. subst (λ (x : Order). Judged (questions [] steps s) Taken × After (steps ++ (stepFor s ∷ [])) x) (sym e) (call-taken steps o before s (omega (arith, is, h)));
+        refused = λ more. absurd (omega (arith, more));
+        as-it-was = λ more. absurd (omega (arith, more));
+      }
+
+module _ (bytes : List ℕ) (place : ℕ) (o : Order) where
+  pub read-none : ¬ RecordAt bytes place → ReadsNext bytes place o (refusedRead o 14)
+  read-none not-there =
+      record {
+        taken = λ e. absurd (omega (arith, e));
+        call-is = λ e. absurd (omega (arith, e));
+        next-is = λ e. absurd (omega (arith, e));
+        refused = λ more steps before. record-not-there [] steps bytes place not-there;
+      }
+
+  pub read-call : (s : Call) (size : ℕ) (r : RecordRead) → CallAt bytes place s size → AsksCall o s (place + size) r → ReadsNext bytes place o r
+  read-call s size r read asks =
+      record {
+        taken = λ e steps before. let given = asks .takes .taken e steps before in (
+          record-judged [] steps bytes place s size Taken read (given .0),
+          subst (λ (x : Call). After (steps ++ (stepFor x ∷ [])) (r .order)) (sym (asks .call-is)) (given .1),
+        );
+        call-is = λ e. read .call-read ∙ sym (asks .call-is);
+        next-is = λ e. (omega (arith, asks .next-is, read .size-read), omega (arith, asks .next-is, read .size-read, read .there .0 .1));
+        refused = λ more steps before. record-judged [] steps bytes place s size (Refused (r .number)) read (asks .takes .refused more steps before);
+      }
+
+-- ---- record by record
+
+-- the records before a place were read and taken, and what is read from there on is the whole
+pub record ReadUpTo (bytes : List ℕ) (place : ℕ) (steps : List Step) (o : Order) : Type 0 where
+  pub order : After steps o
+  pub whole : (read : RecordingRead) → ReadsRecords [] bytes steps place read → ReadsInOrder bytes read
+
+module _ (bytes : List ℕ) where
+  pub up-to-start : VersionOne bytes → (o : Order) → After [] o → ReadUpTo bytes 1 [] o
+  up-to-start one o start = record { order = start; whole = λ read reads. version-taken one reads }
+
+  module _ (place : ℕ) (steps : List Step) (o : Order) (before : ReadUpTo bytes place steps o) where
+    pub up-to-more : (s : Call) (next : ℕ) (o′ : Order) → place < length bytes → callOf (bodyAt bytes place) ≡ s → next ≡ place + 2 + lengthAt bytes place
+        → Judged (recordQuestions [] steps bytes place) Taken → After (steps ++ (stepFor s ∷ [])) o′ → ReadUpTo bytes next (steps ++ (stepFor s ∷ [])) o′
+    up-to-more s next o′ there is next-is taken later =
+        record {
+          order = later;
+          whole = λ read reads.
+              before .whole read
+              (record-taken there taken
+              (subst (λ (x : Call). ReadsRecords [] bytes (steps ++ (stepFor x ∷ [])) (place + 2 + lengthAt bytes place) read) (sym is)
+              (subst (λ (at : ℕ). ReadsRecords [] bytes (steps ++ (stepFor s ∷ [])) at read) next-is reads)));
+        }
+
+    pub up-to-refused : (n : ℕ) → place < length bytes → Judged (recordQuestions [] steps bytes place) (Refused n)
+        → ReadsInOrder bytes (recording-refused n place)
+    up-to-refused n there refused = before .whole (recording-refused n place) (record-refused n there refused)
+
+    pub up-to-end : length bytes ≤ place → ReadsInOrder bytes (recording-of steps)
+    up-to-end end = before .whole (recording-of steps) (no-more end)

@@ -1,0 +1,10 @@
+-- A fresh monitor over no rows has this clock, these first free times and this mark.
+use Rattle.order.proofs.Laws.{starts}
+use Rattle.order.proofs.Order.start.Statement.{statement}
+use Rattle.order.proofs.Order.start.Tie as tie
+
+returns : tie.Need-returns
+returns c = starts
+
+pub start-spec : {M : Type 1} → statement M
+start-spec = tie.close (tie.spec returns)

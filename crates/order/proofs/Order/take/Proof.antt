@@ -1,0 +1,71 @@
+-- The number is that of the first "no"; where there is none the clock, the first free time and the mark are those after the call.
+use native.Mathlib.Omega.{arith}
+use borrow.Author.Needs.{needs}
+use Prim.Native.Nat.{ℕ}
+use mathlib.Core.Path.{_≡_}
+use Rattle.monitor.proofs.Answers.{place-small}
+use Rattle.order.proofs.Laws.{refusalOf, takes-refused, takes-taken}
+use Rattle.order.proofs.Order.take.Statement.{statement}
+use Rattle.order.proofs.Order.take.Tie as tie
+
+-- what is asked
+number-is : (c : tie.After-refusal) → c .refusal .result ≡ refusalOf (c .before .before .before .args .t1) (c .before .before .before .args .call)
+number-is c = rw (c .before .before .place .ensures) at (c .refusal .ensures)
+
+place-requires : tie.Need-place-requires
+place-requires c κs = search needs
+
+mul-next : tie.Need-mul-next
+mul-next c = omega (arith, c .place .ensures, place-small (c .before .args .call))
+
+element-copy-out-next : tie.Need-element-copy-out-next
+element-copy-out-next c = omega (arith, c .place .ensures, place-small (c .before .args .call))
+
+refusal-requires : tie.Need-refusal-requires
+refusal-requires c κs = search needs
+
+returns : tie.Need-returns
+returns c =
+    let asked = c .before in
+    let args = asked .before .before .before .args in
+    takes-refused (args .t1) (args .call) (asked .refusal .result) (number-is asked) (c .if1 .taken)
+
+occurrence-requires : tie.Need-occurrence-requires
+occurrence-requires c κs = search needs
+
+free-requires : tie.Need-free-requires
+free-requires c κs = search needs
+
+mul-order : tie.Need-mul-order
+mul-order c = let placed = c .before .before .before .before .before in omega (arith, placed .place .ensures, place-small (placed .before .args .call))
+
+element-write-order : tie.Need-element-write-order
+element-write-order c = let placed = c .before .before .before .before .before in omega (arith, placed .place .ensures, place-small (placed .before .args .call))
+
+closed-requires : tie.Need-closed-requires
+closed-requires c κs = search needs
+
+returns-2 : tie.Need-returns-2
+returns-2 c =
+    let freed = c .before in
+    let seen = freed .before in
+    let asked = seen .before .before in
+    let args = asked .before .before .before .args in
+    takes-taken (args .t1) (args .call) (asked .refusal .result) (number-is asked) (seen .before .if1 .left) _
+    (simp (c .closed .ensures, freed .free .ensures, seen .occurrence .ensures, asked .before .before .place .ensures))
+
+pub take-spec : {M : Type 1} → statement M
+take-spec =
+    tie.close
+    (tie.spec
+    place-requires
+    mul-next
+    element-copy-out-next
+    refusal-requires
+    returns
+    occurrence-requires
+    free-requires
+    mul-order
+    element-write-order
+    closed-requires
+    returns-2)

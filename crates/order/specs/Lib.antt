@@ -1,0 +1,2 @@
+-- What the order of a recording promises.
+pub mod Order

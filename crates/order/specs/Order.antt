@@ -1,0 +1,57 @@
+-- The order of a recording: the questions of its records and steps without 12.
+use Prim.Native.Nat.{ℕ, _+_, _<_, _≤_}
+use mathlib.Core.Path.{_≡_}
+use mathlib.Core.List.{List, [], _∷_, _++_}
+use lib.ListN.{length}
+use Rattle.constraint.specs.Steps.{Step, clock}
+use Rattle.constraint.specs.Questions.{Judged}
+use Rattle.constraint.specs.Run.{stepFor, questions}
+use Rattle.constraint.specs.Table.{lengthAt, bodyAt}
+use Rattle.constraint.specs.Recording.{callOf, recordQuestions}
+use Rattle.constraint.specs.declared.Answer.the-variants.{Taken, Refused}
+use Rattle.constraint.specs.declared.Call.{Call}
+use Rattle.monitor.specs.Contract.{after, Recorded}
+use Rattle.monitor.specs.declared.Monitor.{Monitor}
+use Rattle.order.specs.declared.Order.{Order}
+use Rattle.order.specs.declared.RecordRead.{RecordRead}
+use Rattle.order.specs.declared.Answered.{Answered}
+
+-- the clock, first free times and mark of the close of a monitor
+abbrev pub orderOf : Monitor → Order
+orderOf m = record { clock = m .clock; next = m .next; closed = m .closed }
+
+-- the order after these steps: that of a monitor over no rows, after calls that have recorded them
+pub record After (steps : List Step) (o : Order) : Type 0 where
+  pub calls : List Call
+  pub recorded : Recorded [] calls steps
+  pub is : o ≡ orderOf (after [] calls)
+
+-- the order before any step
+abbrev pub Starts : Order → Type 0
+Starts o = After [] o
+
+-- a call: 0 where its questions but 12 are all answered "yes", and the order after it; else the number of the first "no", and the order as it was
+pub record Takes (o : Order) (call : Call) (r : Answered) : Type 0 where
+  pub taken : r .number ≡ 0 → (steps : List Step) → After steps o
+      → Judged (questions [] steps call) Taken × After (steps ++ (stepFor call ∷ [])) (r .order)
+  pub refused : 0 < r .number → (steps : List Step) → After steps o → Judged (questions [] steps call) (Refused (r .number))
+  pub as-it-was : 0 < r .number → r .order ≡ o
+
+-- the answer to a record that is refused
+abbrev pub refusedRead : Order → ℕ → RecordRead
+refusedRead o n = record { number = n; call = Call.Close; next = 0; order = o }
+
+-- the answer to a record that has a call and ends before a place
+pub record AsksCall (o : Order) (call : Call) (next : ℕ) (r : RecordRead) : Type 0 where
+  pub takes : Takes o call (record { number = r .number; order = r .order })
+  pub call-is : r .call ≡ call
+  pub next-is : r .next ≡ next
+
+-- the record at a place: 0 where 14 and its step's questions but 12 are all answered "yes", its call, the place behind it and the order
+-- after it; else the number of the first "no"
+pub record ReadsNext (bytes : List ℕ) (place : ℕ) (o : Order) (r : RecordRead) : Type 0 where
+  pub taken : r .number ≡ 0 → (steps : List Step) → After steps o
+      → Judged (recordQuestions [] steps bytes place) Taken × After (steps ++ (stepFor (r .call) ∷ [])) (r .order)
+  pub call-is : r .number ≡ 0 → callOf (bodyAt bytes place) ≡ r .call
+  pub next-is : r .number ≡ 0 → (r .next ≡ place + 2 + lengthAt bytes place) × (r .next ≤ length bytes)
+  pub refused : 0 < r .number → (steps : List Step) → After steps o → Judged (recordQuestions [] steps bytes place) (Refused (r .number))

@@ -1,0 +1,71 @@
+-- The answer is put together in the order of the questions: the table's, the recording's, the row's and that of the range.
+use Prim.Native.Nat.{ℕ, zero, suc, _≤_, _<_}
+use native.Mathlib.Omega.{arith}
+use mathlib.Core.Path.{_≡_, refl}
+use mathlib.Core.List.{List, [], _∷_}
+use mathlib.Core.Option.{some}
+use lib.ListN.{length, getElem?}
+use Rattle.constraint.specs.Limits.{lastTime}
+use Rattle.constraint.specs.Accepted.{Accepted, InRange}
+use Rattle.constraint.specs.Rows.{tableOf}
+use Rattle.constraint.specs.Table.{ReadsTable, table-of}
+use Rattle.constraint.specs.Stamps.{RepeatRow, AnswersStamps, no-recording, not-asked, reads}
+use Rattle.constraint.specs.declared.Answer.the-variants.{Refused}
+use Rattle.constraint.specs.declared.Constraint.{Constraint}
+use Rattle.constraint.specs.declared.Constraint.the-variants.{Repeat}
+use Rattle.constraint.specs.declared.StampedAnswer.{StampedAnswer}
+use Rattle.constraint.specs.declared.Table.{Table}
+use Rattle.constraint.proofs.Judged.{never, judged-yes, judged-no}
+use Rattle.row.proofs.Exact.{Sound}
+use Rattle.monitor.proofs.Demand.{accepted-sound, accepted-few}
+use Rattle.monitor.proofs.FittingRows.{sound-at}
+use Rattle.table.proofs.AcceptedRows.{read-accepted}
+use Rattle.stamps.specs.Machine.{Passes, Finds}
+use Rattle.stamps.specs.declared.Asked.{Asked}
+use Rattle.stamps.specs.declared.Passed.{Passed}
+use Rattle.stamps.specs.declared.RowAsked.{RowAsked}
+
+-- a row that is there has a number below theirs
+pub within : (rows : List Constraint) (i : ℕ) (c : Constraint) → getElem? rows i ≡ some c → i < length rows
+within [] i c e = never (cc)
+within (d ∷ rows) zero c e = omega arith
+within (d ∷ rows) (suc i) c e = omega (arith, within rows i c e)
+
+lower-small : (k lower upper : ℕ) → Sound (Repeat k 1 lower upper) → lower ≤ lastTime
+unfolding InRange
+lower-small k lower upper sound = sound .in-range .2 .0
+
+-- the row's fields and the range
+abbrev pub askedOf : RowAsked → ℕ → Asked
+askedOf found late = record { event = found .event; lower = found .lower; upper = found .upper; late = late }
+
+module _ (bytes recording : List ℕ) (i late : ℕ) (rows : List Constraint) (read : ReadsTable bytes (table-of rows)) (table : Table) (holds : table ≡ tableOf rows)
+    (found : RowAsked) (finds : Finds table i found) (passed : Passed) (passes : Passes recording (askedOf found late) passed) where
+  few : length rows ≤ 32
+  few = accepted-few rows (read-accepted bytes rows read)
+
+  pub answer-recording : 0 < passed .number → AnswersStamps bytes recording i late (StampedAnswer.Refused (passed .number) (passed .place))
+  answer-recording h = no-recording rows (passed .number) (passed .place) read (passes .refused h)
+
+  module _ (taken : passed .number ≡ 0) where
+    pub answer-row : 0 < found .number → AnswersStamps bytes recording i late (StampedAnswer.Refused (found .number) 0)
+    answer-row h = let steps = passes .taken taken in not-asked rows (steps .0) (found .number) read (steps .1) (finds .refused h rows holds few late)
+
+    module _ (there : found .number ≡ 0) where
+      row : RepeatRow rows i (found .event) (found .lower) (found .upper)
+      row = finds .found there rows holds few
+
+      pub answer-range : lastTime < late → AnswersStamps bytes recording i late (StampedAnswer.Refused 10 0)
+      answer-range h =
+          let steps = passes .taken taken in
+          not-asked rows (steps .0) 10 read (steps .1)
+          (judged-yes 15 _ _ (Refused 10) (within rows i _ row)
+          (judged-yes 25 _ _ (Refused 10) (found .event, (found .lower, (found .upper, row)))
+          (judged-no 10 _ _ (λ small. omega (arith, small, h)))))
+
+      pub answer-reads : late ≤ lastTime → AnswersStamps bytes recording i late (StampedAnswer.Reads (passed .verdict))
+      answer-reads h =
+          let steps = passes .taken taken in
+          let sound = sound-at rows (accepted-sound 0 rows (read-accepted bytes rows read) .0) i _ row in
+          reads rows (steps .0) (found .event) (found .lower) (found .upper) (passed .verdict) read (steps .1) row h
+          (steps .2 (lower-small (found .event) (found .lower) (found .upper) sound))

@@ -1,0 +1,6 @@
+-- Why the words are the definition's, and the monitor's where no stamp is late.
+pub mod Laws
+pub mod Progress
+pub mod Rows
+pub mod Answers
+pub mod Agreement

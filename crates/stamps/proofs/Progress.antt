@@ -1,0 +1,70 @@
+-- What is kept of the stamps goes on from record to record, and at the end it says what the row reads.
+use Prim.Native.Nat.{ℕ, _≤_, _<_}
+use mathlib.Core.Path.{_≡_, refl, sym, subst, _∙_}
+use mathlib.Core.List.{List, [], _∷_, _++_}
+use lib.ListN.{length}
+use Rattle.constraint.specs.Limits.{lastTime}
+use Rattle.constraint.specs.Steps.{Step, times, clock}
+use Rattle.constraint.specs.Questions.{Judged}
+use Rattle.constraint.specs.Run.{stepFor, questions}
+use Rattle.constraint.specs.Table.{bodyAt, VersionOne}
+use Rattle.constraint.specs.Recording.{callOf, RecordAt, recordQuestions, ReadsInOrder, recording-of, recording-refused, version-refused}
+use Rattle.constraint.specs.Stamps.{ReadsStamps}
+use Rattle.constraint.specs.declared.Answer.the-variants.{Taken, Refused}
+use Rattle.constraint.specs.declared.Call.{Call}
+use Rattle.constraint.specs.declared.Constraint.{Constraint}
+use Rattle.constraint.specs.declared.StampedVerdict.{StampedVerdict}
+use Rattle.constraint.proofs.Judged.{judged-all}
+use Rattle.constraint.proofs.History.{past-of}
+use Rattle.constraint.proofs.Runs.{accepts-taken}
+use Rattle.order.specs.Order.{After, ReadsNext}
+use Rattle.order.specs.declared.Order.{Order}
+use Rattle.order.specs.declared.RecordRead.{RecordRead}
+use Rattle.order.proofs.Laws.{ReadUpTo, up-to-start, up-to-more, up-to-refused, up-to-end, after-valid, after-clock}
+use Rattle.stamps.specs.Machine.{noStamps, callAfter, verdictAt}
+use Rattle.stamps.specs.declared.Asked.{Asked}
+use Rattle.stamps.specs.declared.Stamps.{Stamps}
+use Rattle.stamps.proofs.Laws.{Keeps, keeps-none, keeps-call, reads-now}
+
+-- a record that is taken: its own question, and those of its step
+pub record-accepts : (bytes : List ℕ) (rows : List Constraint) (steps : List Step) (place : ℕ) → Judged (recordQuestions rows steps bytes place) Taken
+    → RecordAt bytes place × Judged (questions rows steps (callOf (bodyAt bytes place))) Taken
+unfolding recordQuestions
+record-accepts bytes rows steps place judged = judged-all 14 _ _ judged
+
+-- the records before a place are read, and this is kept of their stamps
+pub record PassedTo (bytes : List ℕ) (a : Asked) (o : Order) (s : Stamps) (place : ℕ) : Type 0 where
+  pub steps : List Step
+  pub read : ReadUpTo bytes place steps o
+  pub keeps : a .lower ≤ lastTime → Keeps a (times (a .event) steps) s
+
+module _ (bytes : List ℕ) (a : Asked) where
+  pub pass-start : VersionOne bytes → (o : Order) → After [] o → PassedTo bytes a o noStamps 1
+  unfolding times
+  pass-start one o start = record { steps = []; read = up-to-start bytes one o start; keeps = λ small. keeps-none a }
+
+  module _ (o : Order) (s : Stamps) (place : ℕ) (before : PassedTo bytes a o s place) where
+    module _ (there : place < length bytes) (r : RecordRead) (next : ReadsNext bytes place o r) where
+      pub pass-more : r .number ≡ 0 → PassedTo bytes a (r .order) (callAfter a s (r .call)) (r .next)
+      pass-more e =
+          let taken = next .taken e (before .steps) (before .read .order) in
+          let asked = subst (λ (x : Call). Judged (questions [] (before .steps) x) Taken) (next .call-is e) (record-accepts bytes [] (before .steps) place (taken .0) .1) in
+          record {
+            steps = before .steps ++ (stepFor (r .call) ∷ []);
+            read = up-to-more bytes place (before .steps) o (before .read) (r .call) (r .next) (r .order) there (next .call-is e) (next .next-is e .0) (taken .0) (taken .1);
+            keeps = λ small. keeps-call a small (before .steps) s (before .keeps small) (r .call) (accepts-taken [] (before .steps) (r .call) asked);
+          }
+
+      pub pass-refused : 0 < r .number → ReadsInOrder bytes (recording-refused (r .number) place)
+      pass-refused h = up-to-refused bytes place (before .steps) o (before .read) (r .number) there (next .refused h (before .steps) (before .read .order))
+
+    pub pass-end : length bytes ≤ place → (steps : List Step) × ReadsInOrder bytes (recording-of steps)
+        × (a .lower ≤ lastTime → ReadsStamps (a .late) (a .lower) (a .upper) (times (a .event) steps) (clock steps) (verdictAt a s (o .clock)))
+    pass-end end = (
+      before .steps,
+      up-to-end bytes place (before .steps) o (before .read) end,
+      λ small.
+          subst (λ (now : ℕ). ReadsStamps (a .late) (a .lower) (a .upper) (times (a .event) (before .steps)) (clock (before .steps)) (verdictAt a s now))
+          (sym (after-clock (before .steps) o (before .read .order)))
+          (reads-now a (times (a .event) (before .steps)) (clock (before .steps)) (past-of (after-valid (before .steps) o (before .read .order)) .small) s (before .keeps small)),
+    )

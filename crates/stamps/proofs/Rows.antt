@@ -1,0 +1,111 @@
+-- A row's numbers are those of its fields, so the type's number and the span tell a Repeat of span 1.
+use Prim.Native.Nat.{ℕ, zero, suc, _≤_, _<_}
+use native.Mathlib.Omega.{arith}
+use mathlib.Core.Path.{_≡_, refl, sym, ap, subst, _∙_}
+use mathlib.Core.List.{List, [], _∷_, _++_, map}
+use mathlib.Core.Option.{some}
+use lib.ListN.{length, getD, getElem?, take}
+use lib.Seq.{getD-take}
+use Rattle.constraint.specs.Steps.{at}
+use Rattle.constraint.specs.Rows.{tableOf}
+use Rattle.constraint.specs.Records.{Holds, entryOf}
+use Rattle.constraint.specs.Stamps.{RepeatRow, stampsQuestions}
+use Rattle.constraint.specs.Questions.{Judged}
+use Rattle.constraint.specs.declared.Answer.the-variants.{Refused}
+use Rattle.constraint.specs.declared.Constraint.{Constraint}
+use Rattle.constraint.specs.declared.Constraint.the-variants.{Delay, StrongDelay, Repeat, Sporadic, Burst, Order, StrongSynchronization2, StrongSynchronization3, StrongSynchronization4}
+use Rattle.constraint.specs.declared.Constraint.the-variants.{ExecutionTime, Repetition}
+use Rattle.constraint.specs.declared.Entry.{Entry}
+use Rattle.constraint.specs.declared.Table.{Table}
+use Rattle.constraint.specs.declared.fields.Fields.{Fields}
+use Rattle.constraint.proofs.Judged.{never, judged-yes, judged-no}
+use Rattle.constraint.proofs.Records.{record-count}
+use Rattle.stamps.specs.Machine.{Finds}
+use Rattle.stamps.specs.declared.RowAsked.{RowAsked}
+
+-- the row that stands in an entry
+entry-row : (rows rest : List Constraint) (i : ℕ) (d : Entry) → i < length rows → getElem? rows i ≡ some (getD (map entryOf (rows ++ rest)) i d .constraint)
+entry-row [] rest i d h = absurd (omega arith)
+entry-row (c ∷ rows) rest zero d h = refl
+entry-row (c ∷ rows) rest (suc i) d h = entry-row rows rest i d (omega arith)
+
+row-there : (table : Table) (rows : List Constraint) (i : ℕ) (d : Entry) → table ≡ tableOf rows → i < length rows
+    → getElem? rows i ≡ some (getD (table .rows) i d .constraint)
+unfolding tableOf
+row-there table rows i d e h = entry-row rows _ i d h ∙ ap (λ (t : Table). some (getD (t .rows) i d .constraint)) (sym e)
+
+-- ---- a row's numbers
+
+taken-at : (xs ys : List ℕ) (n i : ℕ) → take n xs ≡ ys → i < n → at xs i ≡ at ys i
+taken-at xs ys n i e h = sym (getD-take n xs i 0 h) ∙ ap (λ (l : List ℕ). at l i) e
+
+-- a row of type 3 is the Repeat of its numbers
+repeat-is : (c : Constraint) (f : Fields) → Holds c f → f .line .form ≡ 3 → c ≡ Repeat (at (f .bytes) 0) (at (f .bytes) 1) (at (f .times) 0) (at (f .times) 1)
+repeat-is (Repeat k span low high) f holds three =
+    let k-is : at (f .bytes) 0 ≡ k = taken-at (f .bytes) (k ∷ span ∷ []) 2 0 (holds .bytes) (omega arith) in
+    let span-is : at (f .bytes) 1 ≡ span = taken-at (f .bytes) (k ∷ span ∷ []) 2 1 (holds .bytes) (omega arith) in
+    let low-is : at (f .times) 0 ≡ low = taken-at (f .times) (low ∷ high ∷ []) 2 0 (holds .times) (omega arith) in
+    let high-is : at (f .times) 1 ≡ high = taken-at (f .times) (low ∷ high ∷ []) 2 1 (holds .times) (omega arith) in
+    cc
+repeat-is (Delay source target low high) f holds three = absurd (omega (arith, holds .typed, three))
+repeat-is (StrongDelay source target low high) f holds three = absurd (omega (arith, holds .typed, three))
+repeat-is (Sporadic k low high jitter minimum) f holds three = absurd (omega (arith, holds .typed, three))
+repeat-is (Burst k maximum len minimum) f holds three = absurd (omega (arith, holds .typed, three))
+repeat-is (Order source target) f holds three = absurd (omega (arith, holds .typed, three))
+repeat-is (StrongSynchronization2 a b tolerance) f holds three = absurd (omega (arith, holds .typed, three))
+repeat-is (StrongSynchronization3 a b c tolerance) f holds three = absurd (omega (arith, holds .typed, three))
+repeat-is (StrongSynchronization4 a b c d tolerance) f holds three = absurd (omega (arith, holds .typed, three))
+repeat-is (ExecutionTime start stop preempt resume low high) f holds three = absurd (omega (arith, holds .typed, three))
+repeat-is (Repetition k span low high jitter) f holds three = absurd (omega (arith, holds .typed, three))
+
+-- and a Repeat of span 1 has that type and span
+repeat-of : (k low high : ℕ) (f : Fields) → Holds (Repeat k 1 low high) f → (f .line .form ≡ 3) × (at (f .bytes) 1 ≡ 1)
+repeat-of k low high f holds = (holds .typed, taken-at (f .bytes) (k ∷ 1 ∷ []) 2 1 (holds .bytes) (omega arith))
+
+-- ---- what is found
+
+abbrev pub unasked : ℕ → RowAsked
+unasked n = record { number = n; event = 0; lower = 0; upper = 0 }
+
+module _ (table : Table) (i : ℕ) where
+  pub finds-none : ((rows : List Constraint) → table ≡ tableOf rows → length rows ≤ 32 → length rows ≤ i) → Finds table i (unasked 15)
+  finds-none past =
+      record {
+        refused = λ more rows e few late. judged-no 15 _ _ (λ h. omega (arith, h, past rows e few));
+        found = λ zero. absurd (omega (arith, zero));
+      }
+
+  module _ (d : Entry) (f : Fields) (there : i < table .count) (holds : Holds (getD (table .rows) i d .constraint) f) where
+    is-there : (rows : List Constraint) → table ≡ tableOf rows → i < length rows
+    is-there rows e = omega (arith, record-count table rows e, there)
+
+    pub finds-other : (f .line .form ≡ 3 → at (f .bytes) 1 ≡ 1 → _≡_ {A = ℕ} 0 1) → Finds table i (unasked 25)
+    finds-other other =
+        record {
+          refused = λ more rows e few late.
+              judged-yes 15 _ _ (Refused 25) (is-there rows e)
+              (judged-no 25 _ _ (λ asked.
+              let k = asked .0 in
+              let low = asked .1 .0 in
+              let high = asked .1 .1 .0 in
+              let row = asked .1 .1 .1 in
+              let same : getD (table .rows) i d .constraint ≡ Repeat k 1 low high = of-row rows k low high (row-there table rows i d e (is-there rows e)) row in
+              let numbers = repeat-of k low high f (subst (λ (c : Constraint). Holds c f) same holds) in
+              never (other (numbers .0) (numbers .1))));
+          found = λ zero. absurd (omega (arith, zero));
+        }
+      where
+        of-row : (rows : List Constraint) (k low high : ℕ) → getElem? rows i ≡ some (getD (table .rows) i d .constraint) → RepeatRow rows i k low high
+            → getD (table .rows) i d .constraint ≡ Repeat k 1 low high
+        of-row rows k low high one two = cc
+
+    pub finds-it : f .line .form ≡ 3 → at (f .bytes) 1 ≡ 1
+        → Finds table i (record { number = 0; event = at (f .bytes) 0; lower = at (f .times) 0; upper = at (f .times) 1 })
+    finds-it three one =
+        record {
+          refused = λ more. absurd (omega (arith, more));
+          found = λ zero rows e few.
+              let is = repeat-is (getD (table .rows) i d .constraint) f holds three in
+              row-there table rows i d e (is-there rows e)
+              ∙ ap (λ (c : Constraint). some c) (is ∙ ap (λ (span : ℕ). Repeat (at (f .bytes) 0) span (at (f .times) 0) (at (f .times) 1)) one);
+        }

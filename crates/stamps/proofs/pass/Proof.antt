@@ -1,0 +1,74 @@
+-- The loop reads record after record: what is kept of the stamps is that of the steps read so far.
+use native.Mathlib.Omega.{arith}
+use Prim.Native.Nat.{_-_}
+use mathlib.Core.Path.{_≡_, refl}
+use lib.ListN.{length}
+use denote.Ref.{now}
+use Rattle.constraint.specs.Recording.{version-refused}
+use Rattle.constraint.proofs.Judged.{passed, failed}
+use Rattle.queue.proofs.Shared.{free}
+use Rattle.stamps.proofs.Progress.{PassedTo, pass-start, pass-more, pass-refused, pass-end}
+use Rattle.stamps.proofs.pass.Statement.{statement}
+use Rattle.stamps.proofs.pass.Tie as tie
+
+abbrev Inv-loop : tie.InvT-loop
+Inv-loop bytes asked order₀ stamps₀ place₀ order stamps place = PassedTo bytes asked order stamps place
+
+abbrev μ-loop : tie.MeasureT-loop
+μ-loop bytes asked order₀ stamps₀ place₀ order stamps place = length bytes - place
+
+returns : tie.Need-returns Inv-loop μ-loop
+returns c =
+    let asked = c .before in
+    record {
+      refused = λ more. version-refused (failed (asked .version-one .result) (asked .version-one .ensures) (c .if1 .taken));
+      taken = λ e. absurd (omega (arith, e));
+    }
+
+loop-holds : tie.Need-loop-holds Inv-loop μ-loop
+loop-holds c =
+    let started = c .before in
+    let checked = started .before in
+    let asked = checked .before in
+    let args = asked .before .before .args in
+    rw (c .new .ensures)
+    (pass-start (now (args .bytes)) (args .asked) (passed (asked .version-one .result) (asked .version-one .ensures) (checked .if1 .left)) (started .start .result) (started .start .ensures))
+
+returns-2 : tie.Need-returns-2 Inv-loop μ-loop
+returns-2 c =
+    let at-read = c .before .before in
+    let at-loop = at-read .before .before in
+    let args = at-loop .before .before .before .before .before .before .args in
+    record {
+      refused = λ more. pass-refused (now (args .bytes)) (args .asked) (at-loop .loop .order) (at-loop .loop .stamps) (at-loop .loop .place) (at-loop .loop .inv) (at-read .before .loop-test .taken)
+          (at-read .read .result) (at-read .read .ensures) (c .if2 .taken);
+      taken = λ e. absurd (omega (arith, e, c .if2 .taken));
+    }
+
+loop-less : tie.Need-loop-less Inv-loop μ-loop
+loop-less c =
+    let at-read = c .before .before .before .before in
+    let next = at-read .read .ensures .next-is (omega (arith, c .before .before .if2 .left)) in
+    omega (arith, next .0, next .1)
+
+loop-again : tie.Need-loop-again Inv-loop μ-loop
+loop-again c =
+    let at-read = c .before .before .before .before in
+    let at-loop = at-read .before .before in
+    let args = at-loop .before .before .before .before .before .before .args in
+    rw (c .before .after .ensures)
+    (pass-more (now (args .bytes)) (args .asked) (at-loop .loop .order) (at-loop .loop .stamps) (at-loop .loop .place) (at-loop .loop .inv) (at-read .before .loop-test .taken)
+    (at-read .read .result) (at-read .read .ensures) (omega (arith, c .before .before .if2 .left)))
+
+returns-3 : tie.Need-returns-3 Inv-loop μ-loop
+returns-3 c =
+    let at-loop = c .before .before in
+    let args = at-loop .before .before .before .before .before .before .args in
+    record {
+      refused = λ more. absurd (omega (arith, more));
+      taken = λ e. rw (c .verdict .ensures)
+          (pass-end (now (args .bytes)) (args .asked) (at-loop .loop .order) (at-loop .loop .stamps) (at-loop .loop .place) (at-loop .loop .inv) (c .before .loop-test .left));
+    }
+
+pub pass-spec : {M : Type 1} → statement M
+pass-spec = tie.close (tie.spec Inv-loop μ-loop free returns free free loop-holds free returns-2 free loop-less loop-again free returns-3)

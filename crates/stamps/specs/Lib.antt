@@ -1,0 +1,3 @@
+-- What the reader of late stamps computes and promises.
+pub mod Machine
+pub mod Words

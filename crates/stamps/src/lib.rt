@@ -1,0 +1,354 @@
+// Stamps known within a range: whether a Repeat row of span 1 is kept for each choice of true times, for none, or for some.
+use constraint::Call;
+use constraint::LAST_TIME;
+use constraint::NO_LIMIT;
+use constraint::StampedAnswer;
+use constraint::StampedVerdict;
+use constraint::Table;
+use machine::parts::larger;
+use machine::parts::plus;
+use machine::parts::smaller;
+use order::Order;
+use queue::minus;
+use table::ReadAnswer;
+ghost use mathlib.Core.Path.{_≡_};
+ghost use mathlib.Core.Bool.{_&&_};
+ghost use lib.Dec.{leb};
+ghost use Rattle.machine.specs.Parts.{plus};
+ghost use Rattle.constraint.specs.Stamps.{AnswersStamps};
+ghost use Rattle.stamps.specs.Words.{Spells};
+ghost use Rattle.stamps.specs.Machine.{nextLow, nextHigh, noStamps, firstStamp, pairFits, laterStamp, stampAfter, callAfter, closeVerdict, verdictAt, Passes, Finds};
+
+// A Repeat row of span 1, and by how much its stamps are late at most.
+pub struct Asked {
+    pub event: u8,
+    pub lower: u64,
+    pub upper: u64,
+    pub late: u64,
+}
+
+// What is kept of its stamps.
+pub struct Stamps {
+    // there was one; the others are of the last one
+    pub any: bool,
+    pub stamp: u64,
+    // its true time can be from earliest to the stamp
+    pub earliest: u64,
+    // and from low to high where all are lower to upper apart
+    pub low: u64,
+    pub high: u64,
+    // each choice of true times is lower to upper apart; some choice is
+    pub each: bool,
+    pub some: bool,
+}
+
+// What a pass over a recording gives: what the row reads, or (number above 0) a refusal with its place.
+pub struct Passed {
+    pub number: u8,
+    pub place: usize,
+    pub verdict: StampedVerdict,
+}
+
+// A row that is asked for: its fields, or (number above 0) a refusal.
+pub struct RowAsked {
+    pub number: u8,
+    pub event: u8,
+    pub lower: u64,
+    pub upper: u64,
+}
+
+// A word: the first len bytes.
+pub struct Spelling {
+    pub bytes: [u8; 6],
+    pub len: usize,
+}
+
+// The word for what a row reads: kept, broken or unsure.
+pub fn word(verdict: StampedVerdict) -> Spelling
+    ensures { λ r. ⌜ Spells verdict r ⌝ }
+{
+    match verdict {
+        StampedVerdict::Kept => Spelling {
+            bytes: *b"kept  ",
+            len: 4,
+        },
+        StampedVerdict::Broken => Spelling {
+            bytes: *b"broken",
+            len: 6,
+        },
+        StampedVerdict::Unsure => Spelling {
+            bytes: *b"unsure",
+            len: 6,
+        },
+    }
+}
+
+// The first place of a true time stamped t.
+fn next_low(lower: u64, late: u64, low: u64, t: u64) -> u64
+    ensures { λ r. ⌜ r ≡ nextLow lower late low t ⌝ }
+{
+    larger(plus(low, larger(lower, 1)), minus(t, late))
+}
+
+// Its last place.
+fn next_high(upper: u64, high: u64, t: u64) -> u64
+    ensures { λ r. ⌜ r ≡ nextHigh upper high t ⌝ }
+{
+    if upper == NO_LIMIT {
+        return t;
+    }
+    smaller(plus(high, upper), t)
+}
+
+// Whether t is at most upper after from.
+fn in_time(from: u64, upper: u64, t: u64) -> bool
+    ensures { λ r. ⌜ r ≡ leb t (plus from upper) ⌝ }
+{
+    t <= plus(from, upper)
+}
+
+// Whether both hold.
+fn both(a: bool, b: bool) -> bool
+    ensures { λ r. ⌜ r ≡ (a && b) ⌝ }
+{
+    a && b
+}
+
+// Whether a is at most b.
+fn at_most(a: u64, b: u64) -> bool
+    ensures { λ r. ⌜ r ≡ leb a b ⌝ }
+{
+    a <= b
+}
+
+// Whether each two true times of the last two stamps are lower to upper apart.
+fn pair_fits(asked: Asked, earliest: u64, next: u64, stamp: u64, t: u64) -> bool
+    ensures { λ r. ⌜ r ≡ pairFits asked earliest next stamp t ⌝ }
+{
+    let narrow = at_most(asked.lower, larger(1, minus(next, stamp)));
+    let wide = in_time(earliest, asked.upper, t);
+    both(narrow, wide)
+}
+
+impl Stamps {
+    // Before the first stamp.
+    fn new() -> Self
+        ensures { λ r. ⌜ r ≡ noStamps ⌝ }
+    {
+        Stamps {
+            any: false,
+            stamp: 0,
+            earliest: 0,
+            low: 0,
+            high: 0,
+            each: true,
+            some: true,
+        }
+    }
+
+    // With the first stamp.
+    fn first(asked: Asked, t: u64) -> Self
+        ensures { λ r. ⌜ r ≡ firstStamp asked t ⌝ }
+    {
+        let earliest = minus(t, asked.late);
+        Stamps {
+            any: true,
+            stamp: t,
+            earliest,
+            low: earliest,
+            high: t,
+            each: true,
+            some: true,
+        }
+    }
+
+    // With a later stamp.
+    fn later(self, asked: Asked, t: u64) -> Self
+        ensures { λ r. ⌜ r ≡ laterStamp asked self t ⌝ }
+    {
+        let earliest = next_low(0, asked.late, self.earliest, t);
+        let low = next_low(asked.lower, asked.late, self.low, t);
+        let high = next_high(asked.upper, self.high, t);
+        let fits = pair_fits(asked, self.earliest, earliest, self.stamp, t);
+        let each = both(self.each, fits);
+        let possible = at_most(larger(asked.lower, 1), asked.upper);
+        let ordered = at_most(low, high);
+        let some = both(self.some, both(possible, ordered));
+        Stamps {
+            any: true,
+            stamp: t,
+            earliest,
+            low,
+            high,
+            each,
+            some,
+        }
+    }
+
+    // With one stamp more.
+    fn stamped(self, asked: Asked, t: u64) -> Self
+        ensures { λ r. ⌜ r ≡ stampAfter asked self t ⌝ }
+    {
+        if self.any {
+            return self.later(asked, t);
+        }
+        Stamps::first(asked, t)
+    }
+
+    // After a call.
+    fn after(self, asked: Asked, call: Call) -> Self
+        ensures { λ r. ⌜ r ≡ callAfter asked self call ⌝ }
+    {
+        match call {
+            Call::Event { kind, time } => {
+                if kind == asked.event {
+                    return self.stamped(asked, time);
+                }
+                self
+            }
+            Call::Tick { .. } => self,
+            Call::Close => self,
+        }
+    }
+
+    // What the row reads at the clock.
+    fn verdict(self, asked: Asked, now: u64) -> StampedVerdict
+        ensures { λ r. ⌜ r ≡ verdictAt asked self now ⌝ }
+    {
+        if self.any {
+            return self.reads(asked, now);
+        }
+        StampedVerdict::Kept
+    }
+
+    // What it reads there where there was a stamp.
+    fn reads(self, asked: Asked, now: u64) -> StampedVerdict
+        ensures { λ r. ⌜ r ≡ closeVerdict asked self now ⌝ }
+    {
+        if both(self.each, in_time(self.earliest, asked.upper, now)) {
+            return StampedVerdict::Kept;
+        }
+        if both(self.some, in_time(self.high, asked.upper, now)) {
+            return StampedVerdict::Unsure;
+        }
+        StampedVerdict::Broken
+    }
+}
+
+// The pass over a recording: questions 13 and 14 and those of the steps, and what the row reads in the end.
+fn pass(bytes: &[u8], asked: Asked) -> Passed
+    ensures { λ r. ⌜ Passes (now (bytes .entry)) asked r ⌝ }
+{
+    if !recording::version_one(bytes) {
+        return Passed {
+            number: 13,
+            place: 0,
+            verdict: StampedVerdict::Kept,
+        };
+    }
+    let mut order = Order::start();
+    let mut stamps = Stamps::new();
+    let mut place: usize = 1;
+    while place < bytes.len() {
+        let read = order::read(bytes, place, order);
+        if 0 < read.number {
+            return Passed {
+                number: read.number,
+                place,
+                verdict: StampedVerdict::Kept,
+            };
+        }
+        let call = read.call;
+        stamps = stamps.after(asked, call);
+        let later = read.order;
+        order = later;
+        place = read.next;
+    }
+    Passed {
+        number: 0,
+        place: 0,
+        verdict: stamps.verdict(asked, order.clock),
+    }
+}
+
+// A row that is not asked.
+fn no_row(number: u8) -> RowAsked
+    ensures { λ r. ⌜ r ≡ record { number = number; event = 0; lower = 0; upper = 0 } ⌝ }
+{
+    RowAsked {
+        number,
+        event: 0,
+        lower: 0,
+        upper: 0,
+    }
+}
+
+// A row of a table: questions 15 and 25.
+fn row_of(table: Table, row: u64) -> RowAsked
+    ensures { λ r. ⌜ Finds table row r ⌝ }
+{
+    if 32 <= row {
+        return no_row(15);
+    }
+    if table.count as u64 <= row {
+        return no_row(15);
+    }
+    let i = row as usize;
+    let entry = table.rows[i];
+    let constraint = entry.constraint;
+    let fields = constraint.fields();
+    let line = fields.line;
+    let bytes = fields.bytes;
+    let times = fields.times;
+    if line.form != 3 {
+        return no_row(25);
+    }
+    if bytes[1] != 1 {
+        return no_row(25);
+    }
+    RowAsked {
+        number: 0,
+        event: bytes[0],
+        lower: times[0],
+        upper: times[1],
+    }
+}
+
+// What a row of a table reads at the close of a recording whose stamps are late by at most so much; or the refusal.
+pub fn read(table: &[u8], recording: &[u8], row: u64, late: u64) -> StampedAnswer
+    ensures { λ r. ⌜ AnswersStamps (now (table .entry)) (now (recording .entry)) row late r ⌝ }
+{
+    let reading = table::read(table);
+    let answer = reading.answer;
+    if let ReadAnswer::Refused { number, place } = answer {
+        return StampedAnswer::Refused { number, place };
+    }
+    let found = row_of(reading.table, row);
+    let asked = Asked {
+        event: found.event,
+        lower: found.lower,
+        upper: found.upper,
+        late,
+    };
+    let passed = pass(recording, asked);
+    if 0 < passed.number {
+        return StampedAnswer::Refused {
+            number: passed.number,
+            place: passed.place,
+        };
+    }
+    if 0 < found.number {
+        return StampedAnswer::Refused {
+            number: found.number,
+            place: 0,
+        };
+    }
+    if LAST_TIME < late {
+        return StampedAnswer::Refused {
+            number: 10,
+            place: 0,
+        };
+    }
+    let verdict = passed.verdict;
+    StampedAnswer::Reads(verdict)
+}

@@ -1,4 +1,4 @@
--- §3.6 to §3.8 for all seven row types: the promise over the machine, with the engine of every type put in.
+-- §3.6 to §3.8 for every row type: the promise over the machine, with the engine of every type put in.
 use Prim.Native.Nat.{ℕ, _+_, _≤_, _<_}
 use mathlib.Core.Path.{_≡_, refl, sym, subst}
 use mathlib.Core.Bool.{true, false}

@@ -671,11 +671,15 @@ uint64_t delkuthi_stamps(const uint8_t *table, size_t table_length,
                          const uint8_t *recording, size_t recording_length,
                          uint64_t row, uint64_t late);
 
-/* The word in an answer of delkuthi_stamps that is no refusal. */
+/*
+ * The word in an answer of delkuthi_stamps that is no refusal: kept if each
+ * choice of true times meets the row, broken if none does, unsure if one does
+ * and another does not.
+ */
 #define DELKUTHI_STAMPS_WORD(answer) ((answer) >> 8)
-#define DELKUTHI_STAMPS_KEPT   0 /* each choice of true times meets the row */
-#define DELKUTHI_STAMPS_BROKEN 1 /* none does */
-#define DELKUTHI_STAMPS_UNSURE 2 /* one does, and another does not */
+#define DELKUTHI_STAMPS_KEPT   0
+#define DELKUTHI_STAMPS_BROKEN 1
+#define DELKUTHI_STAMPS_UNSURE 2
 
 #ifdef __cplusplus
 }

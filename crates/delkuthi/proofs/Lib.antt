@@ -9,3 +9,4 @@ mod Walk
 mod RowNumbers
 pub mod Printing
 pub mod StampNumbers
+pub mod StampWords

@@ -18,7 +18,7 @@ use Rattle.constraint.specs.declared.Constraint.{Constraint}
 use Rattle.constraint.proofs.History.{closed-event, closed-tick}
 use Rattle.constraint.proofs.Judged.{never, judged-yes, judged-once}
 use Rattle.recording.specs.Record.{CallAt}
-use Rattle.recording.proofs.Records.{record-judged, record-refused as record-not-there}
+use Rattle.recording.proofs.Records.{record-judged, record-refused as record-not-there, unclosed-more}
 use Rattle.monitor.specs.Machine.{stepOf as machineStep}
 use Rattle.monitor.specs.Contract.{Steps}
 use Rattle.monitor.specs.declared.Monitor.{Monitor}
@@ -43,14 +43,6 @@ step-judged : (rows : List Constraint) (steps : List Step) (m : Monitor) (bytes 
 step-judged rows steps m bytes place s size result read kept took = record-judged rows steps bytes place s size (result .answer) read (took-judged rows steps m took s result kept)
 
 -- Record by record
-
--- no record is a close
-unclosed-more : (body : List ℕ) (steps : List Step) → closed steps ≡ false → closed (steps ++ (stepFor (callOf body) ∷ [])) ≡ false
-unclosed-more body steps before = go (eqb (length body) 9)
-  where
-    go : (b : Bool) → closed (steps ++ (stepFor (cond b (Call.Event (at body 0) (numberAt 8 body 1)) (Call.Tick (numberAt 8 body 0))) ∷ [])) ≡ false
-    go true = closed-event (at body 0) (numberAt 8 body 1) steps ∙ before
-    go false = closed-tick (numberAt 8 body 0) steps ∙ before
 
 module _ (rows : List Constraint) (bytes : List ℕ) where
   pub up-to-start : (m : Monitor) → Took rows [] m → TakenUpTo rows bytes m 1

@@ -1,14 +1,16 @@
 -- A record's step, read from its own stretch, is the step of the record in the whole recording; and what that says of its questions.
 use Prim.Native.Nat.{ℕ, _+_, _-_, _≤_}
-use mathlib.Core.Path.{_≡_, refl}
-use mathlib.Core.List.{List, [], _∷_}
+use mathlib.Core.Path.{_≡_, refl, _∙_}
+use mathlib.Core.Bool.{Bool, true, false, cond}
+use mathlib.Core.List.{List, [], _∷_, _++_}
 use mathlib.Core.Logic.{inl, inr}
 use native.Mathlib.Omega.{arith}
 use lib.ListN.{length, take, drop, length-drop}
+use lib.Dec.{eqb}
 use lib.Seq.{length-take-le, take-all, take-take, drop-drop, getD-take, getD-drop}
-use Rattle.constraint.specs.Steps.{Step, at}
+use Rattle.constraint.specs.Steps.{Step, at, closed}
 use Rattle.constraint.specs.Questions.{Judged}
-use Rattle.constraint.specs.Run.{questions}
+use Rattle.constraint.specs.Run.{stepFor, questions}
 use Rattle.constraint.specs.Bytes.{numberAt}
 use Rattle.constraint.specs.Table.{lengthAt, bodyAt}
 use Rattle.constraint.specs.Recording.{callOf, RecordAt, recordQuestions}
@@ -16,6 +18,7 @@ use Rattle.constraint.specs.declared.Call.{Call}
 use Rattle.constraint.specs.declared.Answer.{Answer}
 use Rattle.constraint.specs.declared.Answer.the-variants.{Refused}
 use Rattle.constraint.specs.declared.Constraint.{Constraint}
+use Rattle.constraint.proofs.History.{closed-event, closed-tick}
 use Rattle.constraint.proofs.Judged.{judged-yes, judged-no}
 use Rattle.recording.specs.Record.{CallAt, ReadsRecord}
 use Rattle.recording.specs.declared.Record.{Record}
@@ -82,3 +85,11 @@ pub record-refused : (rows : List Constraint) (steps : List Step) (bytes : List 
     → ¬ RecordAt bytes place → Judged (recordQuestions rows steps bytes place) (Refused 14)
 unfolding recordQuestions
 record-refused rows steps bytes place not-there = judged-no 14 (RecordAt bytes place) (questions rows steps (callOf (bodyAt bytes place))) not-there
+
+-- no record is a close
+pub unclosed-more : (body : List ℕ) (steps : List Step) → closed steps ≡ false → closed (steps ++ (stepFor (callOf body) ∷ [])) ≡ false
+unclosed-more body steps before = go (eqb (length body) 9)
+  where
+    go : (b : Bool) → closed (steps ++ (stepFor (cond b (Call.Event (at body 0) (numberAt 8 body 1)) (Call.Tick (numberAt 8 body 0))) ∷ [])) ≡ false
+    go true = closed-event (at body 0) (numberAt 8 body 1) steps ∙ before
+    go false = closed-tick (numberAt 8 body 0) steps ∙ before

@@ -27,6 +27,7 @@ use Rattle.constraint.proofs.Lists.{both, rising-at}
 use Rattle.constraint.proofs.Judged.{never, judged-none, judged-yes, judged-all, judged-once}
 use Rattle.constraint.proofs.History.{Valid, valid-none, valid-more, past-of, times-close, clock-close, closed-close}
 use Rattle.constraint.proofs.Runs.{accepts-taken, kept-exactly}
+use Rattle.recording.proofs.Records.{unclosed-more}
 use Rattle.table.proofs.Once.{reads-once}
 use Rattle.stamps.proofs.Progress.{record-accepts}
 use Rattle.stamps.proofs.Answers.{within}
@@ -99,6 +100,11 @@ module _ (bytes : List ℕ) where
   records-valid rows (record-taken {before} {place} there judged later) valid =
       records-valid rows later (valid-more _ valid (accepts-taken rows before (callOf (bodyAt bytes place)) (record-accepts bytes rows before place judged .1)))
 
+  records-open : (rows : List Constraint) {before : List Step} {place : ℕ} {steps : List Step} → ReadsRecords rows bytes before place (recording-of steps)
+      → closed before ≡ false → closed steps ≡ false
+  records-open rows (no-more end) unclosed = unclosed
+  records-open rows (record-taken {before} {place} there judged later) unclosed = records-open rows later (unclosed-more (bodyAt bytes place) before unclosed)
+
   records-once : {before : List Step} {place : ℕ} {x y : RecordingRead} → ReadsRecords [] bytes before place x → ReadsRecords [] bytes before place y → x ≡ y
   records-once (no-more h) (no-more k) = refl
   records-once (no-more h) (record-refused n k q) = absurd (omega arith)
@@ -126,6 +132,10 @@ module _ (bytes : List ℕ) where
 
   pub recording-valid : (rows : List Constraint) {steps : List Step} → ReadsRecording rows bytes (recording-of steps) → Valid steps
   recording-valid rows (version-taken one records) = records-valid rows records valid-none
+
+  pub recording-open : (rows : List Constraint) {steps : List Step} → ReadsRecording rows bytes (recording-of steps) → closed steps ≡ false
+  unfolding closed
+  recording-open rows (version-taken one records) = records-open rows records refl
 
 -- ---- never late
 
@@ -176,20 +186,20 @@ module _ (k lower upper : ℕ) (steps : List Step) (valid : Valid steps) where
 
 -- the call with late = 0 over a table and a recording whose every record the monitor takes: its answer is the word for what the row reads at the close
 pub stamps-agree : (table recording : List ℕ) (rows : List Constraint) (steps : List Step) (i k lower upper : ℕ) (v : Verdict) (answer : StampedAnswer)
-    → ReadsTable table (table-of rows) → ReadsRecording rows recording (recording-of steps) → closed steps ≡ false → RepeatRow rows i k lower upper
+    → ReadsTable table (table-of rows) → ReadsRecording rows recording (recording-of steps) → RepeatRow rows i k lower upper
     → Reads (Repeat k 1 lower upper) (steps ++ (close ∷ [])) v → AnswersStamps table recording i 0 answer → answer ≡ StampedAnswer.Reads (stampedOf v)
-stamps-agree table recording rows steps i k lower upper v answer read taken unclosed row reading (no-table n place refused) =
+stamps-agree table recording rows steps i k lower upper v answer read taken row reading (no-table n place refused) =
     let same = reads-once table read refused in never (cc)
-stamps-agree table recording rows steps i k lower upper v answer read taken unclosed row reading (no-recording rows′ n place read′ refused) =
+stamps-agree table recording rows steps i k lower upper v answer read taken row reading (no-recording rows′ n place read′ refused) =
     let same = order-once recording (order-of recording rows taken) refused in never (cc)
-stamps-agree table recording rows steps i k lower upper v answer read taken unclosed row reading (not-asked rows′ steps′ n read′ taken′ refused) =
+stamps-agree table recording rows steps i k lower upper v answer read taken row reading (not-asked rows′ steps′ n read′ taken′ refused) =
     let same : table-of rows′ ≡ table-of rows = reads-once table read′ read in
     let rows-are : rows′ ≡ rows = cc in
     let there : (k : ℕ) × ((lower : ℕ) × ((upper : ℕ) × RepeatRow rows i k lower upper)) = (k, (lower, (upper, row))) in
     let all-yes : Judged (stampsQuestions rows i 0) Taken = judged-yes 15 _ _ Taken (within rows i _ row) (judged-yes 25 _ _ Taken there (judged-yes 10 _ _ Taken (omega arith) judged-none)) in
     let never-so = judged-once (stampsQuestions rows i 0) (Refused n) Taken (subst (λ (l : List Constraint). Judged (stampsQuestions l i 0) (Refused n)) rows-are refused) all-yes in
     never (cc)
-stamps-agree table recording rows steps i k lower upper v answer read taken unclosed row reading (reads rows′ steps′ k′ lower′ upper′ w read′ taken′ row′ small says) =
+stamps-agree table recording rows steps i k lower upper v answer read taken row reading (reads rows′ steps′ k′ lower′ upper′ w read′ taken′ row′ small says) =
     let same : table-of rows′ ≡ table-of rows = reads-once table read′ read in
     let rows-are : rows′ ≡ rows = cc in
     let same-steps : recording-of steps′ ≡ recording-of steps = order-once recording taken′ (order-of recording rows taken) in
@@ -198,4 +208,4 @@ stamps-agree table recording rows steps i k lower upper v answer read taken uncl
     let lower-is : lower′ ≡ lower = cc in
     let upper-is : upper′ ≡ upper = cc in
     let word : ReadsStamps 0 lower upper (times k steps) (clock steps) w = rw (k-is, lower-is, upper-is, steps-are) at says in
-    ap (λ (x : StampedVerdict). StampedAnswer.Reads x) (word-agrees k lower upper steps (recording-valid recording rows taken) unclosed v reading w word)
+    ap (λ (x : StampedVerdict). StampedAnswer.Reads x) (word-agrees k lower upper steps (recording-valid recording rows taken) (recording-open recording rows taken) v reading w word)

@@ -44,7 +44,15 @@ fn by_definitions() -> BTreeMap<String, u64> {
         ("TAKEN", definition("crates/inplace/specs/Store.antt", "numberOf Taken")),
         ("REPORT_LIMIT", definition("crates/text/proofs/Reports.antt", "reportLimit")),
         ("PAGE_LIMIT", page_limit()),
+        ("STAMPS_KEPT", stamps_word("Kept")),
+        ("STAMPS_BROKEN", stamps_word("Broken")),
+        ("STAMPS_UNSURE", stamps_word("Unsure")),
     ])
+}
+
+/// The number of a word for late stamps: its answer is 256 times that.
+fn stamps_word(word: &str) -> u64 {
+    definition("crates/delkuthi/specs/Stamps.antt", &format!("verdictNumber StampedVerdict.{word}")) / 256
 }
 
 /// The bytes of the longest row, by the list of lengths.
@@ -87,6 +95,7 @@ fn refusals() -> BTreeMap<String, u64> {
         ("RECORD", question("RecordAt ")),
         ("NO_ROW", number_between(&all, "(RowVerdict.Refused ", ")")),
         ("TABLE_ROOM", question("length (tableBytes ")),
+        ("NOT_REPEAT", question("(k : ℕ) × ((lower : ℕ) × ")),
     ])
 }
 

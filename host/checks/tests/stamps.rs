@@ -105,7 +105,9 @@ fn refusals_in_their_order() {
     let (table, recording) = (table_bytes(&rows), recording_bytes(&steps));
     assert_eq!(library(&table, &recording, 2, 0), Ok(Stamped::Kept));
     assert_eq!(library(&table, &recording, 2, LAST_TIME), Ok(Stamped::Kept));
-    for (row, late, number) in [(3, u64::MAX, 15), (u64::MAX, 0, 15), (32, 0, 15), (0, u64::MAX, 25), (1, 0, 25), (2, LAST_TIME + 1, 10)] {
+    for (row, late, number) in
+        [(3, u64::MAX, 15), (u64::MAX, 0, 15), (32, 0, 15), (0, u64::MAX, 25), (1, 0, 25), (2, LAST_TIME + 1, 10)]
+    {
         assert_eq!(library(&table, &recording, row, late), Err(Refusal { number, place: 0 }), "row {row}, e {late}");
     }
     for _ in 0..60_000 {

@@ -1,0 +1,50 @@
+-- Where no stamp is late the number that answers for late stamps is that of the closed monitor's word: both read one list of steps.
+use Prim.Native.Nat.{ℕ, _-_, _*_}
+use native.Mathlib.Omega.{arith}
+use mathlib.Core.Path.{_≡_, refl, sym, ap, subst, _∙_}
+use mathlib.Core.List.{List, [], _∷_, _++_}
+use mathlib.Core.Option.{Option, some}
+use lib.ListN.{getElem?}
+use Rattle.constraint.specs.Steps.{Step, close}
+use Rattle.constraint.specs.Continuation.{Reads, reads-open}
+use Rattle.constraint.specs.Promise.{ReadsRow, row, no-row}
+use Rattle.constraint.specs.Table.{ReadsTable, table-of}
+use Rattle.constraint.specs.Stamps.{RepeatRow}
+use Rattle.constraint.specs.declared.Constraint.{Constraint}
+use Rattle.constraint.specs.declared.Constraint.the-variants.{Repeat}
+use Rattle.constraint.specs.declared.StampedAnswer.{StampedAnswer}
+use Rattle.constraint.specs.declared.Verdict.{Verdict}
+use Rattle.constraint.proofs.History.{closed-close}
+use Rattle.constraint.proofs.Judged.{never}
+use Rattle.constraint.proofs.Lists.{both}
+use Rattle.constraint.proofs.Sanity.{run-once}
+use Rattle.monitor.specs.declared.Monitor.{Monitor}
+use Rattle.stamps.proofs.Agreement.{stampedOf, stamps-agree}
+use Rattle.table.specs.declared.ReadAnswer.{ReadAnswer}
+use Rattle.delkuthi.specs.Lent.{wordOf, WordOfVerdict}
+use Rattle.delkuthi.specs.Stamps.{stampedNumber, NumbersStamps}
+use Rattle.delkuthi.specs.Taking.{RecordingTakenAs}
+
+-- 1 for kept and 2 for broken are 0 and 256
+numbers-agree : (c : Constraint) (steps : List Step) (v : Verdict) → Reads c (steps ++ (close ∷ [])) v
+    → stampedNumber (StampedAnswer.Reads (stampedOf v)) ≡ (wordOf (some v) - 1) * 256
+numbers-agree c steps Verdict.Open (reads-open e o) = both (sym (closed-close steps) ∙ e)
+numbers-agree c steps Verdict.Kept reading = omega arith
+numbers-agree c steps (Verdict.Broken n) reading = omega arith
+
+pub stamps-as-the-monitor : (table recording : List ℕ) (rows : List Constraint) (m : Monitor) (i k lower upper word number : ℕ)
+    → ReadsTable table (table-of rows) → RecordingTakenAs rows recording ReadAnswer.Accepted m → RepeatRow rows i k lower upper
+    → WordOfVerdict m i word → NumbersStamps table recording i 0 number → number ≡ (word - 1) * 256
+stamps-as-the-monitor table recording rows m i k lower upper word number read taken there verdict numbers =
+    let steps = taken .0 in
+    let took = taken .2 in
+    let says = verdict .says .means rows (took .calls) (took .accepted) (took .made) in
+    of-row (says .2) (subst (λ (past : List Step). ReadsRow rows past i (says .2)) (run-once rows (says .1 .1) (took .recorded .1) .1) (says .3)) (says .4)
+  where
+    of-row : (o : Option Verdict) → ReadsRow rows (taken .0 ++ (close ∷ [])) i o → word ≡ wordOf o → number ≡ (word - 1) * 256
+    of-row o (row c v e r) w =
+        let same : c ≡ Repeat k 1 lower upper = cc in
+        let reading : Reads (Repeat k 1 lower upper) (taken .0 ++ (close ∷ [])) v = subst (λ (x : Constraint). Reads x (taken .0 ++ (close ∷ [])) v) same r in
+        let agrees = stamps-agree table recording rows (taken .0) i k lower upper v (numbers .answer) read (taken .1) there reading (numbers .answers) in
+        numbers .equals ∙ ap stampedNumber agrees ∙ numbers-agree (Repeat k 1 lower upper) (taken .0) v reading ∙ ap (λ (x : ℕ). (x - 1) * 256) (sym w)
+    of-row o (no-row e) w = never (cc)

@@ -80,6 +80,7 @@
  *   a page           at most 2,482 bytes  DELKUTHI_PAGE_LIMIT
  *   stack, report    at most 256 KiB      DELKUTHI_REPORT_STACK
  *   stack, page      at most 2 KiB        DELKUTHI_PAGE_STACK
+ *   stack, stamps    at most 16 KiB       DELKUTHI_STAMPS_STACK
  *   stack, fresh     at most 256 KiB      DELKUTHI_MONITOR_STACK
  *   stack, steps     at most 1 KiB        DELKUTHI_STEP_STACK
  *
@@ -271,6 +272,7 @@ extern "C" {
 #define DELKUTHI_PAGE_LIMIT    2482
 #define DELKUTHI_REPORT_STACK  262144
 #define DELKUTHI_PAGE_STACK    2048
+#define DELKUTHI_STAMPS_STACK  16384
 #define DELKUTHI_MONITOR_STACK 262144
 #define DELKUTHI_STEP_STACK    1024
 

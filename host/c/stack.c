@@ -80,6 +80,12 @@ static void *whole_report(void *unused)
     return unused;
 }
 
+static void *late_stamps(void *unused)
+{
+    (void)delkuthi_stamps(table.bytes, table.length, recording.bytes, recording.length, 0, 1);
+    return unused;
+}
+
 /* The bytes of the stack that a thread used which did this. */
 static size_t used_by(void *(*act)(void *))
 {
@@ -128,6 +134,7 @@ int main(int argc, char **argv)
     well &= within(DELKUTHI_STEP_STACK, "close", close_it);
     well &= within(DELKUTHI_PAGE_STACK, "page", printed);
     well &= within(DELKUTHI_REPORT_STACK, "report", whole_report);
+    well &= within(DELKUTHI_STAMPS_STACK, "stamps", late_stamps);
     free(stack);
     free_file(&table);
     free_file(&recording);

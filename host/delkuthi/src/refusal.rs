@@ -60,11 +60,13 @@ pub const fn refusal_text(number: u8) -> &'static str {
         10 => "the time is above 2^56 - 1",
         11 => "the time is not in order",
         12 => "more than 64 would wait in a row",
-        13 => "the recording does not begin with a version byte 1",
-        14 => "a record is not whole, or its length is neither 8 nor 9",
+        13 => "the recording does not begin with a version byte 1 or 2",
+        14 => "a record is not whole, or its length is not 8, 9 or 10",
         15 => "there is no row of that number",
         16 => "the buffer is too short",
         17 => "a file is too large",
+        18 => "a row has a plain kind where its type takes coloured ones, or a coloured one where it takes plain ones",
+        19 => "an event has no colour and a coloured kind, or a colour and a plain kind, or no such colour",
         _ => "a refusal without a text",
     }
 }

@@ -35,15 +35,11 @@ use Rattle.monitor.specs.declared.Stepped.{Stepped}
 use Rattle.monitor.proofs.Demand.{after-follows}
 use Rattle.monitor.proofs.RowVerdicts.{verdict-by-is}
 use Rattle.monitor.proofs.Theorem.{step-kept as steps-kept, reading-kept}
+use Rattle.stamps.proofs.Answers.{within}
 
 -- ---- verdicts
 
--- the row at a number is within the table, and where there is none the number is past it
-pub within : (rows : List Constraint) (i : ℕ) (c : Constraint) → getElem? rows i ≡ some c → i < length rows
-within [] i c e = never (cc)
-within (r ∷ rows) zero c e = omega arith
-within (r ∷ rows) (suc i) c e = omega (arith, within rows i c e)
-
+-- where there is no row of a number, the number is past the table
 past : (rows : List Constraint) (i : ℕ) → getElem? rows i ≡ none → length rows ≤ i
 past [] i e = omega arith
 past (r ∷ rows) zero e = never (cc)

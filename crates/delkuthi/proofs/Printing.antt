@@ -44,7 +44,7 @@ use Rattle.page.specs.Sheet.{verdictOf as madeOf, verdictsOf, blankPage, withRo
 use Rattle.page.specs.declared.Page.{Page}
 use Rattle.page.proofs.Pages.{same-rows}
 use Rattle.page.proofs.ReadBack.{StepFits, page-reads-back, equal-pages}
-use Rattle.delkuthi.proofs.Numbers.{within}
+use Rattle.stamps.proofs.Answers.{within}
 use Rattle.delkuthi.specs.Printed.{printedRows, typeIn, brokenIn, filled, printed, WritesPage}
 
 -- ---- what the page is filled with

@@ -17,6 +17,7 @@ use Rattle.constraint.specs.declared.Table.{Table}
 use Rattle.constraint.specs.declared.Verdict.{Verdict}
 use Rattle.constraint.proofs.Judged.{judged-once}
 use Rattle.row.proofs.Engine.{engine}
+use Rattle.order.proofs.Laws.{run-more}
 use Rattle.monitor.specs.Machine.{monitorOf}
 use Rattle.constraint.proofs.Sanity.{run-once}
 use Rattle.monitor.specs.Contract.{step, after, Freshly, Steps, Reading as VerdictReading}
@@ -25,12 +26,6 @@ use Rattle.monitor.specs.declared.Stepped.{Stepped}
 use Rattle.monitor.proofs.Following.{Follows}
 use Rattle.monitor.proofs.Demand.{start-follows, play-follows}
 use Rattle.delkuthi.specs.Taking.{Took}
-
--- one call more, which is taken
-run-more : {rows : List Constraint} {steps end : List Step} {calls : List Call} {answers : List Answer} (s : Call) → Run rows steps calls answers end → Judged (questions rows end s) Taken
-    → Run rows steps (calls ++ (s ∷ [])) (answers ++ (Taken ∷ [])) (end ++ (stepFor s ∷ []))
-run-more s done judged = call s Taken judged done
-run-more s (call t a earlier rest) judged = call t a earlier (run-more s rest judged)
 
 -- a fresh monitor over an accepted table is the one before any call, and has taken none
 pub fresh-made : (table : Table) (answer : Answer) (m : Monitor) → Accepted (rowsOf table) → Freshly table answer m → m ≡ after (rowsOf table) []

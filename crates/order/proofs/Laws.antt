@@ -62,7 +62,9 @@ none-accepted : Accepted []
 unfolding rowsQuestions
 none-accepted = judged-none
 
-run-more : {rows : List Constraint} {steps end : List Step} {calls : List Call} {answers : List Answer} (s : Call) → Run rows steps calls answers end → Judged (questions rows end s) Taken
+-- one call more, which is taken
+pub run-more : {rows : List Constraint} {steps end : List Step} {calls : List Call} {answers : List Answer} (s : Call)
+    → Run rows steps calls answers end → Judged (questions rows end s) Taken
     → Run rows steps (calls ++ (s ∷ [])) (answers ++ (Taken ∷ [])) (end ++ (stepFor s ∷ []))
 run-more s done judged = call s Taken judged done
 run-more s (call t a earlier rest) judged = call t a earlier (run-more s rest judged)

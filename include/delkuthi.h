@@ -32,16 +32,20 @@
  *
  * Times are whole numbers, 0 to DELKUTHI_LAST_TIME, in any unit that the table
  * and the events share. Events come in kinds, numbered 0 to DELKUTHI_LAST_KIND.
- * A step is an event (a kind and a time), a tick (the clock moved on to a time,
- * without an event) or the close. The first step that is taken has number 1,
- * and the close has a number too; a refused step has none.
+ * Kinds 0 to 47 are plain. Kinds from DELKUTHI_FIRST_COLOURED, 48, on are
+ * coloured: their events have a colour, 0 to DELKUTHI_LAST_COLOUR, which tells
+ * the runs through a chain apart. A step is an event (a kind, for a coloured
+ * kind a colour, and a time), a tick (the clock moved on to a time, without an
+ * event) or the close. The first step that is taken has number 1, and the close
+ * has a number too; a refused step has none.
  *
- * Two events of one kind never share a time: the second is refused with 11.
+ * Two events of one kind, and of a coloured kind of one colour, never share a
+ * time: the second is refused with 11.
  * Where a recorder's clock is too coarse to tell two events apart, take a finer
  * unit: multiply the times of the table and all stamps by 1,000, say, and give
  * the second event the next time. Where the second tells nothing new, leave it
- * out. Events of different kinds may share a time, in whichever order they are
- * given.
+ * out. Events of different kinds or colours may share a time, in whichever
+ * order they are given.
  *
  * A step that is refused has changed nothing, and the monitor goes on. So a
  * host that meets a 12 (more than 64 would wait in a row) can give the step
@@ -73,6 +77,7 @@
  *
  *   times            0 to 2^56 - 1        DELKUTHI_LAST_TIME
  *   kinds            0 to 63              DELKUTHI_LAST_KIND
+ *   colours          0 to 7               DELKUTHI_LAST_COLOUR
  *   rows of a table  0 to 32              DELKUTHI_ROW_LIMIT
  *   waiting in a row at most 64           DELKUTHI_WAITING_LIMIT
  *   a table          at most 1,153 bytes  DELKUTHI_TABLE_LIMIT
@@ -107,11 +112,15 @@
  *   7 StrongSynchronization   n from 2 to 4, n kinds, tolerance        10 + n
  *   8 ExecutionTime           start, stop, preempt, resume,
  *                             lower, upper                                 21
+ *   9 Reaction                stimulus, response, minimum, maximum         19
  *  10 Repetition              event, span, lower, upper, jitter            27
  *
- * Spans and maxima go from 1 to 64, the span of type 10 from 1 to 8. Where the
- * upper of type 1, 3 or 4 is 2^64 - 1, DELKUTHI_NO_LIMIT, there is no upper
- * limit. There is no type 9.
+ * The kinds of a Reaction are coloured ones, those of all other types plain
+ * ones. Its maximum is a time, as its minimum is.
+ *
+ * Spans, and the maximum of a Burst, go from 1 to 64, the span of type 10 from
+ * 1 to 8. Where the upper of type 1, 3 or 4 is 2^64 - 1, DELKUTHI_NO_LIMIT,
+ * there is no upper limit.
  *
  * A host need not count these bytes: it makes rows by their fields' names, and
  * delkuthi_make_table writes the table. A Delay and an Order, say:
@@ -178,6 +187,15 @@
  *                 the clock once the running time is past upper, a preempt
  *                 after which no time is left to run, and a close after a
  *                 start and before its stop.
+ *   9 Reaction    Each stimulus needs a response of its colour, and it is the
+ *                 first response of that colour in the whole recording that
+ *                 has to come minimum to maximum after it. So all stimuli of
+ *                 a colour share one response, and one that comes before any
+ *                 stimulus is it already. Later responses do not count. A
+ *                 colour that has stimuli and no response breaks the row once
+ *                 the clock is past its first stimulus + maximum, as soon as
+ *                 no time is left that suits all its stimuli, and at the
+ *                 close.
  *  10 Repetition  Each event is 0 to jitter after a hidden point of its own.
  *                 The points are at least 0 and rise, and a point is lower to
  *                 upper after the one span places before it. An event for
@@ -195,8 +213,8 @@
 #include <inttypes.h>
 #include <stdio.h>
 
-// What comes next: 'e' an event, 't' a tick, 0 the end.
-extern int next_step(uint8_t *kind, uint64_t *time);
+// What comes next: 'e' an event, 'c' one with a colour, 't' a tick, 0 the end.
+extern int next_step(uint8_t *kind, uint8_t *colour, uint64_t *time);
 
 static delkuthi_monitor monitor;
 
@@ -216,7 +234,7 @@ static int first_broken(void)
 static int bench(const uint8_t *table, size_t table_length)
 {
     uint64_t time, answer;
-    uint8_t kind, refused = 0;
+    uint8_t kind, colour, refused = 0;
     int row = -1, what = 'e';
 
     if (!DELKUTHI_MATCHES()) {
@@ -230,9 +248,11 @@ static int bench(const uint8_t *table, size_t table_length)
         return 2;
     }
     while (row < 0 && !refused && what) {
-        what = next_step(&kind, &time);
+        what = next_step(&kind, &colour, &time);
         if (what == 'e')
             refused = delkuthi_event(&monitor, kind, time);
+        else if (what == 'c')
+            refused = delkuthi_coloured_event(&monitor, kind, colour, time);
         else if (what == 't')
             refused = delkuthi_tick(&monitor, time);
         else
@@ -260,11 +280,13 @@ static int bench(const uint8_t *table, size_t table_length)
 extern "C" {
 #endif
 
-/* The version of this header, 0.2.0: major * 1000000 + minor * 1000 + patch. */
-#define DELKUTHI_VERSION UINT32_C(2000)
+/* The version of this header, 0.3.0: major * 1000000 + minor * 1000 + patch. */
+#define DELKUTHI_VERSION UINT32_C(3000)
 
 #define DELKUTHI_LAST_TIME     UINT64_C(72057594037927935)
 #define DELKUTHI_LAST_KIND     63
+#define DELKUTHI_FIRST_COLOURED 48
+#define DELKUTHI_LAST_COLOUR   7
 #define DELKUTHI_ROW_LIMIT     32
 #define DELKUTHI_WAITING_LIMIT 64
 #define DELKUTHI_TABLE_LIMIT   1153
@@ -280,12 +302,12 @@ extern "C" {
 #define DELKUTHI_NO_LIMIT UINT64_C(18446744073709551615)
 
 /*
- * A monitor: 23,584 bytes, aligned as a uint64_t is. Put it on the stack, in
+ * A monitor: 24,480 bytes, aligned as a uint64_t is. Put it on the stack, in
  * static memory, on a heap or in a struct of your own, and give it to
  * delkuthi_fresh first. What its words mean is the library's own business.
  */
 typedef struct delkuthi_monitor {
-    uint64_t words[2948];
+    uint64_t words[3060];
 } delkuthi_monitor;
 
 /* Returns the version of the library, which is that of its own header. */
@@ -311,7 +333,7 @@ uint64_t delkuthi_monitor_size(void);
  * gives the number.
  */
 enum delkuthi_refusal {
-    /* A table (delkuthi_fresh, delkuthi_report; 3 to 7 also of
+    /* A table (delkuthi_fresh, delkuthi_report; 3 to 7 and 18 also of
        delkuthi_make_table). Mend the table. */
     DELKUTHI_TABLE_VERSION = 1, /* it does not begin with a byte 1 */
     DELKUTHI_ROW_CUT = 2,       /* a length field, or a row, is not whole */
@@ -319,23 +341,31 @@ enum delkuthi_refusal {
     DELKUTHI_ROW_SHAPE = 4,     /* no such type or n, or the wrong length */
     DELKUTHI_ROW_KINDS = 5,     /* a kind above 63, or one kind twice */
     DELKUTHI_ROW_RANGE = 6,     /* a time, span or maximum out of range */
-    DELKUTHI_ROW_BOUNDS = 7,    /* lower is more than upper */
+    DELKUTHI_ROW_BOUNDS = 7,    /* lower is more than upper, or minimum more
+                                   than maximum in a Reaction */
+    DELKUTHI_ROW_SORT = 18,     /* a plain kind in a Reaction, or a coloured
+                                   one in another row; asked after 5 */
 
-    /* A step (delkuthi_event, _tick, _close, _report). */
+    /* A step (delkuthi_event, _coloured_event, _tick, _close, _report). */
     DELKUTHI_CLOSED = 8,     /* it is closed: start a fresh monitor */
     DELKUTHI_KIND = 9,       /* a kind above 63: leave the event out */
+    DELKUTHI_FORM = 19,      /* a coloured kind without a colour, a plain one
+                                with one, or a colour above 7; in a recording
+                                of version 1 any colour. Asked after 9: use
+                                the other call, or the other form of record */
     DELKUTHI_TIME_RANGE = 10,/* a time above 2^56 - 1: mend the host's clock */
     DELKUTHI_TIME_ORDER = 11,/* an event before the clock, or not after the
-                                last one of its kind; a tick not after the
-                                clock: give steps in the order of time */
+                                last one of its kind and colour; a tick not
+                                after the clock: give steps in the order of
+                                time */
     DELKUTHI_CROWDED = 12,   /* more than 64 would wait in a row: give the
                                 event again once something was answered, or
                                 take a table that asks for less patience */
 
     /* A recording (delkuthi_report). Mend the recording. */
-    DELKUTHI_RECORDING_VERSION = 13, /* it does not begin with a byte 1 */
+    DELKUTHI_RECORDING_VERSION = 13, /* its first byte is neither 1 nor 2 */
     DELKUTHI_RECORD = 14,            /* a record is not whole, or its length
-                                        is neither 8 nor 9 */
+                                        is not 8, 9 or 10 */
 
     /* A row's number (delkuthi_row_verdict). Rows are numbered from 0. */
     DELKUTHI_NO_ROW = 15, /* the table has no row of that number */
@@ -383,15 +413,21 @@ static inline const char *delkuthi_refusal_text(uint8_t number)
     case DELKUTHI_CROWDED:
         return "more than 64 would wait in a row";
     case DELKUTHI_RECORDING_VERSION:
-        return "the recording does not begin with a version byte 1";
+        return "the recording does not begin with a version byte 1 or 2";
     case DELKUTHI_RECORD:
-        return "a record is not whole, or its length is neither 8 nor 9";
+        return "a record is not whole, or its length is not 8, 9 or 10";
     case DELKUTHI_NO_ROW:
         return "there is no row of that number";
     case DELKUTHI_TABLE_ROOM:
         return "the buffer is too short";
     case 17:
         return "a file is too large";
+    case DELKUTHI_ROW_SORT:
+        return "a row has a plain kind where its type takes coloured ones, "
+               "or a coloured one where it takes plain ones";
+    case DELKUTHI_FORM:
+        return "an event has no colour and a coloured kind, or a colour and a "
+               "plain kind, or no such colour";
     case DELKUTHI_NOT_REPEAT:
         return "the row is not a Repeat of span 1";
     default:
@@ -404,8 +440,8 @@ static inline const char *delkuthi_refusal_text(uint8_t number)
  * recorded. Whatever the memory held before is gone. The table's bytes are
  * not needed any more once the call has returned.
  *
- * Returns DELKUTHI_TAKEN, or a refusal of number 1 to 7: DELKUTHI_NUMBER of it
- * is the number, DELKUTHI_PLACE the place in the table of the length field
+ * Returns DELKUTHI_TAKEN, or a refusal of number 1 to 7 or 18:
+ * DELKUTHI_NUMBER of it is the number, DELKUTHI_PLACE the place in the table of the length field
  * concerned, counted in bytes (0 for the version byte). On a refusal the
  * memory stays as it was: a monitor that it held can go on.
  */
@@ -500,6 +536,17 @@ static inline delkuthi_row delkuthi_order(uint8_t source, uint8_t target)
     return delkuthi_row_bytes(6, source, target);
 }
 
+/* Of coloured kinds. */
+static inline delkuthi_row delkuthi_reaction(uint8_t stimulus,
+                                             uint8_t response,
+                                             uint64_t minimum,
+                                             uint64_t maximum)
+{
+    delkuthi_row row = delkuthi_row_bytes(9, stimulus, response);
+
+    return delkuthi_row_time(delkuthi_row_time(row, 3, minimum), 11, maximum);
+}
+
 /* Of n kinds, 2 to 4; a row of another n is refused with 4. */
 static inline delkuthi_row delkuthi_strong_synchronization(
     const uint8_t *kinds, uint8_t n, uint64_t tolerance)
@@ -545,8 +592,9 @@ uint64_t delkuthi_table(const delkuthi_row *rows, size_t rows_size,
  * as they were.
  *
  * DELKUTHI_NUMBER of the answer is DELKUTHI_TAKEN, and DELKUTHI_LENGTH then the
- * length of the table; or a refusal, of number 3 to 7 or DELKUTHI_TABLE_ROOM,
- * and the buffer stays as it was. It puts 3 to 7 to each row before the next.
+ * length of the table; or a refusal, of number 3 to 7, 18 or
+ * DELKUTHI_TABLE_ROOM, and the buffer stays as it was. It puts 3 to 7 and 18 to
+ * each row before the next.
  */
 static inline uint64_t delkuthi_make_table(const delkuthi_row *rows,
                                            size_t count, uint8_t *table,
@@ -559,14 +607,25 @@ static inline uint64_t delkuthi_make_table(const delkuthi_row *rows,
 #define DELKUTHI_LENGTH(answer) ((answer) >> 8)
 
 /*
- * Takes an event. Its time may be the clock's or later, and has to be later
- * than those of all earlier events of its kind. The clock moves to its time.
+ * Takes an event of a plain kind, 0 to 47. Its time may be the clock's or later,
+ * and has to be later than those of all earlier events of its kind. The clock
+ * moves to its time.
  *
  * Returns DELKUTHI_TAKEN, or a refusal, which is one of DELKUTHI_CLOSED,
- * DELKUTHI_KIND, DELKUTHI_TIME_RANGE, DELKUTHI_TIME_ORDER and DELKUTHI_CROWDED
- * and leaves the monitor as it was.
+ * DELKUTHI_KIND, DELKUTHI_FORM, DELKUTHI_TIME_RANGE, DELKUTHI_TIME_ORDER and
+ * DELKUTHI_CROWDED and leaves the monitor as it was.
  */
 uint8_t delkuthi_event(delkuthi_monitor *monitor, uint8_t kind, uint64_t time);
+
+/*
+ * Takes an event of a coloured kind, 48 to 63, with its colour, 0 to 7. Its time
+ * may be the clock's or later, and has to be later than those of all earlier
+ * events of its kind and colour. The clock moves to its time.
+ *
+ * Returns what delkuthi_event returns.
+ */
+uint8_t delkuthi_coloured_event(delkuthi_monitor *monitor, uint8_t kind,
+                                uint8_t colour, uint64_t time);
 
 /*
  * Takes a tick: the clock moves to a time later than it. A host whose clock
@@ -642,11 +701,15 @@ size_t delkuthi_page(const delkuthi_monitor *monitor,
  *
  * or, if the table, a record or a step was refused, only
  *
- *   refused N P      the number 1 to 14, and the place P of the length field
- *                    concerned, in the table (1 to 7) or in the recording
+ *   refused N P      the number 1 to 14, 18 or 19, and the place P of the
+ *                    length field concerned, in the table (1 to 7, 18) or in
+ *                    the recording
  *
- * A recording is one byte 1, then records: a length of two bytes, then a kind
- * and a time (length 9, an event) or a time (length 8, a tick), big-endian.
+ * A recording is one byte, its version, then records: a length of two bytes,
+ * then a kind and a time (length 9, an event), a kind, a colour and a time
+ * (length 10, an event of a coloured kind) or a time (length 8, a tick),
+ * big-endian. The version is 2 where a record has a colour; without colours it
+ * is 1 or 2.
  * A record's place is that of its length; the place of a version byte is 0.
  *
  * Returns how many bytes were written, at most DELKUTHI_REPORT_LIMIT. If the

@@ -8,8 +8,8 @@
 #include <inttypes.h>
 #include <stdio.h>
 
-// What comes next: 'e' an event, 't' a tick, 0 the end.
-extern int next_step(uint8_t *kind, uint64_t *time);
+// What comes next: 'e' an event, 'c' one with a colour, 't' a tick, 0 the end.
+extern int next_step(uint8_t *kind, uint8_t *colour, uint64_t *time);
 
 static delkuthi_monitor monitor;
 
@@ -29,7 +29,7 @@ static int first_broken(void)
 static int bench(const uint8_t *table, size_t table_length)
 {
     uint64_t time, answer;
-    uint8_t kind, refused = 0;
+    uint8_t kind, colour, refused = 0;
     int row = -1, what = 'e';
 
     if (!DELKUTHI_MATCHES()) {
@@ -43,9 +43,11 @@ static int bench(const uint8_t *table, size_t table_length)
         return 2;
     }
     while (row < 0 && !refused && what) {
-        what = next_step(&kind, &time);
+        what = next_step(&kind, &colour, &time);
         if (what == 'e')
             refused = delkuthi_event(&monitor, kind, time);
+        else if (what == 'c')
+            refused = delkuthi_coloured_event(&monitor, kind, colour, time);
         else if (what == 't')
             refused = delkuthi_tick(&monitor, time);
         else
@@ -81,8 +83,9 @@ static uint64_t time_of(const uint8_t *bytes)
     return time;
 }
 
-// The next record: its length of two bytes is 9 for an event, 8 for a tick.
-int next_step(uint8_t *kind, uint64_t *time)
+// The next record: its length of two bytes is 9 for an event, 10 for one with
+// a colour, 8 for a tick. In version 1 there are no colours: 255 is none.
+int next_step(uint8_t *kind, uint8_t *colour, uint64_t *time)
 {
     const uint8_t *record = recording.bytes + place;
     size_t left = recording.length - place;
@@ -94,6 +97,13 @@ int next_step(uint8_t *kind, uint64_t *time)
         *time = time_of(record + 3);
         place += 11;
         return 'e';
+    }
+    if (left >= 12 && record[0] == 0 && record[1] == 10) {
+        *kind = record[2];
+        *colour = recording.bytes[0] == 1 ? 255 : record[3];
+        *time = time_of(record + 4);
+        place += 12;
+        return 'c';
     }
     if (left >= 10 && record[0] == 0 && record[1] == 8) {
         *time = time_of(record + 2);
@@ -113,8 +123,8 @@ int main(int argc, char **argv)
         fprintf(stderr, "usage: bench_loop TABLE RECORDING\n");
         return 4;
     }
-    if (recording.length == 0 || recording.bytes[0] != 1) {
-        fprintf(stderr, "not a recording of version 1\n");
+    if (recording.length == 0 || recording.bytes[0] < 1 || recording.bytes[0] > 2) {
+        fprintf(stderr, "not a recording of version 1 or 2\n");
         return 4;
     }
     result = bench(table.bytes, table.length);

@@ -30,7 +30,7 @@ static const uint64_t worst[] = {0, 1, 63, 64, 65, UINT64_C(1) << 32, DELKUTHI_L
                                  UINT64_C(1) << 63, UINT64_MAX - 1, UINT64_MAX};
 static const uint64_t times[] = {21, DELKUTHI_LAST_TIME, UINT64_MAX};
 static const uint64_t rows[] = {0, 31, 32, UINT64_MAX};
-static const uint8_t kinds[] = {0, 1, 2, 64};
+static const uint8_t kinds[] = {0, 1, 2, 48, 49, 63, 64};
 
 static uint64_t state = 88172645463325252u;
 static unsigned long made;
@@ -80,6 +80,9 @@ static void every_call(const delkuthi_monitor *forged)
             monitor = *forged;
             begins("delkuthi_event");
             (void)delkuthi_event(&monitor, kinds[j], times[i]);
+            monitor = *forged;
+            begins("delkuthi_coloured_event");
+            (void)delkuthi_coloured_event(&monitor, kinds[j], (uint8_t)(j % 9), times[i]);
         }
         monitor = *forged;
         begins("delkuthi_tick");

@@ -28,6 +28,8 @@ static delkuthi_row row_of(unsigned type, const uint8_t *b, const uint64_t *t)
         return delkuthi_burst(b[0], b[1], t[0], t[1]);
     case 6:
         return delkuthi_order(b[0], b[1]);
+    case 9:
+        return delkuthi_reaction(b[0], b[1], t[0], t[1]);
     case 7:
         return delkuthi_strong_synchronization(b + 1, b[0], t[0]);
     case 8:

@@ -57,6 +57,7 @@ static void calls(delkuthi_monitor *monitor)
         uint64_t time = number() >> (number() % 64);
 
         (void)delkuthi_event(monitor, (uint8_t)(number() % 72), time);
+        (void)delkuthi_coloured_event(monitor, (uint8_t)(number() % 72), (uint8_t)(number() % 9), time);
         (void)delkuthi_tick(monitor, time + 1);
         (void)delkuthi_row_verdict(monitor, number() % 40);
         (void)delkuthi_row_verdict(monitor, number());
@@ -67,7 +68,7 @@ static void calls(delkuthi_monitor *monitor)
         if (i % 8 == 7)
             (void)delkuthi_close(monitor);
         if (number() % 8 == 0)
-            monitor->words[number() % 2948] = number();
+            monitor->words[number() % 3060] = number();
     }
 }
 

@@ -81,6 +81,9 @@ int main(int argc, char **argv)
 
         if (record[1] == 9)
             (void)delkuthi_event(&monitor, record[2], time_of(record + 3));
+        else if (record[1] == 10)
+            (void)delkuthi_coloured_event(&monitor, record[2], recording.bytes[0] == 1 ? 255 : record[3],
+                                          time_of(record + 4));
         else
             (void)delkuthi_tick(&monitor, time_of(record + 2));
         if (++count % 10 == 0)

@@ -20,6 +20,11 @@ static int macros(void)
     return DELKUTHI_MATCHES() && number == DELKUTHI_ROW_CUT && place == 1
         && delkuthi_fresh(&monitor, table, sizeof table) == DELKUTHI_TAKEN
         && delkuthi_event(&monitor, DELKUTHI_LAST_KIND + 1, 0) == DELKUTHI_KIND
+        && delkuthi_event(&monitor, DELKUTHI_FIRST_COLOURED, 0) == DELKUTHI_FORM
+        && delkuthi_coloured_event(&monitor, DELKUTHI_FIRST_COLOURED,
+                                   DELKUTHI_LAST_COLOUR, 0) == DELKUTHI_TAKEN
+        && delkuthi_coloured_event(&monitor, DELKUTHI_FIRST_COLOURED,
+                                   DELKUTHI_LAST_COLOUR + 1, 0) == DELKUTHI_FORM
         && delkuthi_tick(&monitor, DELKUTHI_LAST_TIME + 1) == DELKUTHI_TIME_RANGE
         && delkuthi_row_verdict(&monitor, 0) == DELKUTHI_OPEN
         && delkuthi_row_verdict(&monitor, DELKUTHI_ROW_LIMIT) == DELKUTHI_NO_ROW

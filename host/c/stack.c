@@ -45,7 +45,10 @@ static void *event(void *unused)
     uint64_t time;
 
     for (time = 0; time < 1000; time++)
-        (void)delkuthi_event(&monitor, (uint8_t)(time % 64), time);
+        if (time % 64 < DELKUTHI_FIRST_COLOURED)
+            (void)delkuthi_event(&monitor, (uint8_t)(time % 64), time);
+        else
+            (void)delkuthi_coloured_event(&monitor, (uint8_t)(time % 64), (uint8_t)(time % 8), time);
     return unused;
 }
 

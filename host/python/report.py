@@ -17,6 +17,7 @@ def load(path):
     calls = {
         "delkuthi_fresh": (number, [monitor, data, length]),
         "delkuthi_event": (ctypes.c_uint8, [monitor, ctypes.c_uint8, number]),
+        "delkuthi_coloured_event": (ctypes.c_uint8, [monitor, ctypes.c_uint8, ctypes.c_uint8, number]),
         "delkuthi_tick": (ctypes.c_uint8, [monitor, number]),
         "delkuthi_close": (ctypes.c_uint8, [monitor]),
         "delkuthi_row_verdict": (ctypes.c_uint8, [monitor, number]),
@@ -39,12 +40,12 @@ def report(library, table, recording):
 
 
 def records(recording):
-    """The records of a recording: (kind, time), or (None, time) for a tick."""
+    """The records of a recording: the bytes before the time (a kind, a kind and a colour, or none for a tick), and the time."""
     place = 1
     while place < len(recording):
         size = int.from_bytes(recording[place : place + 2], "big")
         body = recording[place + 2 : place + 2 + size]
-        yield (body[0] if size == 9 else None), int.from_bytes(body[-8:], "big")
+        yield body[:-8], int.from_bytes(body[-8:], "big")
         place += 2 + size
 
 
@@ -52,11 +53,9 @@ def step_by_step(library, table, recording):
     """The same report, made of single calls; none of them may be refused."""
     monitor = (ctypes.c_uint64 * (library.delkuthi_monitor_size() // 8))()
     answers = [library.delkuthi_fresh(monitor, table, len(table))]
-    for kind, time in records(recording):
-        if kind is None:
-            answers.append(library.delkuthi_tick(monitor, time))
-        else:
-            answers.append(library.delkuthi_event(monitor, kind, time))
+    calls = [library.delkuthi_tick, library.delkuthi_event, library.delkuthi_coloured_event]
+    for before, time in records(recording):
+        answers.append(calls[len(before)](monitor, *before, time))
     answers.append(library.delkuthi_close(monitor))
     assert not any(answers), answers
     lines = [f"closed {len(answers) - 1}"]

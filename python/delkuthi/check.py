@@ -10,6 +10,7 @@ from .library import Refused
 from .logs import Log, LogError, Policy, Step
 from .monitor import Monitor
 from .reasons import Case, Kind
+from .signals import parts
 from .table import Table
 from .units import shown
 
@@ -95,7 +96,7 @@ class Run:
 def run(monitor: Monitor, steps: Iterable[Step], close: bool) -> Run:
     """Gives the steps to the monitor, and closes it if asked; :class:`StepRefused` at the first that is refused."""
     library, memory = monitor._library, monitor._memory
-    event, tick = library.delkuthi_event, library.delkuthi_tick
+    event, coloured, tick = library.delkuthi_event, library.delkuthi_coloured_event, library.delkuthi_tick
     found = Run()
     steps = iter(steps)
     while chunk := list(islice(steps, _CHUNK)):
@@ -103,7 +104,10 @@ def run(monitor: Monitor, steps: Iterable[Step], close: bool) -> Run:
             kind, time, _ = step
             if time > _LARGEST:
                 raise StepRefused(step, Refused(10))
-            answer = tick(memory, time) if kind is None else event(memory, kind, time)
+            if kind is None:
+                answer = tick(memory, time)
+            else:
+                answer = event(memory, kind, time) if kind < 256 else coloured(memory, *parts(kind), time)
             if answer:
                 raise StepRefused(step, Refused(answer))
         _ask(monitor, found, chunk)
@@ -131,7 +135,7 @@ def reasons_of(table: Table, steps: Iterable[Step], found: Run, at: Callable[[in
     for row, (number, step) in found.broken.items():
         ends.setdefault(number, []).append(row)
     said: dict[int, str] = {}
-    events = {kind: Kind() for row in found.broken for kind in table.rows[row].kinds}
+    events = {kind: Kind() for row in found.broken for kind in table.rows[row].hears}
     number, last = 0, Step(None, 0, 0)
 
     def say(closed: bool) -> None:

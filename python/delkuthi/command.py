@@ -10,7 +10,7 @@ from contextlib import contextmanager
 from functools import partial
 from itertools import islice
 from pathlib import Path
-from typing import Iterator, Sequence
+from typing import Iterable, Iterator, Sequence
 
 from . import library as lib
 from .check import Outcome, check
@@ -19,7 +19,7 @@ from .logs import Log, LogError, Policy, Step
 from .monitor import report, stamps
 from .output import as_html, as_json, as_junit
 from .plot import PlotMissing, write_plot
-from .recording import join, recording_bytes
+from .recording import Record, join, write_recording
 from .shrink import shortest
 from .table import Table
 from .text import TextError, grammar
@@ -211,17 +211,16 @@ def _table(given: argparse.Namespace) -> int:
 def _record(given: argparse.Namespace) -> int:
     table = Table.read(given.table)
     log = Log(given.log, table, _policy(given, table))
-    _write_parts(given.output, recording_bytes((step.kind, step.time) for step in log.steps()))
+    _write_recording(given.output, ((step.kind, step.time) for step in log.steps()))
     return KEPT
 
 
-def _write_parts(path: str, parts: Iterator[bytes]) -> None:
-    """Writes a file part by part, so that its size does not matter; at an error nothing is left of it."""
+def _write_recording(path: str, steps: Iterable[Record]) -> None:
+    """Writes a recording step by step, so that its size does not matter; at an error nothing is left of it."""
     partial_name = f"{path}.part"
     try:
         with open(partial_name, "wb") as file:
-            for part in parts:
-                file.write(part)
+            write_recording(file, steps)
         os.replace(partial_name, path)
     except BaseException as error:
         Path(partial_name).unlink(missing_ok=True)
@@ -234,7 +233,7 @@ def _join(given: argparse.Namespace) -> int:
     table = Table.read(given.table)
     policy = _policy(given, table)
     first, second = ([(step.kind, step.time) for step in Log(path, table, policy).steps()] for path in given.log)
-    _write_parts(given.output, recording_bytes(join(first, second)))
+    _write_recording(given.output, join(first, second))
     return KEPT
 
 
@@ -257,8 +256,8 @@ def _shrink(given: argparse.Namespace) -> int:
         _out(f"{given.log}: no stretch breaks {table.row_name(row)} before the close\n")
         return KEPT
     stretch = steps[found.first : found.first + found.length]
-    kinds = table.rows[row].kinds
-    matter = [step for step in stretch[:-1] if step.kind in kinds] + stretch[-1:]
+    heard = table.rows[row].hears
+    matter = [step for step in stretch[:-1] if step.kind in heard] + stretch[-1:]
     _out(f"{given.log}: {table.row_name(row)} is broken by {log.word}s {stretch[0].place} to {stretch[-1].place} alone, "
          f"{found.length} of {len(steps)} steps; those that the row hears, and the last:\n")
     _out("".join(_log_lines(log, matter)))

@@ -15,6 +15,8 @@ INTERFACE = VERSION.rsplit(".", 1)[0]
 
 LAST_TIME = 2**56 - 1
 LAST_KIND = 63
+FIRST_COLOURED = 48
+LAST_COLOUR = 7
 NO_LIMIT = 2**64 - 1
 TABLE_LIMIT = 2048
 REPORT_LIMIT = 1024
@@ -34,11 +36,13 @@ REFUSALS = {
     10: "the time is above 2^56 - 1",
     11: "the time is not in order",
     12: "more than 64 would wait in a row",
-    13: "the recording does not begin with a version byte 1",
-    14: "a record is not whole, or its length is neither 8 nor 9",
+    13: "the recording does not begin with a version byte 1 or 2",
+    14: "a record is not whole, or its length is not 8, 9 or 10",
     15: "there is no row of that number",
     16: "the buffer is too short",
     17: "a file is too large",
+    18: "a row has a plain kind where its type takes coloured ones, or a coloured one where it takes plain ones",
+    19: "an event has no colour and a coloured kind, or a colour and a plain kind, or no such colour",
     25: "the row is not a Repeat of span 1",
 }
 
@@ -72,6 +76,7 @@ def _calls() -> dict[str, tuple]:
         "delkuthi_monitor_size": (number, []),
         "delkuthi_fresh": (number, [monitor, data, length]),
         "delkuthi_event": (ctypes.c_uint8, [monitor, ctypes.c_uint8, number]),
+        "delkuthi_coloured_event": (ctypes.c_uint8, [monitor, ctypes.c_uint8, ctypes.c_uint8, number]),
         "delkuthi_tick": (ctypes.c_uint8, [monitor, number]),
         "delkuthi_close": (ctypes.c_uint8, [monitor]),
         "delkuthi_row_verdict": (ctypes.c_uint8, [monitor, number]),

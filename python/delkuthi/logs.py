@@ -9,18 +9,21 @@ import csv
 import gzip
 import re
 import zlib
+from collections import defaultdict
 from dataclasses import dataclass
 from pathlib import Path
 from typing import Callable, Iterable, Iterator, NamedTuple
 
-from .library import Refused
+from .library import FIRST_COLOURED, Refused
 from .recording import records
+from .signals import colours, parts, signal
 from .table import CanSource, CsvSource, Table
 from .units import DIGITS, NUMBER, UNITS, NotWhole, cut_to_unit, in_unit, shown
 
 
 class Step(NamedTuple):
-    """A step that a log gives: an event of a kind, or a tick if the kind is ``None``; ``place`` is its line."""
+    """A step that a log gives: an event, whose ``kind`` is the number of its signal, or a tick if that is ``None``;
+    ``place`` is its line."""
 
     kind: int | None
     time: int
@@ -28,7 +31,7 @@ class Step(NamedTuple):
 
 
 class Stamped(NamedTuple):
-    """A line of a log: its time, the kinds of the events that it is, and its place."""
+    """A line of a log: its time, the signals that it is an event of, and its place."""
 
     time: int
     kinds: tuple[int, ...]
@@ -118,7 +121,7 @@ class Log:
             raise LogError(self.path, "", f"not a packed file: {error}") from None
 
     def _ordered(self, lines: Iterable[Stamped]) -> Iterator[Step]:
-        clock, stamp, place, last = 0, 0, 0, [-1] * 256
+        clock, stamp, place, last = 0, 0, 0, defaultdict(lambda: -1)
         unit, equal = self.table.unit, self.policy.equal
         for time, kinds, place in lines:
             self.read += 1
@@ -184,7 +187,9 @@ class Log:
         for event in self.table.events:
             for source in event.sources:
                 if isinstance(source, CsvSource):
-                    kinds[source.text] = (event.kind,)
+                    kinds[source.text] = (signal(event.kind, source.colour),)
+            if event.kind >= FIRST_COLOURED:
+                kinds.update((f"{event.name}/{parts(number)[1]}", (number,)) for number in colours(event.kind))
         number = 1
 
         def texts() -> Iterator[str]:
@@ -285,17 +290,18 @@ class Log:
 
     def _recording(self) -> Iterator[Stamped]:
         with open(self.path, "rb") as file:
-            if file.read(1) != b"\x01":
+            version = file.read(1)
+            if version not in (b"\x01", b"\x02"):
                 raise LogError(self.path, "", str(Refused(13, 0)))
             clock = 0
-            for number, (place, kind, time) in enumerate(records(file), 1):
+            for number, (place, kind, time) in enumerate(records(file, version[0]), 1):
                 if time is None:
                     raise self.error(number, str(Refused(14, place)))
                 if kind is None and time <= clock and self.policy.unsorted == "refuse":
                     raise self.error(number, str(Refused(11, place)))
                 clock = time
                 if self.progress is not None:
-                    self.progress(10 if kind is None else 11)
+                    self.progress(10 if kind is None else 11 if kind < 256 else 12)
                 yield Stamped(time, () if kind is None else (kind,), number)
 
 
@@ -308,10 +314,11 @@ class CanMapping:
         for event in table.events:
             for source in event.sources:
                 if isinstance(source, CanSource):
-                    self._by_identifier.setdefault((source.identifier, source.extended), []).append((event.kind, source))
+                    self._by_identifier.setdefault((source.identifier, source.extended), []).append(
+                        (signal(event.kind, source.colour), source))
 
     def kinds(self, identifier: int, extended: bool, bus: str, data: bytes) -> tuple[int, ...]:
-        """The kinds of the events that a data frame is, in the order of the event lines."""
+        """The signals that a data frame is an event of, in the order of the event lines."""
         found: list[int] = []
         for kind, source in self._by_identifier.get((identifier, extended), ()):
             if source.bus is not None and source.bus != bus:

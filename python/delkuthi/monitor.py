@@ -6,6 +6,7 @@ from dataclasses import dataclass
 
 from . import library as lib
 from .library import Refused
+from .signals import NO_COLOUR, parts, signal
 from .table import Table
 
 _WORDS = ("open", "kept", "broken")
@@ -34,12 +35,25 @@ class Monitor:
         if answer:
             raise Refused(answer % 256, answer // 256)
 
-    def event(self, event: int | str, time: int) -> None:
-        """Takes an event, by its kind or its name."""
+    def event(self, event: int | str, time: int, colour: int | None = None) -> None:
+        """Takes an event, by its kind or its name; one of a coloured kind with its colour."""
         kind = self.table.kind(event)
         if not 0 <= kind <= 255:
             raise Refused(9)
-        self._taken(self._library.delkuthi_event(self._memory, kind, _time(time)))
+        if colour is not None and not 0 <= colour <= 255:
+            colour = NO_COLOUR
+        self.take(signal(kind, colour), time)
+
+    def take(self, number: int | None, time: int) -> None:
+        """Takes a step by the number of its signal; a tick if that is ``None``."""
+        if number is None:
+            self.tick(time)
+            return
+        kind, colour = parts(number)
+        if colour is None:
+            self._taken(self._library.delkuthi_event(self._memory, kind, _time(time)))
+        else:
+            self._taken(self._library.delkuthi_coloured_event(self._memory, kind, colour, _time(time)))
 
     def tick(self, time: int) -> None:
         """Moves the clock on without an event."""

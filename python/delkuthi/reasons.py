@@ -10,6 +10,7 @@ from dataclasses import dataclass, field
 from typing import TYPE_CHECKING, Callable, Iterator, NamedTuple
 
 from .library import NO_LIMIT
+from .signals import colours
 from .units import shown
 
 if TYPE_CHECKING:
@@ -303,6 +304,27 @@ def execution_time(case: Case) -> str | None:
     return None
 
 
+def reaction(case: Case) -> str | None:
+    """A colour whose first response is missing, or too early or too late for a stimulus, or can suit no more all of them."""
+    minimum, maximum = case.number("minimum"), case.number("maximum")
+    for stimulus, response in zip(colours(case.number("stimulus")), colours(case.number("response"))):
+        stimuli, responses = (case.events.setdefault(number, Kind()).times for number in (stimulus, response))
+        for index, time in enumerate(stimuli):
+            asked = case.event(stimulus, index)
+            if responses and responses[0] < time + minimum:
+                first = f"{case.event(response, 0)}, the first of its colour,"
+                if responses[0] < time:
+                    return f"{first} came before {asked}"
+                return f"{first} came {case.time(responses[0] - time)} after {asked}, where at least {case.time(minimum)} is asked"
+            due = time + maximum
+            if responses and responses[0] > due or not responses and (case.closed or case.clock > due):
+                return case.missing(asked, case.name(response), due, time + minimum if minimum else None)
+            if not responses and time + minimum > stimuli[0] + maximum:
+                return (f"{asked} asks for a {case.name(response)} from {case.time(time + minimum)} on, and "
+                        f"{case.event(stimulus, 0)} for the same one by {case.time(stimuli[0] + maximum)}")
+    return None
+
+
 class Window(NamedTuple):
     """Where an event of a kind may come, or has to: from ``begin`` to ``end``, or without an end."""
 
@@ -371,6 +393,15 @@ def synchronization_windows(row: Row, times: Times) -> Iterator[Window]:
         first = min(group[index] for group in groups if index < len(group))
         for kind in row.kinds:
             yield Window(kind, first, first + row.values["tolerance"])  # type: ignore[operator]
+
+
+def reaction_windows(row: Row, times: Times) -> Iterator[Window]:
+    """For each colour with a stimulus the stretch in which its first response suits all of them."""
+    values: dict[str, int] = row.values  # type: ignore[assignment]
+    for stimulus, response in zip(colours(values["stimulus"]), colours(values["response"])):
+        stimuli = times.get(stimulus, ())
+        if len(stimuli) and stimuli[-1] + values["minimum"] <= stimuli[0] + values["maximum"]:
+            yield Window(response, stimuli[-1] + values["minimum"], stimuli[0] + values["maximum"])
 
 
 def execution_windows(row: Row, times: Times) -> Iterator[Window]:

@@ -1,41 +1,60 @@
 """Recordings, the bytes that the library's report reads, and two of them joined."""
 from __future__ import annotations
 
+import io
 from typing import IO, Iterable, Iterator
 
 from .library import Refused
+from .signals import NO_COLOUR, parts, signal
 
 
-def records(file: IO[bytes]) -> Iterator[tuple[int, int | None, int | None]]:
-    """Place, kind (``None`` for a tick) and time of each record of a file that stands behind the version byte. The time is
-    ``None`` for a record that is not whole, which is the last then."""
+def records(file: IO[bytes], version: int = 2) -> Iterator[tuple[int, int | None, int | None]]:
+    """Place, signal (``None`` for a tick) and time of each record of a file that stands behind the version byte. The time is
+    ``None`` for a record that is not whole, which is the last then. In version 1 no byte is a colour."""
     place = 1
     while head := file.read(2):
         size = int.from_bytes(head, "big")
-        body = file.read(size) if len(head) == 2 and size in (8, 9) else b""
+        body = file.read(size) if len(head) == 2 and size in (8, 9, 10) else b""
         if len(body) != size or not size:
             yield place, None, None
             return
-        yield place, (body[0] if size == 9 else None), int.from_bytes(body[-8:], "big")
+        colour = None if size < 10 else body[1] if version == 2 else NO_COLOUR
+        yield place, (None if size == 8 else signal(body[0], colour)), int.from_bytes(body[-8:], "big")
         place += 2 + size
-
-
-def recording_bytes(steps: Iterable[tuple[int | None, int]]) -> Iterator[bytes]:
-    """The bytes of a recording, part by part: of each step its kind, or ``None`` for a tick, and its time."""
-    yield b"\x01"
-    for kind, time in steps:
-        if kind is None:
-            yield b"\x00\x08" + time.to_bytes(8, "big")
-        else:
-            yield b"\x00\x09" + bytes([kind]) + time.to_bytes(8, "big")
 
 
 Record = tuple["int | None", int]
 
 
+def record_bytes(number: int | None, time: int) -> bytes:
+    """A record: of a signal, or of a tick where it is ``None``."""
+    kind, colour = (0, None) if number is None else parts(number)
+    body = b"" if number is None else bytes([kind]) if colour is None else bytes([kind, colour])
+    return (len(body) + 8).to_bytes(2, "big") + body + time.to_bytes(8, "big")
+
+
+def write_recording(file: IO[bytes], steps: Iterable[Record]) -> None:
+    """Writes a recording, record by record: of version 2 if a step has a colour, else of version 1."""
+    file.write(b"\x01")
+    version = 1
+    for number, time in steps:
+        file.write(record_bytes(number, time))
+        version = 2 if number is not None and parts(number)[1] is not None else version
+    if version == 2:
+        file.seek(0)
+        file.write(b"\x02")
+
+
+def recording_bytes(steps: Iterable[Record]) -> bytes:
+    """The bytes of a recording: of each step its signal, or ``None`` for a tick, and its time."""
+    file = io.BytesIO()
+    write_recording(file, steps)
+    return file.getvalue()
+
+
 def join(first: Iterable[Record], second: Iterable[Record]) -> Iterator[Record]:
-    """Two recordings with no kind in common as one: by time, at equal times the first's records first. A tick that is
-    not later than the clock falls away. :class:`Refused` with 20 if a kind is in both."""
+    """Two recordings with no signal in common as one: by time, at equal times the first's records first. A tick that is
+    not later than the clock falls away. :class:`Refused` with 20 if a signal is in both."""
     first, second = list(first), list(second)
     if {kind for kind, _ in first if kind is not None} & {kind for kind, _ in second if kind is not None}:
         raise Refused(20)

@@ -4,16 +4,17 @@ says why it is broken, and what says where its events may come.
 The form says the grammar of the row in the text, how it is printed, and the order and sizes of its bytes: ``{name:role}``
 is a field, everything else stands as written. The roles:
 
-=======  =======================================  ==================
-role     text                                     bytes
-=======  =======================================  ==================
-kind     an event's name, or a kind's number      1
-kinds    two to four of them                      1 for n, then n
-count    a whole number, 1 to 64                  1
-few      a whole number, 1 to 8                   1
-time     a number, with a unit if there is one    8
-limit    the same, or ``none``: no upper limit    8, or 2^64 - 1
-=======  =======================================  ==================
+========  =======================================  ==================
+role      text                                     bytes
+========  =======================================  ==================
+kind      an event's name, or a kind's number      1
+kinds     two to four of them                      1 for n, then n
+coloured  the same as ``kind``, of a coloured one  1
+count     a whole number, 1 to 64                  1
+few       a whole number, 1 to 8                   1
+time      a number, with a unit if there is one    8
+limit     the same, or ``none``: no upper limit    8, or 2^64 - 1
+========  =======================================  ==================
 """
 from __future__ import annotations
 
@@ -26,7 +27,7 @@ from . import reasons
 Value = Union[int, "tuple[int, ...]"]
 
 #: How many bytes a field of each role has; of ``kinds`` the number is in the first.
-SIZES = {"kind": 1, "count": 1, "few": 1, "time": 8, "limit": 8}
+SIZES = {"kind": 1, "coloured": 1, "count": 1, "few": 1, "time": 8, "limit": 8}
 
 #: The largest number that a field of these roles may have.
 MOST = {"count": 64, "few": 8}
@@ -90,6 +91,8 @@ TYPES = (
     RowType(8, "ExecutionTime",
             "{start:kind} -> {stop:kind}, preempt {preempt:kind}, resume {resume:kind}, {lower:time} .. {upper:time}",
             "from each start to its stop, without what lies from preempt to resume", reasons.execution_time, reasons.execution_windows),
+    RowType(9, "Reaction", "{stimulus:coloured} -> {response:coloured}, {minimum:time} .. {maximum:time}",
+            "after each stimulus the first response of its colour", reasons.reaction, reasons.reaction_windows),
     RowType(10, "Repetition", "{event:kind} span {span:few}, {lower:time} .. {upper:time}, jitter {jitter:time}",
             "each event at most jitter after its point, the points span places apart so far apart",
             reasons.repetition, reasons.repetition_windows),

@@ -46,10 +46,7 @@ def _breaks(monitor: Monitor, steps: Sequence[Step]) -> int | None:
     """How many of the steps break the one row of the monitor, if they do."""
     for number, (kind, time, _) in enumerate(steps, 1):
         try:
-            if kind is not None:
-                monitor.event(kind, time)
-            else:
-                monitor.tick(time)
+            monitor.take(kind, time)
         except Refused as refusal:
             if refusal.number != 12:
                 raise

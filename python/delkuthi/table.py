@@ -9,6 +9,7 @@ from typing import Iterable
 from . import library as lib
 from .library import Refused
 from .rowtypes import MOST, BY_NAME, RowType, Value, row_bytes, row_values
+from .signals import colours, parts
 
 
 @dataclass(frozen=True)
@@ -20,6 +21,7 @@ class CanSource:
     bus: str | None = None
     data: str | None = None
     change: bool = False
+    colour: int | None = None
 
     def matches(self, data: bytes) -> bool:
         """Does the data begin with the digits asked for?"""
@@ -34,6 +36,7 @@ class CsvSource:
     """What stands in the event's column of a CSV file where it is not the event's name."""
 
     text: str
+    colour: int | None = None
 
 
 @dataclass(frozen=True)
@@ -41,6 +44,7 @@ class KeySource:
     """A key that gives the event while a bus is watched."""
 
     key: str
+    colour: int | None = None
 
 
 Source = CanSource | CsvSource | KeySource
@@ -48,7 +52,7 @@ Source = CanSource | CsvSource | KeySource
 
 @dataclass(frozen=True)
 class Event:
-    """A kind of event with its name, and where it comes from."""
+    """A kind of event with its name, and where it comes from; from a source of a coloured kind with its colour."""
 
     name: str
     kind: int
@@ -79,13 +83,20 @@ class Row:
         """The kinds that it names, in the order of its fields."""
         return tuple(kind for part in self.type.fields for kind in _kinds(part.role, self.values[part.name]))
 
+    @property
+    def hears(self) -> tuple[int, ...]:
+        """The signals that it hears: its plain kinds, and each colour of its coloured ones."""
+        return tuple(number for kind in self.kinds for number in (colours(kind) if kind >= lib.FIRST_COLOURED else (kind,)))
+
     def doubtful(self, number: int) -> str | None:
-        """The name of the field that a refusal of this number (5 to 7) is about."""
+        """The name of the field that a refusal of this number (5 to 7, or 18) is about."""
         seen: set[int] = set()
         for part in self.type.fields:
             value = self.values[part.name]
             for kind in _kinds(part.role, value):
                 if number == 5 and (kind > lib.LAST_KIND or kind in seen):
+                    return part.name
+                if number == 18 and (kind >= lib.FIRST_COLOURED) != (part.role == "coloured"):
                     return part.name
                 seen.add(kind)
             if number == 4 and part.role == "kinds":
@@ -97,7 +108,7 @@ class Row:
 
 def _kinds(role: str, value: Value) -> tuple[int, ...]:
     """The kinds that a field names, if it does."""
-    if role not in ("kind", "kinds"):
+    if role not in ("kind", "kinds", "coloured"):
         return ()
     return value if isinstance(value, tuple) else (value,)
 
@@ -171,9 +182,11 @@ class Table:
         """The kind of an event that is given by its name or by its kind."""
         return event if isinstance(event, int) else self._kinds[event]
 
-    def event_name(self, kind: int) -> str:
-        """The name of a kind; its number if it has none."""
-        return self._names.get(kind, f"kind {kind}")
+    def event_name(self, number: int) -> str:
+        """The name of a signal: of its kind, or the kind's number if that has none; then its colour, as in ``request/1``."""
+        kind, colour = parts(number)
+        name = self._names.get(kind, f"kind {kind}")
+        return name if colour is None else f"{name}/{colour}"
 
     def row_name(self, number: int) -> str:
         """The name of a row, in quotes; ``row 3`` if it has none."""

@@ -4,11 +4,11 @@
 
     table  = line*                                each statement on a line of its own; # begins a comment
     line   = "unit" UNIT                          ns, us, ms, s, min or h: first, if times have units
-           | "event" NAME "=" KIND source*        KIND is 0 to 63
+           | "event" NAME "=" KIND source*        KIND is 0 to 63; 48 to 63 are coloured, and their sources too
            | [STRING] TYPE form                   a row, with a name if it has one
-    source = "from" "can" ID ["bus" NAME] ["data" DIGITS] ["on" "change"]
-           | "from" "csv" STRING
-           | "from" "key" CHARACTER
+    source = "from" "can" ID ["bus" NAME] ["data" DIGITS] ["on" "change"] ["colour" COLOUR]
+           | "from" "csv" STRING ["colour" COLOUR]
+           | "from" "key" CHARACTER ["colour" COLOUR]
 """
 from __future__ import annotations
 
@@ -167,7 +167,11 @@ class _Parser:
                 raise line.error(f"kind {kind} is {event.name} already", start)
         sources = []
         while line.word("from"):
+            start = line.column
             sources.append(_source(line))
+            if (kind >= lib.FIRST_COLOURED) != (sources[-1].colour is not None):
+                raise line.error(f"kind {kind} is coloured: its source needs a colour" if kind >= lib.FIRST_COLOURED
+                                 else f"kind {kind} is plain: its source has no colour", start)
         self.events.append(Event(name, kind, tuple(sources)))
 
     def row(self, line: _Line, name: str | None) -> None:
@@ -190,7 +194,7 @@ class _Parser:
         self.rows.append(Row(row_type, values, name, line.number, columns))
 
     def value(self, line: _Line, part: Field) -> Value:
-        if part.role == "kind":
+        if part.role in ("kind", "coloured"):
             return self.kind(line, part.name)
         if part.role == "kinds":
             kinds = [self.kind(line, "kinds"), self.kind(line, "kinds")]
@@ -244,11 +248,21 @@ class _Parser:
         return found is not None and found[0] in UNITS
 
 
+def _colour(line: _Line) -> int | None:
+    if not line.word("colour"):
+        return None
+    start = line.column
+    colour = int(line.take(DIGITS, f"a colour from 0 to {lib.LAST_COLOUR}") or 0)
+    if colour > lib.LAST_COLOUR:
+        raise line.error(f"expected a colour from 0 to {lib.LAST_COLOUR}, found {colour}", start)
+    return colour
+
+
 def _source(line: _Line) -> Source:
     if line.word("csv"):
-        return CsvSource(line.string("the text of the event's column, in quotes"))
+        return CsvSource(line.string("the text of the event's column, in quotes"), _colour(line))
     if line.word("key"):
-        return KeySource(line.take(r"[^\s#](?!\S)", "one character, not #") or "")
+        return KeySource(line.take(r"[^\s#](?!\S)", "one character, not #") or "", _colour(line))
     if not line.word("can"):
         raise line.expected("can, csv or key")
     start = line.column
@@ -261,7 +275,7 @@ def _source(line: _Line) -> Source:
     change = line.word("on")
     if change:
         line.demand("change")
-    return CanSource(identifier, extended, bus, None if data is None else data.upper(), change)
+    return CanSource(identifier, extended, bus, None if data is None else data.upper(), change, _colour(line))
 
 
 def parse(text: str, file: str = "table") -> Table:
@@ -317,7 +331,7 @@ def _value_text(row: Row, part: Field, names: dict[int, str], unit: str | None) 
     value = row.values[part.name]
     if isinstance(value, tuple):
         return " ".join(names.get(kind, str(kind)) for kind in value)
-    if part.role == "kind":
+    if part.role in ("kind", "coloured"):
         return names.get(value, str(value))
     if part.role == "limit" and value == lib.NO_LIMIT:
         return "none"
@@ -329,11 +343,12 @@ def _quoted(name: str | None) -> str:
 
 
 def _source_text(source: Source) -> str:
+    colour = "" if source.colour is None else f" colour {source.colour}"
     if isinstance(source, CsvSource):
-        return f"from csv {_quoted(source.text)}"
+        return f"from csv {_quoted(source.text)}{colour}"
     if isinstance(source, KeySource):
-        return f"from key {source.key}"
+        return f"from key {source.key}{colour}"
     digits = f"{source.identifier:08X}" if source.extended else f"{source.identifier:03X}"
     bus = f" bus {source.bus}" if source.bus is not None else ""
     data = f" data {source.data}" if source.data is not None else ""
-    return f"from can 0x{digits}{bus}{data}{' on change' if source.change else ''}"
+    return f"from can 0x{digits}{bus}{data}{' on change' if source.change else ''}{colour}"

@@ -8,6 +8,7 @@ from typing import Iterable
 
 from .check import Outcome
 from .logs import Step
+from .signals import parts
 from .table import Table
 from .units import UNITS, shown
 
@@ -49,11 +50,14 @@ class Scene:
 def scene(table: Table, steps: Iterable[Step], outcome: Outcome, rows: Iterable[int] | None = None) -> Scene:
     """The scene of a checked log, from its steps once more; of some rows, or of all."""
     chosen = list(range(len(table.rows))) if rows is None else list(rows)
-    kinds = sorted({kind for row in chosen for kind in table.rows[row].kinds})
+    kinds = sorted({kind for row in chosen for kind in table.rows[row].hears})
     broken = {row.number: row for row in outcome.broken if row.number in chosen}
     whole = outcome.steps <= WHOLE and rows is None
     first = min((row.step or 0 for row in broken.values()), default=0)
     times, begin, end = _collect(steps, kinds, first, whole)
+    # Of the colours those that have events.
+    coloured = {parts(kind)[1] for kind in kinds if times[kind]}
+    kinds = [kind for kind in kinds if kind < 256 or parts(kind)[1] in coloured]
     if rows is not None:
         begin, end = _around(table, [broken[row] for row in chosen if row in broken], times, begin, end)
     picture = Scene(outcome.log, table.unit, begin, max(end, begin + 1))

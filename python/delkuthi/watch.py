@@ -14,12 +14,12 @@ import time as clock
 from contextlib import contextmanager
 from typing import IO, Callable, Iterator
 
-from . import library as lib
 from .check import UNKNOWN, Run, reasons_of
 from .library import Refused
 from .logs import CanMapping, LogError, Step
 from .monitor import Monitor
-from .recording import records
+from .recording import record_bytes, records
+from .signals import signal as signal_of
 from .table import KeySource, Table
 from .units import UNITS, shown
 
@@ -33,15 +33,16 @@ class Watch:
         self.table, self.say, self.spool = table, say, spool
         self.monitor = Monitor(table)
         self.mapping = CanMapping(table)
-        self.keys = {source.key: event.kind for event in table.events for source in event.sources
+        self.keys = {source.key: signal_of(event.kind, source.colour) for event in table.events for source in event.sources
                      if isinstance(source, KeySource)}
         self.clock = self.number = self.left_out = 0
-        self.last = [-1] * (lib.LAST_KIND + 1)
+        self.last: dict[int, int] = {}
         self.broken: dict[int, int] = {}
         #: Before the last marker: a copy of the monitor, the place in the spool and what else is needed to go back.
         self._before: tuple | None = None
         self._since: list[Step] = []
-        self.spool.write(b"\x01")
+        coloured = any(source.colour is not None for event in table.events for source in event.sources)
+        self.spool.write(b"\x02" if coloured else b"\x01")
 
     def units(self, seconds: float) -> int:
         """A time in seconds, in the table's unit."""
@@ -59,7 +60,7 @@ class Watch:
     def event(self, kind: int, time: int) -> None:
         """Takes an event, at the clock if its time is before it; one that comes twice at one time is left out."""
         time = max(time, self.clock)
-        if time <= self.last[kind]:
+        if time <= self.last.get(kind, -1):
             self.left_out += 1
             return
         self._take(Step(kind, time, 0))
@@ -71,7 +72,7 @@ class Watch:
 
     def marker(self, kind: int, time: int) -> None:
         """Takes an event that can be withdrawn."""
-        before = self.monitor.copy(), self.spool.tell(), self.clock, self.number, list(self.last), dict(self.broken)
+        before = self.monitor.copy(), self.spool.tell(), self.clock, self.number, dict(self.last), dict(self.broken)
         number = self.number
         self.say(f"{self.table.event_name(kind)} at {shown(max(time, self.clock), self.table.unit)}")
         self.event(kind, time)
@@ -102,10 +103,8 @@ class Watch:
 
     def _take(self, step: Step, silent: set[int] = frozenset()) -> None:  # type: ignore[assignment]
         try:
-            if step.kind is None:
-                self.monitor.tick(step.time)
-            else:
-                self.monitor.event(step.kind, step.time)
+            self.monitor.take(step.kind, step.time)
+            if step.kind is not None:
                 self.last[step.kind] = step.time
         except Refused as refusal:
             self.left_out += 1
@@ -115,8 +114,7 @@ class Watch:
         self.clock, self.number = step.time, self.number + 1
         if self._before is not None:
             self._since.append(step)
-        head = b"\x00\x08" if step.kind is None else b"\x00\x09" + bytes([step.kind])
-        self.spool.write(head + step.time.to_bytes(8, "big"))
+        self.spool.write(record_bytes(step.kind, step.time))
         self._ask(step, silent)
 
     def _ask(self, step: Step | None, silent: set[int]) -> None:

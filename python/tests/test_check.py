@@ -44,7 +44,7 @@ def test_random_logs(tmp_path, case):
     """A check says what the report says, and the place of the step that broke a row, however the steps are cut up."""
     table, steps = case
     path = tmp_path / "a.bin"
-    data = b"".join(recording_bytes(steps))
+    data = recording_bytes(steps)
     path.write_bytes(data)
     check_module._CHUNK = 7
     outcome = check(table, str(path))
@@ -81,7 +81,7 @@ def test_recordings_that_the_report_refuses(tmp_path, case, more):
     """Where the report refuses a recording the check does too, and the other way round."""
     table, steps = case
     path = tmp_path / "a.bin"
-    data = b"".join(recording_bytes(steps + more))
+    data = recording_bytes(steps + more)
     path.write_bytes(data)
     said = report(table, data)
     outcome = check(table, str(path))

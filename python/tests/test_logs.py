@@ -6,8 +6,10 @@ from hypothesis import given
 from hypothesis import strategies as st
 
 from delkuthi import Table
+from delkuthi.check import check
 from delkuthi.logs import Log, LogError, Policy
 from delkuthi.recording import recording_bytes
+from delkuthi.signals import signal
 
 from conftest import EXAMPLES
 
@@ -42,7 +44,7 @@ def test_the_drive_in_all_forms():
         found = list(Log(EXAMPLES / name, table).steps())
         assert [step[:2] for step in found] == recorded
         assert [step.place for step in found] == list(range(first, first + len(found)))
-    assert b"".join(recording_bytes(recorded)) == (EXAMPLES / "recording.bin").read_bytes()
+    assert recording_bytes(recorded) == (EXAMPLES / "recording.bin").read_bytes()
 
 
 def test_csv(tmp_path):
@@ -181,15 +183,15 @@ def test_the_end_and_the_beginning(tmp_path):
 
 def test_recordings(tmp_path):
     path = tmp_path / "a.bin"
-    path.write_bytes(b"".join(recording_bytes([(0, 3), (None, 5), (1, 5)])))
+    path.write_bytes(recording_bytes([(0, 3), (None, 5), (1, 5)]))
     assert steps(path) == [(0, 3, 1), (None, 5, 2), (1, 5, 3)]
     path.write_bytes(path.read_bytes() + b"\x00\x07")
     with pytest.raises(LogError, match="record 4: refused with 14 at byte 33"):
         steps(path)
-    path.write_bytes(b"".join(recording_bytes([(0, 3), (None, 3)])))
+    path.write_bytes(recording_bytes([(0, 3), (None, 3)]))
     with pytest.raises(LogError, match="record 2: refused with 11 at byte 12"):
         steps(path)
-    path.write_bytes(b"\x02")
+    path.write_bytes(b"\x03")
     with pytest.raises(LogError, match="refused with 13"):
         steps(path)
 
@@ -210,3 +212,25 @@ def test_any_file_is_a_log_or_an_error(tmp_path, text, ending, sort):
         return
     times = [time for _, time, _ in found]
     assert times == sorted(times)
+
+
+def test_colours(tmp_path):
+    """A coloured kind's events by their sources, in CSV by their names too; a recording of them has version 2."""
+    text = ('unit ms\nevent request = 48 from can 0x300 data 01 colour 1 from can 0x300 data 02 colour 2 from csv "Req" colour 3\n'
+            "event reply = 49\nReaction request -> reply, 0 .. 5\n")
+    expected = [(signal(48, 1), 1), (signal(48, 2), 1), (signal(48, 3), 2), (signal(49, 1), 4)]
+    table = Table.from_text(text)
+    assert Table.from_text(table.text()).events == table.events
+    path = tmp_path / "a.csv"
+    path.write_text("time,event\n1,request/1\n1,request/2\n2,Req\n3,request\n")
+    assert check(table, str(path)).refused == 19
+    path.write_text("time,event\n1,request/1\n1,request/2\n2,Req\n4,reply/1\n")
+    assert [(step.kind, step.time) for step in Log(str(path), table).steps()] == expected
+    assert "request/2 at 1 ms (line 3) had no reply/2" in check(table, str(path)).messages[0]
+    (tmp_path / "a.bin").write_bytes(recording_bytes(expected))
+    assert (tmp_path / "a.bin").read_bytes()[:1] == b"\x02"
+    assert [(step.kind, step.time) for step in Log(str(tmp_path / "a.bin"), table).steps()] == expected
+    (tmp_path / "a.bin").write_bytes(b"\x01" + recording_bytes(expected[1:])[1:])
+    assert check(table, str(tmp_path / "a.bin")).refused == 19
+    (tmp_path / "a.log").write_text("(0.001000) can0 300#01\n(0.001000) can0 300#02FF\n")
+    assert [(step.kind, step.time) for step in Log(str(tmp_path / "a.log"), table).steps()] == expected[:2]

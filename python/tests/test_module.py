@@ -32,16 +32,16 @@ def test_random_lists_beside_the_model():
     for line in done.stdout.splitlines():
         played_list = json.loads(line)
         monitor = Monitor(bytes.fromhex(played_list["table"]))
-        for kind, time, expected, verdicts in played_list["calls"]:
+        for kind, colour, time, expected, verdicts in played_list["calls"]:
             if kind >= 0:
-                found = answer(monitor.event, kind, time)
+                found = answer(monitor.event, kind, time, None if colour < 0 else colour)
             else:
                 found = answer(monitor.tick, time) if kind == -1 else answer(monitor.close)
             assert found == expected
             assert [str(verdict) for verdict in monitor.verdicts] == verdicts
             seen.add(found)
             broken += any(verdict.startswith("broken") for verdict in verdicts)
-    assert seen >= {0, 8, 9, 10, 11} and broken > 100
+    assert seen >= {0, 8, 9, 10, 11, 19} and broken > 100
 
 
 def test_a_copy_goes_its_own_way():
@@ -55,6 +55,8 @@ def test_a_copy_goes_its_own_way():
 @pytest.mark.parametrize("call, number", [
     (lambda m: m.event(64, 10), 9), (lambda m: m.event(300, 10), 9), (lambda m: m.event(-1, 10), 9),
     (lambda m: m.tick(2**56), 10), (lambda m: m.tick(2**70), 10), (lambda m: m.tick(-1), 11), (lambda m: m.event(0, 0), 11),
+    (lambda m: m.event(48, 10), 19), (lambda m: m.event(0, 10, 1), 19), (lambda m: m.event(48, 10, 8), 19),
+    (lambda m: m.event(48, 10, -1), 19), (lambda m: m.event(48, 10, 300), 19), (lambda m: m.event(64, 10, 1), 9),
     (lambda m: m.verdict(1), 15), (lambda m: m.verdict(-1), 15),
 ])
 def test_refusals_are_exceptions(call, number):
@@ -85,10 +87,10 @@ def test_the_report_says_what_the_monitor_says(case):
     table, steps = case
     monitor = Monitor(table)
     for kind, time in steps:
-        monitor.tick(time) if kind is None else monitor.event(kind, time)
+        monitor.take(kind, time)
     monitor.close()
     lines = [f"closed {len(steps) + 1}", *(f"{row} {verdict}" for row, verdict in enumerate(monitor.verdicts))]
-    assert report(table, b"".join(recording_bytes(steps))) == "".join(line + "\n" for line in lines)
+    assert report(table, recording_bytes(steps)) == "".join(line + "\n" for line in lines)
 
 
 @given(played())
@@ -97,7 +99,7 @@ def test_the_page_says_what_the_monitor_says(case):
     table, steps = case
     monitor = Monitor(table)
     for kind, time in steps:
-        monitor.tick(time) if kind is None else monitor.event(kind, time)
+        monitor.take(kind, time)
     for closed in (False, True):
         if closed:
             monitor.close()
@@ -137,7 +139,7 @@ def test_the_manuals_code(tmp_path, monkeypatch, capsys):
     manual = (ROOT / "python/README.md").read_text(encoding="utf-8")
     text = manual.split("## A table in text\n\n")[1].split("\n\n")[0]
     (tmp_path / "brake.txt").write_text("\n".join(line[4:] for line in text.split("\n")) + "\n")
-    (tmp_path / "recording.bin").write_bytes(b"".join(recording_bytes([(0, 20_500), (None, 70_501)])))
+    (tmp_path / "recording.bin").write_bytes(recording_bytes([(0, 20_500), (None, 70_501)]))
     monkeypatch.chdir(tmp_path)
     exec(manual.split("```python\n")[1].split("```")[0], {})
     printed = capsys.readouterr().out

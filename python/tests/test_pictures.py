@@ -45,10 +45,10 @@ def test_png_by_matplotlib(tmp_path):
 def test_any_log_has_a_picture(tmp_path, case):
     table, steps = case
     path = tmp_path / "a.bin"
-    path.write_bytes(b"".join(recording_bytes(steps)))
+    path.write_bytes(recording_bytes(steps))
     picture, outcome = pictured(table, path)
     assert sum(len(times) for _, times in picture.lanes) == sum(
-        any(kind in row.kinds for row in table.rows) for kind, _ in steps)
+        any(kind in row.hears for row in table.rows) for kind, _ in steps)
     assert len(picture.marks) == len(outcome.broken)
     pictures = [picture] + [pictured(table, path, [row.number])[0] for row in outcome.broken]
     for one in pictures:

@@ -7,17 +7,20 @@ from delkuthi.check import reasons_of, run
 from delkuthi.logs import Step
 from delkuthi.monitor import Monitor
 from delkuthi.reasons import Case, Kind
+from delkuthi.signals import signal
 
 from strategies import played
 
-EVENTS = "unit ms\nevent a = 0\nevent b = 1\nevent c = 2\nevent d = 3\n"
+EVENTS = "unit ms\nevent a = 0\nevent b = 1\nevent c = 2\nevent d = 3\nevent s = 48\nevent r = 49\n"
+#: The signals by their letters; S and R are of colour 3, s and r of colour 1.
+SIGNALS = {"t": None, **{letter: kind for kind, letter in enumerate("abcd")},
+           "s": signal(48, 1), "r": signal(49, 1), "S": signal(48, 3), "R": signal(49, 3)}
 
 
 def reason(row, steps, close=False):
     """What is said of a row after steps such as ``a1 b5 t9``; also that it is broken, and by the last of them."""
     table = Table.from_text(EVENTS + row)
-    taken = [Step("abcd".index(step[0]) if step[0] != "t" else None, int(step[1:]), number)
-             for number, step in enumerate(steps.split(), 1)]
+    taken = [Step(SIGNALS[step[0]], int(step[1:]), number) for number, step in enumerate(steps.split(), 1)]
     found = run(Monitor(table), taken, close)
     assert found.broken[0][0] == len(taken) + close
     return reasons_of(table, taken, found, lambda place: f"line {place}")[0]
@@ -53,6 +56,13 @@ CASES = [
      "the a at 99 ms (line 4) is number 4 within 99 ms, from 0 ms on, where at most 3 in 100 ms are asked"),
     ("Burst a maximum 3, length 100, minimum 5", "a0 a4",
      "the a at 4 ms (line 2) came 4 ms after the one before it, at 0 ms (line 1), where at least 5 ms is asked"),
+    ("Reaction s -> r, 4 .. 6", "s10 t17", "the s/1 at 10 ms (line 1) had no r/1 from 14 ms to 16 ms"),
+    ("Reaction s -> r, 0 .. 6", "S10 r12 t17", "the s/3 at 10 ms (line 1) had no r/3 by 16 ms"),
+    ("Reaction s -> r, 4 .. 6", "s10 r13",
+     "the r/1 at 13 ms (line 2), the first of its colour, came 3 ms after the s/1 at 10 ms (line 1), where at least 4 ms is asked"),
+    ("Reaction s -> r, 4 .. 6", "R5 s6 S9", "the r/3 at 5 ms (line 1), the first of its colour, came before the s/3 at 9 ms (line 3)"),
+    ("Reaction s -> r, 4 .. 6", "s10 s13",
+     "the s/1 at 13 ms (line 2) asks for a r/1 from 17 ms on, and the s/1 at 10 ms (line 1) for the same one by 16 ms"),
     ("Order a -> b", "b5 t6", "the b at 5 ms (line 1) has no a at its time or before"),
     ("Order a -> b", "b5 a6", "the b at 5 ms (line 1) came before its a at 6 ms"),
     ("StrongSynchronization a b c, tolerance 2", "b5 c6 t8", "the group that begins with the b at 5 ms (line 1) had no a by 7 ms"),
@@ -103,7 +113,7 @@ def test_each_broken_row_has_a_reason(case):
     for row, (number, step) in found.broken.items():
         assert "nothing that could still come" not in said[row]
         if step is not None:
-            events = {kind: Kind() for kind in table.rows[row].kinds}
+            events = {kind: Kind() for kind in table.rows[row].hears}
             for kind, time, place in steps[:number]:
                 if kind in events:
                     events[kind].add(time, place)

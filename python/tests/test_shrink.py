@@ -15,7 +15,7 @@ def breaks(table, row, stretch):
     monitor = Monitor(table.alone(row))
     for kind, time in stretch:
         try:
-            monitor.tick(time) if kind is None else monitor.event(kind, time)
+            monitor.take(kind, time)
         except Refused as refusal:
             assert refusal.number == 12
             return False
@@ -75,7 +75,7 @@ def test_joined_recordings(first, second):
     for kind, time in joined:
         assert kind is not None or time > clock
         clock = time
-    assert report(Table([]), b"".join(recording_bytes(joined))) == f"closed {len(joined) + 1}\n"
+    assert report(Table([]), recording_bytes(joined)) == f"closed {len(joined) + 1}\n"
     times = {time for _, time in joined}
     assert all(time in times or time == 0 for _, time in first + second)
 

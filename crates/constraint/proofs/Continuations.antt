@@ -3,22 +3,24 @@
 use Prim.Native.Nat.{ℕ, zero, suc, _+_, _≤_, _<_}
 use native.Mathlib.Omega.{arith}
 use mathlib.Core.Path.{_≡_, refl, sym, ap, _∙_, subst, subst₂}
-use mathlib.Core.Bool.{true, false, cond, or-true}
+use mathlib.Core.Bool.{true, false, cond}
 use mathlib.Core.List.{List, [], _∷_, _++_, map, append-nil, append-assoc}
 use mathlib.Core.Logic.{inl, inr}
 use lib.ListN.{length}
 use lib.Dec.{eqb}
 use borrow.Author.Tests.{eq-eqb, ne-eqb}
-use Rattle.constraint.specs.Limits.{lastKind}
+use Rattle.constraint.specs.Limits.{streamCount, lastColour}
+use Rattle.constraint.specs.Streams.{stream, colours}
 use Rattle.constraint.specs.Steps.{Step, event, tick, close, at, times, among, own, clockFrom, clock, closed}
 use Rattle.constraint.specs.Meets.{NotLater, Meets, MeetsDelay, MeetsStrongDelay, MeetsRepeat, MeetsSporadic, MeetsBurst, MeetsOrder}
-use Rattle.constraint.specs.Meets.{MeetsStrongSynchronization, MeetsExecutionTime, MeetsRepetition}
+use Rattle.constraint.specs.Meets.{MeetsStrongSynchronization, MeetsExecutionTime, MeetsReaction, MeetsRepetition}
 use Rattle.constraint.specs.Continuation.{EventInOrder, Continues, stop, more, Open}
-use Rattle.constraint.specs.Accepted.{kinds}
+use Rattle.constraint.specs.Accepted.{streams}
 use Rattle.constraint.specs.declared.Constraint.{Constraint}
 use Rattle.constraint.specs.declared.Constraint.the-variants.{Delay, StrongDelay, Repeat, Sporadic, Burst, Order, StrongSynchronization2, StrongSynchronization3, StrongSynchronization4}
-use Rattle.constraint.specs.declared.Constraint.the-variants.{ExecutionTime, Repetition}
-use Rattle.constraint.proofs.Lists.{split, both, Each, each-none, each-cons, Rising, rising-right, rising-across, rising-snoc}
+use Rattle.constraint.specs.declared.Constraint.the-variants.{ExecutionTime, Reaction, Repetition}
+use Rattle.constraint.proofs.Lists.{split, both, Each, each-none, each-cons, each-left, each-right, Rising, rising-right, rising-across, rising-snoc}
+use Rattle.constraint.proofs.Streams.{colour-at, among-at}
 use Rattle.constraint.proofs.History.{times-append, times-own, times-tick, times-close, own-append, own-tick, own-close, clock-append, clock-later, clock-event, clock-tick, clock-close, closed-event, closed-tick, closed-close, Accepts, with-time}
 
 -- ---- a row looks only at its own events and the clock
@@ -39,11 +41,6 @@ own-times ks k is (event j t ∷ steps) =
 own-times ks k is (tick t ∷ steps) = own-times ks k is steps
 own-times ks k is (close ∷ steps) = own-times ks k is steps
 
-pub among-at : (ks : List ℕ) (i : ℕ) → i < length ks → among (at ks i) ks ≡ true
-among-at [] i h = absurd (omega arith)
-among-at (k ∷ ks) zero h = rw (eq-eqb k k refl)
-among-at (k ∷ ks) (suc i) h = rw (among-at ks i (omega arith)) (or-true (eqb (at ks i) k))
-
 -- two lists of steps have the same times of each of these kinds
 abbrev pub SameTimes : List ℕ → List Step → List Step → Type 0
 SameTimes ks a b = Each (λ k. times k a ≡ times k b) ks
@@ -56,6 +53,10 @@ same-times ks a b same i h =
 synchronized-same : (ks : List ℕ) (tolerance : ℕ) (a b : List Step) → SameTimes ks a b → MeetsStrongSynchronization ks tolerance a → MeetsStrongSynchronization ks tolerance b
 unfolding MeetsStrongSynchronization
 synchronized-same ks tolerance a b same m j k h g = rw (← same j h, ← same k g) (m j k h g)
+
+-- the same times of each colour of a kind
+pub of-colour : (k : ℕ) (a b : List Step) → SameTimes (colours k) a b → (colour : ℕ) → colour ≤ lastColour → times (stream k colour) a ≡ times (stream k colour) b
+of-colour k a b same colour few = subst (λ (s : ℕ). times s a ≡ times s b) (colour-at k colour few) (same colour (omega arith))
 
 -- what is met at a clock is met at every earlier one
 pub not-later-earlier : {upper : ℕ} (x now later : ℕ) → now ≤ later → NotLater upper x later → NotLater upper x now
@@ -74,7 +75,7 @@ sporadic-earlier lower upper jitter minimum events now later h ((points, hidden,
     ((points, hidden, λ i e. not-later-earlier (at points i + jitter) now later h (last i e)), apart)
 
 -- what a row says of some events and a clock it says of the same events and every earlier clock
-meets-same-times : (c : Constraint) (a b : List Step) → own (kinds c) a ≡ own (kinds c) b → SameTimes (kinds c) a b → clock b ≤ clock a
+meets-same-times : (c : Constraint) (a b : List Step) → own (streams c) a ≡ own (streams c) b → SameTimes (streams c) a b → clock b ≤ clock a
     → Meets c a → Meets c b
 unfolding Meets
 meets-same-times (Delay source target lower upper) a b in-order same earlier m =
@@ -94,11 +95,16 @@ meets-same-times (StrongSynchronization3 x y z tolerance) a b in-order same earl
 meets-same-times (StrongSynchronization4 x y z w tolerance) a b in-order same earlier m = synchronized-same (x ∷ y ∷ z ∷ w ∷ []) tolerance a b same m
 meets-same-times (ExecutionTime x y z w lower upper) a b in-order same earlier m =
     subst (MeetsExecutionTime x y z w lower upper) in-order m
+meets-same-times (Reaction stimulus response minimum maximum) a b in-order same earlier m =
+    λ colour few. subst₂ (MeetsReaction minimum maximum)
+    (of-colour stimulus a b (each-left (λ s. times s a ≡ times s b) (colours stimulus) (colours response) same) colour few)
+    (of-colour response a b (each-right (λ s. times s a ≡ times s b) (colours stimulus) (colours response) same) colour few)
+    (m colour few)
 meets-same-times (Repetition kind span lower upper jitter) a b in-order same earlier m =
     subst (MeetsRepetition span lower upper jitter) (same 0 (omega arith)) m
 
-pub meets-same : (c : Constraint) (a b : List Step) → own (kinds c) a ≡ own (kinds c) b → clock b ≤ clock a → Meets c a → Meets c b
-meets-same c a b same earlier m = meets-same-times c a b same (same-times (kinds c) a b same) earlier m
+pub meets-same : (c : Constraint) (a b : List Step) → own (streams c) a ≡ own (streams c) b → clock b ≤ clock a → Meets c a → Meets c b
+meets-same c a b same earlier m = meets-same-times c a b same (same-times (streams c) a b same) earlier m
 
 -- ---- what a continuation is made of
 
@@ -149,7 +155,7 @@ continues-earlier (more {steps = a} {further = further} j t open-a kind order re
 abbrev pub events : ℕ → List ℕ → List Step
 events k ts = map (event k) ts
 
-pub continues-events : (k : ℕ) → k ≤ lastKind → (ts : List ℕ) (steps : List Step) → closed steps ≡ false → Rising (times k steps ++ ts) → Each (λ t. clock steps ≤ t) ts
+pub continues-events : (k : ℕ) → k < streamCount → (ts : List ℕ) (steps : List Step) → closed steps ≡ false → Rising (times k steps ++ ts) → Each (λ t. clock steps ≤ t) ts
     → Continues steps (events k ts)
 continues-events k kind [] steps o r late = stop
 continues-events k kind (t ∷ ts) steps o r late =
@@ -172,41 +178,41 @@ times-no-events j k h (t ∷ ts) = rw (ne-eqb k j h) (times-no-events j k h ts)
 
 module _ (c : Constraint) (steps : List Step) where
   -- an event that came might have been the first of a continuation
-  open-before-event : (k t : ℕ) → closed steps ≡ false → k ≤ lastKind → EventInOrder steps k t → Open c (steps ++ (event k t ∷ [])) → Open c steps
+  open-before-event : (k t : ℕ) → closed steps ≡ false → k < streamCount → EventInOrder steps k t → Open c (steps ++ (event k t ∷ [])) → Open c steps
   open-before-event k t o kind order (further, follows, meets) =
       (event k t ∷ further, more k t o kind order follows, subst (Meets c) (append-assoc steps (event k t ∷ []) further) meets)
 
   -- nothing is recorded by a tick or a close, and neither moves the clock back
-  meets-before : (s : Step) → own (kinds c) (steps ++ (s ∷ [])) ≡ own (kinds c) steps → clock steps ≤ clock (steps ++ (s ∷ [])) → (further : List Step)
+  meets-before : (s : Step) → own (streams c) (steps ++ (s ∷ [])) ≡ own (streams c) steps → clock steps ≤ clock (steps ++ (s ∷ [])) → (further : List Step)
       → Meets c (steps ++ (s ∷ []) ++ further) → Meets c (steps ++ further)
   meets-before s same later further m =
       meets-same c (steps ++ (s ∷ []) ++ further) (steps ++ further)
-      (own-append (kinds c) (steps ++ (s ∷ [])) further ∙ rw same (sym (own-append (kinds c) steps further)))
+      (own-append (streams c) (steps ++ (s ∷ [])) further ∙ rw same (sym (own-append (streams c) steps further)))
       (rw (clock-append 0 (steps ++ (s ∷ [])) further, clock-append 0 steps further) (clock-later (clock steps) (clock (steps ++ (s ∷ []))) further later)) m
 
   open-before-tick : (t : ℕ) → clock steps ≤ t → Open c (steps ++ (tick t ∷ [])) → Open c steps
   open-before-tick t later (further, follows, meets) = (
     further,
     continues-earlier follows steps (sym (closed-tick t steps)) (λ k. times-tick k t steps) (rw (clock-tick t steps) later),
-    meets-before (tick t) (own-tick (kinds c) t steps) (rw (clock-tick t steps) later) further meets,
+    meets-before (tick t) (own-tick (streams c) t steps) (rw (clock-tick t steps) later) further meets,
   )
 
   open-before-close : Open c (steps ++ (close ∷ [])) → Open c steps
   open-before-close (further, follows, meets) = (
     [],
     stop,
-    meets-before close (own-close (kinds c) steps) (rw (clock-close steps) (omega arith)) []
+    meets-before close (own-close (streams c) steps) (rw (clock-close steps) (omega arith)) []
         (subst (λ (f : List Step). Meets c (steps ++ (close ∷ []) ++ f)) (continues-closed (closed-close steps) follows) meets),
   )
 
   -- a row that is open after a step was open before it
   pub open-before : (s : Step) → Accepts steps s → Open c (steps ++ (s ∷ [])) → Open c steps
-  open-before (event k t) a o = open-before-event k t (a .not-closed) (a .kind-small) (a .in-order) o
+  open-before (event k t) a o = open-before-event k t (a .not-closed) (a .stream-small) (a .in-order) o
   open-before (tick t) a o = open-before-tick t (omega (arith, a .later)) o
   open-before close a o = open-before-close o
 
   -- a row that is open after an event would be open after a tick to its time
-  pub open-at-tick : (k t : ℕ) → closed steps ≡ false → k ≤ lastKind → EventInOrder steps k t → Open c (steps ++ (event k t ∷ [])) → Open c (steps ++ (tick t ∷ []))
+  pub open-at-tick : (k t : ℕ) → closed steps ≡ false → k < streamCount → EventInOrder steps k t → Open c (steps ++ (event k t ∷ [])) → Open c (steps ++ (tick t ∷ []))
   unfolding clockFrom
   open-at-tick k t o kind order (further, follows, meets) = (
     event k t ∷ further,
@@ -221,16 +227,16 @@ module _ (c : Constraint) (steps : List Step) where
       closed-same : closed (steps ++ (tick t ∷ []) ++ (event k t ∷ [])) ≡ closed (steps ++ (event k t ∷ []))
       closed-same = closed-event k t (steps ++ (tick t ∷ [])) ∙ closed-tick t steps ∙ sym (closed-event k t steps)
 
-      events-same : own (kinds c) (steps ++ (event k t ∷ [])) ≡ own (kinds c) (steps ++ (tick t ∷ []) ++ (event k t ∷ []))
+      events-same : own (streams c) (steps ++ (event k t ∷ [])) ≡ own (streams c) (steps ++ (tick t ∷ []) ++ (event k t ∷ []))
       events-same =
-          own-append (kinds c) steps (event k t ∷ [])
-          ∙ rw (← own-tick (kinds c) t steps) (sym (own-append (kinds c) (steps ++ (tick t ∷ [])) (event k t ∷ [])))
+          own-append (streams c) steps (event k t ∷ [])
+          ∙ rw (← own-tick (streams c) t steps) (sym (own-append (streams c) (steps ++ (tick t ∷ [])) (event k t ∷ [])))
 
-      own-same : own (kinds c) (steps ++ (event k t ∷ []) ++ further) ≡ own (kinds c) (steps ++ (tick t ∷ []) ++ (event k t ∷ further))
+      own-same : own (streams c) (steps ++ (event k t ∷ []) ++ further) ≡ own (streams c) (steps ++ (tick t ∷ []) ++ (event k t ∷ further))
       own-same =
-          own-append (kinds c) (steps ++ (event k t ∷ [])) further
-          ∙ rw events-same (sym (own-append (kinds c) (steps ++ (tick t ∷ []) ++ (event k t ∷ [])) further))
-          ∙ ap (own (kinds c)) (append-assoc (steps ++ (tick t ∷ [])) (event k t ∷ []) further)
+          own-append (streams c) (steps ++ (event k t ∷ [])) further
+          ∙ rw events-same (sym (own-append (streams c) (steps ++ (tick t ∷ []) ++ (event k t ∷ [])) further))
+          ∙ ap (own (streams c)) (append-assoc (steps ++ (tick t ∷ [])) (event k t ∷ []) further)
 
       clock-same : clock (steps ++ (tick t ∷ []) ++ (event k t ∷ further)) ≤ clock (steps ++ (event k t ∷ []) ++ further)
       clock-same =

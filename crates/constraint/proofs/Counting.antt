@@ -1,4 +1,4 @@
--- The count of steps fits its number: with `nextFree` of a kind one more than its last time, each event raises the sum of all 64 by one at least, each tick raises the clock, and the close comes once; so the times' range bounds the count.
+-- The count of steps fits its number: with `nextFree` of a stream one more than its last time, each event raises the sum of all 176 by one at least, each tick raises the clock, and the close comes once; so the times' range bounds the count.
 use Prim.Native.Nat.{ℕ, zero, suc, _+_, _*_, _^_, _≤_, _<_, max}
 use native.Mathlib.Decide.{ℕ-discrete}
 use native.Mathlib.Omega.{arith}
@@ -36,7 +36,7 @@ unfolding nextFree
 next-snoc [] t e = omega arith
 next-snoc (s ∷ ts) t e = omega (arith, e 0 (omega arith), next-snoc ts t (each-tail (λ s. s < t) s ts e))
 
--- ---- the sum over the first n kinds
+-- ---- the sum over the first n streams
 
 total : ℕ → List Step → ℕ
 total zero steps = 0
@@ -72,17 +72,17 @@ total-small (suc n) steps p =
 closings : List Step → ℕ
 closings steps = cond (closed steps) 1 0
 
-count-step : (s : Step) (steps : List Step) → Accepts steps s → length steps ≤ total 64 steps + clock steps + closings steps
-    → length steps + 1 ≤ total 64 (steps ++ (s ∷ [])) + clock (steps ++ (s ∷ [])) + closings (steps ++ (s ∷ []))
+count-step : (s : Step) (steps : List Step) → Accepts steps s → length steps ≤ total 176 steps + clock steps + closings steps
+    → length steps + 1 ≤ total 176 (steps ++ (s ∷ [])) + clock (steps ++ (s ∷ [])) + closings (steps ++ (s ∷ []))
 unfolding closings
 count-step (event k t) steps a h =
-    rw (clock-event k t steps, closed-event k t steps) (omega (arith, total-event 64 k t steps (omega (arith, a .kind-small)) (a .in-order), a .in-order .0))
+    rw (clock-event k t steps, closed-event k t steps) (omega (arith, total-event 176 k t steps (omega (arith, a .stream-small)) (a .in-order), a .in-order .0))
 count-step (tick t) steps a h =
-    rw (clock-tick t steps, closed-tick t steps, total-same 64 (steps ++ (tick t ∷ [])) steps (λ k g. times-tick k t steps)) (omega (arith, a .later))
+    rw (clock-tick t steps, closed-tick t steps, total-same 176 (steps ++ (tick t ∷ [])) steps (λ k g. times-tick k t steps)) (omega (arith, a .later))
 count-step close steps a h =
-    rw (clock-close steps, closed-close steps, total-same 64 (steps ++ (close ∷ [])) steps (λ k g. times-close k steps)) (omega (arith, rw a at h))
+    rw (clock-close steps, closed-close steps, total-same 176 (steps ++ (close ∷ [])) steps (λ k g. times-close k steps)) (omega (arith, rw a at h))
 
-count-bound : {steps : List Step} → Valid steps → length steps ≤ total 64 steps + clock steps + closings steps
+count-bound : {steps : List Step} → Valid steps → length steps ≤ total 176 steps + clock steps + closings steps
 count-bound valid-none = omega arith
 count-bound (valid-more {steps = steps} s v a) = omega (arith, length-append steps (s ∷ []), count-step s steps a (count-bound v))
 
@@ -95,4 +95,4 @@ pub count-fits : {steps : List Step} → Valid steps → length steps + 1 < noLi
 unfolding closings
 count-fits {steps} v =
     let p : Past steps = past-of v in
-    omega (arith, count-bound v, total-small 64 steps p, p .small, cond-small (closed steps))
+    omega (arith, count-bound v, total-small 176 steps p, p .small, cond-small (closed steps))

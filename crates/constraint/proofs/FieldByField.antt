@@ -1,26 +1,27 @@
 -- A row's fields are asked one by one: what is asked of those from a place on is asked of the one at that place and of those behind it.
 use Prim.Native.Nat.{ℕ, _+_, _≤_, _<_}
 use native.Mathlib.Numerals.{add-one}
+use native.Mathlib.Omega.{arith}
 use mathlib.Core.Path.{_≡_, refl, sym, ap, subst, subst⁻¹, _∙_}
-use mathlib.Core.Bool.{Bool, true, false, cond}
+use mathlib.Core.Bool.{Bool, true, false, cond, _||_}
 use mathlib.Core.List.{List, [], _∷_, _++_, append-nil}
-use mathlib.Core.Logic.{_≢_}
+use mathlib.Core.Logic.{_≢_, ⊎-elim}
 use borrow.Author.Tests.{eqb-true, ne-eqb}
-use lib.Dec.{eqb}
+use lib.Dec.{leb, eqb}
 use lib.ListN.{length, drop, drop-of-length-le}
 use lib.Seq.{drop-cons}
 use Rattle.constraint.specs.Limits.{lastTime}
 use Rattle.constraint.specs.Steps.{at}
 use Rattle.constraint.specs.Questions.{Judged, Decides}
-use Rattle.constraint.specs.Types.{kind, count, span, plain, lower, upper, upper-or-none, Field, byte, time}
-use Rattle.constraint.specs.Accepted.{kindsIn, kinds, KindsFit, FieldsInRange, InRange, NotBelow, LowerFirst, rowQuestions}
-use Rattle.constraint.specs.Records.{byteField, timeField, fieldAt, fieldsAs, bytesFrom, timesFrom, byteFields, timeFields, Holds}
+use Rattle.constraint.specs.Types.{kind, coloured, count, span, plain, lower, upper, upper-or-none, Field, byte, time}
+use Rattle.constraint.specs.Accepted.{kindsIn, kinds, KindsFit, SortFits, SortsFit, KindsSuit, FieldsInRange, InRange, NotBelow, LowerFirst, rowQuestions}
+use Rattle.constraint.specs.Records.{isKind, byteField, timeField, fieldAt, fieldsAs, bytesFrom, timesFrom, byteFields, timeFields, Holds}
 use Rattle.constraint.specs.declared.Answer.{Answer}
 use Rattle.constraint.specs.declared.Answer.the-variants.{Refused}
 use Rattle.constraint.specs.declared.Constraint.{Constraint}
 use Rattle.constraint.specs.declared.fields.Fields.{Fields}
-use Rattle.constraint.proofs.Lists.{split}
-use Rattle.constraint.proofs.Judged.{same-test, judged-yes, judged-no}
+use Rattle.constraint.proofs.Lists.{split, both, or-true}
+use Rattle.constraint.proofs.Judged.{same-test, test-le, judged-yes, judged-no}
 
 -- Places
 
@@ -40,6 +41,7 @@ module _ (field : ℕ → ℕ → Field) (roles values : List ℕ) (i : ℕ) whe
 pub kinds-append : (a b : List Field) → kindsIn (a ++ b) ≡ kindsIn a ++ kindsIn b
 kinds-append [] b = refl
 kinds-append (byte kind x ∷ a) b = ap (λ (ks : List ℕ). x ∷ ks) (kinds-append a b)
+kinds-append (byte coloured x ∷ a) b = ap (λ (ks : List ℕ). x ∷ ks) (kinds-append a b)
 kinds-append (byte count x ∷ a) b = kinds-append a b
 kinds-append (byte (span limit) x ∷ a) b = kinds-append a b
 kinds-append (time role x ∷ a) b = kinds-append a b
@@ -54,27 +56,31 @@ times-kinds (r ∷ roles) (x ∷ values) =
     (λ e. times-kinds roles values) (λ e. times-kinds roles values)
 
 -- a byte of another role is no kind
-other-kinds : (r x : ℕ) → r ≢ 255 → kindsIn (fieldAt byteField r x) ≡ []
-other-kinds r x other =
-    rw (ne-eqb r 255 other)
+other-kinds : (r x : ℕ) → r ≢ 255 → r ≢ 253 → kindsIn (fieldAt byteField r x) ≡ []
+other-kinds r x other uncoloured =
+    rw (ne-eqb r 255 other, ne-eqb r 253 uncoloured)
     (split (eqb r 0) (λ none. kindsIn (cond none [] (byte (cond (eqb r 254) count (span r)) x ∷ [])) ≡ []) (λ e. refl)
     (λ e. split (eqb r 254) (λ n. kindsIn (byte (cond n count (span r)) x ∷ []) ≡ []) (λ e. refl) (λ e. refl)))
 
 module _ (roles values : List ℕ) (i : ℕ) (h : i < length roles) (k : i < length values) where
-  pub kind-here : at roles i ≡ 255 → kindsIn (bytesFrom roles values i) ≡ at values i ∷ kindsIn (bytesFrom roles values (i + 1))
-  kind-here e = rw (fields-next byteField roles values i h k, e)
+  pub kind-here : isKind (at roles i) ≡ true → kindsIn (bytesFrom roles values i) ≡ at values i ∷ kindsIn (bytesFrom roles values (i + 1))
+  kind-here is =
+      ⊎-elim (λ e. rw (fields-next byteField roles values i h k, eqb-true (at roles i) 255 e))
+      (λ e. rw (fields-next byteField roles values i h k, eqb-true (at roles i) 253 e))
+      (or-true (eqb (at roles i) 255) (eqb (at roles i) 253) is)
 
-  pub kind-elsewhere : at roles i ≢ 255 → kindsIn (bytesFrom roles values i) ≡ kindsIn (bytesFrom roles values (i + 1))
-  kind-elsewhere other =
+  pub kind-elsewhere : isKind (at roles i) ≡ false → kindsIn (bytesFrom roles values i) ≡ kindsIn (bytesFrom roles values (i + 1))
+  kind-elsewhere is =
       ap kindsIn (fields-next byteField roles values i h k)
       ∙ kinds-append (fieldAt byteField (at roles i) (at values i)) (bytesFrom roles values (i + 1))
-      ∙ rw (other-kinds (at roles i) (at values i) other)
+      ∙ rw (other-kinds (at roles i) (at values i) (λ e. both (sym (ap isKind e) ∙ is)) (λ e. both (sym (ap isKind e) ∙ is)))
 
 -- Ranges
 
 pub ranges-join : (a b : List Field) → FieldsInRange a → FieldsInRange b → FieldsInRange (a ++ b)
 ranges-join [] b h k = k
 ranges-join (byte kind x ∷ a) b h k = ranges-join a b h k
+ranges-join (byte coloured x ∷ a) b h k = ranges-join a b h k
 ranges-join (byte count x ∷ a) b h k = ranges-join a b h k
 ranges-join (byte (span limit) x ∷ a) b h k = (h .0, h .1, ranges-join a b (h .2) k)
 ranges-join (time plain x ∷ a) b h k = (h .0, ranges-join a b (h .1) k)
@@ -85,6 +91,7 @@ ranges-join (time upper-or-none x ∷ a) b h k = (h .0, ranges-join a b (h .1) k
 pub ranges-parts : (a b : List Field) → FieldsInRange (a ++ b) → FieldsInRange a × FieldsInRange b
 ranges-parts [] b h = (tt, h)
 ranges-parts (byte kind x ∷ a) b h = ranges-parts a b h
+ranges-parts (byte coloured x ∷ a) b h = ranges-parts a b h
 ranges-parts (byte count x ∷ a) b h = ranges-parts a b h
 ranges-parts (byte (span limit) x ∷ a) b h = let parts = ranges-parts a b (h .2) in ((h .0, h .1, parts .0), parts .1)
 ranges-parts (time plain x ∷ a) b h = let parts = ranges-parts a b (h .1) in ((h .0, parts .0), parts .1)
@@ -92,26 +99,66 @@ ranges-parts (time lower x ∷ a) b h = let parts = ranges-parts a b (h .1) in (
 ranges-parts (time upper x ∷ a) b h = let parts = ranges-parts a b (h .1) in ((h .0, parts .0), parts .1)
 ranges-parts (time upper-or-none x ∷ a) b h = let parts = ranges-parts a b (h .1) in ((h .0, parts .0), parts .1)
 
-module _ (field : ℕ → ℕ → Field) (roles values : List ℕ) (i : ℕ) (h : i < length roles) (k : i < length values) where
-  -- where the field at a place is in range, the answer is that of those behind it
-  pub range-here : FieldsInRange (fieldAt field (at roles i) (at values i)) → (b : Bool)
-      → Decides (FieldsInRange (fieldsAs field (drop (i + 1) roles) (drop (i + 1) values))) b
-      → Decides (FieldsInRange (fieldsAs field (drop i roles) (drop i values))) b
-  range-here here =
-      let one = fieldAt field (at roles i) (at values i) in
-      let later = fieldsAs field (drop (i + 1) roles) (drop (i + 1) values) in
-      same-test (λ rest. subst⁻¹ FieldsInRange (fields-next field roles values i h k) (ranges-join one later here rest))
-      (λ all. ranges-parts one later (subst FieldsInRange (fields-next field roles values i h k) all) .1)
+-- what is asked field by field
+pub record FieldWise (Asked : List Field → Type 0) : Type 0 where
+  pub join : (a b : List Field) → Asked a → Asked b → Asked (a ++ b)
+  pub parts : (a b : List Field) → Asked (a ++ b) → Asked a × Asked b
 
-  pub range-missed : ¬ FieldsInRange (fieldAt field (at roles i) (at values i)) → ¬ FieldsInRange (fieldsAs field (drop i roles) (drop i values))
-  range-missed missed all =
+pub range-wise : FieldWise FieldsInRange
+range-wise = record { join = ranges-join; parts = ranges-parts }
+
+module _ {Asked : List Field → Type 0} (wise : FieldWise Asked) (field : ℕ → ℕ → Field) (roles values : List ℕ) (i : ℕ)
+    (h : i < length roles) (k : i < length values) where
+  -- where the field at a place is as asked, the answer is that of those behind it
+  pub field-here : Asked (fieldAt field (at roles i) (at values i)) → (b : Bool)
+      → Decides (Asked (fieldsAs field (drop (i + 1) roles) (drop (i + 1) values))) b
+      → Decides (Asked (fieldsAs field (drop i roles) (drop i values))) b
+  field-here here =
       let one = fieldAt field (at roles i) (at values i) in
       let later = fieldsAs field (drop (i + 1) roles) (drop (i + 1) values) in
-      missed (ranges-parts one later (subst FieldsInRange (fields-next field roles values i h k) all) .0)
+      same-test (λ rest. subst⁻¹ Asked (fields-next field roles values i h k) (wise .join one later here rest))
+      (λ all. wise .parts one later (subst Asked (fields-next field roles values i h k) all) .1)
+
+  pub field-missed : ¬ Asked (fieldAt field (at roles i) (at values i)) → ¬ Asked (fieldsAs field (drop i roles) (drop i values))
+  field-missed missed all =
+      let one = fieldAt field (at roles i) (at values i) in
+      let later = fieldsAs field (drop (i + 1) roles) (drop (i + 1) values) in
+      missed (wise .parts one later (subst Asked (fields-next field roles values i h k) all) .0)
 
 -- a span or a maximum
-pub span-range : (r x : ℕ) → r ≢ 0 → r ≢ 255 → r ≢ 254 → FieldsInRange (fieldAt byteField r x) ≡ ((1 ≤ x) × (x ≤ r) × Unit {0})
-span-range r x there no-kind no-count = rw (ne-eqb r 0 there, ne-eqb r 255 no-kind, ne-eqb r 254 no-count)
+pub span-range : (r x : ℕ) → r ≢ 0 → r ≢ 255 → r ≢ 254 → r ≢ 253 → FieldsInRange (fieldAt byteField r x) ≡ ((1 ≤ x) × (x ≤ r) × Unit {0})
+span-range r x there no-kind no-count uncoloured = rw (ne-eqb r 0 there, ne-eqb r 255 no-kind, ne-eqb r 254 no-count, ne-eqb r 253 uncoloured)
+
+pub span-test : (r x : ℕ) → x ≢ 0 → Decides ((1 ≤ x) × (x ≤ r) × Unit {0}) (leb x r)
+span-test r x some = same-test (λ h. (omega arith, h, tt)) (λ h. h .1) (leb x r) (test-le x r)
+
+-- Plain and coloured kinds
+
+sorts-join : (a b : List Field) → SortsFit a → SortsFit b → SortsFit (a ++ b)
+sorts-join [] b h k = k
+sorts-join (f ∷ a) b h k = (h .0, sorts-join a b (h .1) k)
+
+sorts-parts : (a b : List Field) → SortsFit (a ++ b) → SortsFit a × SortsFit b
+sorts-parts [] b h = (tt, h)
+sorts-parts (f ∷ a) b h = let parts = sorts-parts a b (h .1) in ((h .0, parts .0), parts .1)
+
+pub sort-wise : FieldWise SortsFit
+sort-wise = record { join = sorts-join; parts = sorts-parts }
+
+-- a byte of another role, or a time, is of no sort
+pub other-sorts : (r x : ℕ) → r ≢ 255 → r ≢ 253 → SortsFit (fieldAt byteField r x)
+other-sorts r x plainless uncoloured =
+    rw (ne-eqb r 255 plainless, ne-eqb r 253 uncoloured)
+    (split (eqb r 0) (λ none. SortsFit (cond none [] (byte (cond (eqb r 254) count (span r)) x ∷ []))) (λ e. tt)
+    (λ e. split (eqb r 254) (λ n. SortsFit (byte (cond n count (span r)) x ∷ [])) (λ e. (tt, tt)) (λ e. (tt, tt))))
+
+times-sorts : (roles values : List ℕ) → SortsFit (fieldsAs timeField roles values)
+unfolding fieldsAs
+times-sorts [] values = tt
+times-sorts (r ∷ roles) [] = tt
+times-sorts (r ∷ roles) (x ∷ values) =
+    split (eqb r 0) (λ none. SortsFit (cond none [] (timeField r x ∷ []) ++ fieldsAs timeField roles values))
+    (λ e. times-sorts roles values) (λ e. (tt, times-sorts roles values))
 
 -- a time that may not be the mark
 pub plain-range : (r x : ℕ) → r ≢ 0 → r ≢ 4 → FieldsInRange (fieldAt timeField r x) ≡ ((x ≤ lastTime) × Unit {0})
@@ -170,22 +217,33 @@ module _ (c : Constraint) (f : Fields) (holds : Holds c f) where
   unfolding LowerFirst
   row-bounds = sym (bytes-bounds 0 (f .line .bytes) (f .bytes) (timeFields f)) ∙ ap (NotBelow 0) (holds .all)
 
+  row-sorts : SortsFit (byteFields f) → KindsSuit c
+  unfolding KindsSuit
+  row-sorts h = subst SortsFit (holds .all) (sorts-join (byteFields f) (timeFields f) h (times-sorts (f .line .times) (f .times)))
+
   pub row-kinds-no : ¬ KindsFit (kindsIn (byteFields f)) → Judged (rowQuestions c) (Refused 5)
   row-kinds-no shut = judged-no 5 _ _ (subst (λ (ks : List ℕ). ¬ KindsFit ks) row-kinds shut)
 
   module _ (fit : KindsFit (kindsIn (byteFields f))) where
-    asked-on : (a : Answer) → Judged ((6, InRange c) ∷ (7, LowerFirst c) ∷ []) a → Judged (rowQuestions c) a
-    asked-on a later = judged-yes 5 _ _ a (subst KindsFit row-kinds fit) later
+    pub row-sorts-no : ¬ SortsFit (byteFields f) → Judged (rowQuestions c) (Refused 18)
+    unfolding KindsSuit
+    row-sorts-no shut =
+        judged-yes 5 _ _ _ (subst KindsFit row-kinds fit)
+        (judged-no 18 _ _ (λ all. shut (sorts-parts (byteFields f) (timeFields f) (subst⁻¹ SortsFit (holds .all) all) .0)))
 
-    pub row-bytes-no : ¬ FieldsInRange (byteFields f) → Judged (rowQuestions c) (Refused 6)
-    row-bytes-no shut = asked-on _ (judged-no 6 _ _ (λ all. shut (row-ranges all .0)))
+    module _ (suit : SortsFit (byteFields f)) where
+      asked-on : (a : Answer) → Judged ((6, InRange c) ∷ (7, LowerFirst c) ∷ []) a → Judged (rowQuestions c) a
+      asked-on a later = judged-yes 5 _ _ a (subst KindsFit row-kinds fit) (judged-yes 18 _ _ a (row-sorts suit) later)
 
-    pub row-times-no : ¬ FieldsInRange (timeFields f) → Judged (rowQuestions c) (Refused 6)
-    row-times-no shut = asked-on _ (judged-no 6 _ _ (λ all. shut (row-ranges all .1)))
+      pub row-bytes-no : ¬ FieldsInRange (byteFields f) → Judged (rowQuestions c) (Refused 6)
+      row-bytes-no shut = asked-on _ (judged-no 6 _ _ (λ all. shut (row-ranges all .0)))
 
-    pub row-answered : FieldsInRange (byteFields f) → FieldsInRange (timeFields f) → (a : Answer) → Judged ((7, NotBelow 0 (timeFields f)) ∷ []) a
-        → Judged (rowQuestions c) a
-    unfolding InRange
-    row-answered h k a later =
-        asked-on a (judged-yes 6 _ _ a (subst FieldsInRange (holds .all) (ranges-join (byteFields f) (timeFields f) h k))
-        (subst (λ (asked : Type 0). Judged ((7, asked) ∷ []) a) row-bounds later))
+      pub row-times-no : ¬ FieldsInRange (timeFields f) → Judged (rowQuestions c) (Refused 6)
+      row-times-no shut = asked-on _ (judged-no 6 _ _ (λ all. shut (row-ranges all .1)))
+
+      pub row-answered : FieldsInRange (byteFields f) → FieldsInRange (timeFields f) → (a : Answer) → Judged ((7, NotBelow 0 (timeFields f)) ∷ []) a
+          → Judged (rowQuestions c) a
+      unfolding InRange
+      row-answered h k a later =
+          asked-on a (judged-yes 6 _ _ a (subst FieldsInRange (holds .all) (ranges-join (byteFields f) (timeFields f) h k))
+          (subst (λ (asked : Type 0). Judged ((7, asked) ∷ []) a) row-bounds later))

@@ -1,4 +1,4 @@
--- What is true of every list of accepted steps: the times of a kind rise strictly and none is after the clock, since each step was accepted in order.
+-- What is true of every list of accepted steps: the times of a stream rise strictly and none is after the clock, since each step was accepted in order.
 use Prim.Native.Nat.{ℕ, _≤_, _<_}
 use native.Mathlib.Omega.{arith}
 use mathlib.Core.Path.{_≡_, refl, sym, ap, _∙_, subst}
@@ -6,7 +6,7 @@ use mathlib.Core.Bool.{true, false, cond}
 use mathlib.Core.List.{List, [], _∷_, _++_, append-nil}
 use lib.Dec.{eqb}
 use borrow.Author.Tests.{eqb-true, eq-eqb, ne-eqb}
-use Rattle.constraint.specs.Limits.{lastKind, lastTime}
+use Rattle.constraint.specs.Limits.{streamCount, lastTime}
 use Rattle.constraint.specs.Steps.{Step, event, tick, close, times, among, own, clockFrom, clock, closed}
 use Rattle.constraint.specs.Continuation.{EventInOrder}
 use Rattle.constraint.proofs.Lists.{split, Each, each-none, each-append, each-cons, Rising, rising-snoc}
@@ -114,7 +114,7 @@ closed-close (close ∷ steps) = refl
 -- an event that is accepted after the steps, question 12 aside
 pub record AcceptsEvent (steps : List Step) (k t : ℕ) : Type 0 where
   pub not-closed : closed steps ≡ false
-  pub kind-small : k ≤ lastKind
+  pub stream-small : k < streamCount
   pub time-small : t ≤ lastTime
   pub in-order : EventInOrder steps k t
 

@@ -1,12 +1,12 @@
 -- Questions have one answer, since each is answered "yes" or "no"; and the answer to a list of questions goes by the answers to its parts.
-use Prim.Native.Nat.{ℕ, _≤_}
+use Prim.Native.Nat.{ℕ, _≤_, _<_}
 use mathlib.Core.Path.{_≡_, refl, sym, subst⁻¹, _∙_}
 use mathlib.Core.Bool.{Bool, true, false, not}
 use mathlib.Core.List.{List, [], _∷_, _++_}
 use mathlib.Core.Logic.{inl, inr}
 use native.Mathlib.Omega.{arith}
-use borrow.Author.Tests.{leb-true, leb-false, eqb-true, eqb-false, not-false}
-use lib.Dec.{leb, eqb}
+use borrow.Author.Tests.{leb-true, leb-false, ltb-true, ltb-false, eqb-true, eqb-false, not-false}
+use lib.Dec.{leb, ltb, eqb}
 use Rattle.constraint.specs.Questions.{Question, Judged, Decides}
 use Rattle.constraint.specs.declared.Answer.{Answer}
 use Rattle.constraint.specs.declared.Answer.the-variants.{Taken, Refused}
@@ -51,6 +51,13 @@ test-le m n = go (leb m n) refl
     go : (b : Bool) → leb m n ≡ b → Decides (m ≤ n) b
     go true e = leb-true m n e
     go false e = λ h. omega (arith, leb-false m n e)
+
+pub test-lt : (m n : ℕ) → Decides (m < n) (ltb m n)
+test-lt m n = go (ltb m n) refl
+  where
+    go : (b : Bool) → ltb m n ≡ b → Decides (m < n) b
+    go true e = ltb-true m n e
+    go false e = λ h. omega (arith, ltb-false m n e)
 
 pub test-equal : (m n : ℕ) → Decides (m ≡ n) (eqb m n)
 test-equal m n = go (eqb m n) refl

@@ -1,5 +1,6 @@
 -- What is true of the definitions: laws that every crate above cites.
 pub mod Lists
+pub mod Streams
 pub mod History
 pub mod Continuations
 pub mod Verdicts
@@ -13,4 +14,5 @@ pub mod Rows
 pub mod Records
 pub mod Accepted
 pub mod Runs
+pub mod AsBefore
 pub mod Sanity

@@ -1,20 +1,24 @@
 -- What is true of every list of calls: the steps that it accepts are in order, so each row reads one verdict, broken exactly when it is not open, and at the close kept exactly when the recorded events meet its definition.
-use Prim.Native.Nat.{ℕ}
+use Prim.Native.Nat.{ℕ, _<_}
+use native.Mathlib.Omega.{arith}
 use mathlib.Core.Path.{_≡_, refl, sym, ap, _∙_, subst}
-use mathlib.Core.Bool.{true}
+use mathlib.Core.Bool.{true, false}
 use mathlib.Core.List.{List, _++_, append-nil}
 use mathlib.Core.Logic.{inl, inr, _↔_}
-use Rattle.constraint.specs.Steps.{Step, closed}
+use Rattle.constraint.specs.Limits.{streamCount}
+use Rattle.constraint.specs.Streams.{stream}
+use Rattle.constraint.specs.Steps.{Step, event, closed}
 use Rattle.constraint.specs.Meets.{Meets}
 use Rattle.constraint.specs.Continuation.{Open, BrokenAt, Reads, reads-open, reads-kept, reads-broken}
 use Rattle.constraint.specs.Questions.{Judged}
-use Rattle.constraint.specs.Run.{stepFor, questions, Run, done, call}
+use Rattle.constraint.specs.Run.{stepFor, eventQuestions, questions, Run, done, call}
 use Rattle.constraint.specs.declared.Call.{Call}
 use Rattle.constraint.specs.declared.Answer.{Answer}
 use Rattle.constraint.specs.declared.Answer.the-variants.{Taken, Refused}
 use Rattle.constraint.specs.declared.Constraint.{Constraint}
 use Rattle.constraint.specs.declared.Verdict.{Verdict}
 use Rattle.constraint.proofs.Lists.{both}
+use Rattle.constraint.proofs.Streams.{stream-below}
 use Rattle.constraint.proofs.History.{Accepts, Valid, valid-more}
 use Rattle.constraint.proofs.Continuations.{continues-closed}
 use Rattle.constraint.proofs.Verdicts.{broken-later, broken-shut, broken-once, open-of-meets}
@@ -22,15 +26,27 @@ use Rattle.constraint.proofs.Judged.{never}
 
 -- ---- the steps that a list of calls accepts
 
+-- an event of a stream whose questions are all answered "yes"
+accepts-event : (rows : List Constraint) (steps : List Step) (s t : ℕ) → closed steps ≡ false → s < streamCount
+    → Judged (eventQuestions rows steps s t) Taken → Accepts steps (event s t)
+unfolding Judged
+accepts-event rows steps s t open-still small (inl (a, inl (b, later))) =
+    record { not-closed = open-still; stream-small = small; time-small = a; in-order = b }
+accepts-event rows steps s t open-still small (inl (a, inr e)) = never (cc (e .1))
+accepts-event rows steps s t open-still small (inr e) = never (cc (e .1))
+
 -- a step whose questions are all answered "yes"
 pub accepts-taken : (rows : List Constraint) (steps : List Step) (s : Call) → Judged (questions rows steps s) Taken → Accepts steps (stepFor s)
 unfolding Judged questions
-accepts-taken rows steps (Call.Event k t) (inl (a, inl (b, inl (c, inl (d, later))))) =
-    record { not-closed = a; kind-small = b; time-small = c; in-order = d }
-accepts-taken rows steps (Call.Event k t) (inl (a, inl (b, inl (c, inr e)))) = never (cc (e .1))
+accepts-taken rows steps (Call.Event k t) (inl (a, inl (b, inl (plain, later)))) = accepts-event rows steps k t a (omega arith) later
 accepts-taken rows steps (Call.Event k t) (inl (a, inl (b, inr e))) = never (cc (e .1))
 accepts-taken rows steps (Call.Event k t) (inl (a, inr e)) = never (cc (e .1))
 accepts-taken rows steps (Call.Event k t) (inr e) = never (cc (e .1))
+accepts-taken rows steps (Call.ColouredEvent k c t) (inl (a, inl (b, inl (coloured, later)))) =
+    accepts-event rows steps (stream k c) t a (stream-below k c b (coloured .1)) later
+accepts-taken rows steps (Call.ColouredEvent k c t) (inl (a, inl (b, inr e))) = never (cc (e .1))
+accepts-taken rows steps (Call.ColouredEvent k c t) (inl (a, inr e)) = never (cc (e .1))
+accepts-taken rows steps (Call.ColouredEvent k c t) (inr e) = never (cc (e .1))
 accepts-taken rows steps (Call.Tick t) (inl (a, inl (b, inl (c, later)))) = record { not-closed = a; time-small = b; later = c }
 accepts-taken rows steps (Call.Tick t) (inl (a, inl (b, inr e))) = never (cc (e .1))
 accepts-taken rows steps (Call.Tick t) (inl (a, inr e)) = never (cc (e .1))

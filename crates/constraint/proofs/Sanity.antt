@@ -8,11 +8,12 @@ use mathlib.Core.Bool.{Bool, _&&_, _||_}
 use lib.ListN.{length}
 use lib.Dec.{leb}
 use borrow.Author.Tests.{ne-eqb}
-use Rattle.constraint.specs.Limits.{noLimit}
+use Rattle.constraint.specs.Limits.{lastColour, noLimit}
+use Rattle.constraint.specs.Streams.{stream}
 use Rattle.constraint.specs.Steps.{Step, event, tick, at, times, clockFrom, own}
 use Rattle.constraint.specs.Meets.{Between, NotLater, Apart, SpansApart, AtLeastApart, HiddenPoints, Execution, Executes, paused, pauseEvents, executionEvents}
 use Rattle.constraint.specs.Meets.{Meets, MeetsDelay, MeetsStrongDelay, MeetsRepeat, MeetsSporadic, MeetsBurst, MeetsOrder}
-use Rattle.constraint.specs.Meets.{MeetsStrongSynchronization, MeetsExecutionTime, MeetsRepetition}
+use Rattle.constraint.specs.Meets.{MeetsStrongSynchronization, MeetsExecutionTime, MeetsReaction, MeetsRepetition}
 use Rattle.constraint.specs.Waiting.{answered}
 use Rattle.constraint.specs.Continuation.{BrokenAt}
 use Rattle.constraint.specs.Questions.{Question, Judged}
@@ -22,7 +23,7 @@ use Rattle.constraint.specs.declared.Answer.{Answer}
 use Rattle.constraint.specs.declared.Answer.the-variants.{Taken, Refused}
 use Rattle.constraint.specs.declared.Constraint.{Constraint}
 use Rattle.constraint.specs.declared.Constraint.the-variants.{Delay, StrongDelay, Repeat, Sporadic, Burst, Order, StrongSynchronization2, StrongSynchronization3, StrongSynchronization4}
-use Rattle.constraint.specs.declared.Constraint.the-variants.{ExecutionTime, Repetition}
+use Rattle.constraint.specs.declared.Constraint.the-variants.{ExecutionTime, Reaction, Repetition}
 use Rattle.constraint.proofs.Judged.{judged-once}
 use Rattle.constraint.proofs.Verdicts.{open-of-meets}
 
@@ -55,7 +56,7 @@ run-some rows (s ∷ calls) steps none =
 
 -- no event at all meets every definition
 pub meets-none : (c : Constraint) → Meets c []
-unfolding Meets MeetsDelay MeetsStrongDelay SpansApart MeetsRepeat MeetsSporadic MeetsBurst MeetsOrder MeetsStrongSynchronization MeetsExecutionTime MeetsRepetition times own
+unfolding Meets MeetsDelay MeetsStrongDelay SpansApart MeetsRepeat MeetsSporadic MeetsBurst MeetsOrder MeetsStrongSynchronization MeetsExecutionTime MeetsReaction MeetsRepetition times own
 meets-none (Delay source target lower upper) = λ i h. absurd (omega arith)
 meets-none (StrongDelay source target lower upper) = (refl, λ i h. absurd (omega arith))
 meets-none (Repeat kind span lower upper) = (λ i h. absurd (omega arith), λ i h end. absurd (omega arith))
@@ -73,6 +74,7 @@ meets-none (StrongSynchronization2 a b tolerance) = λ j k h g. (refl, λ i l. a
 meets-none (StrongSynchronization3 a b c tolerance) = λ j k h g. (refl, λ i l. absurd (omega arith))
 meets-none (StrongSynchronization4 a b c d tolerance) = λ j k h g. (refl, λ i l. absurd (omega arith))
 meets-none (ExecutionTime start stop preempt resume lower upper) = ([], record { are = refl; rise = λ i h. absurd (omega arith); run = tt })
+meets-none (Reaction stimulus response minimum maximum) = λ colour few i h. absurd (omega arith)
 meets-none (Repetition kind span lower upper jitter) =
     ([], record { one-each = refl; near = λ i h. absurd (omega arith); rise = λ i h. absurd (omega arith); apart = λ i h. absurd (omega arith) })
 
@@ -341,6 +343,23 @@ execution-time-contingent =
     short : (executions : List Execution) → Executes 0 1 2 3 2 5 ((0, 0) ∷ (1, 1) ∷ []) executions → ⊥
     short [] x = let z : _≡_ {A = ℕ} 2 0 = ap length (x .are) in omega arith
     short (e ∷ es) x = too-short (e .pauses) (e .starts) (e .stops) (executionEvents 0 1 2 3 es) (x .are) (x .run .0 .0)
+
+-- a stimulus of colour 1 at 10 and the first response of that colour at 15; and one at 17
+pub reaction-contingent : Contingent (Reaction 48 49 4 6) (event 49 10 ∷ event 57 15 ∷ []) (event 49 10 ∷ event 57 17 ∷ [])
+unfolding Meets MeetsReaction times
+reaction-contingent = record { can-be-met = λ colour few. met colour few; can-be-missed = λ m. omega (arith, m 1 (omega arith) 0 (omega arith) .1 .1) }
+  where
+    steps : List Step
+    steps = event 49 10 ∷ event 57 15 ∷ []
+
+    met : (colour : ℕ) → colour ≤ lastColour → MeetsReaction 4 6 (times (stream 48 colour) steps) (times (stream 49 colour) steps)
+    met zero few i h = absurd (omega arith)
+    met (suc zero) few zero h = (omega arith, (omega arith, omega arith))
+    met (suc zero) few (suc i) h = absurd (omega arith)
+    met (suc (suc colour)) few i h = absurd (omega (arith, none (suc (suc colour)) (omega arith) few))
+      where
+        none : (c : ℕ) → 2 ≤ c → c ≤ lastColour → length (times (stream 48 c) steps) ≡ 0
+        none c h few = rw (ne-eqb 49 (stream 48 c) (λ e. omega arith), ne-eqb 57 (stream 48 c) (λ e. omega arith))
 
 -- the points must rise besides: each of the two chains taken singly has its points in both lists
 pub repetition-contingent : Contingent (Repetition 0 2 10 10 5) (event 0 5 ∷ event 0 16 ∷ event 0 17 ∷ event 0 29 ∷ [])

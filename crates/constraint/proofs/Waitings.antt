@@ -6,10 +6,10 @@ use mathlib.Core.List.{List, [], _∷_, map}
 use lib.ListN.{length}
 use Rattle.constraint.specs.Steps.{Step, times, own}
 use Rattle.constraint.specs.Waiting.{unanswered, largest, least, begunIncomplete, waiting}
-use Rattle.constraint.specs.Accepted.{kinds}
+use Rattle.constraint.specs.Accepted.{streams}
 use Rattle.constraint.specs.declared.Constraint.{Constraint}
 use Rattle.constraint.specs.declared.Constraint.the-variants.{Delay, StrongDelay, Repeat, Sporadic, Burst, Order, StrongSynchronization2, StrongSynchronization3, StrongSynchronization4}
-use Rattle.constraint.specs.declared.Constraint.the-variants.{ExecutionTime, Repetition}
+use Rattle.constraint.specs.declared.Constraint.the-variants.{ExecutionTime, Reaction, Repetition}
 use Rattle.constraint.proofs.Lists.{each-tail}
 use Rattle.constraint.proofs.Continuations.{SameTimes, same-times}
 
@@ -22,7 +22,7 @@ groups-same : (ks : List ℕ) (a b : List Step) → SameTimes ks a b → begunIn
 unfolding begunIncomplete
 groups-same ks a b same = ap (λ (counts : List ℕ). largest counts - least counts) (counts-same ks a b same)
 
-waiting-same-times : (c : Constraint) (a b : List Step) → SameTimes (kinds c) a b → waiting c a ≡ waiting c b
+waiting-same-times : (c : Constraint) (a b : List Step) → SameTimes (streams c) a b → waiting c a ≡ waiting c b
 unfolding waiting
 waiting-same-times (Delay source target lower upper) a b same = ap₂ (unanswered lower upper) (same 0 (omega arith)) (same 1 (omega arith))
 waiting-same-times (StrongDelay source target lower upper) a b same = ap₂ (λ (s t : List ℕ). length s - length t) (same 0 (omega arith)) (same 1 (omega arith))
@@ -34,7 +34,8 @@ waiting-same-times (StrongSynchronization2 x y tolerance) a b same = groups-same
 waiting-same-times (StrongSynchronization3 x y z tolerance) a b same = groups-same (x ∷ y ∷ z ∷ []) a b same
 waiting-same-times (StrongSynchronization4 x y z w tolerance) a b same = groups-same (x ∷ y ∷ z ∷ w ∷ []) a b same
 waiting-same-times (ExecutionTime start stop preempt resume lower upper) a b same = refl
+waiting-same-times (Reaction stimulus response minimum maximum) a b same = refl
 waiting-same-times (Repetition event span lower upper jitter) a b same = refl
 
-pub waiting-same : (c : Constraint) (a b : List Step) → own (kinds c) a ≡ own (kinds c) b → waiting c a ≡ waiting c b
-waiting-same c a b same = waiting-same-times c a b (same-times (kinds c) a b same)
+pub waiting-same : (c : Constraint) (a b : List Step) → own (streams c) a ≡ own (streams c) b → waiting c a ≡ waiting c b
+waiting-same c a b same = waiting-same-times c a b (same-times (streams c) a b same)

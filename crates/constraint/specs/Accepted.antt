@@ -1,14 +1,15 @@
--- Questions 3 to 7, row by row, as fresh and the table writer put them (§9.7). Question 4 is always answered "yes" here, as every
+-- Questions 3 to 7 and 18, row by row, as fresh and the table writer put them (§9.7). Question 4 is always answered "yes" here, as every
 -- `Constraint` has a known type and n.
 use Prim.Native.Nat.{ℕ, _+_, _≤_, _<_}
 use mathlib.Core.Path.{_≡_}
 use mathlib.Core.List.{List, [], _∷_, _++_}
 use mathlib.Core.Logic.{_⊎_}
 use lib.ListN.{length}
-use Rattle.constraint.specs.Limits.{lastKind, lastTime, noLimit, rowLimit}
+use Rattle.constraint.specs.Limits.{lastKind, firstColoured, lastTime, noLimit, rowLimit}
+use Rattle.constraint.specs.Streams.{colours}
 use Rattle.constraint.specs.Steps.{at}
 use Rattle.constraint.specs.Questions.{Question, Judged}
-use Rattle.constraint.specs.Types.{kind, count, span, plain, lower, upper, upper-or-none, Field, byte, time, fieldsOf}
+use Rattle.constraint.specs.Types.{kind, coloured, count, span, plain, lower, upper, upper-or-none, Field, byte, time, fieldsOf}
 use Rattle.constraint.specs.declared.Answer.the-variants.{Taken}
 use Rattle.constraint.specs.declared.Constraint.{Constraint}
 
@@ -16,6 +17,7 @@ use Rattle.constraint.specs.declared.Constraint.{Constraint}
 abbrev pub kindsIn : List Field → List ℕ
 kindsIn [] = []
 kindsIn (byte kind x ∷ fields) = x ∷ kindsIn fields
+kindsIn (byte coloured x ∷ fields) = x ∷ kindsIn fields
 kindsIn (byte count x ∷ fields) = kindsIn fields
 kindsIn (byte (span limit) x ∷ fields) = kindsIn fields
 kindsIn (time role x ∷ fields) = kindsIn fields
@@ -23,9 +25,36 @@ kindsIn (time role x ∷ fields) = kindsIn fields
 abbrev pub kinds : Constraint → List ℕ
 kinds c = kindsIn (fieldsOf c)
 
+-- the streams of some fields' kinds, and those that a row hears: its plain kinds, and each colour of its coloured ones
+abbrev pub streamsIn : List Field → List ℕ
+streamsIn [] = []
+streamsIn (byte kind x ∷ fields) = x ∷ streamsIn fields
+streamsIn (byte coloured x ∷ fields) = colours x ++ streamsIn fields
+streamsIn (byte count x ∷ fields) = streamsIn fields
+streamsIn (byte (span limit) x ∷ fields) = streamsIn fields
+streamsIn (time role x ∷ fields) = streamsIn fields
+
+abbrev pub streams : Constraint → List ℕ
+streams c = streamsIn (fieldsOf c)
+
 -- §8.5: no kind is above 63, and no two are the same
 unfoldable pub KindsFit : List ℕ → Type 0
 KindsFit ks = ((i : ℕ) → i < length ks → at ks i ≤ lastKind) × ((i j : ℕ) → i < j → j < length ks → ¬ (at ks i ≡ at ks j))
+
+-- §8.18: a plain kind where the type takes plain ones, a coloured one where it takes coloured ones
+abbrev pub SortFits : Field → Type 0
+SortFits (byte kind x) = x < firstColoured
+SortFits (byte coloured x) = firstColoured ≤ x
+SortFits (byte count x) = Unit {0}
+SortFits (byte (span limit) x) = Unit {0}
+SortFits (time role x) = Unit {0}
+
+abbrev pub SortsFit : List Field → Type 0
+SortsFit [] = Unit {0}
+SortsFit (f ∷ fields) = SortFits f × SortsFit fields
+
+unfoldable pub KindsSuit : Constraint → Type 0
+KindsSuit c = SortsFit (fieldsOf c)
 
 -- an upper in range, or the mark for no limit
 abbrev pub UpperInRange : ℕ → Type 0
@@ -35,6 +64,7 @@ UpperInRange x = (x ≤ lastTime) ⊎ (x ≡ noLimit)
 abbrev pub FieldsInRange : List Field → Type 0
 FieldsInRange [] = Unit {0}
 FieldsInRange (byte kind x ∷ fields) = FieldsInRange fields
+FieldsInRange (byte coloured x ∷ fields) = FieldsInRange fields
 FieldsInRange (byte count x ∷ fields) = FieldsInRange fields
 FieldsInRange (byte (span limit) x ∷ fields) = (1 ≤ x) × (x ≤ limit) × FieldsInRange fields
 FieldsInRange (time plain x ∷ fields) = (x ≤ lastTime) × FieldsInRange fields
@@ -57,9 +87,9 @@ NotBelow low (time upper-or-none x ∷ fields) = low ≤ x
 unfoldable pub LowerFirst : Constraint → Type 0
 LowerFirst c = NotBelow 0 (fieldsOf c)
 
--- 5 to 7, of one row
+-- 5, 18, 6 and 7, of one row
 abbrev pub rowQuestions : Constraint → List Question
-rowQuestions c = (5, KindsFit (kinds c)) ∷ (6, InRange c) ∷ (7, LowerFirst c) ∷ []
+rowQuestions c = (5, KindsFit (kinds c)) ∷ (18, KindsSuit c) ∷ (6, InRange c) ∷ (7, LowerFirst c) ∷ []
 
 -- §9.7: 3 with i rows before (§8.3), then the row's own questions, row after row; and the questions that come after the rows
 unfoldable pub rowsQuestions : ℕ → List Constraint → List Question → List Question

@@ -4,21 +4,21 @@ use mathlib.Core.Path.{_≡_}
 use mathlib.Core.Bool.{true, false}
 use mathlib.Core.List.{List, [], _∷_, _++_}
 use lib.ListN.{length, take}
-use Rattle.constraint.specs.Limits.{lastKind}
+use Rattle.constraint.specs.Limits.{streamCount}
 use Rattle.constraint.specs.Steps.{Step, event, at, times, clock, closed}
 use Rattle.constraint.specs.Meets.{Meets}
 use Rattle.constraint.specs.declared.Constraint.{Constraint}
 use Rattle.constraint.specs.declared.Verdict.{Verdict}
 
--- §1.3: the time is the clock's or later, and later than those of all earlier events of the kind
+-- §1.3: the time is the clock's or later, and later than those of all earlier events of the stream
 abbrev pub EventInOrder : List Step → ℕ → ℕ → Type 0
-EventInOrder steps k t = (clock steps ≤ t) × ((i : ℕ) → i < length (times k steps) → at (times k steps) i < t)
+EventInOrder steps s t = (clock steps ≤ t) × ((i : ℕ) → i < length (times s steps) → at (times s steps) i < t)
 
--- §2.3: further events that could be taken one after the other, with no largest time; after the close none
+-- §2.3: further events, of every stream, that could be taken one after the other, with no largest time; after the close none
 pub data Continues : List Step → List Step → Type 0 where
   stop : {steps : List Step} → Continues steps []
-  more : {steps further : List Step} (k t : ℕ) → closed steps ≡ false → k ≤ lastKind → EventInOrder steps k t
-      → Continues (steps ++ (event k t ∷ [])) further → Continues steps (event k t ∷ further)
+  more : {steps further : List Step} (s t : ℕ) → closed steps ≡ false → s < streamCount → EventInOrder steps s t
+      → Continues (steps ++ (event s t ∷ [])) further → Continues steps (event s t ∷ further)
 
 -- §2.4: some continuation is left with which all events together do what the row asks
 abbrev pub Open : Constraint → List Step → Type 0

@@ -1,5 +1,5 @@
--- The contract's examples 1 to 12 (§10.1 to §10.12), those of Delays without an upper limit, of signals that stop, of ExecutionTime and of
--- Repetition: a row, calls that are all taken, and what the row reads after them.
+-- The contract's examples 1 to 12 (§10.1 to §10.12), those of Delays without an upper limit, of signals that stop, of ExecutionTime, of
+-- Reaction and of Repetition: a row, calls that are all taken, and what the row reads after them.
 use Prim.Native.Nat.{ℕ, zero, suc, _+_, _-_}
 use mathlib.Core.List.{List, [], _∷_, _++_}
 use lib.ListN.{replicate}
@@ -7,9 +7,9 @@ use Rattle.constraint.specs.Limits.{lastTime, noLimit}
 use Rattle.constraint.specs.declared.Answer.{Answer}
 use Rattle.constraint.specs.declared.Answer.the-variants.{Taken, Refused}
 use Rattle.constraint.specs.declared.Call.{Call}
-use Rattle.constraint.specs.declared.Call.the-variants.{Event, Tick, Close}
+use Rattle.constraint.specs.declared.Call.the-variants.{Event, ColouredEvent, Tick, Close}
 use Rattle.constraint.specs.declared.Constraint.{Constraint}
-use Rattle.constraint.specs.declared.Constraint.the-variants.{Delay, StrongDelay, Repeat, Sporadic, Burst, Order, StrongSynchronization2, ExecutionTime, Repetition}
+use Rattle.constraint.specs.declared.Constraint.the-variants.{Delay, StrongDelay, Repeat, Sporadic, Burst, Order, StrongSynchronization2, ExecutionTime, Reaction, Repetition}
 use Rattle.constraint.specs.declared.Verdict.{Verdict}
 use Rattle.constraint.specs.declared.Verdict.the-variants.{Open, Kept, Broken}
 
@@ -220,3 +220,31 @@ crowdedCalls = Event 2 0 ∷ sources 64 1 ++ (Event 0 65 ∷ [])
 
 abbrev pub crowdedAnswers : List Answer
 crowdedAnswers = replicate 65 Taken ++ (Refused 12 ∷ [])
+
+-- §5.9.1 to §5.9.7: Reactions
+abbrev pub reactions : List Example
+reactions =
+    -- one first response for all stimuli of a colour: it can suit two that are close, and not two that are far apart
+    reads (Reaction 48 49 4 6) (ColouredEvent 48 1 10 ∷ ColouredEvent 48 1 13 ∷ []) (Broken 2)
+    ∷ reads (Reaction 48 49 4 6) (ColouredEvent 48 1 10 ∷ ColouredEvent 48 1 12 ∷ []) Open
+    ∷ reads (Reaction 48 49 4 6) (ColouredEvent 48 1 10 ∷ ColouredEvent 48 1 12 ∷ ColouredEvent 49 1 16 ∷ Close ∷ []) Kept
+    ∷ reads (Reaction 48 49 4 6) (ColouredEvent 48 1 10 ∷ ColouredEvent 48 1 12 ∷ ColouredEvent 49 1 15 ∷ []) (Broken 3)
+    -- the last moment, the one after it, and a response of another colour; a close before the response
+    ∷ reads (Reaction 48 49 4 6) (ColouredEvent 48 1 10 ∷ Tick 16 ∷ []) Open
+    ∷ reads (Reaction 48 49 4 6) (ColouredEvent 48 1 10 ∷ Tick 16 ∷ Tick 17 ∷ []) (Broken 3)
+    ∷ reads (Reaction 48 49 4 6) (ColouredEvent 48 1 10 ∷ ColouredEvent 49 2 14 ∷ Tick 17 ∷ []) (Broken 3)
+    ∷ reads (Reaction 48 49 4 6) (ColouredEvent 48 1 10 ∷ Close ∷ []) (Broken 2)
+    -- a response without a stimulus, and a stimulus after it
+    ∷ reads (Reaction 48 49 4 6) (ColouredEvent 49 3 5 ∷ Close ∷ []) Kept
+    ∷ reads (Reaction 48 49 4 6) (ColouredEvent 49 3 5 ∷ ColouredEvent 48 3 6 ∷ []) (Broken 2)
+    ∷ reads (Reaction 48 49 4 6) (ColouredEvent 48 0 10 ∷ ColouredEvent 49 0 15 ∷ ColouredEvent 48 0 20 ∷ []) (Broken 3)
+    -- later responses do not count
+    ∷ reads (Reaction 48 49 4 6) (ColouredEvent 48 0 10 ∷ ColouredEvent 49 0 15 ∷ ColouredEvent 49 0 99 ∷ Close ∷ []) Kept
+    -- both ends of the interval, and either order within one time
+    ∷ reads (Reaction 48 49 4 6) (ColouredEvent 48 7 10 ∷ ColouredEvent 49 7 14 ∷ Close ∷ []) Kept
+    ∷ reads (Reaction 48 49 4 6) (ColouredEvent 48 7 10 ∷ ColouredEvent 49 7 13 ∷ []) (Broken 2)
+    ∷ reads (Reaction 48 49 0 3) (ColouredEvent 49 0 5 ∷ ColouredEvent 48 0 5 ∷ Close ∷ []) Kept
+    ∷ reads (Reaction 48 49 1 3) (ColouredEvent 49 0 5 ∷ ColouredEvent 48 0 5 ∷ []) (Broken 2)
+    -- colours do not disturb each other
+    ∷ reads (Reaction 48 49 4 6) (ColouredEvent 48 0 10 ∷ ColouredEvent 48 1 11 ∷ ColouredEvent 49 1 15 ∷ ColouredEvent 49 0 16 ∷ Close ∷ []) Kept
+    ∷ []

@@ -5,6 +5,17 @@ use Prim.Native.Nat.{ℕ, _^_, _-_}
 abbrev pub lastKind : ℕ
 lastKind = 63
 
+-- §1.2: the first coloured kind, and the last colour
+abbrev pub firstColoured : ℕ
+firstColoured = 48
+
+abbrev pub lastColour : ℕ
+lastColour = 7
+
+-- §1.9: how many streams there are: 48 plain kinds, and 16 coloured ones of 8 colours
+abbrev pub streamCount : ℕ
+streamCount = 176
+
 -- §1.1: the last time
 abbrev pub lastTime : ℕ
 lastTime = 2 ^ 56 - 1

@@ -4,11 +4,12 @@ use mathlib.Core.Path.{_≡_}
 use mathlib.Core.List.{List, [], _∷_, _++_, map}
 use mathlib.Core.Logic.{_⊎_}
 use lib.ListN.{length}
-use Rattle.constraint.specs.Limits.{noLimit}
+use Rattle.constraint.specs.Limits.{lastColour, noLimit}
+use Rattle.constraint.specs.Streams.{stream}
 use Rattle.constraint.specs.Steps.{Step, at, times, own, clock}
 use Rattle.constraint.specs.declared.Constraint.{Constraint}
 use Rattle.constraint.specs.declared.Constraint.the-variants.{Delay, StrongDelay, Repeat, Sporadic, Burst, Order, StrongSynchronization2, StrongSynchronization3, StrongSynchronization4}
-use Rattle.constraint.specs.declared.Constraint.the-variants.{ExecutionTime, Repetition}
+use Rattle.constraint.specs.declared.Constraint.the-variants.{ExecutionTime, Reaction, Repetition}
 
 -- y is lower to upper after x, both ends included
 abbrev pub Between : ℕ → ℕ → ℕ → ℕ → Type 0
@@ -119,6 +120,11 @@ unfoldable pub MeetsExecutionTime : ℕ → ℕ → ℕ → ℕ → ℕ → ℕ 
 MeetsExecutionTime start stop preempt resume lower upper events =
     (executions : List Execution) × Executes start stop preempt resume lower upper events executions
 
+-- §5.9, of one colour: each stimulus has a response, and the first response of all is minimum to maximum after it
+unfoldable pub MeetsReaction : ℕ → ℕ → List ℕ → List ℕ → Type 0
+MeetsReaction minimum maximum stimuli responses =
+    (i : ℕ) → i < length stimuli → (0 < length responses) × Between minimum maximum (at stimuli i) (at responses 0)
+
 -- what a row asks of all events together, with the clock that they close at (§2.2)
 unfoldable pub Meets : Constraint → List Step → Type 0
 Meets (Delay source target lower upper) steps = MeetsDelay lower upper (times source steps) (times target steps)
@@ -132,4 +138,6 @@ Meets (StrongSynchronization3 a b c tolerance) steps = MeetsStrongSynchronizatio
 Meets (StrongSynchronization4 a b c d tolerance) steps = MeetsStrongSynchronization (a ∷ b ∷ c ∷ d ∷ []) tolerance steps
 Meets (ExecutionTime start stop preempt resume lower upper) steps =
     MeetsExecutionTime start stop preempt resume lower upper (own (start ∷ stop ∷ preempt ∷ resume ∷ []) steps)
+Meets (Reaction stimulus response minimum maximum) steps =
+    (colour : ℕ) → colour ≤ lastColour → MeetsReaction minimum maximum (times (stream stimulus colour) steps) (times (stream response colour) steps)
 Meets (Repetition event span lower upper jitter) steps = MeetsRepetition span lower upper jitter (times event steps)

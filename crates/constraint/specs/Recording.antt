@@ -3,7 +3,6 @@ use Prim.Native.Nat.{ℕ, _+_, _≤_, _<_}
 use mathlib.Core.Path.{_≡_}
 use mathlib.Core.Bool.{cond}
 use mathlib.Core.List.{List, [], _∷_, _++_}
-use mathlib.Core.Logic.{_⊎_}
 use lib.ListN.{length}
 use lib.Dec.{eqb}
 use Rattle.constraint.specs.Steps.{Step, at}
@@ -12,20 +11,35 @@ use Rattle.constraint.specs.declared.Call.{Call}
 use Rattle.constraint.specs.declared.Answer.the-variants.{Taken, Refused}
 use Rattle.constraint.specs.Run.{stepFor, questions}
 use Rattle.constraint.specs.Bytes.{numberAt}
-use Rattle.constraint.specs.Table.{lengthAt, bodyAt, WholeAt, VersionOne}
+use Rattle.constraint.specs.Table.{lengthAt, bodyAt, WholeAt}
 use Rattle.constraint.specs.declared.Constraint.{Constraint}
 
--- §7.2: an event of nine bytes, a tick of eight
-abbrev pub callOf : List ℕ → Call
-callOf body = cond (eqb (length body) 9) (Call.Event (at body 0) (numberAt 8 body 1)) (Call.Tick (numberAt 8 body 0))
+-- §8.19: what is no colour
+abbrev pub noColour : ℕ
+noColour = 255
 
--- §8.14: length field and record are whole, and the length is 8 or 9
+-- §7.1: a recording of version 1 has no colours, whatever stands where version 2 has them
+abbrev pub colourIn : ℕ → ℕ → ℕ
+colourIn version colour = cond (eqb version 1) noColour colour
+
+-- §7.2: an event of nine bytes, one with a colour of ten, a tick of eight
+abbrev pub callOf : ℕ → List ℕ → Call
+callOf version body =
+    cond (eqb (length body) 9) (Call.Event (at body 0) (numberAt 8 body 1))
+    (cond (eqb (length body) 10) (Call.ColouredEvent (at body 0) (colourIn version (at body 1)) (numberAt 8 body 2))
+    (Call.Tick (numberAt 8 body 0)))
+
+-- the call of the record at a place; the first byte is the version
+abbrev pub callAt : List ℕ → ℕ → Call
+callAt bytes place = callOf (at bytes 0) (bodyAt bytes place)
+
+-- §8.14: length field and record are whole, and the length is 8, 9 or 10
 abbrev pub RecordAt : List ℕ → ℕ → Type 0
-RecordAt bytes place = WholeAt bytes place × ((lengthAt bytes place ≡ 8) ⊎ (lengthAt bytes place ≡ 9))
+RecordAt bytes place = WholeAt bytes place × (8 ≤ lengthAt bytes place) × (lengthAt bytes place ≤ 10)
 
 -- §9.4: 14, then the questions of its step
 unfoldable pub recordQuestions : List Constraint → List Step → List ℕ → ℕ → List Question
-recordQuestions rows steps bytes place = (14, RecordAt bytes place) ∷ questions rows steps (callOf (bodyAt bytes place))
+recordQuestions rows steps bytes place = (14, RecordAt bytes place) ∷ questions rows steps (callAt bytes place)
 
 -- what reading gives: the steps accepted, or the refusal's number and place (§7.6)
 pub data RecordingRead : Type 0 where
@@ -38,13 +52,17 @@ pub data ReadsRecords (rows : List Constraint) (bytes : List ℕ) : List Step �
   record-refused : {before : List Step} {place : ℕ} (n : ℕ) → place < length bytes → Judged (recordQuestions rows before bytes place) (Refused n)
       → ReadsRecords rows bytes before place (recording-refused n place)
   record-taken : {before : List Step} {place : ℕ} {read : RecordingRead} → place < length bytes → Judged (recordQuestions rows before bytes place) Taken
-      → ReadsRecords rows bytes (before ++ (stepFor (callOf (bodyAt bytes place)) ∷ [])) (place + 2 + lengthAt bytes place) read
+      → ReadsRecords rows bytes (before ++ (stepFor (callAt bytes place) ∷ [])) (place + 2 + lengthAt bytes place) read
       → ReadsRecords rows bytes before place read
 
--- §9.4: 13 (§8.13), then record by record
+-- §8.13: the first byte is there, and is 1 or 2
+abbrev pub VersionKnown : List ℕ → Type 0
+VersionKnown bytes = (0 < length bytes) × (1 ≤ at bytes 0) × (at bytes 0 ≤ 2)
+
+-- §9.4: 13, then record by record
 pub data ReadsRecording (rows : List Constraint) (bytes : List ℕ) : RecordingRead → Type 0 where
-  version-refused : ¬ VersionOne bytes → ReadsRecording rows bytes (recording-refused 13 0)
-  version-taken : {read : RecordingRead} → VersionOne bytes → ReadsRecords rows bytes [] 1 read → ReadsRecording rows bytes read
+  version-refused : ¬ VersionKnown bytes → ReadsRecording rows bytes (recording-refused 13 0)
+  version-taken : {read : RecordingRead} → VersionKnown bytes → ReadsRecords rows bytes [] 1 read → ReadsRecording rows bytes read
 
 -- the recording's and the step's questions without 12 (§12.5): over no rows, where no row can have too many waiting
 abbrev pub ReadsInOrder : List ℕ → RecordingRead → Type 0

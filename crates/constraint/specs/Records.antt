@@ -1,13 +1,13 @@
 -- What the code's records hold: a table with one row more, and a row's fields as numbers. No definition of the contract rests on these.
 use Prim.Native.Nat.{ℕ, _+_, _≤_, _<_, max}
 use mathlib.Core.Path.{_≡_}
-use mathlib.Core.Bool.{cond}
+use mathlib.Core.Bool.{Bool, cond, _||_}
 use mathlib.Core.List.{List, [], _∷_, _++_}
 use mathlib.Core.Logic.{_≢_}
 use lib.ListN.{length, set, take, drop}
 use lib.Dec.{eqb}
 use Rattle.constraint.specs.Limits.{rowLimit}
-use Rattle.constraint.specs.Types.{ByteRole, kind, count, span, TimeRole, plain, lower, upper, upper-or-none}
+use Rattle.constraint.specs.Types.{ByteRole, kind, coloured, count, span, TimeRole, plain, lower, upper, upper-or-none}
 use Rattle.constraint.specs.Types.{Field, byte, time, typeOf, fieldsOf}
 use Rattle.constraint.specs.declared.Constraint.{Constraint}
 use Rattle.constraint.specs.declared.Entry.{Entry}
@@ -31,7 +31,11 @@ pub record Adds (table : Table) (c : Constraint) (r : Table) : Type 0 where
 -- A row's fields as numbers: values, and the numbers of their roles, of which 0 is no field
 
 abbrev pub byteRole : ℕ → ByteRole
-byteRole r = cond (eqb r 255) kind (cond (eqb r 254) count (span r))
+byteRole r = cond (eqb r 255) kind (cond (eqb r 254) count (cond (eqb r 253) coloured (span r)))
+
+-- the role is that of a kind, plain or coloured
+abbrev pub isKind : ℕ → Bool
+isKind r = eqb r 255 || eqb r 253
 
 abbrev pub timeRole : ℕ → TimeRole
 timeRole r = cond (eqb r 2) lower (cond (eqb r 3) upper (cond (eqb r 4) upper-or-none plain))

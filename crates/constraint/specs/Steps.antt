@@ -5,7 +5,7 @@ use mathlib.Core.List.{List, [], _∷_}
 use lib.ListN.{getD}
 use lib.Dec.{eqb}
 
--- §1.3, §1.4, §1.5: an event of a kind at a time, a tick to a time, the close. `event 0 10` is 0@10
+-- §1.3, §1.4, §1.5: an event of a stream (§1.9) at a time, a tick to a time, the close. `event 0 10` is 0@10, of the plain kind 0
 pub data Step : Type 0 where
   event : ℕ → ℕ → Step
   tick : ℕ → Step
@@ -15,19 +15,19 @@ pub data Step : Type 0 where
 abbrev pub at : List ℕ → ℕ → ℕ
 at list i = getD list i 0
 
--- §2.1: the times of the events of one kind, in the order recorded
+-- §2.1: the times of the events of one stream, in the order recorded
 unfoldable pub times : ℕ → List Step → List ℕ
 times k [] = []
 times k (event j t ∷ steps) = cond (eqb j k) (t ∷ times k steps) (times k steps)
 times k (tick t ∷ steps) = times k steps
 times k (close ∷ steps) = times k steps
 
--- k is one of these kinds
+-- k is one of these streams, or of these kinds
 abbrev pub among : ℕ → List ℕ → Bool
 among k [] = false
 among k (j ∷ ks) = eqb k j || among k ks
 
--- the events of these kinds, each with its kind and its time, in the order recorded
+-- the events of these streams, each with its stream and its time, in the order recorded
 unfoldable pub own : List ℕ → List Step → List (ℕ × ℕ)
 own ks [] = []
 own ks (event k t ∷ steps) = cond (among k ks) ((k, t) ∷ own ks steps) (own ks steps)

@@ -43,7 +43,7 @@ rowsBytes (c ∷ rows) = rowBytes c ++ rowsBytes rows
 unfoldable pub tableBytes : List Constraint → List ℕ
 tableBytes rows = 1 ∷ rowsBytes rows
 
--- §9.7, §9.8: the writer's questions, 3 to 7 of each row and then 16
+-- §9.7, §9.8: the writer's questions, 3 to 7 and 18 of each row and then 16
 abbrev pub writerQuestions : List Constraint → List ℕ → List Question
 writerQuestions rows buffer = rowsQuestions 0 rows ((16, length (tableBytes rows) ≤ length buffer) ∷ [])
 
@@ -88,7 +88,7 @@ WholeAt bytes place = (place + 2 ≤ length bytes) × (place + 2 + lengthAt byte
 abbrev pub RowAt : List ℕ → ℕ → Constraint → Type 0
 RowAt bytes place c = ShapeFits (bodyAt bytes place) → StandsFor (bodyAt bytes place) c
 
--- 2 to 7, of the row c at a place, with i rows before it
+-- 2 to 7 and 18, of the row c at a place, with i rows before it
 unfoldable pub placeQuestions : List ℕ → ℕ → ℕ → Constraint → List Question
 placeQuestions bytes i place c = (2, WholeAt bytes place) ∷ (3, i < rowLimit) ∷ (4, ShapeFits (bodyAt bytes place)) ∷ rowQuestions c
 
@@ -110,7 +110,7 @@ pub data ReadsRows (bytes : List ℕ) : ℕ → ℕ → TableRead → Type 0 whe
       → Judged (placeQuestions bytes i place c) Taken → ReadsRows bytes (i + 1) (place + 2 + lengthAt bytes place) later
       → ReadsRows bytes i place (rowThen c later)
 
--- §8.1, §8.13: the first byte is there, and is 1
+-- §8.1: the first byte is there, and is 1
 abbrev pub VersionOne : List ℕ → Type 0
 VersionOne bytes = (0 < length bytes) × (at bytes 0 ≡ 1)
 

@@ -18,12 +18,14 @@ use Rattle.constraint.specs.declared.Constraint.the-variants.{
   StrongSynchronization3,
   StrongSynchronization4,
   ExecutionTime,
+  Reaction,
   Repetition,
 }
 
--- §4.4: what a byte says. A span or maximum has its own limit (§4.6)
+-- §4.4: what a byte says: a kind is a plain one or a coloured one. A span or maximum has its own limit (§4.6)
 pub data ByteRole : Type 0 where
   kind : ByteRole
+  coloured : ByteRole
   count : ByteRole
   span : ℕ → ByteRole
 
@@ -51,6 +53,7 @@ typeOf (StrongSynchronization2 a b tolerance) = 7
 typeOf (StrongSynchronization3 a b c tolerance) = 7
 typeOf (StrongSynchronization4 a b c d tolerance) = 7
 typeOf (ExecutionTime start stop preempt resume low high) = 8
+typeOf (Reaction stimulus response minimum maximum) = 9
 typeOf (Repetition event number low high jitter) = 10
 
 -- §4.5: the fields, in their order
@@ -68,12 +71,14 @@ fieldsOf (StrongSynchronization4 a b c d tolerance) =
     byte count 4 ∷ byte kind a ∷ byte kind b ∷ byte kind c ∷ byte kind d ∷ time plain tolerance ∷ []
 fieldsOf (ExecutionTime start stop preempt resume low high) =
     byte kind start ∷ byte kind stop ∷ byte kind preempt ∷ byte kind resume ∷ time lower low ∷ time upper high ∷ []
+fieldsOf (Reaction stimulus response minimum maximum) =
+    byte coloured stimulus ∷ byte coloured response ∷ time lower minimum ∷ time upper maximum ∷ []
 fieldsOf (Repetition event number low high jitter) =
     byte kind event ∷ byte (span repetitionSpanLimit) number ∷ time lower low ∷ time upper high ∷ time plain jitter ∷ []
 
--- §4.5: the lengths, by the type byte; there is no type 9; to a StrongSynchronization's its n is added
+-- §4.5: the lengths, by the type byte; to a StrongSynchronization's its n is added
 abbrev pub lengths : List ℕ
-lengths = 0 ∷ 19 ∷ 19 ∷ 19 ∷ 34 ∷ 19 ∷ 3 ∷ 10 ∷ 21 ∷ 0 ∷ 27 ∷ []
+lengths = 0 ∷ 19 ∷ 19 ∷ 19 ∷ 34 ∷ 19 ∷ 3 ∷ 10 ∷ 21 ∷ 19 ∷ 27 ∷ []
 
 abbrev pub lengthOf : ℕ → ℕ → ℕ
 lengthOf t n = at lengths t + cond (eqb t 7) n 0

@@ -8,7 +8,7 @@ use Rattle.constraint.specs.Limits.{noLimit}
 use Rattle.constraint.specs.Steps.{Step, times}
 use Rattle.constraint.specs.declared.Constraint.{Constraint}
 use Rattle.constraint.specs.declared.Constraint.the-variants.{Delay, StrongDelay, Repeat, Sporadic, Burst, Order, StrongSynchronization2, StrongSynchronization3, StrongSynchronization4}
-use Rattle.constraint.specs.declared.Constraint.the-variants.{ExecutionTime, Repetition}
+use Rattle.constraint.specs.declared.Constraint.the-variants.{ExecutionTime, Reaction, Repetition}
 
 -- t is lower to upper after s, where the upper may be the mark for no limit (§4.7)
 abbrev pub inInterval : ℕ → ℕ → ℕ → ℕ → Bool
@@ -51,4 +51,5 @@ waiting (StrongSynchronization2 a b tolerance) steps = begunIncomplete (a ∷ b 
 waiting (StrongSynchronization3 a b c tolerance) steps = begunIncomplete (a ∷ b ∷ c ∷ []) steps
 waiting (StrongSynchronization4 a b c d tolerance) steps = begunIncomplete (a ∷ b ∷ c ∷ d ∷ []) steps
 waiting (ExecutionTime start stop preempt resume lower upper) steps = 0
+waiting (Reaction stimulus response minimum maximum) steps = 0
 waiting (Repetition event span lower upper jitter) steps = 0

@@ -1,12 +1,14 @@
 // A row's fields as numbers, each with its role, and the questions that are put to them field by field.
+use crate::FIRST_COLOURED;
 use crate::LAST_KIND;
 use crate::LAST_TIME;
 use crate::NO_LIMIT;
 ghost use mathlib.Core.Path.{_≡_};
+ghost use mathlib.Core.Bool.{_||_};
 ghost use Prim.Native.Nat.{_≤_};
 ghost use Rattle.constraint.specs.Questions.{Decides};
-ghost use Rattle.constraint.specs.Accepted.{kindsIn, KindsFit, FieldsInRange, NotBelow};
-ghost use Rattle.constraint.specs.Records.{Absent, byteField, timeField, fieldAt, bytesFrom, timesFrom};
+ghost use Rattle.constraint.specs.Accepted.{kindsIn, KindsFit, SortsFit, FieldsInRange, NotBelow};
+ghost use Rattle.constraint.specs.Records.{Absent, isKind, byteField, timeField, fieldAt, bytesFrom, timesFrom};
 
 // The roles of a field of one byte. Any other number is the limit of a span or a maximum.
 pub(crate) const NO_FIELD: u8 = 0;
@@ -14,6 +16,8 @@ pub(crate) const NO_FIELD: u8 = 0;
 pub(crate) const KIND: u8 = 255;
 
 pub(crate) const COUNT: u8 = 254;
+
+pub(crate) const COLOURED: u8 = 253;
 // The roles of a time.
 pub(crate) const PLAIN: u8 = 1;
 
@@ -54,6 +58,9 @@ fn byte_fits(role: u8, value: u8) -> bool
     if role == COUNT {
         return true;
     }
+    if role == COLOURED {
+        return true;
+    }
     if value == 0 {
         return false;
     }
@@ -85,6 +92,26 @@ impl Fields {
     }
 }
 
+// Is the role that of a kind, plain or coloured?
+fn is_kind(role: u8) -> bool
+    ensures { λ r. ⌜ r ≡ isKind role ⌝ }
+{
+    role == KIND || role == COLOURED
+}
+
+// Is a kind plain where plain ones are asked for, and coloured where coloured ones are?
+fn sort_fits(role: u8, value: u8) -> bool
+    ensures { λ r. ⌜ Decides (SortsFit (fieldAt byteField role value)) r ⌝ }
+{
+    if role == KIND {
+        return value < FIRST_COLOURED;
+    }
+    if role == COLOURED {
+        return FIRST_COLOURED <= value;
+    }
+    true
+}
+
 // Is a kind none of the kinds from a place on?
 fn is_new(kind: u8, roles: [u8; 5], values: [u8; 5], from: usize) -> bool
     requires { ⌜ from ≤ 5 ⌝ }
@@ -92,7 +119,7 @@ fn is_new(kind: u8, roles: [u8; 5], values: [u8; 5], from: usize) -> bool
 {
     let mut i = from;
     while i < MOST_BYTES {
-        if roles[i] == KIND {
+        if is_kind(roles[i]) {
             if values[i] == kind {
                 return false;
             }
@@ -108,7 +135,7 @@ pub(crate) fn kinds_fit(roles: [u8; 5], values: [u8; 5]) -> bool
 {
     let mut i = 0;
     while i < MOST_BYTES {
-        if roles[i] == KIND {
+        if is_kind(roles[i]) {
             let kind = values[i];
             if LAST_KIND < kind {
                 return false;
@@ -116,6 +143,20 @@ pub(crate) fn kinds_fit(roles: [u8; 5], values: [u8; 5]) -> bool
             if !is_new(kind, roles, values, i + 1) {
                 return false;
             }
+        }
+        i += 1;
+    }
+    true
+}
+
+// Question 18: are the kinds plain or coloured as the type takes them?
+pub(crate) fn sorts_fit(roles: [u8; 5], values: [u8; 5]) -> bool
+    ensures { λ r. ⌜ Decides (SortsFit (bytesFrom roles values 0)) r ⌝ }
+{
+    let mut i = 0;
+    while i < MOST_BYTES {
+        if !sort_fits(roles[i], values[i]) {
+            return false;
         }
         i += 1;
     }

@@ -2,6 +2,7 @@
 // The contract's definitions stand in specs/.
 pub mod fields;
 
+use fields::COLOURED;
 use fields::COUNT;
 use fields::Fields;
 use fields::KIND;
@@ -19,6 +20,12 @@ ghost use Rattle.constraint.specs.Records.{Adds, Holds};
 
 // The largest kind of event.
 pub const LAST_KIND: u8 = 63;
+// The first coloured kind: those below it are plain.
+pub const FIRST_COLOURED: u8 = 48;
+// The largest colour.
+pub const LAST_COLOUR: u8 = 7;
+// How many streams there are: 48 plain kinds, and 16 coloured ones of 8 colours.
+pub const STREAM_COUNT: usize = 176;
 // The largest time, 2^56 - 1.
 pub const LAST_TIME: u64 = 72057594037927935;
 // The mark for an upper that is no limit, 2^64 - 1.
@@ -95,6 +102,12 @@ pub enum Constraint {
         lower: u64,
         upper: u64,
     },
+    Reaction {
+        stimulus: u8,
+        response: u8,
+        minimum: u64,
+        maximum: u64,
+    },
     Repetition {
         event: u8,
         span: u8,
@@ -104,9 +117,10 @@ pub enum Constraint {
     },
 }
 
-// A call, with its arguments as given: an event of a kind at a time, a tick to a time, or the close.
+// A call, with its arguments as given: an event of a kind at a time, one of a coloured kind with its colour, a tick to a time, or the close.
 pub enum Call {
     Event { kind: u8, time: u64 },
+    ColouredEvent { kind: u8, colour: u8, time: u64 },
     Tick { time: u64 },
     Close,
 }
@@ -210,6 +224,12 @@ const EXECUTION_TIME: Line = Line {
     times: [LOWER, UPPER, 0, 0],
 };
 
+const REACTION: Line = Line {
+    form: 9,
+    bytes: [COLOURED, COLOURED, 0, 0, 0],
+    times: [LOWER, UPPER, 0, 0],
+};
+
 const REPETITION: Line = Line {
     form: 10,
     bytes: [KIND, REPETITION_SPAN_LIMIT, 0, 0, 0],
@@ -304,6 +324,16 @@ impl Constraint {
                 [start, stop, preempt, resume, 0],
                 [lower, upper, 0, 0],
             ),
+            Constraint::Reaction {
+                stimulus,
+                response,
+                minimum,
+                maximum,
+            } => Fields::new(
+                REACTION,
+                [stimulus, response, 0, 0, 0],
+                [minimum, maximum, 0, 0],
+            ),
             Constraint::Repetition {
                 event,
                 span,
@@ -318,7 +348,7 @@ impl Constraint {
         }
     }
 
-    // The answer to a row's own questions, 5 to 7.
+    // The answer to a row's own questions: 5, 18, 6 and 7.
     pub fn judge(self) -> Answer
         ensures { λ r. ⌜ Judged (rowQuestions self) r ⌝ }
     {
@@ -330,6 +360,9 @@ impl Constraint {
         let times = fields.times;
         if !fields::kinds_fit(byte_roles, bytes) {
             return Answer::Refused(5);
+        }
+        if !fields::sorts_fit(byte_roles, bytes) {
+            return Answer::Refused(18);
         }
         if !fields::bytes_fit(byte_roles, bytes) {
             return Answer::Refused(6);
@@ -374,7 +407,7 @@ impl Table {
         self
     }
 
-    // The answer to questions 3 to 7, row by row. Any record is taken, also one whose count is above 32.
+    // The answer to questions 3 to 7 and 18, row by row. Any record is taken, also one whose count is above 32.
     pub fn judge(self) -> Answer
         ensures { λ r. ⌜ Judged (rowsQuestions 0 (rowsOf self) []) r ⌝ }
     {

@@ -23,7 +23,7 @@ use Rattle.constraint.specs.Page.{nameOf, verdictAt, pageText, PageOf, page-of,
 use Rattle.constraint.specs.declared.Call.{Call}
 use Rattle.constraint.specs.declared.Constraint.{Constraint}
 use Rattle.constraint.specs.declared.Constraint.the-variants.{Delay, StrongDelay, Repeat, Sporadic, Burst, Order}
-use Rattle.constraint.specs.declared.Constraint.the-variants.{StrongSynchronization2, StrongSynchronization3, StrongSynchronization4, ExecutionTime, Repetition}
+use Rattle.constraint.specs.declared.Constraint.the-variants.{StrongSynchronization2, StrongSynchronization3, StrongSynchronization4, ExecutionTime, Reaction, Repetition}
 use Rattle.constraint.specs.declared.Verdict.{Verdict}
 use Rattle.constraint.proofs.History.{Valid}
 use Rattle.constraint.proofs.Counting.{count-fits}
@@ -139,6 +139,7 @@ form-is (StrongSynchronization2 first second tolerance) = refl
 form-is (StrongSynchronization3 first second third tolerance) = refl
 form-is (StrongSynchronization4 first second third fourth tolerance) = refl
 form-is (ExecutionTime start stop preempt resume lower upper) = refl
+form-is (Reaction stimulus response minimum maximum) = refl
 form-is (Repetition event span lower upper jitter) = refl
 
 types-fit : (steps : List Step) (cs : List Constraint) (rows : List Row) → FitRows engine steps cs rows → (i : ℕ) → i < length cs

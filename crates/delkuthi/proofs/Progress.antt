@@ -6,12 +6,13 @@ use mathlib.Core.List.{List, [], _∷_, _++_}
 use native.Mathlib.Omega.{arith}
 use lib.ListN.{length}
 use lib.Dec.{eqb}
+use Rattle.constraint.specs.Streams.{stream}
 use Rattle.constraint.specs.Steps.{Step, at, closed}
 use Rattle.constraint.specs.Questions.{Judged}
 use Rattle.constraint.specs.Run.{stepFor, questions}
 use Rattle.constraint.specs.Bytes.{numberAt}
-use Rattle.constraint.specs.Table.{lengthAt, bodyAt, VersionOne}
-use Rattle.constraint.specs.Recording.{version-refused, callOf, RecordAt, recordQuestions, recording-of, recording-refused, ReadsRecords, no-more, record-refused, record-taken, version-taken}
+use Rattle.constraint.specs.Table.{lengthAt, bodyAt}
+use Rattle.constraint.specs.Recording.{VersionKnown, version-refused, colourIn, callOf, callAt, RecordAt, recordQuestions, recording-of, recording-refused, ReadsRecords, no-more, record-refused, record-taken, version-taken}
 use Rattle.constraint.specs.declared.Call.{Call}
 use Rattle.constraint.specs.declared.Answer.the-variants.{Taken, Refused}
 use Rattle.constraint.specs.declared.Constraint.{Constraint}
@@ -38,7 +39,7 @@ step-untouched m s result n e f =
     ap (λ (r : Stepped). r .monitor) e ∙ monitor-is-exact .untouched m s n (sym (ap (λ (r : Stepped). r .answer) e) ∙ f)
 
 -- the answer to a record that stands for a step, which the monitor was given
-step-judged : (rows : List Constraint) (steps : List Step) (m : Monitor) (bytes : List ℕ) (place : ℕ) (s : Call) (size : ℕ) (result : Stepped) → CallAt bytes place s size → Steps m s result → Took rows steps m
+step-judged : (rows : List Constraint) (steps : List Step) (m : Monitor) (bytes : List ℕ) (place : ℕ) (s : Call) (size : ℕ) (result : Stepped) → CallAt (at bytes 0) bytes place s size → Steps m s result → Took rows steps m
     → Judged (recordQuestions rows steps bytes place) (result .answer)
 step-judged rows steps m bytes place s size result read kept took = record-judged rows steps bytes place s size (result .answer) read (took-judged rows steps m took s result kept)
 
@@ -52,27 +53,27 @@ module _ (rows : List Constraint) (bytes : List ℕ) where
 
   module _ (m : Monitor) (place : ℕ) (before : TakenUpTo rows bytes m place) where
     module _ (there : place < length bytes) where
-      module _ (s : Call) (size : ℕ) (read : CallAt bytes place s size) (result : Stepped) (kept : Steps m s result) where
+      module _ (s : Call) (size : ℕ) (read : CallAt (at bytes 0) bytes place s size) (result : Stepped) (kept : Steps m s result) where
         -- the record is taken
         pub up-to-more : result .answer ≡ Taken → TakenUpTo rows bytes (result .monitor) (place + size)
         up-to-more e =
             let judged : Judged (recordQuestions rows (before .steps) bytes place) Taken = subst (Judged _) e (step-judged rows (before .steps) m bytes place s size result read kept (before .took)) in
             let next-is : place + size ≡ place + 2 + lengthAt bytes place = omega (arith, read .size-read) in
             record {
-              steps = before .steps ++ (stepFor (callOf (bodyAt bytes place)) ∷ []);
+              steps = before .steps ++ (stepFor (callAt bytes place) ∷ []);
               took = rw (read .call-read) (took-more rows (before .steps) m (before .took) s result kept e);
               behind-version = omega (arith, before .behind-version);
               steps-before =
-                  subst (λ (next : ℕ). StepsBefore rows bytes next (before .steps ++ (stepFor (callOf (bodyAt bytes place)) ∷ []))) (sym next-is)
+                  subst (λ (next : ℕ). StepsBefore rows bytes next (before .steps ++ (stepFor (callAt bytes place) ∷ []))) (sym next-is)
                   (behind (before .behind-version) (before .steps-before) judged);
-              not-closed = unclosed-more (bodyAt bytes place) (before .steps) (before .not-closed);
+              not-closed = unclosed-more (at bytes 0) (bodyAt bytes place) (before .steps) (before .not-closed);
               whole = λ read reads.
                   before .whole read
-                  (record-taken there judged (subst (λ (next : ℕ). ReadsRecords rows bytes (before .steps ++ (stepFor (callOf (bodyAt bytes place)) ∷ [])) next read) next-is reads));
+                  (record-taken there judged (subst (λ (next : ℕ). ReadsRecords rows bytes (before .steps ++ (stepFor (callAt bytes place) ∷ [])) next read) next-is reads));
             }
 
         -- it is refused, and the monitor is as it was
-        pub up-to-refused : (n : ℕ) → VersionOne bytes → result .answer ≡ Refused n → RecordingTakenAs rows bytes (ReadAnswer.Refused n place) (result .monitor)
+        pub up-to-refused : (n : ℕ) → VersionKnown bytes → result .answer ≡ Refused n → RecordingTakenAs rows bytes (ReadAnswer.Refused n place) (result .monitor)
         up-to-refused n one e = (
           before .steps,
           before .steps-before,
@@ -81,7 +82,7 @@ module _ (rows : List Constraint) (bytes : List ℕ) where
         )
 
       -- question 14 is answered "no"
-      pub up-to-none : VersionOne bytes → ¬ RecordAt bytes place → RecordingTakenAs rows bytes (ReadAnswer.Refused 14 place) m
+      pub up-to-none : VersionKnown bytes → ¬ RecordAt bytes place → RecordingTakenAs rows bytes (ReadAnswer.Refused 14 place) m
       up-to-none one not-there = (
         before .steps,
         before .steps-before,
@@ -90,7 +91,7 @@ module _ (rows : List Constraint) (bytes : List ℕ) where
       )
 
     -- the close is taken
-    pub up-to-end : (result : Stepped) → VersionOne bytes → length bytes ≤ place → Steps m Call.Close result → RecordingTakenAs rows bytes ReadAnswer.Accepted (result .monitor)
+    pub up-to-end : (result : Stepped) → VersionKnown bytes → length bytes ≤ place → Steps m Call.Close result → RecordingTakenAs rows bytes ReadAnswer.Accepted (result .monitor)
     unfolding questions Judged
     up-to-end result one end kept =
         let asked = took-judged rows (before .steps) m (before .took) Call.Close result kept in
@@ -100,15 +101,15 @@ module _ (rows : List Constraint) (bytes : List ℕ) where
 -- Turn by turn
 
 module _ (fresh : Monitor) (bytes : List ℕ) where
-  pub turn-start : VersionOne bytes → UpTo fresh bytes 1 fresh
+  pub turn-start : VersionKnown bytes → UpTo fresh bytes 1 fresh
   turn-start one = record { version = one; taken = λ rows took. up-to-start rows bytes fresh took }
 
   -- question 13 is answered "no"
-  pub turn-version : ¬ VersionOne bytes → Turns fresh bytes (endsWith (ReadAnswer.Refused 13 0)) fresh
+  pub turn-version : ¬ VersionKnown bytes → Turns fresh bytes (endsWith (ReadAnswer.Refused 13 0)) fresh
   turn-version refused = over {answer = ReadAnswer.Refused 13 0} (record { means = λ rows took. ([], at-version, took, version-refused refused) })
 
   module _ (m : Monitor) (place : ℕ) (before : UpTo fresh bytes place m) where
-    pub turn-record : (call : Call) (size : ℕ) → place < length bytes → CallAt bytes place call size → Turns fresh bytes (goesOn call place (place + size)) m
+    pub turn-record : (call : Call) (size : ℕ) → place < length bytes → CallAt (at bytes 0) bytes place call size → Turns fresh bytes (goesOn call place (place + size)) m
     turn-record call size there read = on (of-record call size there read) before
 
     pub turn-close : length bytes ≤ place → Turns fresh bytes (goesOn Call.Close place place) m

@@ -70,7 +70,7 @@ number-above (q ∷ later) n above (inr h) = let same : n ≡ q .0 = cc (h .1) i
 
 row-number : (bytes : List ℕ) (i place n : ℕ) (c : Constraint) → Judged (placeQuestions bytes i place c) (Refused n) → 0 < n
 unfolding placeQuestions AllAbove
-row-number bytes i place n c judged = number-above (placeQuestions bytes i place c) n (omega arith, (omega arith, (omega arith, (omega arith, (omega arith, (omega arith, tt)))))) judged
+row-number bytes i place n c judged = number-above (placeQuestions bytes i place c) n (omega arith, (omega arith, (omega arith, (omega arith, (omega arith, (omega arith, (omega arith, tt))))))) judged
 
 -- a refusal from a place on, with i rows before
 abbrev SmallBehind : ℕ → ℕ → TableRead → Type 0
@@ -97,7 +97,7 @@ refused-small bytes n place (version-taken one reads) = rows-small bytes reads
 rows-above : (i : ℕ) (rows : List Constraint) (later : List Question) → AllAbove later → AllAbove (rowsQuestions i rows later)
 unfolding rowsQuestions AllAbove
 rows-above i [] later above = above
-rows-above i (c ∷ rows) later above = (omega arith, (omega arith, (omega arith, (omega arith, rows-above (i + 1) rows later above))))
+rows-above i (c ∷ rows) later above = (omega arith, (omega arith, (omega arith, (omega arith, (omega arith, rows-above (i + 1) rows later above)))))
 
 one-above : (n : ℕ) (asked : Type 0) → 0 < n → AllAbove ((n, asked) ∷ [])
 unfolding AllAbove

@@ -4,11 +4,11 @@ use mathlib.Core.Path.{_≡_}
 use mathlib.Core.Bool.{true, false, cond}
 use mathlib.Core.List.{List, [], _∷_, _++_}
 use lib.ListN.{length}
-use Rattle.constraint.specs.Steps.{Step, close, closed}
+use Rattle.constraint.specs.Steps.{Step, close, at, closed}
 use Rattle.constraint.specs.Questions.{Judged}
 use Rattle.constraint.specs.Accepted.{Accepted}
-use Rattle.constraint.specs.Table.{lengthAt, bodyAt, VersionOne}
-use Rattle.constraint.specs.Recording.{callOf, recordQuestions, RecordingRead, recording-of, recording-refused, ReadsRecords, ReadsRecording}
+use Rattle.constraint.specs.Table.{lengthAt}
+use Rattle.constraint.specs.Recording.{VersionKnown, callAt, recordQuestions, RecordingRead, recording-of, recording-refused, ReadsRecords, ReadsRecording}
 use Rattle.constraint.specs.declared.Answer.the-variants.{Taken}
 use Rattle.constraint.specs.Run.{stepFor}
 use Rattle.constraint.specs.declared.Call.{Call}
@@ -33,7 +33,7 @@ pub data StepsBefore (rows : List Constraint) (bytes : List ℕ) : ℕ → List 
   at-version : StepsBefore rows bytes 0 []
   at-first : StepsBefore rows bytes 1 []
   behind : {place : ℕ} {steps : List Step} → 0 < place → StepsBefore rows bytes place steps → Judged (recordQuestions rows steps bytes place) Taken
-      → StepsBefore rows bytes (place + 2 + lengthAt bytes place) (steps ++ (stepFor (callOf (bodyAt bytes place)) ∷ []))
+      → StepsBefore rows bytes (place + 2 + lengthAt bytes place) (steps ++ (stepFor (callAt bytes place) ∷ []))
 
 -- the monitor has taken the records before a place, which is not that of the version byte, and what is read from there on is the whole
 pub record TakenUpTo (rows : List Constraint) (bytes : List ℕ) (m : Monitor) (place : ℕ) : Type 0 where
@@ -68,14 +68,14 @@ endsWith answer = record { more = false; call = Call.Close; place = 0; next = 0;
 abbrev pub left : List ℕ → Turn → ℕ
 left bytes turn = cond (turn .more) (suc (length bytes - turn .place)) 0
 
--- the version is 1, and a monitor that was fresh has taken the records before a place
+-- the version is known, and a monitor that was fresh has taken the records before a place
 pub record UpTo (fresh : Monitor) (bytes : List ℕ) (place : ℕ) (m : Monitor) : Type 0 where
-  pub version : VersionOne bytes
+  pub version : VersionKnown bytes
   pub taken : (rows : List Constraint) → Took rows [] fresh → TakenUpTo rows bytes m place
 
 -- the call of a turn is that of the record at its place; behind the last record it is the close
 pub data TurnCall (bytes : List ℕ) : Call → ℕ → ℕ → Type 0 where
-  of-record : {place : ℕ} (call : Call) (size : ℕ) → place < length bytes → CallAt bytes place call size
+  of-record : {place : ℕ} (call : Call) (size : ℕ) → place < length bytes → CallAt (at bytes 0) bytes place call size
       → TurnCall bytes call place (place + size)
   of-close : {place : ℕ} → length bytes ≤ place → TurnCall bytes Call.Close place place
 

@@ -12,10 +12,10 @@ ghost use Rattle.monitor.specs.Parts.{verdictBy};
 ghost use Rattle.inplace.specs.Store.{steppedFrom};
 ghost use Rattle.delkuthi.specs.Lent.{Begins, wordOf, WordOfVerdict, StepOfVerdict, NumberOfRows, version, monitorSize};
 
-// The version of the library: 0.2.0 as major * 1,000,000 + minor * 1,000 + patch.
-pub const VERSION: u32 = 2000;
+// The version of the library: 0.3.0 as major * 1,000,000 + minor * 1,000 + patch.
+pub const VERSION: u32 = 3000;
 // The bytes of a monitor.
-pub const MONITOR_SIZE: u64 = 23584;
+pub const MONITOR_SIZE: u64 = 24480;
 
 // The version of the library, for a host to compare with that of its header.
 #[no_mangle]
@@ -112,6 +112,14 @@ pub extern "C" fn delkuthi_event(m: &mut Monitor, kind: u8, time: u64) -> u8
     ensures { λ r. ⌜ Steps (now (m .entry)) (Call.Event kind time) (steppedFrom r (now (m .exit))) ⌝ }
 {
     inplace::take(m, Call::Event { kind, time })
+}
+
+// An event of a coloured kind and a colour at a time: 0 if it is taken, else the number of its refusal.
+#[no_mangle]
+pub extern "C" fn delkuthi_coloured_event(m: &mut Monitor, kind: u8, colour: u8, time: u64) -> u8
+    ensures { λ r. ⌜ Steps (now (m .entry)) (Call.ColouredEvent kind colour time) (steppedFrom r (now (m .exit))) ⌝ }
+{
+    inplace::take(m, Call::ColouredEvent { kind, colour, time })
 }
 
 // A tick to a time: 0 if it is taken, else the number of its refusal.

@@ -56,10 +56,21 @@ fn turn_at(bytes: &[u8], place: usize) -> Turn
     if bytes.len() <= place {
         return going_on(Call::Close, place, place);
     }
-    match recording::read_record(&bytes[place..]) {
+    let version = recording::version(bytes);
+    match recording::read_record(version, &bytes[place..]) {
         Record::Event { kind, time, size } => {
             going_on(Call::Event { kind, time }, place, place + size)
         }
+        Record::ColouredEvent {
+            kind,
+            colour,
+            time,
+            size,
+        } => going_on(
+            Call::ColouredEvent { kind, colour, time },
+            place,
+            place + size,
+        ),
         Record::Tick { time, size } => going_on(Call::Tick { time }, place, place + size),
         Record::Refused(number) => ending_with(ReadAnswer::Refused { number, place }),
     }
@@ -69,7 +80,7 @@ fn turn_at(bytes: &[u8], place: usize) -> Turn
 fn first_turn(bytes: &[u8]) -> Turn
     ensures { λ r. ⌜ NextAtStart (now (bytes .entry)) r ⌝ }
 {
-    if !recording::version_one(bytes) {
+    if !recording::version_known(bytes) {
         return ending_with(ReadAnswer::Refused {
             number: 13,
             place: 0,

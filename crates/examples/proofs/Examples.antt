@@ -10,7 +10,7 @@ use Rattle.constraint.specs.Steps.{Step}
 use Rattle.constraint.specs.Continuation.{Reads}
 use Rattle.constraint.specs.Run.{stepFor, Run, done, call}
 use Rattle.constraint.specs.Promise.{ReadsRow, row, play, Played}
-use Rattle.constraint.specs.Examples.{Example, examples, unlimited-delays, silences, execution-times, repetitions}
+use Rattle.constraint.specs.Examples.{Example, examples, unlimited-delays, silences, execution-times, reactions, repetitions}
 use Rattle.constraint.specs.Examples.{crowdedRows, crowdedCalls, crowdedAnswers}
 use Rattle.constraint.specs.declared.Answer.{Answer}
 use Rattle.constraint.specs.declared.Answer.the-variants.{Taken, Refused}
@@ -29,6 +29,7 @@ use Rattle.points.specs.Sporadic.{laterSporadic, decideSporadic}
 use Rattle.pairs.specs.Order.{changesTo, decideOrder}
 use Rattle.groups.specs.StrongSynchronization.{decideStrongSynchronization}
 use Rattle.phases.specs.ExecutionTime.{whileIdle, whileRunning, whilePreempted, decideExecutionTime}
+use Rattle.chains.specs.Reaction.{dueBut, decideReaction}
 use Rattle.repetition.specs.Repetition.{placed, decideRepetition}
 use Rattle.row.specs.Machine.{rowOf, brokenRow, applied, changedRow, rowStep, rowVerdict}
 use Rattle.queue.specs.Ring.{ring, pushRing, putRing}
@@ -101,6 +102,10 @@ execution-times-computed : allCompute execution-times ≡ true
 unfolding allCompute computes playOf allTaken isVerdict play monitorOf mapFirst anyFirst takenCall stepOf verdictOf rowOf brokenRow applied changedRow rowStep rowVerdict ring pushRing putRing whileIdle whileRunning whilePreempted decideExecutionTime
 execution-times-computed = refl
 
+reactions-computed : allCompute reactions ≡ true
+unfolding allCompute computes playOf allTaken isVerdict play monitorOf mapFirst anyFirst takenCall stepOf verdictOf rowOf brokenRow applied changedRow rowStep rowVerdict ring pushRing putRing dueBut decideReaction
+reactions-computed = refl
+
 repetitions-computed : allCompute repetitions ≡ true
 unfolding allCompute computes playOf allTaken isVerdict play monitorOf mapFirst anyFirst takenCall stepOf verdictOf rowOf brokenRow applied changedRow rowStep rowVerdict ring pushRing putRing placed decideRepetition
 repetitions-computed = refl
@@ -154,6 +159,10 @@ silences-hold = all-read silences silences-computed
 -- §5.8.1 to §5.8.6
 pub execution-times-hold : AllRead execution-times
 execution-times-hold = all-read execution-times execution-times-computed
+
+-- §5.9.1 to §5.9.7
+pub reactions-hold : AllRead reactions
+reactions-hold = all-read reactions reactions-computed
 
 -- §5.10 to §5.10.4
 pub repetitions-hold : AllRead repetitions

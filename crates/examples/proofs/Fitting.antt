@@ -1,16 +1,16 @@
--- A row whose numbers are written out is accepted by computation: a test goes through its fields as questions 5 to 7 do.
+-- A row whose numbers are written out is accepted by computation: a test goes through its fields as questions 5, 18, 6 and 7 do.
 use Prim.Native.Nat.{ℕ, _≤_}
 use native.Mathlib.Omega.{arith}
 use mathlib.Core.Path.{_≡_, refl, sym}
 use mathlib.Core.Bool.{Bool, true, false, not, _&&_, _||_}
 use mathlib.Core.List.{List, [], _∷_, _++_}
 use mathlib.Core.Logic.{_⊎_, inl, inr}
-use lib.Dec.{leb, eqb}
-use borrow.Author.Tests.{leb-true, eqb-true, eqb-false, not-true}
-use Rattle.constraint.specs.Limits.{lastKind, lastTime, noLimit}
+use lib.Dec.{leb, ltb, eqb}
+use borrow.Author.Tests.{leb-true, ltb-true, eqb-true, eqb-false, not-true}
+use Rattle.constraint.specs.Limits.{lastKind, firstColoured, lastTime, noLimit}
 use Rattle.constraint.specs.Questions.{Question, Judged}
-use Rattle.constraint.specs.Types.{kind, count, span, plain, lower, upper, upper-or-none, Field, byte, time, fieldsOf}
-use Rattle.constraint.specs.Accepted.{kinds, KindsFit, UpperInRange, FieldsInRange, InRange, NotBelow, LowerFirst}
+use Rattle.constraint.specs.Types.{kind, coloured, count, span, plain, lower, upper, upper-or-none, Field, byte, time, fieldsOf}
+use Rattle.constraint.specs.Accepted.{kinds, KindsFit, SortsFit, KindsSuit, UpperInRange, FieldsInRange, InRange, NotBelow, LowerFirst}
 use Rattle.constraint.specs.Accepted.{rowQuestions, rowsQuestions, Accepted}
 use Rattle.constraint.specs.Records.{Absent}
 use Rattle.constraint.specs.declared.Answer.the-variants.{Taken}
@@ -33,9 +33,18 @@ abbrev kindsBy : List ℕ → Bool
 kindsBy [] = true
 kindsBy (k ∷ ks) = (leb k lastKind && absentBy k ks) && kindsBy ks
 
+abbrev sortsBy : List Field → Bool
+sortsBy [] = true
+sortsBy (byte kind x ∷ fields) = ltb x firstColoured && sortsBy fields
+sortsBy (byte coloured x ∷ fields) = leb firstColoured x && sortsBy fields
+sortsBy (byte count x ∷ fields) = sortsBy fields
+sortsBy (byte (span limit) x ∷ fields) = sortsBy fields
+sortsBy (time role x ∷ fields) = sortsBy fields
+
 abbrev rangeBy : List Field → Bool
 rangeBy [] = true
 rangeBy (byte kind x ∷ fields) = rangeBy fields
+rangeBy (byte coloured x ∷ fields) = rangeBy fields
 rangeBy (byte count x ∷ fields) = rangeBy fields
 rangeBy (byte (span limit) x ∷ fields) = leb 1 x && (leb x limit && rangeBy fields)
 rangeBy (time plain x ∷ fields) = leb x lastTime && rangeBy fields
@@ -51,9 +60,9 @@ lowerBy low (time lower x ∷ fields) = lowerBy x fields
 lowerBy low (time upper x ∷ fields) = leb low x
 lowerBy low (time upper-or-none x ∷ fields) = leb low x
 
--- questions 5 to 7
+-- questions 5, 18, 6 and 7
 abbrev pub fits : Constraint → Bool
-fits c = kindsBy (kinds c) && (rangeBy (fieldsOf c) && lowerBy 0 (fieldsOf c))
+fits c = kindsBy (kinds c) && (sortsBy (fieldsOf c) && (rangeBy (fieldsOf c) && lowerBy 0 (fieldsOf c)))
 
 -- ---- what they say
 
@@ -70,6 +79,16 @@ kinds-by (k ∷ ks) e =
     let first = and-true (leb k lastKind) (absentBy k ks) (parts .0) in
     kinds-more k ks (leb-true k lastKind (first .0), absent-by k ks (first .1)) (kinds-by ks (parts .1))
 
+sorts-by : (fields : List Field) → sortsBy fields ≡ true → SortsFit fields
+sorts-by [] e = tt
+sorts-by (byte kind x ∷ fields) e =
+    let parts = and-true (ltb x firstColoured) (sortsBy fields) e in (ltb-true x firstColoured (parts .0), sorts-by fields (parts .1))
+sorts-by (byte coloured x ∷ fields) e =
+    let parts = and-true (leb firstColoured x) (sortsBy fields) e in (leb-true firstColoured x (parts .0), sorts-by fields (parts .1))
+sorts-by (byte count x ∷ fields) e = (tt, sorts-by fields e)
+sorts-by (byte (span limit) x ∷ fields) e = (tt, sorts-by fields e)
+sorts-by (time role x ∷ fields) e = (tt, sorts-by fields e)
+
 upper-by : (x : ℕ) → (leb x lastTime ≡ true) ⊎ (eqb x noLimit ≡ true) → UpperInRange x
 upper-by x (inl low) = inl (leb-true x lastTime low)
 upper-by x (inr mark) = inr (eqb-true x noLimit mark)
@@ -77,6 +96,7 @@ upper-by x (inr mark) = inr (eqb-true x noLimit mark)
 range-by : (fields : List Field) → rangeBy fields ≡ true → FieldsInRange fields
 range-by [] e = tt
 range-by (byte kind x ∷ fields) e = range-by fields e
+range-by (byte coloured x ∷ fields) e = range-by fields e
 range-by (byte count x ∷ fields) e = range-by fields e
 range-by (byte (span limit) x ∷ fields) e =
     let parts = and-true (leb 1 x) (leb x limit && rangeBy fields) e in
@@ -100,13 +120,17 @@ lower-by low (time lower x ∷ fields) e = lower-by x fields e
 lower-by low (time upper x ∷ fields) e = leb-true low x e
 lower-by low (time upper-or-none x ∷ fields) e = leb-true low x e
 
--- so the row is asked 5 to 7, and then come the later questions
+-- so the row is asked 5, 18, 6 and 7, and then come the later questions
 pub asked-by : (c : Constraint) → fits c ≡ true → (later : List Question) → Judged later Taken → Judged (rowQuestions c ++ later) Taken
-unfolding Judged InRange LowerFirst
+unfolding Judged KindsSuit InRange LowerFirst
 asked-by c e later judged =
-    let parts = and-true (kindsBy (kinds c)) (rangeBy (fieldsOf c) && lowerBy 0 (fieldsOf c)) e in
-    let last = and-true (rangeBy (fieldsOf c)) (lowerBy 0 (fieldsOf c)) (parts .1) in
-    inl (kinds-by (kinds c) (parts .0), inl (range-by (fieldsOf c) (last .0), inl (lower-by 0 (fieldsOf c) (last .1), judged)))
+    let parts = and-true (kindsBy (kinds c)) (sortsBy (fieldsOf c) && (rangeBy (fieldsOf c) && lowerBy 0 (fieldsOf c))) e in
+    let rest = and-true (sortsBy (fieldsOf c)) (rangeBy (fieldsOf c) && lowerBy 0 (fieldsOf c)) (parts .1) in
+    let last = and-true (rangeBy (fieldsOf c)) (lowerBy 0 (fieldsOf c)) (rest .1) in
+    inl (
+      kinds-by (kinds c) (parts .0),
+      inl (sorts-by (fieldsOf c) (rest .0), inl (range-by (fieldsOf c) (last .0), inl (lower-by 0 (fieldsOf c) (last .1), judged))),
+    )
 
 -- a table of this row alone is accepted
 pub accepted-by : (c : Constraint) → fits c ≡ true → Accepted (c ∷ [])

@@ -28,7 +28,7 @@ abbrev change-crowds : Row → Change → Bool
 change-crowds r change = cond (change .breaks) false (ltb waitingLimit (length (changed (change .edit) (itemsOf r))))
 
 abbrev change-of : Row → Occurrence → Change
-change-of r o = decide (r .rule) (r .now .marks) (itemsOf r) (o .kind) (o .time)
+change-of r o = decide (r .rule) (r .now .marks) (itemsOf r) (o .stream) (o .time)
 
 -- what occurs crowds the row
 abbrev pub crowds : Occurrence → Row → Bool

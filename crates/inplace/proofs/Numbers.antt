@@ -13,6 +13,7 @@ use denote.Plain.{uint-tells}
 use denote.Struct.Field.{u64-field}
 use denote.Struct.Laws as LL
 use denote.Enum.Laws as EL
+use Rattle.constraint.specs.Limits.{streamCount}
 use Rattle.constraint.specs.declared.Call.{Call}
 use Rattle.constraint.proofs.Call as C
 use Rattle.constraint.proofs.Call.Laws as C′
@@ -30,8 +31,8 @@ use Rattle.inplace.proofs.Types.{byte-type, word-type, call-type, occur
 use Rattle.inplace.proofs.Elem.{set-map, array-length, array-get, array-put}
 use Rattle.inplace.proofs.Rows.{row-vals, word-vals}
 
--- where a word of 64 lies fits a usize
-pub place-fits : (j : ℕ) → j < 64 → j * 8 < 2 ^ 64
+-- where a first free time lies fits a usize
+pub place-fits : (j : ℕ) → j < streamCount → j * 8 < 2 ^ 64
 place-fits j l = omega (arith, l)
 
 -- the monitor's value with these for the first free times
@@ -49,6 +50,11 @@ got-next ts j = List·getD-map (vint w64) (map (u64-field .into) ts) j 0 ∙ ap 
 
 pub event-known : (kind time : ℕ) → Known byte-type kind → Known word-type time → Known call-type (Call.Event kind time)
 event-known kind time kind-is time-is = EL.owes C.the-type C′.the-laws (Call.Event kind time) (kind-is, (time-is, tt))
+
+pub coloured-known : (kind colour time : ℕ) → Known byte-type kind → Known byte-type colour → Known word-type time
+    → Known call-type (Call.ColouredEvent kind colour time)
+coloured-known kind colour time kind-is colour-is time-is =
+    EL.owes C.the-type C′.the-laws (Call.ColouredEvent kind colour time) (kind-is, (colour-is, (time-is, tt)))
 
 pub tick-known : (time : ℕ) → Known word-type time → Known call-type (Call.Tick time)
 tick-known time time-is = EL.owes C.the-type C′.the-laws (Call.Tick time) (time-is, tt)
@@ -68,7 +74,7 @@ module _ (q : Asked) (is : Known asked-type q) where
   occurrence-known = LL.owed Q.the-type Q′.the-laws q _ is .1 .1 .0
 
   pub time-known : Known word-type (q .occurrence .time)
-  time-known = LL.owed O.the-type O′.the-laws (q .occurrence) _ occurrence-known .1 .0
+  time-known = LL.owed O.the-type O′.the-laws (q .occurrence) _ occurrence-known .1 .1 .0
 
   pub step-known : Known word-type (q .step)
   step-known = LL.owed Q.the-type Q′.the-laws q _ is .1 .1 .1 .0
@@ -81,22 +87,22 @@ module _ (q : Asked) (is : Known asked-type q) where
 
 -- ---- the monitor's
 module _ (h : Monitor) (was : Known monitor-type h) where
-  next-are : Is (Array u64 64) (map (u64-field .into) (h .next)) (arrayVal (word-vals (h .next)) ∷ [])
+  next-are : Is (Array u64 streamCount) (map (u64-field .into) (h .next)) (arrayVal (word-vals (h .next)) ∷ [])
   next-are = LL.owed T.the-type T′.the-laws h _ was .1 .0
 
-  into-64 : length (map (u64-field .into) (h .next)) ≡ 64
-  into-64 = array-length u64 (vint w64) (uint-tells w64) 64 (map (u64-field .into) (h .next)) (arrayVal (word-vals (h .next)) ∷ []) next-are
+  into-whole : length (map (u64-field .into) (h .next)) ≡ streamCount
+  into-whole = array-length u64 (vint w64) (uint-tells w64) streamCount (map (u64-field .into) (h .next)) (arrayVal (word-vals (h .next)) ∷ []) next-are
 
-  pub next-64 : length (word-vals (h .next)) ≡ 64
-  next-64 = length-map (map (u64-field .into) (h .next)) (vint w64) ∙ into-64
+  pub next-whole : length (word-vals (h .next)) ≡ streamCount
+  next-whole = length-map (map (u64-field .into) (h .next)) (vint w64) ∙ into-whole
 
-  pub within-next : (j : ℕ) → j < 64 → j < length (word-vals (h .next))
-  within-next j l = subst (λ (n : ℕ). j < n) (sym next-64) l
+  pub within-next : (j : ℕ) → j < streamCount → j < length (word-vals (h .next))
+  within-next j l = subst (λ (n : ℕ). j < n) (sym next-whole) l
 
-  pub next-known : (j : ℕ) → j < 64 → Known word-type (getD (h .next) j 0)
+  pub next-known : (j : ℕ) → j < streamCount → Known word-type (getD (h .next) j 0)
   next-known j l =
       subst (Known word-type) (List·getD-map (u64-field .into) (h .next) j 0)
-      (array-get u64 (vint w64) (uint-tells w64) 64 (map (u64-field .into) (h .next)) (arrayVal (word-vals (h .next)) ∷ []) next-are j 0 (subst (λ (n : ℕ). j < n) (sym into-64) l))
+      (array-get u64 (vint w64) (uint-tells w64) streamCount (map (u64-field .into) (h .next)) (arrayVal (word-vals (h .next)) ∷ []) next-are j 0 (subst (λ (n : ℕ). j < n) (sym into-whole) l))
 
   pub clock-known : Known word-type (h .clock)
   clock-known = LL.owed T.the-type T′.the-laws h _ was .1 .1 .0
@@ -115,8 +121,8 @@ module _ (h : Monitor) (was : Known monitor-type h) where
   with-numbers-known q is = LL.owes T.the-type T′.the-laws (withNumbers h q) (
     LL.owed T.the-type T′.the-laws h _ was .0,
     (
-      subst (λ (ds : List ℕ). Is (Array u64 64) ds (arrayVal (map (vint w64) ds) ∷ [])) (set-map (u64-field .into) (h .next) (q .place) (q .free))
-          (array-put u64 (vint w64) (uint-tells w64) 64 (map (u64-field .into) (h .next)) (arrayVal (word-vals (h .next)) ∷ []) next-are (q .place) (q .free) (free-known q is)),
+      subst (λ (ds : List ℕ). Is (Array u64 streamCount) ds (arrayVal (map (vint w64) ds) ∷ [])) (set-map (u64-field .into) (h .next) (q .place) (q .free))
+          (array-put u64 (vint w64) (uint-tells w64) streamCount (map (u64-field .into) (h .next)) (arrayVal (word-vals (h .next)) ∷ []) next-are (q .place) (q .free) (free-known q is)),
       (
         time-known q is,
         (step-known q is, (mark-known q is, (len-known, tt))),

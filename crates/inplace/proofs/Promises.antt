@@ -4,6 +4,7 @@ use mathlib.Core.Path.{_≡_}
 use mathlib.Core.List.{List, [], _∷_}
 use mathlib.Core.Bool.{false, _||_}
 use lib.ListN.{getD}
+use Rattle.constraint.specs.Limits.{streamCount}
 use Rattle.row.specs.Machine.{rowFrom, rowStep}
 use Rattle.monitor.specs.Machine.{noRow, placeFor}
 use Rattle.monitor.specs.Contract.{Steps}
@@ -89,7 +90,7 @@ abbrev pub ask-at : Promise monitor-type (call-type ∷ []) asked-type
 ask-at = record { asks = λ κs h a. no-demand; gives = λ κs h a r h′. (r ≡ askedBy h (a .0)) × (h′ ≡ h) }
 
 abbrev pub put-numbers : Promise monitor-type (asked-type ∷ []) nothing
-put-numbers = record { asks = λ κs h a. demand (a .0 .place < 64); gives = λ κs h a r h′. h′ ≡ withNumbers h (a .0) }
+put-numbers = record { asks = λ κs h a. demand (a .0 .place < streamCount); gives = λ κs h a r h′. h′ ≡ withNumbers h (a .0) }
 
 abbrev pub take : Promise monitor-type (call-type ∷ []) byte-type
 take = record { asks = λ κs h a. no-demand; gives = λ κs h a r h′. Steps h (a .0) (steppedFrom r h′) }

@@ -14,6 +14,7 @@ ghost use mathlib.Core.Bool.{false, _||_};
 ghost use mathlib.Core.List.{List};
 ghost use mathlib.Core.Path.{_≡_};
 ghost use lib.ListN.{getD};
+ghost use Rattle.constraint.specs.Limits.{streamCount};
 ghost use Rattle.row.specs.Machine.{rowFrom, rowStep};
 ghost use Rattle.monitor.specs.Machine.{noRow};
 ghost use Rattle.monitor.specs.Contract.{Steps};
@@ -23,7 +24,7 @@ ghost use Rattle.inplace.specs.Store.{steppedFrom, askedRows, askedOf, a
 const ROOMY: usize = WAITING_LIMIT - 1;
 
 // What a call is to do: the number of its refusal by all questions but 12, or 0; to how many rows it goes, what they see of it, and as which step;
-// the place of its kind, and the first free time of that kind and the mark of the close after it.
+// the place of its stream, and the first free time of that stream and the mark of the close after it.
 pub struct Asked {
     pub number: u8,
     pub rows: usize,
@@ -170,7 +171,7 @@ fn ask_at(m: &mut Monitor, call: Call) -> Asked
 
 // The numbers of a monitor that is lent, beside its rows, after a call that is taken.
 fn put_numbers(m: &mut Monitor, q: Asked)
-    requires { ⌜ q .place < 64 ⌝ }
+    requires { ⌜ q .place < streamCount ⌝ }
     ensures { λ _. ⌜ now (m .exit) ≡ withNumbers (now (m .entry)) q ⌝ }
 {
     m.next[q.place] = q.free;

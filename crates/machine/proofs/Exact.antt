@@ -10,7 +10,7 @@ use Rattle.constraint.specs.Steps.{Step, event, tick, at, own, clock, closed}
 use Rattle.constraint.specs.Meets.{Meets}
 use Rattle.constraint.specs.Continuation.{Open}
 use Rattle.constraint.specs.Waiting.{waiting}
-use Rattle.constraint.specs.Accepted.{kinds, KindsFit, InRange, LowerFirst}
+use Rattle.constraint.specs.Accepted.{kinds, streams, KindsFit, KindsSuit, InRange, LowerFirst}
 use Rattle.constraint.specs.declared.Constraint.{Constraint}
 use Rattle.constraint.proofs.History.{Accepts, Past}
 use Rattle.queue.specs.Ring.{changed}
@@ -19,15 +19,16 @@ use Rattle.machine.specs.Parts.{noMarks}
 use Rattle.machine.specs.declared.Marks.{Marks}
 use Rattle.machine.specs.declared.Change.{Change}
 
--- a row whose answers to questions 5 to 7 are yes
+-- a row whose answers to questions 5, 18, 6 and 7 are yes
 pub record Sound (c : Constraint) : Type 0 where
   pub kinds-fit : KindsFit (kinds c)
+  pub kinds-suit : KindsSuit c
   pub in-range : InRange c
   pub lower-first : LowerFirst c
 
--- k is one of the row's kinds
-abbrev pub OfKind : Constraint → ℕ → Type 0
-OfKind c k = (i : ℕ) × (i < length (kinds c)) × (at (kinds c) i ≡ k)
+-- s is one of the row's streams
+abbrev pub OfStream : Constraint → ℕ → Type 0
+OfStream c s = (i : ℕ) × (i < length (streams c)) × (at (streams c) i ≡ s)
 
 -- what holds of marks and times, with the due time and the mark for kept that go with them, before any event
 pub record Starts (Live : Marks → List ℕ → Type 0) (due : Marks → List ℕ → ℕ) (kept : Marks → List ℕ → Bool) (times : List ℕ) : Type 0 where
@@ -60,11 +61,11 @@ pub record Exact (c : Constraint) (decide : Marks → List ℕ → ℕ → ℕ �
   -- Start
   pub start : Starts (Live []) due kept (startWords (ruleOf c))
   -- Events: one that comes in time either leaves no continuation or leaves the row going on
-  pub does : {steps : List Step} {marks : Marks} {times : List ℕ} {k t : ℕ} → Past steps → Live steps marks times → OfKind c k
+  pub does : {steps : List Step} {marks : Marks} {times : List ℕ} {k t : ℕ} → Past steps → Live steps marks times → OfStream c k
       → Accepts steps (event k t) → t ≤ due marks times
       → ByOutcome (¬ Open c (steps ++ (event k t ∷ []))) (GoesOn (Live (steps ++ (event k t ∷ []))) due kept times t) (decide marks times k t)
-  -- Ticks: steps that record nothing of the row's kinds leave it as it is, until its due time has passed
-  pub same : {a b : List Step} {marks : Marks} {times : List ℕ} → own (kinds c) a ≡ own (kinds c) b → Live a marks times → Live b marks times
+  -- Ticks: steps that record nothing of the row's streams leave it as it is, until its due time has passed
+  pub same : {a b : List Step} {marks : Marks} {times : List ℕ} → own (streams c) a ≡ own (streams c) b → Live a marks times → Live b marks times
   pub late : {steps : List Step} {marks : Marks} {times : List ℕ} {t : ℕ} → Past steps → Live steps marks times → due marks times < t
       → t ≤ lastTime → ¬ Open c (steps ++ (tick t ∷ []))
   -- Open

@@ -12,7 +12,7 @@ use Rattle.constraint.specs.Steps.{Step, event, tick, at, times, own, clock}
 use Rattle.constraint.specs.Meets.{Meets}
 use Rattle.constraint.specs.Continuation.{Open, stop}
 use Rattle.constraint.specs.Waiting.{waiting}
-use Rattle.constraint.specs.Accepted.{kinds}
+use Rattle.constraint.specs.Accepted.{streams}
 use Rattle.constraint.specs.declared.Constraint.{Constraint}
 use Rattle.constraint.proofs.Lists.{Each, Rising, rising-snoc}
 use Rattle.constraint.proofs.History.{Accepts, Past, times-append, times-own, times-tick, clock-event, clock-tick}
@@ -21,7 +21,7 @@ use Rattle.machine.specs.Rule.{ruleOf, startWords}
 use Rattle.machine.specs.Parts.{noMarks}
 use Rattle.machine.specs.declared.Marks.{Marks}
 use Rattle.machine.specs.declared.Change.{Change}
-use Rattle.machine.proofs.Exact.{OfKind, Starts, GoesOn, ByOutcome, outcome-map, Exact}
+use Rattle.machine.proofs.Exact.{OfStream, Starts, GoesOn, ByOutcome, outcome-map, Exact}
 
 -- the close never breaks it
 abbrev always : Marks → List ℕ → Bool
@@ -38,7 +38,7 @@ pub record OneKind (c : Constraint) (decide : Marks → List ℕ → ℕ → ℕ
   pub Says : List ℕ → ℕ → Type 0
   pub Keeps : List ℕ → Marks → List ℕ → Type 0
   pub due : Marks → List ℕ → ℕ
-  pub one-kind : kinds c ≡ kind ∷ []
+  pub one-kind : streams c ≡ kind ∷ []
   pub no-words : startWords (ruleOf c) ≡ []
   pub meets : (steps : List Step) → Meets c steps ↔ Says (times kind steps) (clock steps)
   pub waits-none : (steps : List Step) → waiting c steps ≡ 0
@@ -69,7 +69,7 @@ module _ (c : Constraint) (decide : Marks → List ℕ → ℕ → ℕ → Chang
 
   -- ---- Events
 
-  kind-is : (k : ℕ) → OfKind c k → r .kind ≡ k
+  kind-is : (k : ℕ) → OfStream c k → r .kind ≡ k
   kind-is k (i, h, e) = subst (λ (ks : List ℕ). i < length ks → at ks i ≡ k → r .kind ≡ k) (sym (r .one-kind)) (only-kind (r .kind) k i) h e
 
   -- a continuation that meets the row shows that what is recorded meets it now
@@ -97,7 +97,7 @@ module _ (c : Constraint) (decide : Marks → List ℕ → ℕ → ℕ → Chang
       (subst (λ (all : List ℕ). GoesOn (r .Keeps all) (r .due) always held t (decide marks held (r .kind) t)) (sym (times-own (r .kind) t steps)))
       (r .keeps-event t (rising-snoc events t (p .rising (r .kind)) (a .in-order .1)) (a .time-small) live soon)
 
-  does : {steps : List Step} {marks : Marks} {held : List ℕ} {k t : ℕ} → Past steps → Live steps marks held → OfKind c k
+  does : {steps : List Step} {marks : Marks} {held : List ℕ} {k t : ℕ} → Past steps → Live steps marks held → OfStream c k
       → Accepts steps (event k t) → t ≤ r .due marks held → Does steps marks held k t
   does {steps} {marks} {held} {k} {t} p live of-kind =
       subst (λ (j : ℕ). Accepts steps (event j t) → t ≤ r .due marks held → Does steps marks held j t) (kind-is k of-kind)
@@ -105,9 +105,9 @@ module _ (c : Constraint) (decide : Marks → List ℕ → ℕ → ℕ → Chang
 
   -- ---- Ticks
 
-  same : (a b : List Step) (marks : Marks) (held : List ℕ) → own (kinds c) a ≡ own (kinds c) b → Live a marks held → Live b marks held
+  same : (a b : List Step) (marks : Marks) (held : List ℕ) → own (streams c) a ≡ own (streams c) b → Live a marks held → Live b marks held
   same a b marks held s live =
-      let both : SameTimes (r .kind ∷ []) a b = rw (r .one-kind) at (same-times (kinds c) a b s) in
+      let both : SameTimes (r .kind ∷ []) a b = rw (r .one-kind) at (same-times (streams c) a b s) in
       subst (λ (events : List ℕ). r .Keeps events marks held) (both 0 (omega arith)) live
 
   late : (steps : List Step) (marks : Marks) (held : List ℕ) (t : ℕ) → Past steps → Live steps marks held → r .due marks held < t → t ≤ lastTime

@@ -11,7 +11,7 @@ use Rattle.constraint.specs.Steps.{Step, event, tick, at, times, own, clock, cl
 use Rattle.constraint.specs.Meets.{Meets}
 use Rattle.constraint.specs.Continuation.{Continues, Open}
 use Rattle.constraint.specs.Waiting.{waiting}
-use Rattle.constraint.specs.Accepted.{kinds, KindsFit}
+use Rattle.constraint.specs.Accepted.{kinds, streams, KindsFit}
 use Rattle.constraint.specs.declared.Constraint.{Constraint}
 use Rattle.constraint.proofs.Lists.{Each, Rising}
 use Rattle.constraint.proofs.History.{Accepts, Past, times-append, times-own, times-other, times-tick, clock-event, clock-tick}
@@ -19,8 +19,8 @@ use Rattle.constraint.proofs.Continuations.{SameTimes, same-times, events, cont
 use Rattle.machine.specs.Rule.{ruleOf, startWords}
 use Rattle.machine.specs.declared.Marks.{Marks}
 use Rattle.machine.specs.declared.Change.{Change}
-use Rattle.machine.proofs.Exact.{OfKind, Starts, GoesOn, ByOutcome, outcome-map, Exact}
-use Rattle.machine.proofs.SeveralKinds.{kinds-small, kinds-apart, by-place}
+use Rattle.machine.proofs.Exact.{OfStream, Starts, GoesOn, ByOutcome, outcome-map, Exact}
+use Rattle.machine.proofs.SeveralKinds.{kinds-stream, kinds-apart, by-place}
 
 -- what is known of the times recorded up to a clock
 pub record UpTo (now : ℕ) (sources targets : List ℕ) : Type 0 where
@@ -67,6 +67,7 @@ pub record TwoKinds (decide : Marks → List ℕ → ℕ → ℕ → Change) (so
 -- a constraint whose definition and what waits are said of two lists of times
 pub record OfTwoKinds (c : Constraint) (source target : ℕ) (Meet : List ℕ → List ℕ → Type 0) (wait : List ℕ → List ℕ → ℕ) : Type 1 where
   pub kinds-are : kinds c ≡ source ∷ target ∷ []
+  pub streams-are : streams c ≡ source ∷ target ∷ []
   pub kinds-fit : KindsFit (kinds c)
   pub no-words : startWords (ruleOf c) ≡ []
   pub meets-are : (steps : List Step) → Meets c steps ≡ Meet (times source steps) (times target steps)
@@ -87,8 +88,8 @@ module _ {c : Constraint} {source target : ℕ} {Meet : List ℕ → List ℕ �
   apart e = target-apart pair-fit (sym e)
 
   -- what holds of both kinds holds of a kind of the row
-  of-kind : (P : ℕ → Type 0) → P source → P target → {k : ℕ} → OfKind c k → P k
-  of-kind P s t = by-place c P (subst (λ (ks : List ℕ). (i : ℕ) → i < length ks → P (at ks i)) (sym (of .kinds-are)) both)
+  of-kind : (P : ℕ → Type 0) → P source → P target → {k : ℕ} → OfStream c k → P k
+  of-kind P s t = by-place c (source ∷ target ∷ []) (of .streams-are) P both
     where
       both : (i : ℕ) → i < 2 → P (at (source ∷ target ∷ []) i)
       both zero h = s
@@ -145,7 +146,7 @@ module _ {c : Constraint} {source target : ℕ} {Meet : List ℕ → List ℕ �
       (λ lost. shut t (steps ++ (event k t ∷ [])) (clock-event k t steps) (rw (are-sources, are-targets) lost))
       (subst₂ (λ (x y : List ℕ). GoesOn (laws .Live x y) (laws .due) (laws .kept) held t (decide marks held k t)) (sym are-sources) (sym are-targets))
 
-  pair-does : {steps : List Step} {marks : Marks} {held : List ℕ} {k t : ℕ} → Past steps → Live steps marks held → OfKind c k
+  pair-does : {steps : List Step} {marks : Marks} {held : List ℕ} {k t : ℕ} → Past steps → Live steps marks held → OfStream c k
       → Accepts steps (event k t) → t ≤ laws .due marks held → Does steps marks held k t
   pair-does {steps} {marks} {held} {k} {t} p live =
       of-kind (λ j. Accepts steps (event j t) → t ≤ laws .due marks held → Does steps marks held j t)
@@ -158,9 +159,9 @@ module _ {c : Constraint} {source target : ℕ} {Meet : List ℕ → List ℕ �
 
   -- ---- Ticks
 
-  pair-same : (a b : List Step) (marks : Marks) (held : List ℕ) → own (kinds c) a ≡ own (kinds c) b → Live a marks held → Live b marks held
+  pair-same : (a b : List Step) (marks : Marks) (held : List ℕ) → own (streams c) a ≡ own (streams c) b → Live a marks held → Live b marks held
   pair-same a b marks held same live =
-      let both : SameTimes (source ∷ target ∷ []) a b = rw (of .kinds-are) at (same-times (kinds c) a b same) in
+      let both : SameTimes (source ∷ target ∷ []) a b = rw (of .streams-are) at (same-times (streams c) a b same) in
       subst₂ (λ (x y : List ℕ). laws .Live x y marks held) (both 0 (omega arith)) (both 1 (omega arith)) live
 
   pair-late : (steps : List Step) (marks : Marks) (held : List ℕ) (t : ℕ) → Live steps marks held → laws .due marks held < t
@@ -176,13 +177,13 @@ module _ {c : Constraint} {source target : ℕ} {Meet : List ℕ → List ℕ �
       → Open c steps
   pair-open steps o (inl (further, rising, late, meets)) = (
     events source further,
-    continues-events source (kinds-small (source ∷ target ∷ []) pair-fit 0 (omega arith)) further steps o rising late,
+    continues-events source (kinds-stream (source ∷ target ∷ []) pair-fit 0 (omega arith)) further steps o rising late,
     meets-of steps (events source further)
         (rw (times-events source further, times-no-events target source apart further, append-nil (times target steps)) meets),
   )
   pair-open steps o (inr (further, rising, late, meets)) = (
     events target further,
-    continues-events target (kinds-small (source ∷ target ∷ []) pair-fit 1 (omega arith)) further steps o rising late,
+    continues-events target (kinds-stream (source ∷ target ∷ []) pair-fit 1 (omega arith)) further steps o rising late,
     meets-of steps (events target further)
         (rw (times-events target further, times-no-events source target (λ f. apart (sym f)) further, append-nil (times source steps)) meets),
   )

@@ -1,11 +1,13 @@
 -- A constraint as numbers.
 use Prim.Native.Nat.{ℕ}
 use mathlib.Core.List.{List}
+use mathlib.Core.Bool.{cond}
+use lib.Dec.{eqb}
 use lib.ListN.{replicate}
 use Rattle.constraint.specs.Limits.{noLimit}
 use Rattle.constraint.specs.declared.Constraint.{Constraint}
 use Rattle.constraint.specs.declared.Constraint.the-variants.{Delay, StrongDelay, Repeat, Sporadic, Burst, Order}
-use Rattle.constraint.specs.declared.Constraint.the-variants.{StrongSynchronization2, StrongSynchronization3, StrongSynchronization4, ExecutionTime, Repetition}
+use Rattle.constraint.specs.declared.Constraint.the-variants.{StrongSynchronization2, StrongSynchronization3, StrongSynchronization4, ExecutionTime, Reaction, Repetition}
 use Rattle.machine.specs.declared.Rule.{Rule}
 
 -- a kind that no event has
@@ -54,11 +56,12 @@ ruleOf (StrongSynchronization2 first second tolerance) = groupRule 7 first secon
 ruleOf (StrongSynchronization3 first second third tolerance) = groupRule 7 first second third noKind 0 tolerance
 ruleOf (StrongSynchronization4 first second third fourth tolerance) = groupRule 7 first second third fourth 0 tolerance
 ruleOf (ExecutionTime start stop preempt resume lower upper) = groupRule 8 start stop preempt resume lower upper
+ruleOf (Reaction stimulus response minimum maximum) = pairRule 9 stimulus response 0 minimum maximum 0 0
 ruleOf (Repetition event span lower upper jitter) = pairRule 10 event noKind span lower upper jitter 0
 
--- how many words a row of the rule has from the start, each 0, and these words
+-- how many words a row of the rule has from the start, each 0, and these words: a Reaction has two for each colour
 abbrev pub wordsOf : Rule → ℕ
-wordsOf rule = 0
+wordsOf rule = cond (eqb (rule .form) 9) 16 0
 
 abbrev pub startWords : Rule → List ℕ
 startWords rule = replicate (wordsOf rule) 0

@@ -7,11 +7,11 @@ pub mod parts;
 // The constraint's fields as numbers. A field that a type does not have is 0; a kind that it does not have is 64.
 #[repr(C)]
 pub struct Rule {
-    // the type, 1 to 8 or 10
+    // the type, 1 to 10
     pub form: u64,
-    // source, event, start or first kind
+    // source, event, start, stimulus or first kind
     pub first: u64,
-    // target, stop or second kind
+    // target, stop, response or second kind
     pub second: u64,
     // preempt or third kind
     pub third: u64,
@@ -19,9 +19,9 @@ pub struct Rule {
     pub fourth: u64,
     // span or maximum
     pub span: u64,
-    // lower or length
+    // lower, minimum or length
     pub lower: u64,
-    // upper or tolerance
+    // upper, maximum or tolerance
     pub upper: u64,
     pub jitter: u64,
     pub minimum: u64,

@@ -71,6 +71,12 @@ pub fn rule_of(c: Constraint) -> Rule
             lower,
             upper,
         } => group_rule(8, start, stop, preempt, resume, lower, upper),
+        Constraint::Reaction {
+            stimulus,
+            response,
+            minimum,
+            maximum,
+        } => pair_rule(9, stimulus, response, 0, minimum, maximum, 0, 0),
         Constraint::Repetition {
             event,
             span,
@@ -134,9 +140,9 @@ fn group_rule(
     }
 }
 
-// How many words a row has from the start, each 0.
+// How many words a row has from the start, each 0: a Reaction has two for each colour.
 pub fn words_of(rule: Rule) -> usize
     ensures { λ r. ⌜ r ≡ wordsOf rule ⌝ }
 {
-    0
+    if rule.form == 9 { 16 } else { 0 }
 }

@@ -1,6 +1,7 @@
 // What row types share: sums and tests that do not wrap, the oldest time, and the parts of a change.
 use crate::Change;
 use crate::Marks;
+use constraint::FIRST_COLOURED;
 use constraint::NO_LIMIT;
 use queue::Edit;
 use queue::SIZE;
@@ -9,6 +10,7 @@ ghost use mathlib.Core.Path.{_≡_};
 ghost use Prim.Native.Nat.{_+_, _-_, min, max};
 ghost use lib.Dec.{leb};
 ghost use lib.ListN.{drop};
+ghost use Rattle.constraint.specs.Streams.{kindOf};
 ghost use Rattle.queue.specs.Ring.{ring};
 ghost use Rattle.queue.specs.declared.Edit.the-variants.{Drop, Push};
 ghost use Rattle.machine.specs.Parts.{plus, farEnough, front, dueOr, noMarks, withLast, withEarly, goesOn, breaking, waits};
@@ -32,6 +34,17 @@ pub fn far_enough(minimum: u64, last: u64, t: u64) -> bool
     ensures { λ r. ⌜ r ≡ farEnough minimum last t ⌝ }
 {
     last == 0 || reaches(last - 1, minimum, t)
+}
+
+// The kind of a stream's events.
+pub fn kind_of(stream: u64) -> u64
+    ensures { λ r. ⌜ r ≡ kindOf stream ⌝ }
+{
+    let base = FIRST_COLOURED as u64;
+    if stream < base {
+        return stream;
+    }
+    base + (stream - base) / 8
 }
 
 // The smaller of two numbers.

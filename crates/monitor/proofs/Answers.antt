@@ -4,21 +4,20 @@ use native.Mathlib.Omega.{arith}
 use mathlib.Core.Path.{_≡_, refl}
 use mathlib.Core.Bool.{true, false, cond}
 use lib.Dec.{ltb}
-use borrow.Author.Tests.{ltb-false, lt-ltb, le-ltb}
-use Rattle.constraint.specs.Limits.{lastKind}
+use borrow.Author.Tests.{ltb-true, lt-ltb, le-ltb}
+use Rattle.constraint.specs.Limits.{streamCount}
 use Rattle.constraint.specs.declared.Call.{Call}
 use Rattle.constraint.proofs.Lists.{split}
-use Rattle.monitor.specs.Machine.{refuses, takes, placeFor, crowds, takenCall, steppedBy}
+use Rattle.monitor.specs.Machine.{refuses, takes, streamFor, placeFor, crowds, takenCall, steppedBy}
 use Rattle.monitor.specs.declared.Monitor.{Monitor}
 
--- an event's kind is its place
-pub kind-place : (k t : ℕ) → k ≤ lastKind → placeFor (Call.Event k t) ≡ k
-kind-place k t kind = rw (le-ltb lastKind k kind)
+-- a stream is its own place
+pub stream-place : (call : Call) → streamFor call < streamCount → placeFor call ≡ streamFor call
+stream-place call small = rw (lt-ltb (streamFor call) streamCount small)
 
-pub place-small : (call : Call) → placeFor call < 64
-place-small (Call.Event k t) = split (ltb lastKind k) (λ x. cond x 0 k < 64) (λ e. omega arith) (λ e. omega (arith, ltb-false lastKind k e))
-place-small (Call.Tick t) = omega arith
-place-small Call.Close = omega arith
+pub place-small : (call : Call) → placeFor call < streamCount
+place-small call =
+    split (ltb (streamFor call) streamCount) (λ x. cond x (streamFor call) 0 < streamCount) (λ e. ltb-true (streamFor call) streamCount e) (λ e. omega arith)
 
 module _ (m : Monitor) (call : Call) (number : ℕ) where
   pub refused-by : 0 < number → refuses number m ≡ steppedBy m call number

@@ -29,7 +29,6 @@ use Rattle.row.proofs.Steps.{Fits, After, seen, fits-start, fits-step, close-ca
 use Rattle.row.proofs.Unheard.{event-as-tick}
 use Rattle.row.proofs.Engine.{engine}
 use Rattle.monitor.specs.Beside.{OtherAt, Beside, same-event, others, closes, EachBeside, no-more, place, allTaken, Takes}
-use Rattle.monitor.proofs.FittingRows.{small-kinds}
 
 -- ---- calls that are all taken
 
@@ -77,7 +76,7 @@ module _ (c : Constraint) (sound : Sound c) where
       (rows : List Constraint) (i : ℕ) (there : getElem? rows i ≡ some c)
       (past : List Step) (valid : Valid past) (r : Row) (fit : Fits c exact past r) where
     after-step : (s : Step) → Accepts past s → After c exact (past ++ (s ∷ [])) (moved past s r .crowded) (moved past s r .row)
-    after-step s accepts = fits-step c exact past valid (small-kinds engine c sound) s accepts r fit
+    after-step s accepts = fits-step c exact past valid sound s accepts r fit
 
     has-room : (s : Step) → Accepts past s → Room rows (past ++ (s ∷ [])) → moved past s r .crowded ≡ false
     unfolding Room
@@ -89,9 +88,12 @@ module _ (c : Constraint) (sound : Sound c) where
     unfolding questions
     calm (Call.Event k t) judged =
         let s = Call.Event k t in has-room (event k t) (accepts-taken rows past s judged) (judged-last (questions rows past s) judged)
+    calm (Call.ColouredEvent k colour t) judged =
+        let s = Call.ColouredEvent k colour t in
+        has-room (stepFor s) (accepts-taken rows past s judged) (judged-last (questions rows past s) judged)
     calm (Call.Tick t) judged =
         let s = Call.Tick t in has-room (tick t) (accepts-taken rows past s judged) (judged-last (questions rows past s) judged)
-    calm Call.Close judged = close-calm c exact past valid (small-kinds engine c sound) r fit (length past + 1)
+    calm Call.Close judged = close-calm c exact past valid sound r fit (length past + 1)
 
     pub taken-fits : (s : Call) → Judged (questions rows past s) Taken → Fits c exact (past ++ (stepFor s ∷ [])) (moved past (stepFor s) r .row)
     taken-fits s judged =
@@ -102,7 +104,7 @@ module _ (c : Constraint) (sound : Sound c) where
   other-as-tick : (past : List Step) (r : Row) → r .rule ≡ ruleOf c → (s : Step) → Accepts past s → (t number : ℕ) → OtherAt c t s
       → rowStep r (seen past s) number ≡ rowStep r (tickAt t) number
   other-as-tick past r rule (event k time) accepts t number (other, same) =
-      event-as-tick c (small-kinds engine c sound) r rule k time number (accepts .kind-small) other ∙ ap (λ u. rowStep r (tickAt u) number) same
+      event-as-tick c sound r rule k time number (accepts .stream-small) other ∙ ap (λ u. rowStep r (tickAt u) number) same
   other-as-tick past r rule (tick time) accepts t number same = ap (λ u. rowStep r (tickAt u) number) same
   other-as-tick past r rule close accepts t number never = absurd never
 

@@ -69,10 +69,12 @@ play-append m (s ∷ a) b = play-append (step m s .monitor) a b
 pub accepted-sound : (i : ℕ) (rows : List Constraint) → Judged (rowsQuestions i rows []) Taken → SoundRows rows × ((length rows ≡ 0) ⊎ (i + length rows ≤ rowLimit))
 unfolding Judged rowsQuestions
 accepted-sound i [] taken = (tt, inl refl)
-accepted-sound i (c ∷ rows) (inl (room, inl (fit, inl (range, inl (lower, later))))) =
+accepted-sound i (c ∷ rows) (inl (room, inl (fit, inl (suit, inl (range, inl (lower, later)))))) =
     let rest = accepted-sound (i + 1) rows later in
-    ((record { kinds-fit = fit; in-range = range; lower-first = lower }, rest .0), inr (⊎-elim (λ e. omega arith) (λ h. omega arith) (rest .1)))
-accepted-sound i (c ∷ rows) (inl (room, inl (fit, inl (range, inr e)))) = never (cc (e .1))
+    let sound : Sound c = record { kinds-fit = fit; kinds-suit = suit; in-range = range; lower-first = lower } in
+    ((sound, rest .0), inr (⊎-elim (λ e. omega arith) (λ h. omega arith) (rest .1)))
+accepted-sound i (c ∷ rows) (inl (room, inl (fit, inl (suit, inl (range, inr e))))) = never (cc (e .1))
+accepted-sound i (c ∷ rows) (inl (room, inl (fit, inl (suit, inr e)))) = never (cc (e .1))
 accepted-sound i (c ∷ rows) (inl (room, inl (fit, inr e))) = never (cc (e .1))
 accepted-sound i (c ∷ rows) (inl (room, inr e)) = never (cc (e .1))
 accepted-sound i (c ∷ rows) (inr e) = never (cc (e .1))
@@ -114,8 +116,8 @@ module _ (engine : (c : Constraint) → Sound c → Exact c) where
         clock-is = refl;
         count-is = refl;
         closed-is = refl;
-        next-whole = length-replicate {A = ℕ} 64 0;
-        next-is = λ k kind. getD-replicate 64 k 0 0 (omega arith);
+        next-whole = length-replicate {A = ℕ} 176 0;
+        next-is = λ k kind. getD-replicate 176 k 0 0 (omega arith);
         len-is = refl;
         few = accepted-few rows accepted;
         fit = fit-start engine rows (replicate (rowLimit - length rows) noRow) (accepted-sound 0 rows accepted .0);

@@ -11,10 +11,9 @@ use Rattle.constraint.specs.Limits.{lastKind, waitingLimit}
 use Rattle.constraint.specs.Steps.{Step, clock, closed}
 use Rattle.constraint.specs.Continuation.{Open, Reads}
 use Rattle.constraint.specs.Waiting.{waiting}
-use Rattle.constraint.specs.Accepted.{kinds, KindsFit}
 use Rattle.constraint.specs.Run.{Room}
 use Rattle.constraint.specs.declared.Constraint.{Constraint}
-use Rattle.constraint.proofs.Lists.{both, or-true, or-false, Each}
+use Rattle.constraint.proofs.Lists.{both, or-true, or-false}
 use Rattle.constraint.proofs.History.{Accepts, Valid}
 use Rattle.constraint.proofs.Judged.{never}
 use Rattle.row.specs.Machine.{rowOf, closeAt, rowStep, rowVerdict}
@@ -47,18 +46,13 @@ module _ (engine : (c : Constraint) → Sound c → Exact c) where
 
   -- ---- a step
 
-  -- the kinds of a sound row
-  pub small-kinds : (c : Constraint) → Sound c → Each (λ j. j ≤ lastKind) (kinds c)
-  unfolding KindsFit
-  small-kinds c sound = sound .kinds-fit .0
-
   module _ (steps : List Step) (valid : Valid steps) (s : Step) (number : ℕ) (counted : number ≡ length steps + 1) (accepts : Accepts steps s) where
     abbrev moved : Row → RowStep
     moved r = rowStep r (seen steps s) number
 
     after-step : (c : Constraint) (sound : Sound c) (r : Row) → Fits c (engine c sound) steps r
         → After c (engine c sound) (steps ++ (s ∷ [])) (moved r .crowded) (moved r .row)
-    after-step c sound r fit = rw counted (fits-step c (engine c sound) steps valid (small-kinds c sound) s accepts r fit)
+    after-step c sound r fit = rw counted (fits-step c (engine c sound) steps valid sound s accepts r fit)
 
     -- no row is crowded
     pub fit-step : (cs : List Constraint) (rows : List Row) → FitRows steps cs rows → anyFirst (length cs) (λ r. moved r .crowded) rows ≡ false
@@ -95,7 +89,7 @@ module _ (engine : (c : Constraint) → Sound c → Exact c) where
   fit-calm steps valid number [] rows fit = refl
   fit-calm steps valid number (c ∷ cs) [] fit = refl
   fit-calm steps valid number (c ∷ cs) (r ∷ rows) fit =
-      rw (close-calm c (engine c (fit .0 .0)) steps valid (small-kinds c (fit .0 .0)) r (fit .0 .1) number) (fit-calm steps valid number cs rows (fit .1))
+      rw (close-calm c (engine c (fit .0 .0)) steps valid (fit .0 .0) r (fit .0 .1) number) (fit-calm steps valid number cs rows (fit .1))
 
   -- ---- what the rows hold and read
 

@@ -11,26 +11,28 @@ use lib.ListN.{length, getD, set, length-append, length-set}
 use lib.Seq.{getD-set-same, getD-set-other, set-out}
 use lib.Dec.{leb, ltb}
 use borrow.Author.Tests.{ltb-true, ltb-false, leb-true, leb-false, le-ltb}
-use Rattle.constraint.specs.Limits.{lastKind, lastTime, rowLimit}
+use Rattle.constraint.specs.Limits.{lastKind, firstColoured, lastColour, streamCount, lastTime, rowLimit}
+use Rattle.constraint.specs.Streams.{stream}
 use Rattle.constraint.specs.Steps.{Step, event, tick, close, times, clock, closed}
 use Rattle.constraint.specs.Continuation.{EventInOrder}
 use Rattle.constraint.specs.Questions.{Judged}
-use Rattle.constraint.specs.Run.{stepFor, Room, questions, recorded}
+use Rattle.constraint.specs.Run.{stepFor, Room, eventQuestions, questions, recorded}
 use Rattle.constraint.specs.declared.Answer.{Answer}
 use Rattle.constraint.specs.declared.Answer.the-variants.{Taken, Refused}
 use Rattle.constraint.specs.declared.Call.{Call}
 use Rattle.constraint.specs.declared.Constraint.{Constraint}
 use Rattle.constraint.proofs.Lists.{split, both}
+use Rattle.constraint.proofs.Streams.{stream-below}
 use Rattle.constraint.proofs.History.{times-own, times-other, times-tick, times-close, clock-event, clock-tick, clock-close, closed-event, closed-tick, closed-close, Accepts, Valid, valid-more}
 use Rattle.constraint.proofs.Counting.{nextFree, next-above, next-least, next-snoc, count-fits}
 use Rattle.machine.specs.Parts.{plus}
 use Rattle.row.specs.Machine.{closeAt, rowStep}
 use Rattle.row.proofs.Exact.{Sound, Exact}
 use Rattle.row.proofs.Steps.{seen}
-use Rattle.monitor.specs.Machine.{anyFirst, refuses, takes, nextStep, placeFor, refusalBy, freeAfter, closedAfter, nextFor, occurrenceOf, takenCall, crowds, steppedBy, stepOf}
+use Rattle.monitor.specs.Machine.{anyFirst, refuses, takes, nextStep, placeFor, timeRefusal, refusalBy, freeAfter, closedAfter, nextFor, occurrenceOf, takenCall, crowds, steppedBy, stepOf}
 use Rattle.monitor.specs.declared.Monitor.{Monitor}
 use Rattle.monitor.specs.declared.Stepped.{Stepped}
-use Rattle.monitor.proofs.Answers.{kind-place}
+use Rattle.monitor.proofs.Answers.{stream-place}
 use Rattle.monitor.proofs.FittingRows.{FitRows, fit-step, fit-crowded, fit-calm, fit-room}
 
 module _ (engine : (c : Constraint) → Sound c → Exact c) where
@@ -39,8 +41,8 @@ module _ (engine : (c : Constraint) → Sound c → Exact c) where
     pub clock-is : m .clock ≡ clock steps
     pub count-is : m .count ≡ length steps
     pub closed-is : ltb 0 (m .closed) ≡ closed steps
-    pub next-whole : length (m .next) ≡ 64
-    pub next-is : (k : ℕ) → k ≤ lastKind → getD (m .next) k 0 ≡ nextFree (times k steps)
+    pub next-whole : length (m .next) ≡ streamCount
+    pub next-is : (k : ℕ) → k < streamCount → getD (m .next) k 0 ≡ nextFree (times k steps)
     pub len-is : m .len ≡ length rows
     pub few : length rows ≤ rowLimit
     pub fit : FitRows engine steps rows (m .rows)
@@ -67,7 +69,7 @@ module _ (engine : (c : Constraint) → Sound c → Exact c) where
 
     -- ---- question 11
 
-    in-order : (k t : ℕ) → k ≤ lastKind → ltb t (m .clock) ≡ false → ltb t (getD (m .next) k 0) ≡ false → EventInOrder steps k t
+    in-order : (k t : ℕ) → k < streamCount → ltb t (m .clock) ≡ false → ltb t (getD (m .next) k 0) ≡ false → EventInOrder steps k t
     in-order k t kind late taken =
         let free : nextFree (times k steps) ≤ t = rw (← f .next-is k kind) (ltb-false t (getD (m .next) k 0) taken) in
         (rw (← f .clock-is) (ltb-false t (m .clock) late), λ i h. omega (arith, next-above (times k steps) i h))
@@ -75,23 +77,26 @@ module _ (engine : (c : Constraint) → Sound c → Exact c) where
     before-clock : (k t : ℕ) → ltb t (m .clock) ≡ true → ¬ EventInOrder steps k t
     before-clock k t e order = omega (arith, ltb-true t (m .clock) e, f .clock-is, order .0)
 
-    not-free : (k t : ℕ) → k ≤ lastKind → ltb t (getD (m .next) k 0) ≡ true → ¬ EventInOrder steps k t
+    not-free : (k t : ℕ) → k < streamCount → ltb t (getD (m .next) k 0) ≡ true → ¬ EventInOrder steps k t
     not-free k t kind e order = omega (arith, ltb-true t (getD (m .next) k 0) e, f .next-is k kind, next-least (times k steps) t (order .1))
 
     -- ---- what a taken call leaves
 
     seen-is : (call : Call) → occurrenceOf m call ≡ seen steps (stepFor call)
     seen-is (Call.Event k t) = refl
+    seen-is (Call.ColouredEvent k colour t) = refl
     seen-is (Call.Tick t) = refl
     seen-is Call.Close = ap closeAt (f .clock-is)
 
     clock-after : (call : Call) → occurrenceOf m call .time ≡ clock (steps ++ (stepFor call ∷ []))
     clock-after (Call.Event k t) = sym (clock-event k t steps)
+    clock-after (Call.ColouredEvent k colour t) = sym (clock-event (stream k colour) t steps)
     clock-after (Call.Tick t) = sym (clock-tick t steps)
     clock-after Call.Close = f .clock-is ∙ sym (clock-close steps)
 
     closed-after : (call : Call) → ltb 0 (closedAfter call (m .closed)) ≡ closed (steps ++ (stepFor call ∷ []))
     closed-after (Call.Event k t) = f .closed-is ∙ sym (closed-event k t steps)
+    closed-after (Call.ColouredEvent k colour t) = f .closed-is ∙ sym (closed-event (stream k colour) t steps)
     closed-after (Call.Tick t) = f .closed-is ∙ sym (closed-tick t steps)
     closed-after Call.Close = sym (closed-close steps)
 
@@ -99,25 +104,27 @@ module _ (engine : (c : Constraint) → Sound c → Exact c) where
     next-same : (at j : ℕ) → getD (set (m .next) at (getD (m .next) at 0)) j 0 ≡ getD (m .next) j 0
     next-same at j =
         by-cases (ℕ-discrete j at)
-        (λ e. by-cases (decLt at 64)
+        (λ e. by-cases (decLt at streamCount)
         (λ h. subst (λ i. getD (set (m .next) at (getD (m .next) at 0)) i 0 ≡ getD (m .next) i 0) (sym e)
         (getD-set-same (m .next) at (getD (m .next) at 0) 0 (omega (arith, f .next-whole))))
         (λ h. ap (λ (l : List ℕ). getD l j 0) (set-out (m .next) at (getD (m .next) at 0) (omega (arith, f .next-whole)))))
         (λ e. getD-set-other (m .next) at j (getD (m .next) at 0) 0 e)
 
-    next-event : (k t : ℕ) → Accepts steps (event k t) → (j : ℕ) → j ≤ lastKind
-        → getD (set (m .next) (placeFor (Call.Event k t)) (plus t 1)) j 0 ≡ nextFree (times j (steps ++ (event k t ∷ [])))
-    next-event k t accepts j kind =
-        rw (kind-place k t (accepts .kind-small))
+    next-event : (k t place : ℕ) → place ≡ k → Accepts steps (event k t) → (j : ℕ) → j < streamCount
+        → getD (set (m .next) place (plus t 1)) j 0 ≡ nextFree (times j (steps ++ (event k t ∷ [])))
+    next-event k t place is accepts j kind =
+        rw is
         (by-cases (ℕ-discrete j k)
         (λ e. subst (λ i. getD (set (m .next) k (plus t 1)) i 0 ≡ nextFree (times i (steps ++ (event k t ∷ [])))) (sym e)
-        (getD-set-same (m .next) k (plus t 1) 0 (omega (arith, f .next-whole, accepts .kind-small)) ∙ omega (arith, accepts .time-small)
+        (getD-set-same (m .next) k (plus t 1) 0 (omega (arith, f .next-whole, accepts .stream-small)) ∙ omega (arith, accepts .time-small)
         ∙ sym (ap nextFree (times-own k t steps) ∙ next-snoc (times k steps) t (accepts .in-order .1))))
         (λ e. getD-set-other (m .next) k j (plus t 1) 0 e ∙ f .next-is j kind ∙ sym (ap nextFree (times-other j k t steps (λ same. e (sym same))))))
 
-    next-after : (call : Call) → Accepts steps (stepFor call) → (j : ℕ) → j ≤ lastKind
+    next-after : (call : Call) → Accepts steps (stepFor call) → (j : ℕ) → j < streamCount
         → getD (set (m .next) (placeFor call) (freeAfter call (nextFor m call))) j 0 ≡ nextFree (times j (steps ++ (stepFor call ∷ [])))
-    next-after (Call.Event k t) accepts j kind = next-event k t accepts j kind
+    next-after (Call.Event k t) accepts j kind = next-event k t _ (stream-place (Call.Event k t) (accepts .stream-small)) accepts j kind
+    next-after (Call.ColouredEvent k colour t) accepts j kind =
+        next-event (stream k colour) t _ (stream-place (Call.ColouredEvent k colour t) (accepts .stream-small)) accepts j kind
     next-after (Call.Tick t) accepts j kind = next-same 0 j ∙ f .next-is j kind ∙ sym (ap nextFree (times-tick j t steps))
     next-after Call.Close accepts j kind = next-same 0 j ∙ f .next-is j kind ∙ sym (ap nextFree (times-close j steps))
 
@@ -167,27 +174,65 @@ module _ (engine : (c : Constraint) → Sound c → Exact c) where
         (λ e. (others (Refused 12) (inr (no-room call accepts e, refl)), f))
         (λ e. (others Taken (inl (room-left call accepts e, refl)), followed call accepts e))
 
+    -- 10, 11 and 12 of an event, those before them being answered "yes"
+    module _ (call : Call) (s t : ℕ) (is : event s t ≡ stepFor call) (place : placeFor call ≡ s) (small : s < streamCount) (open-still : closed steps ≡ false)
+        (others : (a : Answer) → Judged (eventQuestions rows steps s t) a → Judged (questions rows steps call) a) where
+      time-answered : Left call (timeRefusal t (m .clock) (nextFor m call))
+      unfolding Judged
+      time-answered =
+          let free = nextFor m call in
+          let there : free ≡ getD (m .next) s 0 = ap (λ (i : ℕ). getD (m .next) i 0) place in
+          split (ltb lastTime t) (λ x. Left call (cond x 10 (cond (ltb t (m .clock)) 11 (cond (ltb t free) 11 0))))
+          (λ e. (others _ (inr (λ h. omega (arith, ltb-true lastTime t e), refl)), f)) (λ e10.
+          let fits = ltb-false lastTime t e10 in
+          split (ltb t (m .clock)) (λ x. Left call (cond x 11 (cond (ltb t free) 11 0)))
+          (λ e. (others _ (inl (fits, inr (before-clock s t e, refl))), f)) (λ late.
+          split (ltb t free) (λ x. Left call (cond x 11 0))
+          (λ e. (others _ (inl (fits, inr (not-free s t small (sym (ap (ltb t) there) ∙ e), refl))), f)) (λ taken.
+          let order = in-order s t small late (sym (ap (ltb t) there) ∙ taken) in
+          let accepts : Accepts steps (event s t) = record { not-closed = open-still; stream-small = small; time-small = fits; in-order = order } in
+          last-asked call (subst (Accepts steps) is accepts) (λ a j. others a (inl (
+            fits,
+            inl (
+              order,
+              subst (λ (x : Step). Judged ((12, Room rows (steps ++ (x ∷ []))) ∷ []) a) (sym is) j,
+            ),
+          ))))))
+
     event-answered : (k t : ℕ) → Left (Call.Event k t) (refusalBy (Call.Event k t) (m .closed) (m .clock) (nextFor m (Call.Event k t)))
     unfolding Judged questions
     event-answered k t =
         let c = Call.Event k t in
-        let free = nextFor m c in
-        split (ltb 0 (m .closed)) (λ x. Left c (cond x 8 (cond (ltb lastKind k) 9 (cond (ltb lastTime t) 10 (cond (ltb t (m .clock)) 11 (cond (ltb t free) 11 0))))))
+        let last = timeRefusal t (m .clock) (nextFor m c) in
+        split (ltb 0 (m .closed)) (λ x. Left c (cond x 8 (cond (ltb lastKind k) 9 (cond (leb firstColoured k) 19 last))))
         (λ e. (inr (is-closed e, refl), f)) (λ e8.
-        split (ltb lastKind k) (λ x. Left c (cond x 9 (cond (ltb lastTime t) 10 (cond (ltb t (m .clock)) 11 (cond (ltb t free) 11 0)))))
+        split (ltb lastKind k) (λ x. Left c (cond x 9 (cond (leb firstColoured k) 19 last)))
         (λ e. (inl (not-closed e8, inr (λ h. omega (arith, ltb-true lastKind k e), refl)), f)) (λ e9.
-        split (ltb lastTime t) (λ x. Left c (cond x 10 (cond (ltb t (m .clock)) 11 (cond (ltb t free) 11 0))))
-        (λ e. (inl (not-closed e8, inl (ltb-false lastKind k e9, inr (λ h. omega (arith, ltb-true lastTime t e), refl))), f)) (λ e10.
         let kind = ltb-false lastKind k e9 in
-        let small = ltb-false lastTime t e10 in
-        let place : nextFor m c ≡ getD (m .next) k 0 = ap (λ (i : ℕ). getD (m .next) i 0) (kind-place k t kind) in
-        split (ltb t (m .clock)) (λ x. Left c (cond x 11 (cond (ltb t free) 11 0)))
-        (λ e. (inl (not-closed e8, inl (kind, inl (small, inr (before-clock k t e, refl)))), f)) (λ late.
-        split (ltb t free) (λ x. Left c (cond x 11 0))
-        (λ e. (inl (not-closed e8, inl (kind, inl (small, inr (not-free k t kind (sym (ap (ltb t) place) ∙ e), refl)))), f)) (λ taken.
-        let order = in-order k t kind late (sym (ap (ltb t) place) ∙ taken) in
-        last-asked c (record { not-closed = not-closed e8; kind-small = kind; time-small = small; in-order = order }) (λ a j. inl (not-closed e8, inl (kind, inl (small, inl (order, j)))))
-        )))))
+        split (leb firstColoured k) (λ x. Left c (cond x 19 last))
+        (λ e. (inl (not-closed e8, inl (kind, inr (λ h. omega (arith, leb-true firstColoured k e), refl))), f)) (λ e19.
+        let plain : k < firstColoured = leb-false firstColoured k e19 in
+        time-answered c k t refl (stream-place c (omega arith)) (omega arith) (not-closed e8) (λ a j. inl (not-closed e8, inl (kind, inl (plain, j)))))))
+
+    coloured-answered : (k colour t : ℕ) → Left (Call.ColouredEvent k colour t)
+        (refusalBy (Call.ColouredEvent k colour t) (m .closed) (m .clock) (nextFor m (Call.ColouredEvent k colour t)))
+    unfolding Judged questions
+    coloured-answered k colour t =
+        let c = Call.ColouredEvent k colour t in
+        let last = timeRefusal t (m .clock) (nextFor m c) in
+        split (ltb 0 (m .closed)) (λ x. Left c (cond x 8 (cond (ltb lastKind k) 9 (cond (ltb k firstColoured) 19 (cond (ltb lastColour colour) 19 last)))))
+        (λ e. (inr (is-closed e, refl), f)) (λ e8.
+        split (ltb lastKind k) (λ x. Left c (cond x 9 (cond (ltb k firstColoured) 19 (cond (ltb lastColour colour) 19 last))))
+        (λ e. (inl (not-closed e8, inr (λ h. omega (arith, ltb-true lastKind k e), refl)), f)) (λ e9.
+        let kind = ltb-false lastKind k e9 in
+        split (ltb k firstColoured) (λ x. Left c (cond x 19 (cond (ltb lastColour colour) 19 last)))
+        (λ e. (inl (not-closed e8, inl (kind, inr (λ h. omega (arith, ltb-true k firstColoured e, h .0), refl))), f)) (λ e19.
+        let coloured = ltb-false k firstColoured e19 in
+        split (ltb lastColour colour) (λ x. Left c (cond x 19 last))
+        (λ e. (inl (not-closed e8, inl (kind, inr (λ h. omega (arith, ltb-true lastColour colour e, h .1), refl))), f)) (λ few.
+        let small = stream-below k colour kind (ltb-false lastColour colour few) in
+        time-answered c (stream k colour) t refl (stream-place c small) small (not-closed e8)
+        (λ a j. inl (not-closed e8, inl (kind, inl ((coloured, ltb-false lastColour colour few), j))))))))
 
     tick-answered : (t : ℕ) → Left (Call.Tick t) (refusalBy (Call.Tick t) (m .closed) (m .clock) (nextFor m (Call.Tick t)))
     unfolding Judged questions
@@ -213,5 +258,6 @@ module _ (engine : (c : Constraint) → Sound c → Exact c) where
     pub step-answered : (call : Call) → Answered call (stepOf m call)
     unfolding stepOf
     step-answered (Call.Event k t) = event-answered k t
+    step-answered (Call.ColouredEvent k colour t) = coloured-answered k colour t
     step-answered (Call.Tick t) = tick-answered t
     step-answered Call.Close = close-answered

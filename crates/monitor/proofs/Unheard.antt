@@ -26,7 +26,7 @@ use Rattle.constraint.proofs.Sanity.{run-once}
 use Rattle.row.proofs.Exact.{Sound}
 use Rattle.monitor.specs.Machine.{verdictOf}
 use Rattle.monitor.specs.Contract.{after, Recorded}
-use Rattle.monitor.specs.Beside.{OwnKind, Beside, same-event, others, EachBeside, no-more, place, allTaken, Takes, answersTo, NoneFull}
+use Rattle.monitor.specs.Beside.{OwnStream, Beside, same-event, others, EachBeside, no-more, place, allTaken, Takes, answersTo, NoneFull}
 use Rattle.monitor.proofs.FittingRows.{SoundRows}
 use Rattle.monitor.proofs.Demand.{accepted-sound}
 use Rattle.monitor.proofs.Theorem.{monitor-is-exact, row-reads}
@@ -98,6 +98,9 @@ same-answer : (rows rows′ : List Constraint) (past : List Step) (s : Call) (a 
 unfolding questions
 same-answer rows rows′ past (Call.Event k t) a a′ judged judged′ free free′ =
     judged-but-last (questions rows past (Call.Event k t)) (questions rows′ past (Call.Event k t)) refl a a′ judged judged′ free free′
+same-answer rows rows′ past (Call.ColouredEvent k colour t) a a′ judged judged′ free free′ =
+    judged-but-last (questions rows past (Call.ColouredEvent k colour t)) (questions rows′ past (Call.ColouredEvent k colour t)) refl a a′ judged judged′
+    free free′
 same-answer rows rows′ past (Call.Tick t) a a′ judged judged′ free free′ =
     judged-but-last (questions rows past (Call.Tick t)) (questions rows′ past (Call.Tick t)) refl a a′ judged judged′ free free′
 same-answer rows rows′ past Call.Close a a′ judged judged′ free free′ = judged-once _ a a′ judged judged′
@@ -162,16 +165,16 @@ module _
 pub beside-met : EachBeside (Delay 0 1 2 3) (event 0 10 ∷ tick 14 ∷ []) (event 0 10 ∷ event 7 14 ∷ [])
 beside-met = place (same-event 0 10 (0, omega arith, refl)) (place (others 14 {b = event 7 14} refl (not-own, refl)) no-more)
   where
-    not-own : ¬ OwnKind (Delay 0 1 2 3) 7
+    not-own : ¬ OwnStream (Delay 0 1 2 3) 7
     not-own (zero, there, e) = omega arith
     not-own (suc zero, there, e) = omega arith
     not-own (suc (suc i), there, e) = omega arith
 
--- ticks to two times are not beside each other, nor is a tick beside an event of the row's kinds, nor the close beside a tick
+-- ticks to two times are not beside each other, nor is a tick beside an event of the row's streams, nor the close beside a tick
 pub clock-missed : (c : Constraint) (t u : ℕ) → ¬ (t ≡ u) → ¬ Beside c (tick t) (tick u)
 clock-missed c t u apart (others v p q) = apart (p ∙ sym q)
 
-pub event-missed : (c : Constraint) (k t u : ℕ) → OwnKind c k → ¬ Beside c (event k t) (tick u)
+pub event-missed : (c : Constraint) (k t u : ℕ) → OwnStream c k → ¬ Beside c (event k t) (tick u)
 event-missed c k t u own (others v p q) = p .0 own
 
 pub close-missed : (c : Constraint) (t : ℕ) → ¬ Beside c close (tick t)

@@ -4,7 +4,7 @@ use mathlib.Core.Path.{_≡_}
 use mathlib.Core.List.{List, [], _∷_, map}
 use lib.ListN.{length}
 use Rattle.constraint.specs.Steps.{Step, event, tick, close, at}
-use Rattle.constraint.specs.Accepted.{kinds}
+use Rattle.constraint.specs.Accepted.{streams}
 use Rattle.constraint.specs.Run.{Run}
 use Rattle.constraint.specs.Promise.{play}
 use Rattle.constraint.specs.declared.Answer.{Answer}
@@ -14,19 +14,19 @@ use Rattle.constraint.specs.declared.Constraint.{Constraint}
 use Rattle.monitor.specs.Machine.{monitorOf}
 use Rattle.monitor.specs.Contract.{step}
 
--- k is one of the row's kinds
-abbrev pub OwnKind : Constraint → ℕ → Type 0
-OwnKind c k = (i : ℕ) × (i < length (kinds c)) × (at (kinds c) i ≡ k)
+-- s is one of the row's streams: a plain kind of the row's, or a coloured one in some colour
+abbrev pub OwnStream : Constraint → ℕ → Type 0
+OwnStream c s = (i : ℕ) × (i < length (streams c)) × (at (streams c) i ≡ s)
 
 -- "other steps": neither an event of the row's kinds nor the close, the clock being at t after it, as an event or a tick leaves it at its own time
 abbrev pub OtherAt : Constraint → ℕ → Step → Type 0
-OtherAt c t (event k time) = (¬ OwnKind c k) × (time ≡ t)
+OtherAt c t (event s time) = (¬ OwnStream c s) × (time ≡ t)
 OtherAt c t (tick time) = time ≡ t
 OtherAt c t close = ⊥
 
 -- two steps beside each other for the row: one event of its kinds in both, others after which the clocks agree, or the close in both
 pub data Beside (c : Constraint) : Step → Step → Type 0 where
-  same-event : (k t : ℕ) → OwnKind c k → Beside c (event k t) (event k t)
+  same-event : (s t : ℕ) → OwnStream c s → Beside c (event s t) (event s t)
   others : (t : ℕ) {a b : Step} → OtherAt c t a → OtherAt c t b → Beside c a b
   closes : Beside c close close
 

@@ -5,7 +5,8 @@ use mathlib.Core.List.{List, [], _∷_, _++_, map}
 use mathlib.Core.Option.{Option, none, some}
 use lib.ListN.{length, getD, set, replicate}
 use lib.Dec.{leb, ltb}
-use Rattle.constraint.specs.Limits.{lastKind, lastTime, rowLimit}
+use Rattle.constraint.specs.Limits.{lastKind, firstColoured, lastColour, streamCount, lastTime, rowLimit}
+use Rattle.constraint.specs.Streams.{stream}
 use Rattle.constraint.specs.Rows.{filler}
 use Rattle.constraint.specs.declared.Answer.the-variants.{Taken, Refused}
 use Rattle.constraint.specs.declared.Call.{Call}
@@ -27,7 +28,7 @@ unfoldable pub monitorOf : List Constraint → Monitor
 monitorOf rows =
     record {
       rows = map rowOf rows ++ replicate (rowLimit - length rows) noRow;
-      next = replicate 64 0;
+      next = replicate streamCount 0;
       clock = 0;
       count = 0;
       closed = 0;
@@ -58,33 +59,48 @@ nextStep m = plus (m .count) 1
 
 -- ---- what a call asks and does, on numbers
 
--- the place of an event's kind among the first free times; 0 where there is no event, or no such kind
-abbrev pub placeFor : Call → ℕ
-placeFor (Call.Event kind t) = cond (ltb lastKind kind) 0 kind
-placeFor (Call.Tick t) = 0
-placeFor Call.Close = 0
+-- the stream of a call's event; 0 where there is no event
+abbrev pub streamFor : Call → ℕ
+streamFor (Call.Event kind t) = kind
+streamFor (Call.ColouredEvent kind colour t) = stream kind colour
+streamFor (Call.Tick t) = 0
+streamFor Call.Close = 0
 
--- 8, 9, 10, 11 for an event; 8, 10, 11 for a tick; 8 for the close: the number of the first "no", or 0
+-- its place among the first free times; 0 where there is no such stream
+abbrev pub placeFor : Call → ℕ
+placeFor call = cond (ltb (streamFor call) streamCount) (streamFor call) 0
+
+-- 10 and 11 for an event: the number of the first "no", or 0
+abbrev pub timeRefusal : ℕ → ℕ → ℕ → ℕ
+timeRefusal t clock next = cond (ltb lastTime t) 10 (cond (ltb t clock) 11 (cond (ltb t next) 11 0))
+
+-- 8, 9, 19, 10, 11 for an event; 8, 10, 11 for a tick; 8 for the close
 abbrev pub refusalBy : Call → ℕ → ℕ → ℕ → ℕ
 refusalBy (Call.Event kind t) closed clock next =
-    cond (ltb 0 closed) 8 (cond (ltb lastKind kind) 9 (cond (ltb lastTime t) 10 (cond (ltb t clock) 11 (cond (ltb t next) 11 0))))
+    cond (ltb 0 closed) 8 (cond (ltb lastKind kind) 9 (cond (leb firstColoured kind) 19 (timeRefusal t clock next)))
+refusalBy (Call.ColouredEvent kind colour t) closed clock next =
+    cond (ltb 0 closed) 8
+    (cond (ltb lastKind kind) 9 (cond (ltb kind firstColoured) 19 (cond (ltb lastColour colour) 19 (timeRefusal t clock next))))
 refusalBy (Call.Tick t) closed clock next = cond (ltb 0 closed) 8 (cond (ltb lastTime t) 10 (cond (leb t clock) 11 0))
 refusalBy Call.Close closed clock next = cond (ltb 0 closed) 8 0
 
 -- what the rows see of a call at a clock
 abbrev pub occurrenceBy : Call → ℕ → Occurrence
 occurrenceBy (Call.Event kind t) clock = eventAt kind t
+occurrenceBy (Call.ColouredEvent kind colour t) clock = eventAt (stream kind colour) t
 occurrenceBy (Call.Tick t) clock = tickAt t
 occurrenceBy Call.Close clock = closeAt clock
 
--- the first free time of its kind after a call, and the mark of the close
+-- the first free time of its stream after a call, and the mark of the close
 abbrev pub freeAfter : Call → ℕ → ℕ
 freeAfter (Call.Event kind t) next = plus t 1
+freeAfter (Call.ColouredEvent kind colour t) next = plus t 1
 freeAfter (Call.Tick t) next = next
 freeAfter Call.Close next = next
 
 abbrev pub closedAfter : Call → ℕ → ℕ
 closedAfter (Call.Event kind t) closed = closed
+closedAfter (Call.ColouredEvent kind colour t) closed = closed
 closedAfter (Call.Tick t) closed = closed
 closedAfter Call.Close closed = 1
 

@@ -1,43 +1,61 @@
 // What a call asks of a monitor and does to it, on numbers alone.
 use constraint::Call;
+use constraint::FIRST_COLOURED;
+use constraint::LAST_COLOUR;
 use constraint::LAST_KIND;
 use constraint::LAST_TIME;
+use constraint::STREAM_COUNT;
+use machine::parts::kind_of;
 use machine::parts::plus;
+use queue::minus;
 use row::Occurrence;
 ghost use mathlib.Core.Path.{_≡_};
 ghost use Prim.Native.Nat.{ℕ};
+ghost use Rattle.constraint.specs.Streams.{stream};
 ghost use Rattle.constraint.specs.declared.Call.{Call};
-ghost use Rattle.monitor.specs.Machine.{placeFor, refusalBy, occurrenceBy, freeAfter, closedAfter};
+ghost use Rattle.row.specs.Machine.{eventAt};
+ghost use Rattle.monitor.specs.Machine.{streamFor, placeFor, timeRefusal, refusalBy, occurrenceBy, freeAfter, closedAfter};
 
-// No event: a kind that no row has.
+// No event: a kind that no row has, and no stream.
 const NO_EVENT: u64 = 65;
 
-// The place of an event's kind among the first free times; 0 where there is no event, or no such kind.
-pub fn place(call: Call) -> usize
-    ensures { λ r. ⌜ r ≡ placeFor call ⌝ }
+const NO_STREAM: u64 = STREAM_COUNT as u64;
+
+// The stream of a coloured kind and a colour.
+fn stream_of(kind: u8, colour: u8) -> u64
+    ensures { λ r. ⌜ r ≡ stream kind colour ⌝ }
+{
+    let base = FIRST_COLOURED as u64;
+    base + 8 * minus(kind as u64, base) + colour as u64
+}
+
+// The stream of a call's event; 0 where there is no event.
+fn stream(call: Call) -> u64
+    ensures { λ r. ⌜ r ≡ streamFor call ⌝ }
 {
     match call {
-        Call::Event { kind, .. } => {
-            if LAST_KIND < kind {
-                return 0;
-            }
-            kind as usize
-        }
+        Call::Event { kind, .. } => kind as u64,
+        Call::ColouredEvent { kind, colour, .. } => stream_of(kind, colour),
         Call::Tick { .. } => 0,
         Call::Close => 0,
     }
 }
 
-// Questions 8 to 11 for an event, over the mark of the close, the clock and the first free time of its kind: the number of the first "no", or 0.
-fn event_refusal(kind: u8, time: u64, closed: u64, clock: u64, next: u64) -> u8
-    ensures { λ r. ⌜ r ≡ refusalBy (Call.Event kind time) closed clock next ⌝ }
+// The place of a call's stream among the first free times; 0 where there is no such stream.
+pub fn place(call: Call) -> usize
+    ensures { λ r. ⌜ r ≡ placeFor call ⌝ }
 {
-    if 0 < closed {
-        return 8;
+    let stream = stream(call);
+    if stream < NO_STREAM {
+        return stream as usize;
     }
-    if LAST_KIND < kind {
-        return 9;
-    }
+    0
+}
+
+// Questions 10 and 11 for an event, over the clock and the first free time of its stream: the number of the first "no", or 0.
+fn time_refusal(time: u64, clock: u64, next: u64) -> u8
+    ensures { λ r. ⌜ r ≡ timeRefusal time clock next ⌝ }
+{
     if LAST_TIME < time {
         return 10;
     }
@@ -48,6 +66,41 @@ fn event_refusal(kind: u8, time: u64, closed: u64, clock: u64, next: u64) -> u8
         return 11;
     }
     0
+}
+
+// Questions 8, 9, 19, 10 and 11 for an event of a plain kind, over the mark of the close too.
+fn event_refusal(kind: u8, time: u64, closed: u64, clock: u64, next: u64) -> u8
+    ensures { λ r. ⌜ r ≡ refusalBy (Call.Event kind time) closed clock next ⌝ }
+{
+    if 0 < closed {
+        return 8;
+    }
+    if LAST_KIND < kind {
+        return 9;
+    }
+    if FIRST_COLOURED <= kind {
+        return 19;
+    }
+    time_refusal(time, clock, next)
+}
+
+// The same for an event with a colour.
+fn coloured_refusal(kind: u8, colour: u8, time: u64, closed: u64, clock: u64, next: u64) -> u8
+    ensures { λ r. ⌜ r ≡ refusalBy (Call.ColouredEvent kind colour time) closed clock next ⌝ }
+{
+    if 0 < closed {
+        return 8;
+    }
+    if LAST_KIND < kind {
+        return 9;
+    }
+    if kind < FIRST_COLOURED {
+        return 19;
+    }
+    if LAST_COLOUR < colour {
+        return 19;
+    }
+    time_refusal(time, clock, next)
 }
 
 // Questions 8, 10 and 11 for a tick.
@@ -76,14 +129,34 @@ fn close_refusal(closed: u64) -> u8
     0
 }
 
-// A call's questions but 12, over the mark of the close, the clock and the first free time of its kind: the number of the first "no", or 0.
+// A call's questions but 12, over the mark of the close, the clock and the first free time of its stream: the number of the first "no", or 0.
 pub fn refusal(call: Call, closed: u64, clock: u64, next: u64) -> u8
     ensures { λ r. ⌜ r ≡ refusalBy call closed clock next ⌝ }
 {
     match call {
         Call::Event { kind, time } => event_refusal(kind, time, closed, clock, next),
+        Call::ColouredEvent { kind, colour, time } => coloured_refusal(
+            kind,
+            colour,
+            time,
+            closed,
+            clock,
+            next,
+        ),
         Call::Tick { time } => tick_refusal(time, closed, clock),
         Call::Close => close_refusal(closed),
+    }
+}
+
+// What the rows see of an event.
+fn event_of(stream: u64, time: u64) -> Occurrence
+    ensures { λ r. ⌜ r ≡ eventAt stream time ⌝ }
+{
+    Occurrence {
+        kind: kind_of(stream),
+        stream,
+        time,
+        closes: false,
     }
 }
 
@@ -92,30 +165,30 @@ pub fn occurrence(call: Call, clock: u64) -> Occurrence
     ensures { λ r. ⌜ r ≡ occurrenceBy call clock ⌝ }
 {
     match call {
-        Call::Event { kind, time } => Occurrence {
-            kind: kind as u64,
-            time,
-            closes: false,
-        },
+        Call::Event { kind, time } => event_of(kind as u64, time),
+        Call::ColouredEvent { kind, colour, time } => event_of(stream_of(kind, colour), time),
         Call::Tick { time } => Occurrence {
             kind: NO_EVENT,
+            stream: NO_STREAM,
             time,
             closes: false,
         },
         Call::Close => Occurrence {
             kind: NO_EVENT,
+            stream: NO_STREAM,
             time: clock,
             closes: true,
         },
     }
 }
 
-// The first free time of a call's kind after it; as it was where the call is no event.
+// The first free time of a call's stream after it; as it was where the call is no event.
 pub fn free(call: Call, next: u64) -> u64
     ensures { λ r. ⌜ r ≡ freeAfter call next ⌝ }
 {
     match call {
         Call::Event { time, .. } => plus(time, 1),
+        Call::ColouredEvent { time, .. } => plus(time, 1),
         Call::Tick { .. } => next,
         Call::Close => next,
     }
@@ -127,6 +200,7 @@ pub fn closed(call: Call, closed: u64) -> u64
 {
     match call {
         Call::Event { .. } => closed,
+        Call::ColouredEvent { .. } => closed,
         Call::Tick { .. } => closed,
         Call::Close => 1,
     }

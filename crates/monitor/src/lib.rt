@@ -17,8 +17,8 @@ pub mod verdicts;
 #[repr(C)]
 pub struct Monitor {
     pub rows: [Row; 32],
-    // for each kind the first time still free: one more than the time of its last event; 0: none
-    pub next: [u64; 64],
+    // for each stream the first time still free: one more than the time of its last event; 0: none
+    pub next: [u64; 176],
     pub clock: u64,
     // the steps taken, the close included
     pub count: u64,
@@ -49,7 +49,7 @@ impl Monitor {
     // The largest time, 2^56 - 1.
     pub const LAST_TIME: u64 = constraint::LAST_TIME;
 
-    // A monitor over a table, with clock 0, or the refusal: questions 3 to 7, row by row.
+    // A monitor over a table, with clock 0, or the refusal: questions 3 to 7 and 18, row by row.
     pub fn fresh(table: Table) -> Stepped
         ensures { λ r. ⌜ Freshly table (r .answer) (r .monitor) ⌝ }
     {
@@ -65,7 +65,7 @@ impl Monitor {
         }
     }
 
-    // The monitor after a call, or the refusal: questions 8 to 12.
+    // The monitor after a call, or the refusal: questions 8 to 12 and 19.
     pub fn step(self, call: Call) -> Stepped
         ensures { λ r. ⌜ Steps self call r ⌝ }
     {
@@ -94,6 +94,13 @@ impl Monitor {
         ensures { λ r. ⌜ Steps self (Call.Event kind time) r ⌝ }
     {
         self.step(Call::Event { kind, time })
+    }
+
+    // The monitor after an event of a coloured kind and a colour at a time, or the refusal.
+    pub fn coloured_event(self, kind: u8, colour: u8, time: u64) -> Stepped
+        ensures { λ r. ⌜ Steps self (Call.ColouredEvent kind colour time) r ⌝ }
+    {
+        self.step(Call::ColouredEvent { kind, colour, time })
     }
 
     // The monitor after a tick to a time, or the refusal.

@@ -47,7 +47,7 @@ pub(crate) fn over(table: Table, len: usize) -> Monitor
     }
     Monitor {
         rows,
-        next: [0u64; 64],
+        next: [0u64; 176],
         clock: 0,
         count: 0,
         closed: 0,

@@ -8,14 +8,15 @@ use mathlib.Core.List.{List, [], _∷_, _++_}
 use lib.ListN.{length, getD, set, replicate}
 use lib.Dec.{ltb}
 use borrow.Author.Tests.{lt-ltb, le-ltb}
-use Rattle.constraint.specs.Steps.{Step, clock}
+use Rattle.constraint.specs.Steps.{Step, at, clock}
 use Rattle.constraint.specs.Questions.{Judged}
 use Rattle.constraint.specs.Accepted.{rowsQuestions, Accepted}
 use Rattle.constraint.specs.Run.{stepFor, questions, Run, done, call}
 use Rattle.constraint.specs.Promise.{play}
-use Rattle.constraint.specs.Table.{lengthAt, bodyAt, VersionOne}
-use Rattle.constraint.specs.Recording.{callOf, RecordAt, recordQuestions, RecordingRead, recording-of, recording-refused, ReadsRecords, no-more, record-refused, record-taken}
-use Rattle.constraint.specs.Recording.{ReadsInOrder, version-taken}
+use Rattle.constraint.specs.Limits.{streamCount}
+use Rattle.constraint.specs.Table.{lengthAt}
+use Rattle.constraint.specs.Recording.{callAt, RecordAt, recordQuestions, RecordingRead, recording-of, recording-refused, ReadsRecords, no-more, record-refused, record-taken}
+use Rattle.constraint.specs.Recording.{VersionKnown, ReadsInOrder, version-taken}
 use Rattle.constraint.specs.declared.Answer.{Answer}
 use Rattle.constraint.specs.declared.Answer.the-variants.{Taken, Refused}
 use Rattle.constraint.specs.declared.Call.{Call}
@@ -39,7 +40,7 @@ use Rattle.order.specs.declared.Order.{Order}
 
 -- ---- a call, on the order's numbers
 
--- the first free time of a call's kind
+-- the first free time of a call's stream
 abbrev pub freeFor : Order → Call → ℕ
 freeFor o s = getD (o .next) (placeFor s) 0
 
@@ -69,7 +70,7 @@ pub run-more : {rows : List Constraint} {steps end : List Step} {calls : List Ca
 run-more s done judged = call s Taken judged done
 run-more s (call t a earlier rest) judged = call t a earlier (run-more s rest judged)
 
-pub starts : After [] (record { clock = 0; next = replicate 64 0; closed = 0 })
+pub starts : After [] (record { clock = 0; next = replicate streamCount 0; closed = 0 })
 unfolding after play monitorOf
 starts = record { calls = []; recorded = ([], done); is = refl }
 
@@ -167,7 +168,7 @@ module _ (bytes : List ℕ) (place : ℕ) (o : Order) where
         refused = λ more steps before. record-not-there [] steps bytes place not-there;
       }
 
-  pub read-call : (s : Call) (size : ℕ) (r : RecordRead) → CallAt bytes place s size → AsksCall o s (place + size) r → ReadsNext bytes place o r
+  pub read-call : (s : Call) (size : ℕ) (r : RecordRead) → CallAt (at bytes 0) bytes place s size → AsksCall o s (place + size) r → ReadsNext bytes place o r
   read-call s size r read asks =
       record {
         taken = λ e steps before. let given = asks .takes .taken e steps before in (
@@ -187,11 +188,11 @@ pub record ReadUpTo (bytes : List ℕ) (place : ℕ) (steps : List Step) (o : Or
   pub whole : (read : RecordingRead) → ReadsRecords [] bytes steps place read → ReadsInOrder bytes read
 
 module _ (bytes : List ℕ) where
-  pub up-to-start : VersionOne bytes → (o : Order) → After [] o → ReadUpTo bytes 1 [] o
-  up-to-start one o start = record { order = start; whole = λ read reads. version-taken one reads }
+  pub up-to-start : VersionKnown bytes → (o : Order) → After [] o → ReadUpTo bytes 1 [] o
+  up-to-start known o start = record { order = start; whole = λ read reads. version-taken known reads }
 
   module _ (place : ℕ) (steps : List Step) (o : Order) (before : ReadUpTo bytes place steps o) where
-    pub up-to-more : (s : Call) (next : ℕ) (o′ : Order) → place < length bytes → callOf (bodyAt bytes place) ≡ s → next ≡ place + 2 + lengthAt bytes place
+    pub up-to-more : (s : Call) (next : ℕ) (o′ : Order) → place < length bytes → callAt bytes place ≡ s → next ≡ place + 2 + lengthAt bytes place
         → Judged (recordQuestions [] steps bytes place) Taken → After (steps ++ (stepFor s ∷ [])) o′ → ReadUpTo bytes next (steps ++ (stepFor s ∷ [])) o′
     up-to-more s next o′ there is next-is taken later =
         record {

@@ -6,8 +6,8 @@ use lib.ListN.{length}
 use Rattle.constraint.specs.Steps.{Step, clock}
 use Rattle.constraint.specs.Questions.{Judged}
 use Rattle.constraint.specs.Run.{stepFor, questions}
-use Rattle.constraint.specs.Table.{lengthAt, bodyAt}
-use Rattle.constraint.specs.Recording.{callOf, recordQuestions}
+use Rattle.constraint.specs.Table.{lengthAt}
+use Rattle.constraint.specs.Recording.{callAt, recordQuestions}
 use Rattle.constraint.specs.declared.Answer.the-variants.{Taken, Refused}
 use Rattle.constraint.specs.declared.Call.{Call}
 use Rattle.monitor.specs.Contract.{after, Recorded}
@@ -52,6 +52,6 @@ pub record AsksCall (o : Order) (call : Call) (next : ℕ) (r : RecordRead) : Ty
 pub record ReadsNext (bytes : List ℕ) (place : ℕ) (o : Order) (r : RecordRead) : Type 0 where
   pub taken : r .number ≡ 0 → (steps : List Step) → After steps o
       → Judged (recordQuestions [] steps bytes place) Taken × After (steps ++ (stepFor (r .call) ∷ [])) (r .order)
-  pub call-is : r .number ≡ 0 → callOf (bodyAt bytes place) ≡ r .call
+  pub call-is : r .number ≡ 0 → callAt bytes place ≡ r .call
   pub next-is : r .number ≡ 0 → (r .next ≡ place + 2 + lengthAt bytes place) × (r .next ≤ length bytes)
   pub refused : 0 < r .number → (steps : List Step) → After steps o → Judged (recordQuestions [] steps bytes place) (Refused (r .number))

@@ -1,4 +1,4 @@
-// The order of a recording: its clock and the first free time of each kind, with the questions of a step but 12. Records are read over
+// The order of a recording: its clock and the first free time of each stream, with the questions of a step but 12. Records are read over
 // it one by one, with no row stepped.
 use constraint::Call;
 use monitor::calls;
@@ -8,8 +8,8 @@ ghost use Rattle.order.specs.Order.{Starts, Takes, refusedRead, AsksCall
 
 pub struct Order {
     pub clock: u64,
-    // for each kind the first time still free: one more than the time of its last event; 0: none
-    pub next: [u64; 64],
+    // for each stream the first time still free: one more than the time of its last event; 0: none
+    pub next: [u64; 176],
     // 0: not closed
     pub closed: u64,
 }
@@ -35,12 +35,12 @@ impl Order {
     {
         Order {
             clock: 0,
-            next: [0u64; 64],
+            next: [0u64; 176],
             closed: 0,
         }
     }
 
-    // The answer to a call: questions 8 to 11; and the order after it, on a refusal as it was.
+    // The answer to a call: questions 8 to 11 and 19; and the order after it, on a refusal as it was.
     pub fn take(self, call: Call) -> Answered
         ensures { λ r. ⌜ Takes self call r ⌝ }
     {
@@ -95,10 +95,21 @@ pub fn read(bytes: &[u8], place: usize, order: Order) -> RecordRead
     if bytes.len() < place {
         return refused(order, 14);
     }
-    match recording::read_record(&bytes[place..]) {
+    let version = recording::version(bytes);
+    match recording::read_record(version, &bytes[place..]) {
         Record::Event { kind, time, size } => {
             asked(order, Call::Event { kind, time }, place + size)
         }
+        Record::ColouredEvent {
+            kind,
+            colour,
+            time,
+            size,
+        } => asked(
+            order,
+            Call::ColouredEvent { kind, colour, time },
+            place + size,
+        ),
         Record::Tick { time, size } => asked(order, Call::Tick { time }, place + size),
         Record::Refused(number) => refused(order, number),
     }

@@ -9,11 +9,14 @@ use lib.Dec.{eqb}
 -- the number is none of those that the code names
 abbrev pub NoneOf : ℕ → Type 0
 NoneOf n =
-    ((((((Unit {0} × (n ≡ 1 → ⊥)) × (n ≡ 2 → ⊥)) × ((n ≡ 3) ⊎ (n ≡ 5) → ⊥)) × (n ≡ 4 → ⊥)) × (n ≡ 6 → ⊥)) × (n ≡ 8 → ⊥)) × (n ≡ 10 → ⊥)
+    (((((((Unit {0} × (n ≡ 1 → ⊥)) × (n ≡ 2 → ⊥)) × ((n ≡ 3) ⊎ (n ≡ 5) → ⊥)) × (n ≡ 4 → ⊥)) × (n ≡ 6 → ⊥)) × (n ≡ 8 → ⊥)) × (n ≡ 9 → ⊥))
+    × (n ≡ 10 → ⊥)
 
-module _ {A : Type 0} (n : ℕ) (a b c d e f g h : A) where
+module _ {A : Type 0} (n : ℕ) (a b c d e f g h j : A) where
   abbrev pub chosen : A
-  chosen = cond (eqb n 1) a (cond (eqb n 2) b (cond (eqb n 3 || eqb n 5) c (cond (eqb n 4) d (cond (eqb n 6) e (cond (eqb n 8) f (cond (eqb n 10) g h))))))
+  chosen =
+      cond (eqb n 1) a
+      (cond (eqb n 2) b (cond (eqb n 3 || eqb n 5) c (cond (eqb n 4) d (cond (eqb n 6) e (cond (eqb n 8) f (cond (eqb n 9) g (cond (eqb n 10) h j)))))))
 
   pub form-1 : n ≡ 1 → chosen ≡ a
   form-1 is = rw is
@@ -33,18 +36,22 @@ module _ {A : Type 0} (n : ℕ) (a b c d e f g h : A) where
   pub form-8 : n ≡ 8 → chosen ≡ f
   form-8 is = rw is
 
-  pub form-10 : n ≡ 10 → chosen ≡ g
+  pub form-9 : n ≡ 9 → chosen ≡ g
+  form-9 is = rw is
+
+  pub form-10 : n ≡ 10 → chosen ≡ h
   form-10 is = rw is
 
-  pub form-none : NoneOf n → chosen ≡ h
+  pub form-none : NoneOf n → chosen ≡ j
   form-none is =
       rw (
-        ne-eqb n 1 (is .0 .0 .0 .0 .0 .0 .1),
-        ne-eqb n 2 (is .0 .0 .0 .0 .0 .1),
-        ne-eqb n 3 (λ x. is .0 .0 .0 .0 .1 (inl x)),
-        ne-eqb n 5 (λ x. is .0 .0 .0 .0 .1 (inr x)),
-        ne-eqb n 4 (is .0 .0 .0 .1),
-        ne-eqb n 6 (is .0 .0 .1),
-        ne-eqb n 8 (is .0 .1),
+        ne-eqb n 1 (is .0 .0 .0 .0 .0 .0 .0 .1),
+        ne-eqb n 2 (is .0 .0 .0 .0 .0 .0 .1),
+        ne-eqb n 3 (λ x. is .0 .0 .0 .0 .0 .1 (inl x)),
+        ne-eqb n 5 (λ x. is .0 .0 .0 .0 .0 .1 (inr x)),
+        ne-eqb n 4 (is .0 .0 .0 .0 .1),
+        ne-eqb n 6 (is .0 .0 .0 .1),
+        ne-eqb n 8 (is .0 .0 .1),
+        ne-eqb n 9 (is .0 .1),
         ne-eqb n 10 (is .1),
       )

@@ -1,7 +1,7 @@
 -- Every row type is exact: by the type, what its own laws prove.
 use Rattle.constraint.specs.declared.Constraint.{Constraint}
 use Rattle.constraint.specs.declared.Constraint.the-variants.{Delay, StrongDelay, Repeat, Sporadic, Burst, Order}
-use Rattle.constraint.specs.declared.Constraint.the-variants.{StrongSynchronization2, StrongSynchronization3, StrongSynchronization4, ExecutionTime, Repetition}
+use Rattle.constraint.specs.declared.Constraint.the-variants.{StrongSynchronization2, StrongSynchronization3, StrongSynchronization4, ExecutionTime, Reaction, Repetition}
 use Rattle.pairs.proofs.Laws.Delay.{exactDelay}
 use Rattle.pairs.proofs.Laws.StrongDelay.{exactStrongDelay}
 use Rattle.pairs.proofs.Laws.Order.{exactOrder}
@@ -10,6 +10,7 @@ use Rattle.spans.proofs.Laws.Burst.{exactBurst}
 use Rattle.points.proofs.Laws.Sporadic.{exactSporadic}
 use Rattle.groups.proofs.Laws.StrongSynchronization.{exactStrongSynchronization2, exactStrongSynchronization3, exactStrongSynchronization4}
 use Rattle.phases.proofs.Laws.ExecutionTime.{exactExecutionTime}
+use Rattle.chains.proofs.Laws.Reaction.{exactReaction}
 use Rattle.repetition.proofs.Laws.Repetition.{exactRepetition}
 use Rattle.row.proofs.Exact.{Sound, Exact}
 
@@ -24,4 +25,5 @@ engine (StrongSynchronization2 first second tolerance) = exactStrongSynchronizat
 engine (StrongSynchronization3 first second third tolerance) = exactStrongSynchronization3 first second third tolerance
 engine (StrongSynchronization4 first second third fourth tolerance) = exactStrongSynchronization4 first second third fourth tolerance
 engine (ExecutionTime start stop preempt resume lower upper) = exactExecutionTime start stop preempt resume lower upper
+engine (Reaction stimulus response minimum maximum) = exactReaction stimulus response minimum maximum
 engine (Repetition event span lower upper jitter) = exactRepetition event span lower upper jitter

@@ -1,30 +1,27 @@
--- The row's test of an event's kind is right: its four numbers are the constraint's kinds and, for those that it lacks, 64, which is no kind.
-use Prim.Native.Nat.{ℕ, zero, suc, _-_, _≤_, _<_}
+-- The row's test of an event's kind is right: its four numbers are the constraint's kinds and, for those that it lacks, 64, which is no kind; and
+-- an event is of one of the row's streams just where it is of one of its kinds.
+use Prim.Native.Nat.{ℕ, zero, suc, _-_, _<_}
 use native.Mathlib.Omega.{arith}
-use mathlib.Core.Path.{_≡_, refl, sym, _∙_}
+use mathlib.Core.Path.{_≡_, refl, _∙_}
 use mathlib.Core.Bool.{Bool, true, false, _||_}
 use mathlib.Core.List.{List, [], _∷_, _++_}
-use mathlib.Core.Logic.{⊎-elim}
 use lib.ListN.{length, replicate}
 use lib.Dec.{eqb}
-use borrow.Author.Tests.{eqb-true, ne-eqb}
-use Rattle.constraint.specs.Limits.{lastKind}
-use Rattle.constraint.specs.Steps.{at, among}
-use Rattle.constraint.specs.Accepted.{kinds}
+use borrow.Author.Tests.{ne-eqb}
+use Rattle.constraint.specs.Limits.{streamCount}
+use Rattle.constraint.specs.Streams.{kindOf}
+use Rattle.constraint.specs.Steps.{among}
+use Rattle.constraint.specs.Types.{fieldsOf}
+use Rattle.constraint.specs.Accepted.{kinds, streams, KindsFit, KindsSuit}
 use Rattle.constraint.specs.declared.Constraint.{Constraint}
 use Rattle.constraint.specs.declared.Constraint.the-variants.{Delay, StrongDelay, Repeat, Sporadic, Burst, Order}
-use Rattle.constraint.specs.declared.Constraint.the-variants.{StrongSynchronization2, StrongSynchronization3, StrongSynchronization4, ExecutionTime, Repetition}
-use Rattle.constraint.proofs.Lists.{split, or-true, both, Each}
+use Rattle.constraint.specs.declared.Constraint.the-variants.{StrongSynchronization2, StrongSynchronization3, StrongSynchronization4, ExecutionTime, Reaction, Repetition}
+use Rattle.constraint.proofs.Lists.{split}
+use Rattle.constraint.proofs.Streams.{kind-small, among-where, among-kinds}
 use Rattle.machine.specs.Rule.{noKind, ruleOf}
+use Rattle.machine.proofs.SeveralKinds.{kinds-small}
 use Rattle.row.specs.Machine.{concerns, noEvent}
-use Rattle.row.proofs.Exact.{OfKind}
-
--- a kind among some is at one of their places
-among-where : (k : ℕ) (ks : List ℕ) → among k ks ≡ true → (i : ℕ) × (i < length ks) × (at ks i ≡ k)
-among-where k [] e = both (sym e)
-among-where k (j ∷ ks) e =
-    ⊎-elim (λ p. (0, omega arith, sym (eqb-true k j p))) (λ p. let r = among-where k ks p in (suc (r .0), omega (arith, r .1), r .2))
-    (or-true (eqb k j) (among k ks) e)
+use Rattle.row.proofs.Exact.{OfStream}
 
 -- the kinds that a row lacks are no event's
 among-absent : (k n : ℕ) (ks : List ℕ) → ¬ (k ≡ noKind) → among k (ks ++ replicate n noKind) ≡ among k ks
@@ -44,17 +41,23 @@ concerns-among (StrongSynchronization2 a b tolerance) k = refl
 concerns-among (StrongSynchronization3 a b c tolerance) k = refl
 concerns-among (StrongSynchronization4 a b c d tolerance) k = refl
 concerns-among (ExecutionTime start stop preempt resume lower upper) k = refl
+concerns-among (Reaction stimulus response minimum maximum) k = refl
 concerns-among (Repetition event span lower upper jitter) k = refl
 
-pub concerns-own : (c : Constraint) (k : ℕ) → ¬ (k ≡ noKind) → concerns (ruleOf c) k ≡ among k (kinds c)
-concerns-own c k h = concerns-among c k ∙ among-absent k (4 - length (kinds c)) (kinds c) h
+concerns-kind : (c : Constraint) (k : ℕ) → ¬ (k ≡ noKind) → concerns (ruleOf c) k ≡ among k (kinds c)
+concerns-kind c k h = concerns-among c k ∙ among-absent k (4 - length (kinds c)) (kinds c) h
 
-pub among-own : (c : Constraint) (k : ℕ) → among k (kinds c) ≡ true → OfKind c k
-among-own c k e = among-where k (kinds c) e
+pub concerns-own : (c : Constraint) → KindsSuit c → (s : ℕ) → s < streamCount → concerns (ruleOf c) (kindOf s) ≡ among s (streams c)
+unfolding KindsSuit
+concerns-own c suit s h =
+    concerns-kind c (kindOf s) (λ e. omega (arith, kind-small s h)) ∙ among-kinds s (fieldsOf c) suit
+
+pub among-own : (c : Constraint) (s : ℕ) → among s (streams c) ≡ true → OfStream c s
+among-own c s e = among-where s (streams c) e
 
 -- no event concerns a row: no kind is so large
-pub concerns-none : (c : Constraint) → Each (λ j. j ≤ lastKind) (kinds c) → concerns (ruleOf c) noEvent ≡ false
-concerns-none c small =
-    rw (concerns-own c noEvent (λ e. omega arith))
+pub concerns-none : (c : Constraint) → KindsFit (kinds c) → concerns (ruleOf c) noEvent ≡ false
+concerns-none c fit =
+    rw (concerns-kind c noEvent (λ e. omega arith))
     (split (among noEvent (kinds c)) (λ x. x ≡ false)
-    (λ e. let (i, h, is) = among-where noEvent (kinds c) e in absurd (omega (arith, small i h))) (λ e. refl))
+    (λ e. let (i, h, is) = among-where noEvent (kinds c) e in absurd (omega (arith, kinds-small (kinds c) fit i h))) (λ e. refl))

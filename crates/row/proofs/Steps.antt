@@ -9,22 +9,22 @@ use mathlib.Core.Logic.{_⊎_, inl, inr, ⊎-elim}
 use lib.ListN.{length}
 use lib.Dec.{ltb, eqb}
 use borrow.Author.Tests.{ltb-true, ltb-false, lt-ltb, le-ltb, eqb-true, eqb-false}
-use Rattle.constraint.specs.Limits.{lastKind, lastTime, waitingLimit}
+use Rattle.constraint.specs.Limits.{streamCount, lastTime, waitingLimit}
 use Rattle.constraint.specs.Steps.{Step, event, tick, close, among, own, clockFrom, clock, closed}
 use Rattle.constraint.specs.Meets.{Meets}
 use Rattle.constraint.specs.Continuation.{Open, BrokenAt, Reads, reads-open, reads-kept, reads-broken}
 use Rattle.constraint.specs.Waiting.{waiting}
-use Rattle.constraint.specs.Accepted.{kinds}
+use Rattle.constraint.specs.Accepted.{streams, KindsSuit}
 use Rattle.constraint.specs.declared.Constraint.{Constraint}
 use Rattle.constraint.specs.declared.Verdict.{Verdict}
-use Rattle.constraint.proofs.Lists.{split, both, Each}
+use Rattle.constraint.proofs.Lists.{split, both}
 use Rattle.constraint.proofs.History.{own-append, own-other, own-tick, own-close, clock-event, clock-tick, clock-close}
 use Rattle.constraint.proofs.History.{closed-event, closed-tick, closed-close, Accepts, Valid, valid-more, Past, past-of}
 use Rattle.constraint.proofs.Continuations.{meets-same, continues-closed, open-at-tick}
 use Rattle.constraint.proofs.Verdicts.{broken-now, broken-later, broken-shut, open-of-meets}
 use Rattle.queue.specs.Ring.{Ring, ringOf, ring, items, changed, edited}
 use Rattle.queue.proofs.Laws.{ring-length, ring-zeros, items-edited, times-edited}
-use Rattle.machine.specs.Rule.{ruleOf}
+use Rattle.machine.specs.Rule.{ruleOf, wordsOf}
 use Rattle.machine.specs.Parts.{noMarks}
 use Rattle.machine.specs.declared.Rule.{Rule}
 use Rattle.machine.specs.declared.Change.{Change}
@@ -34,7 +34,7 @@ use Rattle.row.specs.Machine.{noEvent, eventAt, tickAt, closeAt, rowStep
 use Rattle.row.specs.declared.Occurrence.{Occurrence}
 use Rattle.row.specs.declared.Row.{Row}
 use Rattle.row.specs.declared.RowStep.{RowStep}
-use Rattle.row.proofs.Exact.{GoesOn, ByOutcome, Exact}
+use Rattle.row.proofs.Exact.{Sound, GoesOn, ByOutcome, Exact}
 use Rattle.row.proofs.OwnKinds.{concerns-own, among-own, concerns-none}
 
 -- ---- what holds between the steps and a row
@@ -77,6 +77,10 @@ seen steps close = closeAt (clock steps)
 
 -- ---- Start
 
+-- a row has at most 16 words from the start
+words-few : (rule : Rule) → wordsOf rule ≤ waitingLimit
+words-few rule = split (eqb (rule .form) 9) (λ x. cond x 16 0 ≤ waitingLimit) (λ e. omega arith) (λ e. omega arith)
+
 pub fits-start : (c : Constraint) (exact : Exact c) → Fits c exact [] (rowOf c)
 unfolding rowOf clockFrom closed
 fits-start c exact =
@@ -89,7 +93,7 @@ fits-start c exact =
         due-is = rw (ring-zeros 64 0 _) (exact .start .due-is);
         kept-is = rw (ring-zeros 64 0 _) (ap mark (exact .start .kept-is));
         in-time = omega arith;
-        room = omega arith;
+        room = words-few (ruleOf c);
         met = λ e. both (sym e);
       });
     }
@@ -151,9 +155,9 @@ module _ (c : Constraint) (exact : Exact c) (steps : List Step) (valid : Valid s
         state = inr (record { counted = b .counted; first = broken-later c steps s (r .now .broken) (b .first) });
       }
 
-  -- a step that records nothing of the row's kinds, at a clock that is not past the due time
+  -- a step that records nothing of the row's streams, at a clock that is not past the due time
   going-on : (s : Step) (words : List ℕ) (was : State) → length words ≡ 64 → Going c exact steps words was
-      → own (kinds c) (steps ++ (s ∷ [])) ≡ own (kinds c) steps → clock (steps ++ (s ∷ [])) ≤ was .due
+      → own (streams c) (steps ++ (s ∷ [])) ≡ own (streams c) steps → clock (steps ++ (s ∷ [])) ≤ was .due
       → (closed (steps ++ (s ∷ [])) ≡ true → Meets c (steps ++ (s ∷ [])))
       → Fits c exact (steps ++ (s ∷ [])) (rowFrom (ruleOf c) words was)
   going-on s words was whole g same in-time met =
@@ -191,12 +195,12 @@ module _ (c : Constraint) (exact : Exact c) (steps : List Step) (valid : Valid s
       event-late later =
           broken-fits (event k t) words was whole (going-open words was (accepts .not-closed) g)
           (λ o. tick-late words was t g later (accepts .time-small)
-          (open-at-tick c steps k t (accepts .not-closed) (accepts .kind-small) (accepts .in-order) o))
+          (open-at-tick c steps k t (accepts .not-closed) (accepts .stream-small) (accepts .in-order) o))
 
-      -- an event of no kind of the row's
-      event-other : t ≤ was .due → among k (kinds c) ≡ false → Fits c exact (steps ++ (event k t ∷ [])) row-was
+      -- an event of no stream of the row's
+      event-other : t ≤ was .due → among k (streams c) ≡ false → Fits c exact (steps ++ (event k t ∷ [])) row-was
       event-other in-time other =
-          going-on (event k t) words was whole g (own-other (kinds c) k t steps other) (rw (clock-event k t steps) in-time)
+          going-on (event k t) words was whole g (own-other (streams c) k t steps other) (rw (clock-event k t steps) in-time)
           (λ shut. both (sym shut ∙ closed-event k t steps ∙ accepts .not-closed))
 
       -- a change that the row goes on with
@@ -257,13 +261,13 @@ module _ (c : Constraint) (exact : Exact c) (steps : List Step) (valid : Valid s
           (λ e shut. broken-fits (event k t) words was whole (going-open words was (accepts .not-closed) g) shut)
           (λ e goes. goes-after change goes)
 
-      event-going : ltb 0 (was .broken) ≡ false → Holds (rowStep row-was (eventAt k t) (length steps + 1))
+      event-going : KindsSuit c → ltb 0 (was .broken) ≡ false → Holds (rowStep row-was (eventAt k t) (length steps + 1))
       unfolding rowStep
-      event-going unbroken =
-          rw (concerns-own c k (λ e. omega (arith, accepts .kind-small)))
+      event-going suit unbroken =
+          rw (concerns-own c suit k (accepts .stream-small))
           (subst (λ (b : Bool). Holds (cond b (stays row-was) open-row)) (sym unbroken)
           (split (ltb (was .due) t) (λ x. Holds (cond x (stays (brokenRow row-was number)) in-time-row)) (λ e. event-late (ltb-true (was .due) t e))
-          (λ e. split (among k (kinds c)) (λ y. Holds (cond y (changedRow row-was change number) (stays row-was)))
+          (λ e. split (among k (streams c)) (λ y. Holds (cond y (changedRow row-was change number) (stays row-was)))
           (λ f. let soon : t ≤ exact .due (was .marks) (itemsOf row-was) = subst (λ (n : ℕ). t ≤ n) (g .due-is) (ltb-false (was .due) t e) in
           changed-after change (exact .does past (g .live) (among-own c k f) accepts soon))
           (λ f. event-other (ltb-false (was .due) t e) f))))
@@ -275,7 +279,7 @@ module _ (c : Constraint) (exact : Exact c) (steps : List Step) (valid : Valid s
           change = decide (ruleOf c) (was .marks) (itemsOf row-was) k t
 
           in-time-row : RowStep
-          in-time-row = cond (among k (kinds c)) (changedRow row-was change number) (stays row-was)
+          in-time-row = cond (among k (streams c)) (changedRow row-was change number) (stays row-was)
 
           open-row : RowStep
           open-row = cond (ltb (was .due) t) (stays (brokenRow row-was number)) in-time-row
@@ -283,17 +287,17 @@ module _ (c : Constraint) (exact : Exact c) (steps : List Step) (valid : Valid s
   -- ---- Ticks and the close
 
   -- a step without an event leaves a row as it is, or breaks it
-  module _ (small : Each (λ j. j ≤ lastKind) (kinds c)) where
-    -- what is left of the machine's tests where no event is of one of the row's kinds
+  module _ (sound : Sound c) where
+    -- what is left of the machine's tests where no event is of one of the row's streams
     abbrev other-row : Row → ℕ → Bool → ℕ → RowStep
     other-row r t closes number =
         cond (ltb (r .now .due) t) (stays (brokenRow r number)) (cond (closes && eqb (r .now .kept) 0) (stays (brokenRow r number)) (stays r))
 
     no-event : (words : List ℕ) (was : State) (t : ℕ) (closes : Bool) (number : ℕ) → ltb 0 (was .broken) ≡ false
-        → rowStep (rowFrom (ruleOf c) words was) (record { kind = noEvent; time = t; closes = closes }) number
+        → rowStep (rowFrom (ruleOf c) words was) (record { kind = noEvent; stream = streamCount; time = t; closes = closes }) number
         ≡ other-row (rowFrom (ruleOf c) words was) t closes number
     unfolding rowStep
-    no-event words was t closes number unbroken = rw (unbroken, concerns-none c small)
+    no-event words was t closes number unbroken = rw (unbroken, concerns-none c (sound .kinds-fit))
 
     tick-going : (t : ℕ) (accepts : Accepts steps (tick t)) (words : List ℕ) (was : State) → length words ≡ 64 → Going c exact steps words was
         → After c exact (steps ++ (tick t ∷ [])) (other-row (rowFrom (ruleOf c) words was) t false (length steps + 1) .crowded)
@@ -302,7 +306,7 @@ module _ (c : Constraint) (exact : Exact c) (steps : List Step) (valid : Valid s
         split (ltb (was .due) t) (λ x. Holds (cond x (stays (brokenRow row-was (length steps + 1))) (stays row-was)))
         (λ e. broken-fits (tick t) words was whole (going-open words was (accepts .not-closed) g)
         (tick-late words was t g (ltb-true (was .due) t e) (accepts .time-small)))
-        (λ e. going-on (tick t) words was whole g (own-tick (kinds c) t steps) (rw (clock-tick t steps) (ltb-false (was .due) t e))
+        (λ e. going-on (tick t) words was whole g (own-tick (streams c) t steps) (rw (clock-tick t steps) (ltb-false (was .due) t e))
         (λ shut. both (sym shut ∙ closed-tick t steps ∙ accepts .not-closed)))
       where
         row-was : Row
@@ -313,7 +317,7 @@ module _ (c : Constraint) (exact : Exact c) (steps : List Step) (valid : Valid s
 
     close-shut : ¬ Meets c steps → ¬ Open c (steps ++ (close ∷ []))
     close-shut missed (further, follows, meets) =
-        missed (meets-same c (steps ++ (close ∷ [])) steps (own-close (kinds c) steps) (rw (clock-close steps) (omega arith))
+        missed (meets-same c (steps ++ (close ∷ [])) steps (own-close (streams c) steps) (rw (clock-close steps) (omega arith))
         (subst (Meets c) (append-nil (steps ++ (close ∷ [])))
         (subst (λ (f : List Step). Meets c (steps ++ (close ∷ []) ++ f)) (continues-closed (closed-close steps) follows) meets)))
 
@@ -326,8 +330,8 @@ module _ (c : Constraint) (exact : Exact c) (steps : List Step) (valid : Valid s
         (split (eqb (was .kept) 0) (λ x. Holds (cond x (stays (brokenRow row-was (length steps + 1))) (stays row-was)))
         (λ e. broken-fits close words was whole (going-open words was not-closed g)
         (close-shut (exact .not-kept past (g .live) (unmarked (eqb-true (was .kept) 0 e)))))
-        (λ e. going-on close words was whole g (own-close (kinds c) steps) (rw (clock-close steps) (g .in-time))
-        (λ shut. meets-same c steps (steps ++ (close ∷ [])) (sym (own-close (kinds c) steps)) (rw (clock-close steps) (omega arith))
+        (λ e. going-on close words was whole g (own-close (streams c) steps) (rw (clock-close steps) (g .in-time))
+        (λ shut. meets-same c steps (steps ++ (close ∷ [])) (sym (own-close (streams c) steps)) (rw (clock-close steps) (omega arith))
         (exact .is-kept past (g .live) (by-due words was g) (marked (eqb-false (was .kept) 0 e))))))
       where
         row-was : Row
@@ -372,7 +376,7 @@ module _ (c : Constraint) (exact : Exact c) (steps : List Step) (valid : Valid s
             → Going c exact steps words was
             → After c exact (steps ++ (s ∷ [])) (rowStep (rowFrom (ruleOf c) words was) (seen steps s) (length steps + 1) .crowded)
             (rowStep (rowFrom (ruleOf c) words was) (seen steps s) (length steps + 1) .row)
-        by-step (event k t) a words was whole unbroken g = event-going k t a words was whole g unbroken
+        by-step (event k t) a words was whole unbroken g = event-going k t a words was whole g (sound .kinds-suit) unbroken
         by-step (tick t) a words was whole unbroken g = rw (no-event words was t false (length steps + 1) unbroken) (tick-going t a words was whole g)
         by-step close a words was whole unbroken g =
             rw (no-event words was (clock steps) true (length steps + 1) unbroken) (close-going a words was whole g)
@@ -388,7 +392,7 @@ module _ (c : Constraint) (exact : Exact c) (steps : List Step) (valid : Valid s
 
         calm : (words : List ℕ) (was : State) → rowStep (rowFrom (ruleOf c) words was) (closeAt (clock steps)) number .crowded ≡ false
         calm words was =
-            rw (concerns-none c small)
+            rw (concerns-none c (sound .kinds-fit))
             (one-of (ltb 0 (was .broken)) _ _ refl
             (one-of (ltb (was .due) (clock steps)) _ _ refl
             (one-of (eqb (was .kept) 0) _ _ refl refl)))

@@ -1,34 +1,35 @@
 -- What a row does not hear: its machine looks at an event's kind only to ask whether it is one of the row's, so an event of no
--- kind of the row's does to it what a tick to that time does.
-use Prim.Native.Nat.{ℕ, _≤_}
-use native.Mathlib.Omega.{arith}
+-- stream of the row's does to it what a tick to that time does.
+use Prim.Native.Nat.{ℕ, _<_}
 use mathlib.Core.Path.{_≡_, refl, ap, _∙_}
 use mathlib.Core.Bool.{false}
-use Rattle.constraint.specs.Limits.{lastKind}
+use Rattle.constraint.specs.Limits.{streamCount}
+use Rattle.constraint.specs.Streams.{kindOf}
 use Rattle.constraint.specs.Steps.{among}
-use Rattle.constraint.specs.Accepted.{kinds}
+use Rattle.constraint.specs.Accepted.{streams}
 use Rattle.constraint.specs.declared.Constraint.{Constraint}
-use Rattle.constraint.proofs.Lists.{split, Each}
+use Rattle.constraint.proofs.Lists.{split}
 use Rattle.machine.specs.Rule.{ruleOf}
 use Rattle.row.specs.Machine.{concerns, noEvent, eventAt, tickAt, rowStep}
 use Rattle.row.specs.declared.Occurrence.{Occurrence}
 use Rattle.row.specs.declared.Row.{Row}
-use Rattle.row.proofs.Exact.{OfKind}
+use Rattle.row.proofs.Exact.{Sound, OfStream}
 use Rattle.row.proofs.OwnKinds.{concerns-own, among-own, concerns-none}
 
--- two occurrences that are none of the row's, alike but for the kind
+-- two occurrences that are none of the row's, alike but for the kind and the stream
 unheard : (r : Row) (o p : Occurrence) (number : ℕ) → concerns (r .rule) (o .kind) ≡ false → concerns (r .rule) (p .kind) ≡ false
     → o .time ≡ p .time → o .closes ≡ p .closes → rowStep r o number ≡ rowStep r p number
 unfolding rowStep
 unheard r o p number quiet quiet′ same-time same-close = rw (quiet, quiet′, same-time, same-close)
 
--- an event of no kind of the row's, and a tick
-pub event-as-tick : (c : Constraint) → Each (λ j. j ≤ lastKind) (kinds c) → (r : Row) → r .rule ≡ ruleOf c → (k t number : ℕ) → k ≤ lastKind
-    → ¬ OfKind c k → rowStep r (eventAt k t) number ≡ rowStep r (tickAt t) number
-event-as-tick c small r rule k t number kind other =
-    unheard r (eventAt k t) (tickAt t) number
-    (of-rule k (concerns-own c k (λ e. omega arith) ∙ split (among k (kinds c)) (λ b. b ≡ false) (λ e. absurd (other (among-own c k e))) (λ e. refl)))
-    (of-rule noEvent (concerns-none c small)) refl refl
+-- an event of no stream of the row's, and a tick
+pub event-as-tick : (c : Constraint) → Sound c → (r : Row) → r .rule ≡ ruleOf c → (s t number : ℕ) → s < streamCount
+    → ¬ OfStream c s → rowStep r (eventAt s t) number ≡ rowStep r (tickAt t) number
+event-as-tick c sound r rule s t number small other =
+    unheard r (eventAt s t) (tickAt t) number
+    (of-rule (kindOf s) (concerns-own c (sound .kinds-suit) s small
+    ∙ split (among s (streams c)) (λ b. b ≡ false) (λ e. absurd (other (among-own c s e))) (λ e. refl)))
+    (of-rule noEvent (concerns-none c (sound .kinds-fit))) refl refl
   where
     of-rule : (j : ℕ) → concerns (ruleOf c) j ≡ false → concerns (r .rule) j ≡ false
     of-rule j e = ap (λ rule. concerns rule j) rule ∙ e

@@ -4,7 +4,8 @@ use mathlib.Core.Bool.{Bool, true, false, cond, _&&_, _||_}
 use mathlib.Core.List.{List, [], _∷_}
 use lib.ListN.{length, replicate}
 use lib.Dec.{ltb, eqb}
-use Rattle.constraint.specs.Limits.{noLimit, waitingLimit}
+use Rattle.constraint.specs.Limits.{noLimit, waitingLimit, streamCount}
+use Rattle.constraint.specs.Streams.{kindOf}
 use Rattle.constraint.specs.Steps.{among}
 use Rattle.constraint.specs.declared.Constraint.{Constraint}
 use Rattle.constraint.specs.declared.Verdict.{Verdict}
@@ -22,12 +23,13 @@ use Rattle.spans.specs.Repeat.{decideRepeat}
 use Rattle.points.specs.Sporadic.{decideSporadic}
 use Rattle.groups.specs.StrongSynchronization.{decideStrongSynchronization}
 use Rattle.phases.specs.ExecutionTime.{decideExecutionTime}
+use Rattle.chains.specs.Reaction.{decideReaction}
 use Rattle.repetition.specs.Repetition.{decideRepetition}
 use Rattle.row.specs.declared.Occurrence.{Occurrence}
 use Rattle.row.specs.declared.Row.{Row}
 use Rattle.row.specs.declared.RowStep.{RowStep}
 
--- what an event of one of the row's kinds makes of it, by the number of its type, the clock not being past its due time
+-- what an event of one of the row's streams makes of it, by the number of its type, the clock not being past its due time
 abbrev pub decide : Rule → Marks → List ℕ → ℕ → ℕ → Change
 decide rule =
     cond (eqb (rule .form) 1) (decideDelay rule)
@@ -36,8 +38,9 @@ decide rule =
     (cond (eqb (rule .form) 4) (decideSporadic rule)
     (cond (eqb (rule .form) 6) (decideOrder rule)
     (cond (eqb (rule .form) 8) (decideExecutionTime rule)
+    (cond (eqb (rule .form) 9) (decideReaction rule)
     (cond (eqb (rule .form) 10) (decideRepetition rule)
-    (decideStrongSynchronization rule)))))))
+    (decideStrongSynchronization rule))))))))
 
 -- the event is of one of the row's kinds
 abbrev pub concerns : Rule → ℕ → Bool
@@ -96,15 +99,15 @@ changedRow r change number =
 abbrev pub noEvent : ℕ
 noEvent = 65
 
--- what a row sees of a step that moves the clock to t: an event of a kind, a tick, the close
+-- what a row sees of a step that moves the clock to t: an event of a stream, a tick, the close
 abbrev pub eventAt : ℕ → ℕ → Occurrence
-eventAt kind t = record { kind = kind; time = t; closes = false }
+eventAt s t = record { kind = kindOf s; stream = s; time = t; closes = false }
 
 abbrev pub tickAt : ℕ → Occurrence
-tickAt t = record { kind = noEvent; time = t; closes = false }
+tickAt t = record { kind = noEvent; stream = streamCount; time = t; closes = false }
 
 abbrev pub closeAt : ℕ → Occurrence
-closeAt t = record { kind = noEvent; time = t; closes = true }
+closeAt t = record { kind = noEvent; stream = streamCount; time = t; closes = true }
 
 -- a step, of that number: is the row broken already, is the clock past its due time, is the event of one of its kinds, is it closed before it
 -- is kept?
@@ -112,7 +115,7 @@ unfoldable pub rowStep : Row → Occurrence → ℕ → RowStep
 rowStep r o number =
     cond (ltb 0 (r .now .broken)) (stays r)
     (cond (ltb (r .now .due) (o .time)) (stays (brokenRow r number))
-    (cond (concerns (r .rule) (o .kind)) (changedRow r (decide (r .rule) (r .now .marks) (itemsOf r) (o .kind) (o .time)) number)
+    (cond (concerns (r .rule) (o .kind)) (changedRow r (decide (r .rule) (r .now .marks) (itemsOf r) (o .stream) (o .time)) number)
     (cond (o .closes && eqb (r .now .kept) 0) (stays (brokenRow r number))
     (stays r))))
 

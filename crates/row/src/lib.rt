@@ -1,4 +1,5 @@
 // One row of the monitor: its constraint as numbers, what it keeps of the events so far, and its step.
+use chains::reaction;
 use constraint::Constraint;
 use constraint::NO_LIMIT;
 use constraint::WAITING_LIMIT;
@@ -34,9 +35,11 @@ pub struct Row {
     pub now: State,
 }
 
-// What a row sees of a step: the kind of the event (65: no event), the clock that the step leaves, and whether it closes the recording.
+// What a row sees of a step: the kind of the event (65: no event) and its stream, the clock that the step leaves, and whether it closes the
+// recording.
 pub struct Occurrence {
     pub kind: u64,
+    pub stream: u64,
     pub time: u64,
     pub closes: bool,
 }
@@ -47,28 +50,29 @@ pub struct RowStep {
     pub row: Row,
 }
 
-// What an event of one of the row's kinds makes of it, the clock not being past its due time.
+// What an event of one of the row's streams makes of it, the clock not being past its due time.
 pub fn decide(
     rule: Rule,
     marks: Marks,
     times: &[u64; SIZE],
     head: usize,
     len: usize,
-    kind: u64,
+    stream: u64,
     t: u64,
 ) -> Change
-    ensures { λ r. ⌜ r ≡ decide rule marks (ring (now (times .entry)) head len) kind t ⌝ }
+    ensures { λ r. ⌜ r ≡ decide rule marks (ring (now (times .entry)) head len) stream t ⌝ }
 {
     let form = rule.form;
     match form {
-        1 => delay::decide(rule, marks, times, head, len, kind, t),
-        2 => strong_delay::decide(rule, marks, times, head, len, kind, t),
+        1 => delay::decide(rule, marks, times, head, len, stream, t),
+        2 => strong_delay::decide(rule, marks, times, head, len, stream, t),
         3 | 5 => repeat::decide(rule, marks, times, head, len, t),
         4 => sporadic::decide(rule, marks, t),
-        6 => order::decide(rule, marks, kind, t),
-        8 => execution_time::decide(rule, marks, kind, t),
+        6 => order::decide(rule, marks, stream, t),
+        8 => execution_time::decide(rule, marks, stream, t),
+        9 => reaction::decide(rule, marks, times, head, len, stream, t),
         10 => repetition::decide(rule, marks, times, head, len, t),
-        _ => strong_synchronization::decide(rule, marks, times, head, len, kind, t),
+        _ => strong_synchronization::decide(rule, marks, times, head, len, stream, t),
     }
 }
 
@@ -169,7 +173,7 @@ pub fn step(rule: Rule, old: State, times: &mut [u64; SIZE], o: Occurrence, numb
         return broken_at(number);
     }
     if concerns(rule, o.kind) {
-        let new = decide(rule, old.marks, times, old.head, old.len, o.kind, o.time);
+        let new = decide(rule, old.marks, times, old.head, old.len, o.stream, o.time);
         return changed(rule, old, times, new, number);
     }
     if ends_unkept(o.closes, old.kept) {
@@ -191,7 +195,7 @@ pub fn crowded(rule: Rule, old: State, times: &[u64; SIZE], o: Occurrence) -> bo
     if !concerns(rule, o.kind) {
         return false;
     }
-    let new = decide(rule, old.marks, times, old.head, old.len, o.kind, o.time);
+    let new = decide(rule, old.marks, times, old.head, old.len, o.stream, o.time);
     if new.breaks {
         return false;
     }

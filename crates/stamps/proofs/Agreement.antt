@@ -11,9 +11,10 @@ use Rattle.constraint.specs.Steps.{Step, event, tick, close, at, times, clock, 
 use Rattle.constraint.specs.Meets.{Meets, MeetsRepeat}
 use Rattle.constraint.specs.Continuation.{Reads, reads-open, reads-kept, reads-broken}
 use Rattle.constraint.specs.Questions.{Judged}
-use Rattle.constraint.specs.Run.{stepFor, Room, questions}
+use Rattle.constraint.specs.Run.{stepFor, Room, eventQuestions, questions}
+use Rattle.constraint.specs.Streams.{stream}
 use Rattle.constraint.specs.Table.{ReadsTable, table-of, table-refused, bodyAt, lengthAt}
-use Rattle.constraint.specs.Recording.{callOf, RecordAt, recordQuestions, RecordingRead, recording-of, recording-refused, ReadsRecords, no-more, record-refused, record-taken}
+use Rattle.constraint.specs.Recording.{callAt, RecordAt, recordQuestions, RecordingRead, recording-of, recording-refused, ReadsRecords, no-more, record-refused, record-taken}
 use Rattle.constraint.specs.Recording.{ReadsRecording, version-refused, version-taken, ReadsInOrder}
 use Rattle.constraint.specs.Stamps.{TrueTimes, ReadsStamps, each-meets, none-meets, both-occur, RepeatRow, stampsQuestions, AnswersStamps, no-table, no-recording, not-asked, reads}
 use Rattle.constraint.specs.declared.Answer.the-variants.{Taken, Refused}
@@ -63,16 +64,25 @@ room-none : (steps : List Step) → Room [] steps
 unfolding Room
 room-none steps i c there left = never (cc)
 
--- a call that is taken over some rows is taken over none
+-- an event, or a call, that is taken over some rows is taken over none
+event-taken : (rows : List Constraint) (steps : List Step) (s t : ℕ) → Judged (eventQuestions rows steps s t) Taken → Judged (eventQuestions [] steps s t) Taken
+event-taken rows steps s t judged =
+    let ten = judged-all 10 _ _ judged in
+    let eleven = judged-all 11 _ _ (ten .1) in
+    judged-yes 10 _ _ Taken (ten .0) (judged-yes 11 _ _ Taken (eleven .0) (judged-yes 12 _ _ Taken (room-none (steps ++ (event s t ∷ []))) judged-none))
+
 none-taken : (rows : List Constraint) (steps : List Step) (s : Call) → Judged (questions rows steps s) Taken → Judged (questions [] steps s) Taken
 unfolding questions
 none-taken rows steps (Call.Event k t) judged =
     let eight = judged-all 8 _ _ judged in
     let nine = judged-all 9 _ _ (eight .1) in
-    let ten = judged-all 10 _ _ (nine .1) in
-    let eleven = judged-all 11 _ _ (ten .1) in
-    judged-yes 8 _ _ Taken (eight .0) (judged-yes 9 _ _ Taken (nine .0) (judged-yes 10 _ _ Taken (ten .0) (judged-yes 11 _ _ Taken (eleven .0)
-    (judged-yes 12 _ _ Taken (room-none (steps ++ (event k t ∷ []))) judged-none))))
+    let form = judged-all 19 _ _ (nine .1) in
+    judged-yes 8 _ _ Taken (eight .0) (judged-yes 9 _ _ Taken (nine .0) (judged-yes 19 _ _ Taken (form .0) (event-taken rows steps k t (form .1))))
+none-taken rows steps (Call.ColouredEvent k c t) judged =
+    let eight = judged-all 8 _ _ judged in
+    let nine = judged-all 9 _ _ (eight .1) in
+    let form = judged-all 19 _ _ (nine .1) in
+    judged-yes 8 _ _ Taken (eight .0) (judged-yes 9 _ _ Taken (nine .0) (judged-yes 19 _ _ Taken (form .0) (event-taken rows steps (stream k c) t (form .1))))
 none-taken rows steps (Call.Tick t) judged =
     let eight = judged-all 8 _ _ judged in
     let ten = judged-all 10 _ _ (eight .1) in
@@ -87,7 +97,7 @@ module _ (bytes : List ℕ) where
   unfolding recordQuestions
   record-none rows steps place judged =
       let both = record-accepts bytes rows steps place judged in
-      judged-yes 14 _ _ Taken (both .0) (none-taken rows steps (callOf (bodyAt bytes place)) (both .1))
+      judged-yes 14 _ _ Taken (both .0) (none-taken rows steps (callAt bytes place) (both .1))
 
   records-none : (rows : List Constraint) {before : List Step} {place : ℕ} {steps : List Step} → ReadsRecords rows bytes before place (recording-of steps)
       → ReadsRecords [] bytes before place (recording-of steps)
@@ -98,12 +108,12 @@ module _ (bytes : List ℕ) where
       → Valid before → Valid steps
   records-valid rows (no-more end) valid = valid
   records-valid rows (record-taken {before} {place} there judged later) valid =
-      records-valid rows later (valid-more _ valid (accepts-taken rows before (callOf (bodyAt bytes place)) (record-accepts bytes rows before place judged .1)))
+      records-valid rows later (valid-more _ valid (accepts-taken rows before (callAt bytes place) (record-accepts bytes rows before place judged .1)))
 
   records-open : (rows : List Constraint) {before : List Step} {place : ℕ} {steps : List Step} → ReadsRecords rows bytes before place (recording-of steps)
       → closed before ≡ false → closed steps ≡ false
   records-open rows (no-more end) unclosed = unclosed
-  records-open rows (record-taken {before} {place} there judged later) unclosed = records-open rows later (unclosed-more (bodyAt bytes place) before unclosed)
+  records-open rows (record-taken {before} {place} there judged later) unclosed = records-open rows later (unclosed-more (at bytes 0) (bodyAt bytes place) before unclosed)
 
   records-once : {before : List Step} {place : ℕ} {x y : RecordingRead} → ReadsRecords [] bytes before place x → ReadsRecords [] bytes before place y → x ≡ y
   records-once (no-more h) (no-more k) = refl

@@ -5,8 +5,8 @@ use mathlib.Core.Path.{_≡_, refl}
 use mathlib.Core.List.{List, [], _∷_}
 use mathlib.Core.Option.{some}
 use lib.ListN.{length, getElem?}
-use Rattle.constraint.specs.Limits.{lastTime}
-use Rattle.constraint.specs.Accepted.{Accepted, InRange}
+use Rattle.constraint.specs.Limits.{firstColoured, lastTime}
+use Rattle.constraint.specs.Accepted.{Accepted, KindsSuit, InRange}
 use Rattle.constraint.specs.Rows.{tableOf}
 use Rattle.constraint.specs.Table.{ReadsTable, table-of}
 use Rattle.constraint.specs.Stamps.{RepeatRow, AnswersStamps, no-recording, not-asked, reads}
@@ -34,6 +34,10 @@ within (d ∷ rows) (suc i) c e = omega (arith, within rows i c e)
 lower-small : (k lower upper : ℕ) → Sound (Repeat k 1 lower upper) → lower ≤ lastTime
 unfolding InRange
 lower-small k lower upper sound = sound .in-range .2 .0
+
+event-plain : (k lower upper : ℕ) → Sound (Repeat k 1 lower upper) → k < firstColoured
+unfolding KindsSuit
+event-plain k lower upper sound = sound .kinds-suit .0
 
 -- the row's fields and the range
 abbrev pub askedOf : RowAsked → ℕ → Asked
@@ -68,4 +72,5 @@ module _ (bytes recording : List ℕ) (i late : ℕ) (rows : List Constraint) (r
           let steps = passes .taken taken in
           let sound = sound-at rows (accepted-sound 0 rows (read-accepted bytes rows read) .0) i _ row in
           reads rows (steps .0) (found .event) (found .lower) (found .upper) (passed .verdict) read (steps .1) row h
-          (steps .2 (lower-small (found .event) (found .lower) (found .upper) sound))
+          (steps .2 (event-plain (found .event) (found .lower) (found .upper) sound)
+          (lower-small (found .event) (found .lower) (found .upper) sound))

@@ -11,7 +11,8 @@ use lib.ListN.{length, take, length-append, length-take}
 use lib.Seq.{getD-take}
 use lib.Dec.{leb, eqb}
 use borrow.Author.Tests.{eqb-true, eqb-false, leb-true, leb-false}
-use Rattle.constraint.specs.Limits.{lastTime, noLimit}
+use Rattle.constraint.specs.Limits.{firstColoured, lastTime, noLimit}
+use Rattle.constraint.specs.Streams.{stream}
 use Rattle.constraint.specs.Steps.{Step, event, tick, at, times, clock}
 use Rattle.constraint.specs.Meets.{Between, NotLater, Apart, SpansApart, HiddenPoints, MeetsRepeat}
 use Rattle.constraint.specs.Stamps.{TrueTimes, ChoiceMeets, ReadsStamps, each-meets, none-meets, both-occur}
@@ -277,9 +278,9 @@ module _ (a : Asked) where
         more = λ f. first-later events t small (keeps .none e);
       })
 
-  pub keeps-call : a .lower ≤ lastTime → (steps : List Step) (s : Stamps) → Keeps (times (a .event) steps) s → (call : Call) → Accepts steps (stepFor call)
+  pub keeps-call : a .event < firstColoured → a .lower ≤ lastTime → (steps : List Step) (s : Stamps) → Keeps (times (a .event) steps) s → (call : Call) → Accepts steps (stepFor call)
       → Keeps (times (a .event) (steps ++ (stepFor call ∷ []))) (callAfter a s call)
-  keeps-call small-lower steps s keeps (Call.Event k t) accepts =
+  keeps-call plain small-lower steps s keeps (Call.Event k t) accepts =
       split (eqb k (a .event)) (λ x. Keeps (times (a .event) (steps ++ (event k t ∷ []))) (cond x (stampAfter a s t) s))
       (λ e. let same : k ≡ a .event = eqb-true k (a .event) e in
       subst (λ (j : ℕ). Keeps (times (a .event) (steps ++ (event j t ∷ []))) (stampAfter a s t)) (sym same)
@@ -287,8 +288,10 @@ module _ (a : Asked) where
       (keeps-stamp small-lower (times (a .event) steps) s keeps t (accepts .time-small)
       (subst (λ (j : ℕ). Each (λ x. x < t) (times j steps)) same (accepts .in-order .1)))))
       (λ e. subst (λ (l : List ℕ). Keeps l s) (sym (times-other (a .event) k t steps (eqb-false k (a .event) e))) keeps)
-  keeps-call small-lower steps s keeps (Call.Tick t) accepts = subst (λ (l : List ℕ). Keeps l s) (sym (times-tick (a .event) t steps)) keeps
-  keeps-call small-lower steps s keeps Call.Close accepts = subst (λ (l : List ℕ). Keeps l s) (sym (times-close (a .event) steps)) keeps
+  keeps-call plain small-lower steps s keeps (Call.ColouredEvent k c t) accepts =
+      subst (λ (l : List ℕ). Keeps l s) (sym (times-other (a .event) (stream k c) t steps (λ same. omega (arith, same, plain)))) keeps
+  keeps-call plain small-lower steps s keeps (Call.Tick t) accepts = subst (λ (l : List ℕ). Keeps l s) (sym (times-tick (a .event) t steps)) keeps
+  keeps-call plain small-lower steps s keeps Call.Close accepts = subst (λ (l : List ℕ). Keeps l s) (sym (times-close (a .event) steps)) keeps
 
   -- ---- at the close
 

@@ -3,12 +3,11 @@ use Prim.Native.Nat.{ℕ, _≤_, _<_}
 use mathlib.Core.Path.{_≡_, refl, sym, subst, _∙_}
 use mathlib.Core.List.{List, [], _∷_, _++_}
 use lib.ListN.{length}
-use Rattle.constraint.specs.Limits.{lastTime}
+use Rattle.constraint.specs.Limits.{firstColoured, lastTime}
 use Rattle.constraint.specs.Steps.{Step, times, clock}
 use Rattle.constraint.specs.Questions.{Judged}
 use Rattle.constraint.specs.Run.{stepFor, questions}
-use Rattle.constraint.specs.Table.{bodyAt, VersionOne}
-use Rattle.constraint.specs.Recording.{callOf, RecordAt, recordQuestions, ReadsInOrder, recording-of, recording-refused, version-refused}
+use Rattle.constraint.specs.Recording.{VersionKnown, callAt, RecordAt, recordQuestions, ReadsInOrder, recording-of, recording-refused, version-refused}
 use Rattle.constraint.specs.Stamps.{ReadsStamps}
 use Rattle.constraint.specs.declared.Answer.the-variants.{Taken, Refused}
 use Rattle.constraint.specs.declared.Call.{Call}
@@ -28,7 +27,7 @@ use Rattle.stamps.proofs.Laws.{Keeps, keeps-none, keeps-call, reads-now
 
 -- a record that is taken: its own question, and those of its step
 pub record-accepts : (bytes : List ℕ) (rows : List Constraint) (steps : List Step) (place : ℕ) → Judged (recordQuestions rows steps bytes place) Taken
-    → RecordAt bytes place × Judged (questions rows steps (callOf (bodyAt bytes place))) Taken
+    → RecordAt bytes place × Judged (questions rows steps (callAt bytes place)) Taken
 unfolding recordQuestions
 record-accepts bytes rows steps place judged = judged-all 14 _ _ judged
 
@@ -36,12 +35,12 @@ record-accepts bytes rows steps place judged = judged-all 14 _ _ judged
 pub record PassedTo (bytes : List ℕ) (a : Asked) (o : Order) (s : Stamps) (place : ℕ) : Type 0 where
   pub steps : List Step
   pub read : ReadUpTo bytes place steps o
-  pub keeps : a .lower ≤ lastTime → Keeps a (times (a .event) steps) s
+  pub keeps : a .event < firstColoured → a .lower ≤ lastTime → Keeps a (times (a .event) steps) s
 
 module _ (bytes : List ℕ) (a : Asked) where
-  pub pass-start : VersionOne bytes → (o : Order) → After [] o → PassedTo bytes a o noStamps 1
+  pub pass-start : VersionKnown bytes → (o : Order) → After [] o → PassedTo bytes a o noStamps 1
   unfolding times
-  pass-start one o start = record { steps = []; read = up-to-start bytes one o start; keeps = λ small. keeps-none a }
+  pass-start known o start = record { steps = []; read = up-to-start bytes known o start; keeps = λ plain small. keeps-none a }
 
   module _ (o : Order) (s : Stamps) (place : ℕ) (before : PassedTo bytes a o s place) where
     module _ (there : place < length bytes) (r : RecordRead) (next : ReadsNext bytes place o r) where
@@ -52,19 +51,19 @@ module _ (bytes : List ℕ) (a : Asked) where
           record {
             steps = before .steps ++ (stepFor (r .call) ∷ []);
             read = up-to-more bytes place (before .steps) o (before .read) (r .call) (r .next) (r .order) there (next .call-is e) (next .next-is e .0) (taken .0) (taken .1);
-            keeps = λ small. keeps-call a small (before .steps) s (before .keeps small) (r .call) (accepts-taken [] (before .steps) (r .call) asked);
+            keeps = λ plain small. keeps-call a plain small (before .steps) s (before .keeps plain small) (r .call) (accepts-taken [] (before .steps) (r .call) asked);
           }
 
       pub pass-refused : 0 < r .number → ReadsInOrder bytes (recording-refused (r .number) place)
       pass-refused h = up-to-refused bytes place (before .steps) o (before .read) (r .number) there (next .refused h (before .steps) (before .read .order))
 
     pub pass-end : length bytes ≤ place → (steps : List Step) × ReadsInOrder bytes (recording-of steps)
-        × (a .lower ≤ lastTime → ReadsStamps (a .late) (a .lower) (a .upper) (times (a .event) steps) (clock steps) (verdictAt a s (o .clock)))
+        × (a .event < firstColoured → a .lower ≤ lastTime → ReadsStamps (a .late) (a .lower) (a .upper) (times (a .event) steps) (clock steps) (verdictAt a s (o .clock)))
     pass-end end = (
       before .steps,
       up-to-end bytes place (before .steps) o (before .read) end,
-      λ small.
+      λ plain small.
           subst (λ (now : ℕ). ReadsStamps (a .late) (a .lower) (a .upper) (times (a .event) (before .steps)) (clock (before .steps)) (verdictAt a s now))
           (sym (after-clock (before .steps) o (before .read .order)))
-          (reads-now a (times (a .event) (before .steps)) (clock (before .steps)) (past-of (after-valid (before .steps) o (before .read .order)) .small) s (before .keeps small)),
+          (reads-now a (times (a .event) (before .steps)) (clock (before .steps)) (past-of (after-valid (before .steps) o (before .read .order)) .small) s (before .keeps plain small)),
     )

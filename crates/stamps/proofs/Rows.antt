@@ -14,7 +14,7 @@ use Rattle.constraint.specs.Questions.{Judged}
 use Rattle.constraint.specs.declared.Answer.the-variants.{Refused}
 use Rattle.constraint.specs.declared.Constraint.{Constraint}
 use Rattle.constraint.specs.declared.Constraint.the-variants.{Delay, StrongDelay, Repeat, Sporadic, Burst, Order, StrongSynchronization2, StrongSynchronization3, StrongSynchronization4}
-use Rattle.constraint.specs.declared.Constraint.the-variants.{ExecutionTime, Repetition}
+use Rattle.constraint.specs.declared.Constraint.the-variants.{ExecutionTime, Reaction, Repetition}
 use Rattle.constraint.specs.declared.Entry.{Entry}
 use Rattle.constraint.specs.declared.Table.{Table}
 use Rattle.constraint.specs.declared.fields.Fields.{Fields}
@@ -56,6 +56,7 @@ repeat-is (StrongSynchronization2 a b tolerance) f holds three = absurd (omega (
 repeat-is (StrongSynchronization3 a b c tolerance) f holds three = absurd (omega (arith, holds .typed, three))
 repeat-is (StrongSynchronization4 a b c d tolerance) f holds three = absurd (omega (arith, holds .typed, three))
 repeat-is (ExecutionTime start stop preempt resume low high) f holds three = absurd (omega (arith, holds .typed, three))
+repeat-is (Reaction stimulus response low high) f holds three = absurd (omega (arith, holds .typed, three))
 repeat-is (Repetition k span low high jitter) f holds three = absurd (omega (arith, holds .typed, three))
 
 -- and a Repeat of span 1 has that type and span

@@ -5,7 +5,7 @@ use mathlib.Core.Bool.{Bool, true, false, cond, _&&_}
 use mathlib.Core.List.{List, []}
 use lib.ListN.{length}
 use lib.Dec.{leb, eqb}
-use Rattle.constraint.specs.Limits.{lastTime, noLimit}
+use Rattle.constraint.specs.Limits.{firstColoured, lastTime, noLimit}
 use Rattle.constraint.specs.Steps.{Step, times, clock}
 use Rattle.constraint.specs.Questions.{Judged}
 use Rattle.constraint.specs.Recording.{ReadsInOrder, recording-of, recording-refused}
@@ -61,9 +61,10 @@ laterStamp a s t =
 unfoldable pub stampAfter : Asked → Stamps → ℕ → Stamps
 stampAfter a s t = cond (s .any) (laterStamp a s t) (firstStamp a t)
 
--- what a call makes of it: an event of the row's kind is a stamp
+-- what a call makes of it: an event of the row's kind, which is plain, is a stamp
 abbrev pub callAfter : Asked → Stamps → Call → Stamps
 callAfter a s (Call.Event k t) = cond (eqb k (a .event)) (stampAfter a s t) s
+callAfter a s (Call.ColouredEvent k c t) = s
 callAfter a s (Call.Tick t) = s
 callAfter a s Call.Close = s
 
@@ -76,11 +77,11 @@ closeVerdict a s now =
 unfoldable pub verdictAt : Asked → Stamps → ℕ → StampedVerdict
 verdictAt a s now = cond (s .any) (closeVerdict a s now) StampedVerdict.Kept
 
--- a pass over a recording: refused, or what a row of these fields reads after it, where they are in range
+-- a pass over a recording: refused, or what a row of these fields reads after it, where they are in range and its kind is plain
 pub record Passes (bytes : List ℕ) (a : Asked) (r : Passed) : Type 0 where
   pub refused : 0 < r .number → ReadsInOrder bytes (recording-refused (r .number) (r .place))
   pub taken : r .number ≡ 0 → (steps : List Step) × ReadsInOrder bytes (recording-of steps)
-      × (a .lower ≤ lastTime → ReadsStamps (a .late) (a .lower) (a .upper) (times (a .event) steps) (clock steps) (r .verdict))
+      × (a .event < firstColoured → a .lower ≤ lastTime → ReadsStamps (a .late) (a .lower) (a .upper) (times (a .event) steps) (clock steps) (r .verdict))
 
 -- a row that is asked for: 15 and 25, else its fields
 pub record Finds (table : Table) (i : ℕ) (r : RowAsked) : Type 0 where

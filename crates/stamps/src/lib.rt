@@ -206,6 +206,7 @@ impl Stamps {
                 }
                 self
             }
+            Call::ColouredEvent { .. } => self,
             Call::Tick { .. } => self,
             Call::Close => self,
         }
@@ -239,7 +240,7 @@ impl Stamps {
 fn pass(bytes: &[u8], asked: Asked) -> Passed
     ensures { λ r. ⌜ Passes (now (bytes .entry)) asked r ⌝ }
 {
-    if !recording::version_one(bytes) {
+    if !recording::version_known(bytes) {
         return Passed {
             number: 13,
             place: 0,

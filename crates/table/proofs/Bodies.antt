@@ -10,7 +10,7 @@ use lib.Seq.{take-all, take-add, drop-drop, drop-cons, length-take-le, getD-take
 use Rattle.constraint.specs.Limits.{lastTime}
 use Rattle.constraint.specs.Steps.{at}
 use Rattle.constraint.specs.Bytes.{Bytes, number, bytesOf, bytesAt, numberAt}
-use Rattle.constraint.specs.Types.{kind, count, span, plain, lower, upper, upper-or-none, Field, byte, time, typeOf, fieldsOf}
+use Rattle.constraint.specs.Types.{kind, coloured, count, span, plain, lower, upper, upper-or-none, Field, byte, time, typeOf, fieldsOf}
 use Rattle.constraint.specs.Accepted.{FieldsInRange}
 use Rattle.constraint.specs.Table.{fieldsBytes, rowBody, rowBytes, TimesFit, StandsFor}
 use Rattle.constraint.specs.declared.Constraint.{Constraint}
@@ -90,6 +90,7 @@ stands-of body all c typed read long =
 pub range-fits : (fields : List Field) → FieldsInRange fields → TimesFit fields
 range-fits [] h = tt
 range-fits (byte kind x ∷ fields) h = range-fits fields h
+range-fits (byte coloured x ∷ fields) h = range-fits fields h
 range-fits (byte count x ∷ fields) h = range-fits fields h
 range-fits (byte (span limit) x ∷ fields) h = range-fits fields (h .2)
 range-fits (time plain x ∷ fields) h = (omega arith, range-fits fields (h .1))

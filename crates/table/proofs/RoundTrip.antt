@@ -8,7 +8,7 @@ use lib.Seq.{take-at, drop-at, take-append-seam, drop-append-seam, length-take-l
 use Rattle.constraint.specs.Limits.{rowLimit}
 use Rattle.constraint.specs.Bytes.{Bytes, bytesOf, bytesAt}
 use Rattle.constraint.specs.Questions.{Judged}
-use Rattle.constraint.specs.Accepted.{kinds, KindsFit, InRange, rowQuestions, rowsQuestions, Accepted}
+use Rattle.constraint.specs.Accepted.{kinds, KindsFit, KindsSuit, InRange, rowQuestions, rowsQuestions, Accepted}
 use Rattle.constraint.specs.Types.{fieldsOf}
 use Rattle.constraint.specs.Table.{rowBody, rowBytes, rowsBytes, tableBytes, StandsFor, lengthAt, bodyAt, WholeAt, RowAt, placeQuestions}
 use Rattle.constraint.specs.Table.{TableRead, table-of, table-refused, rowThen, ReadsRows, no-more, row-refused, row-taken, ReadsTable, version-taken}
@@ -70,7 +70,7 @@ read-then-write bytes rows all (version-taken version reads) =
 -- From rows to bytes and back
 
 row-ranges : (c : Constraint) → Judged (rowQuestions c) Taken → InRange c
-row-ranges c judged = judged-all 6 (InRange c) _ (judged-all 5 (KindsFit (kinds c)) _ judged .1) .0
+row-ranges c judged = judged-all 6 (InRange c) _ (judged-all 18 (KindsSuit c) _ (judged-all 5 (KindsFit (kinds c)) _ judged .1) .1) .0
 
 -- the length field and the body of a row that stands behind other bytes
 module _ (before : List ℕ) (c : Constraint) (after : List ℕ) where

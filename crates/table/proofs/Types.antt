@@ -14,7 +14,7 @@ use Rattle.constraint.specs.Table.{fieldsBytes, rowBody, ShapeFits, StandsFor}
 use Rattle.constraint.specs.Records.{bytesIn, timesIn}
 use Rattle.constraint.specs.declared.Constraint.{Constraint}
 use Rattle.constraint.specs.declared.Constraint.the-variants.{Delay, StrongDelay, Repeat, Sporadic, Burst, Order}
-use Rattle.constraint.specs.declared.Constraint.the-variants.{StrongSynchronization2, StrongSynchronization3, StrongSynchronization4, ExecutionTime, Repetition}
+use Rattle.constraint.specs.declared.Constraint.the-variants.{StrongSynchronization2, StrongSynchronization3, StrongSynchronization4, ExecutionTime, Reaction, Repetition}
 use Rattle.table.specs.Rows.{groupFrom, rowFrom, constraintOf, timesBytes}
 use Rattle.constraint.proofs.Lists.{split}
 use Rattle.table.proofs.Bodies.{stands-of}
@@ -44,6 +44,7 @@ regular (StrongSynchronization2 a b tolerance) = record { again = λ more later.
 regular (StrongSynchronization3 a b c tolerance) = record { again = λ more later. refl; parts = refl; sized = omega arith }
 regular (StrongSynchronization4 a b c d tolerance) = record { again = λ more later. refl; parts = refl; sized = omega arith }
 regular (ExecutionTime start stop preempt resume low high) = record { again = λ more later. refl; parts = refl; sized = omega arith }
+regular (Reaction stimulus response minimum maximum) = record { again = λ more later. refl; parts = refl; sized = omega arith }
 regular (Repetition event number low high jitter) = record { again = λ more later. refl; parts = refl; sized = omega arith }
 
 -- From a body
@@ -117,7 +118,7 @@ module _ (body : List ℕ) (all : Bytes body) (fits : ShapeFits body) where
             ),
             λ e. rw e (stands-of body all _ (sym e) refl (fits .length-right ∙ rw e)),
           ),
-          λ e. let none : length body ≡ 0 = fits .length-right ∙ rw e in absurd (omega (arith, fits .type-there)),
+          λ e. rw e (stands-of body all _ (sym e) refl (fits .length-right ∙ rw e)),
         ),
         λ e. rw e (stands-of body all _ (sym e) refl (fits .length-right ∙ rw e)),
       )

@@ -32,7 +32,7 @@ rawEntries bytes = min (rawCount bytes) rowLimit
 abbrev pub rawTable : List ℕ → Table
 rawTable bytes = record { rows = tableOf (rawRows bytes (rawEntries bytes)) .rows; count = rawCount bytes }
 
--- §8.4, where the type gives the length: the type is one that the list of lengths has, and the n is known
+-- §8.4, where the type gives the length: the list of lengths has one for the type, and the n is known
 pub record TypeKnown (t n : ℕ) : Type 0 where
   pub type-known : 0 < at lengths t
   pub n-known : t ≡ 7 → (2 ≤ n) × (n ≤ 4)

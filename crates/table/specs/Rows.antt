@@ -12,7 +12,7 @@ use Rattle.constraint.specs.Table.{lengthAt, RowAt, placeQuestions}
 use Rattle.constraint.specs.declared.Answer.the-variants.{Taken, Refused}
 use Rattle.constraint.specs.declared.Constraint.{Constraint}
 use Rattle.constraint.specs.declared.Constraint.the-variants.{Delay, StrongDelay, Repeat, Sporadic, Burst, Order}
-use Rattle.constraint.specs.declared.Constraint.the-variants.{StrongSynchronization2, StrongSynchronization3, StrongSynchronization4, ExecutionTime, Repetition}
+use Rattle.constraint.specs.declared.Constraint.the-variants.{StrongSynchronization2, StrongSynchronization3, StrongSynchronization4, ExecutionTime, Reaction, Repetition}
 use Rattle.table.specs.declared.reader.RowRead.{RowRead}
 
 -- what reading the row at a place gives, with i rows before it: the row and the place of the next, or the refusal's number
@@ -38,8 +38,9 @@ rowFrom t b x =
     (cond (eqb t 5) (Burst (at b 0) (at b 1) (at x 0) (at x 1))
     (cond (eqb t 6) (Order (at b 0) (at b 1))
     (cond (eqb t 8) (ExecutionTime (at b 0) (at b 1) (at b 2) (at b 3) (at x 0) (at x 1))
+    (cond (eqb t 9) (Reaction (at b 0) (at b 1) (at x 0) (at x 1))
     (cond (eqb t 10) (Repetition (at b 0) (at b 1) (at x 0) (at x 1) (at x 2))
-    (groupFrom (at b 0) (at b 1) (at b 2) (at b 3) (at b 4) (at x 0)))))))))
+    (groupFrom (at b 0) (at b 1) (at b 2) (at b 3) (at b 4) (at x 0))))))))))
 
 -- where the times of a body begin: fewer than eight bytes stand before them
 abbrev pub timesStart : List ℕ → ℕ

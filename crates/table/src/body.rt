@@ -8,8 +8,8 @@ ghost use Rattle.constraint.specs.Types.{lengthOf};
 ghost use Rattle.constraint.specs.Table.{ShapeFits};
 ghost use Rattle.table.specs.Rows.{groupFrom, rowFrom, constraintOf};
 
-// The length expected for each type, by the type byte; there is no type 9; to a StrongSynchronization's its n is added.
-const LENGTHS: [usize; 11] = [0, 19, 19, 19, 34, 19, 3, 10, 21, 0, 27];
+// The length expected for each type, by the type byte; to a StrongSynchronization's its n is added.
+const LENGTHS: [usize; 11] = [0, 19, 19, 19, 34, 19, 3, 10, 21, 19, 27];
 
 // The length expected of a row of a type, with the byte behind it, which is the n of a StrongSynchronization; 0 if there is
 // no such type. As a row has fewer than eight bytes before its times, they begin at this length modulo 8.
@@ -26,7 +26,7 @@ pub(crate) fn length_of(form: u8, n: u8) -> usize
     LENGTHS[place]
 }
 
-// Question 4, of a row with a length field of that size: is the type 1 to 8 or 10, n in range, the length right?
+// Question 4, of a row with a length field of that size: is the type 1 to 10, n in range, the length right?
 pub(crate) fn shape_fits(body: &[u8], size: usize) -> bool
     requires { ⌜ size ≡ length (now body) ⌝ }
     ensures { λ r. ⌜ Decides (ShapeFits (now (body .entry))) r ⌝ }
@@ -131,6 +131,12 @@ fn row_from(
             resume: d,
             lower: x,
             upper: y,
+        },
+        9 => Constraint::Reaction {
+            stimulus: a,
+            response: b,
+            minimum: x,
+            maximum: y,
         },
         10 => Constraint::Repetition {
             event: a,

@@ -1,4 +1,4 @@
-//! Tables of 32 rows of all nine types, and drives over which every row stays open until the close.
+//! Tables of 32 rows of types 1 to 8 and 10, and drives over which every row stays open until the close.
 
 use model::{Constraint, NO_LIMIT, Step, recording_bytes, table_bytes};
 
@@ -83,7 +83,7 @@ fn synchronization(signals: &[Signal]) -> Constraint {
 /// An execution in each round, from a start to a stop, with a pause where two signals stand between them.
 fn execution_time(start: Signal, pause: Option<(Signal, Signal)>, stop: Signal) -> Constraint {
     let paused = pause.map_or(0, |(preempt, resume)| resume.after(preempt));
-    let (preempt, resume) = pause.map_or((62, 63), |(preempt, resume)| (preempt.kind, resume.kind));
+    let (preempt, resume) = pause.map_or((46, 47), |(preempt, resume)| (preempt.kind, resume.kind));
     let running = stop.after(start) - paused;
     let (lower, upper) = (running.saturating_sub(2 * WOBBLE), running + 2 * WOBBLE);
     Constraint::ExecutionTime { start: start.kind, stop: stop.kind, preempt, resume, lower, upper }
@@ -117,7 +117,8 @@ const SPANS: [u8; 5] = [1, 2, 8, 32, 64];
 const MAXIMA: [u8; 4] = [1, 4, 16, 64];
 const UPPERS: [u64; 4] = [PERIOD, PERIOD + 3, 2 * PERIOD, NO_LIMIT];
 
-/// Each row has kinds of its own, but that a Burst shares a Repeat's: an event concerns one row, or two.
+/// Each row has kinds of its own, but that a Burst or a Sporadic shares a Repeat's, and the ExecutionTime's start is a
+/// Sporadic's event: an event concerns one row, or two. All plain kinds are used.
 pub fn sparse(events: usize) -> Load {
     let mut signals = Signals::default();
     let mut rows: Vec<Constraint> = LAGS.iter().map(|lag| delay(signals.pair(*lag))).collect();
@@ -126,13 +127,14 @@ pub fn sparse(events: usize) -> Load {
     let repeated = SPANS.map(|span| (signals.next(0), span));
     rows.extend(repeated.map(|(event, span)| repeat(event, span)));
     rows.extend(repeated.iter().zip(MAXIMA).map(|((event, _), maximum)| burst(*event, maximum)));
-    rows.extend(UPPERS.map(|upper| sporadic(signals.next(0), upper)));
-    for (lag, n) in LAGS.into_iter().zip([2, 3, 4, 2, 3]) {
+    let rhythms = [repeated[4].0, signals.next(0), signals.next(0), signals.next(0)];
+    rows.extend(rhythms.iter().zip(UPPERS).map(|(event, upper)| sporadic(*event, upper)));
+    for (lag, n) in LAGS.into_iter().zip([2, 2, 3, 2, 3]) {
         let group: Vec<Signal> = (0..n).map(|place| signals.next(if place == 0 { 0 } else { lag })).collect();
         rows.push(synchronization(&group));
     }
-    let [start, preempt, resume, stop] = [0; 4].map(|lag| signals.next(lag));
-    rows.push(execution_time(start, Some((preempt, resume)), stop));
+    let [preempt, resume, stop] = [0; 3].map(|lag| signals.next(lag));
+    rows.push(execution_time(rhythms[3], Some((preempt, resume)), stop));
     rows.push(repetition(signals.next(0), 8));
     Load { name: "sparse", rows, steps: signals.drive(events) }
 }

@@ -57,6 +57,7 @@ fn play_library(monitor: &mut Monitor, steps: &[Step]) {
     for step in steps {
         let answer = match *step {
             Step::Event { kind, time } => monitor.event(kind, time),
+            Step::Coloured { kind, colour, time } => monitor.coloured_event(kind, colour, time),
             Step::Tick { time } => monitor.tick(time),
             Step::Close => monitor.close(),
         };

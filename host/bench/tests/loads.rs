@@ -13,11 +13,12 @@ fn loads(events: usize) -> [Load; 2] {
 }
 
 #[test]
-fn thirty_two_rows_of_all_types() {
+fn thirty_two_rows_of_all_types_but_9() {
     for load in loads(10) {
         let types = |row: &model::Constraint| row.type_byte();
         assert_eq!(load.rows.len(), 32);
-        assert!(TYPES.iter().all(|type_byte| load.rows.iter().map(types).any(|one| one == *type_byte)));
+        let plain = TYPES.iter().filter(|type_byte| **type_byte != 9);
+        assert!(plain.copied().all(|type_byte| load.rows.iter().map(types).any(|one| one == type_byte)));
     }
     assert_eq!((sparse(1_000).concerned(), dense(1_000).concerned()), ((1, 2), (15, 22)));
 }

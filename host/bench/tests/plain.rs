@@ -24,7 +24,7 @@ fn lists_of_calls_beside_the_model() {
         }
         assert_eq!(plain.count(), play.monitor().recorded().count());
     }
-    seen.demand_refusals(8..=12);
+    seen.demand_refusals((8..=12).chain([19]));
     seen.demand_verdicts();
     seen.demand_silences();
 }

@@ -18,6 +18,7 @@ pub fn fresh(rows: &[Constraint]) -> Monitor {
 pub fn take(monitor: &mut Monitor, call: Step) -> Answer {
     let answer = match call {
         Step::Event { kind, time } => monitor.event(kind, time),
+        Step::Coloured { kind, colour, time } => monitor.coloured_event(kind, colour, time),
         Step::Tick { time } => monitor.tick(time),
         Step::Close => monitor.close(),
     };

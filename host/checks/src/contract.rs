@@ -104,6 +104,12 @@ fn row(line: &str) -> Option<Constraint> {
             let (length, minimum) = (time("length"), time("minimum"));
             Constraint::Burst { event: byte("event"), maximum: byte("maximum"), length, minimum }
         }
+        "Reaction" => Constraint::Reaction {
+            stimulus: byte("stimulus"),
+            response: byte("response"),
+            minimum: time("minimum"),
+            maximum: time("maximum"),
+        },
         "Order" => Constraint::Order { source: byte("source"), target: byte("target") },
         "ExecutionTime" => {
             let (start, stop, preempt, resume) = (byte("start"), byte("stop"), byte("preempt"), byte("resume"));

@@ -18,6 +18,9 @@ pub fn row_of(row: &Constraint) -> Row<'_> {
         Constraint::ExecutionTime { start, stop, preempt, resume, lower, upper } => {
             Row::ExecutionTime { start, stop, preempt, resume, lower, upper }
         }
+        Constraint::Reaction { stimulus, response, minimum, maximum } => {
+            Row::Reaction { stimulus, response, minimum, maximum }
+        }
         Constraint::Repetition { event, span, lower, upper, jitter } => {
             Row::Repetition { event, span, lower, upper, jitter }
         }
@@ -50,6 +53,9 @@ pub fn numbers_of(row: &Constraint) -> String {
         }
         Constraint::ExecutionTime { start, stop, preempt, resume, lower, upper } => {
             (8, vec![start, stop, preempt, resume], vec![lower, upper])
+        }
+        Constraint::Reaction { stimulus, response, minimum, maximum } => {
+            (9, vec![stimulus, response], vec![minimum, maximum])
         }
         Constraint::Repetition { event, span, lower, upper, jitter } => {
             (10, vec![event, span], vec![lower, upper, jitter])

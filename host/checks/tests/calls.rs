@@ -17,7 +17,7 @@ fn thousands_of_lists() {
         let number = 60 + random.place(140);
         Beside::new(&mut random, &rows, number).play(&mut seen);
     }
-    seen.demand_refusals(8..=12);
+    seen.demand_refusals((8..=12).chain([19]));
     seen.demand_refusals(15..=15);
     seen.demand_verdicts();
     seen.demand_silences();
@@ -32,7 +32,7 @@ fn long_lists() {
         let rows = table(&mut random, number);
         Beside::new(&mut random, &rows, 1_500).play(&mut seen);
     }
-    seen.demand_refusals(8..=11);
+    seen.demand_refusals((8..=11).chain([19]));
 }
 
 /// A list of calls is at its monitor's place only: others' calls in between change nothing.
@@ -53,7 +53,7 @@ fn several_monitors_interleaved() {
             }
         }
     }
-    seen.demand_refusals(8..=12);
+    seen.demand_refusals((8..=12).chain([19]));
     seen.demand_verdicts();
 }
 
@@ -66,7 +66,7 @@ fn two_threads_each_its_own() {
             let rows = any_table(&mut random);
             Beside::new(&mut random, &rows, 100).play(&mut seen);
         }
-        seen.demand_refusals(8..=12);
+        seen.demand_refusals((8..=12).chain([19]));
     };
     let threads = [104, 105].map(|seed| std::thread::spawn(move || lists(seed)));
     assert!(threads.into_iter().all(|thread| thread.join().is_ok()));
@@ -108,7 +108,7 @@ fn fresh_from_damaged_tables() {
             }
         }
     }
-    seen.demand_refusals(1..=7);
+    seen.demand_refusals((1..=7).chain([18]));
 }
 
 /// What the memory held before has no say in what a fresh monitor is.
@@ -175,17 +175,74 @@ fn any_memory_is_safe() {
 /// Every time and kind at and beyond the ends of their ranges, in a row, on one monitor.
 #[test]
 fn the_ends_of_the_ranges() {
-    let rows = [Constraint::Delay { source: 0, target: 63, lower: LAST_TIME, upper: LAST_TIME }];
+    let rows = [
+        Constraint::Delay { source: 0, target: 47, lower: LAST_TIME, upper: LAST_TIME },
+        Constraint::Reaction { stimulus: 48, response: 63, minimum: LAST_TIME, maximum: LAST_TIME },
+    ];
     let mut monitor = fresh(&rows);
     let mut model = model::Monitor::fresh(&rows).expect("an accepted table");
     let times = [0, 1, LAST_TIME - 1, LAST_TIME, LAST_TIME + 1, 1 << 63, u64::MAX];
     for time in times {
-        for kind in [0, 1, 62, 63, 64, 128, 255] {
-            let call = Step::Event { kind, time };
-            assert_eq!(take(&mut monitor, call), model.step(call), "{call}");
+        for kind in [0, 1, 46, 47, 48, 62, 63, 64, 128, 255] {
+            let colours = [0, 7, 8, 255].map(|colour| Step::Coloured { kind, colour, time });
+            for call in [Step::Event { kind, time }].into_iter().chain(colours) {
+                assert_eq!(take(&mut monitor, call), model.step(call), "{call}");
+            }
         }
         let call = Step::Tick { time };
         assert_eq!(take(&mut monitor, call), model.step(call), "{call}");
-        assert_eq!(verdict(&monitor, 0), model.verdict(0));
+        assert_eq!((verdict(&monitor, 0), verdict(&monitor, 1)), (model.verdict(0), model.verdict(1)));
+    }
+}
+
+/// The order of 9, 19, 10 and 11, and each way in which a form does not suit its kind.
+#[test]
+fn forms_of_events() {
+    let mut monitor = fresh(&[]);
+    let too_late = LAST_TIME + 1;
+    let expected = [
+        ("64/9@0".to_string(), Err(9)),
+        ("64@0".to_string(), Err(9)),
+        (format!("48@{too_late}"), Err(19)),
+        ("0/0@5".to_string(), Err(19)),
+        ("47/7@5".to_string(), Err(19)),
+        (format!("48/8@{too_late}"), Err(19)),
+        (format!("48/7@{too_late}"), Err(10)),
+        ("48/7@5".to_string(), Ok(())),
+        ("48/7@5".to_string(), Err(11)),
+        ("48/6@5".to_string(), Ok(())),
+        ("49/7@5".to_string(), Ok(())),
+        ("48/7@4".to_string(), Err(11)),
+        ("48@5".to_string(), Err(19)),
+        ("0@5".to_string(), Ok(())),
+    ];
+    for (call, answer) in expected {
+        assert_eq!(take(&mut monitor, call.parse().expect("a step")), answer, "{call}");
+    }
+}
+
+/// Each way in which a row has a kind of the wrong sort, by the reader, fresh and the writer, and what is asked before.
+#[test]
+fn sorts_of_kinds() {
+    let delay = |source, target, lower, upper| Constraint::Delay { source, target, lower, upper };
+    let reaction = |stimulus, response, minimum, maximum| Constraint::Reaction { stimulus, response, minimum, maximum };
+    let expected = [
+        (delay(48, 1, 0, 0), 18),
+        (delay(0, 63, 2, 1), 18),
+        (delay(48, 48, 2, 1), 5),
+        (Constraint::Order { source: 47, target: 48 }, 18),
+        (Constraint::Repeat { event: 48, span: 0, lower: 0, upper: 0 }, 18),
+        (Constraint::StrongSynchronization { kinds: vec![0, 1, 2, 48], tolerance: 0 }, 18),
+        (reaction(0, 49, 4, 6), 18),
+        (reaction(48, 47, 6, 4), 18),
+        (reaction(48, 48, 4, 6), 5),
+        (reaction(48, 64, 4, 6), 5),
+        (reaction(48, 49, 6, u64::MAX), 6),
+        (reaction(48, 49, 6, 4), 7),
+    ];
+    for (row, number) in expected {
+        let refusal = delkuthi::Monitor::fresh(&model::table_bytes(std::slice::from_ref(&row))).expect_err("a refusal");
+        assert_eq!((refusal.number(), refusal.place()), (number, Some(1)), "{row:?}");
+        assert_eq!(checks::rows::write(std::slice::from_ref(&row), &mut [0; 64]), Err(number), "{row:?}");
     }
 }

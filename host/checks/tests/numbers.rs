@@ -19,6 +19,8 @@ fn by_code() -> BTreeMap<String, u64> {
         ("VERSION", constant(LENT, "VERSION")),
         ("LAST_TIME", constant(CONSTRAINT, "LAST_TIME")),
         ("LAST_KIND", constant(CONSTRAINT, "LAST_KIND")),
+        ("FIRST_COLOURED", constant(CONSTRAINT, "FIRST_COLOURED")),
+        ("LAST_COLOUR", constant(CONSTRAINT, "LAST_COLOUR")),
         ("ROW_LIMIT", constant(CONSTRAINT, "ROW_LIMIT")),
         ("WAITING_LIMIT", constant(CONSTRAINT, "WAITING_LIMIT")),
         ("NO_LIMIT", constant(CONSTRAINT, "NO_LIMIT")),
@@ -34,6 +36,8 @@ fn by_definitions() -> BTreeMap<String, u64> {
         ("VERSION", definition(LENT_DEFINED, "version")),
         ("LAST_TIME", definition(LIMITS, "lastTime")),
         ("LAST_KIND", definition(LIMITS, "lastKind")),
+        ("FIRST_COLOURED", definition(LIMITS, "firstColoured")),
+        ("LAST_COLOUR", definition(LIMITS, "lastColour")),
         ("ROW_LIMIT", definition(LIMITS, "rowLimit")),
         ("WAITING_LIMIT", definition(LIMITS, "waitingLimit")),
         ("NO_LIMIT", definition(LIMITS, "noLimit")),
@@ -84,10 +88,12 @@ fn refusals() -> BTreeMap<String, u64> {
         ("ROW_TOO_MANY", question("i < rowLimit)")),
         ("ROW_SHAPE", question("ShapeFits ")),
         ("ROW_KINDS", question("KindsFit ")),
+        ("ROW_SORT", question("KindsSuit ")),
         ("ROW_RANGE", question("InRange ")),
         ("ROW_BOUNDS", question("LowerFirst ")),
         ("CLOSED", question("closed steps ")),
         ("KIND", question("k ≤ lastKind)")),
+        ("FORM", question("k < firstColoured)")),
         ("TIME_RANGE", question("t ≤ lastTime)")),
         ("TIME_ORDER", question("EventInOrder ")),
         ("CROWDED", question("Room ")),
@@ -169,6 +175,8 @@ fn the_rust_crates_numbers_are_the_headers() {
         ("VERSION", delkuthi::VERSION.into()),
         ("LAST_TIME", delkuthi::LAST_TIME),
         ("LAST_KIND", delkuthi::LAST_KIND.into()),
+        ("FIRST_COLOURED", delkuthi::FIRST_COLOURED.into()),
+        ("LAST_COLOUR", delkuthi::LAST_COLOUR.into()),
         ("ROW_LIMIT", delkuthi::ROW_LIMIT as u64),
         ("WAITING_LIMIT", delkuthi::WAITING_LIMIT as u64),
         ("REPORT_LIMIT", delkuthi::REPORT_LIMIT as u64),
@@ -186,12 +194,17 @@ fn the_rust_crates_numbers_are_the_headers() {
 
 #[test]
 fn the_models_numbers_are_the_crates() {
-    use model::constraint::{LAST_KIND, LAST_TIME, NO_LIMIT, REPETITION_SPAN_LIMIT, ROW_LIMIT};
-    use model::constraint::{SPAN_LIMIT, WAITING_LIMIT};
+    use model::constraint::{
+        FIRST_COLOURED, LAST_COLOUR, LAST_KIND, LAST_TIME, NO_LIMIT, REPETITION_SPAN_LIMIT, ROW_LIMIT,
+    };
+    use model::constraint::{SPAN_LIMIT, STREAMS, WAITING_LIMIT};
     use model::report::{RECORDING_SIZE_LIMIT, TABLE_SIZE_LIMIT};
     const PROGRAM: &str = "crates/delkuthi/src/lib.rt";
     let limits = [
         (LAST_KIND.into(), CONSTRAINT, "LAST_KIND", "lastKind"),
+        (FIRST_COLOURED.into(), CONSTRAINT, "FIRST_COLOURED", "firstColoured"),
+        (LAST_COLOUR.into(), CONSTRAINT, "LAST_COLOUR", "lastColour"),
+        (STREAMS.into(), CONSTRAINT, "STREAM_COUNT", "streamCount"),
         (LAST_TIME, CONSTRAINT, "LAST_TIME", "lastTime"),
         (NO_LIMIT, CONSTRAINT, "NO_LIMIT", "noLimit"),
         (ROW_LIMIT as u64, CONSTRAINT, "ROW_LIMIT", "rowLimit"),
@@ -237,6 +250,6 @@ fn expressions_of_numbers() {
     for (expression, value) in expected {
         assert_eq!(number(expression), value, "{expression}");
     }
-    assert_eq!(number("0 * 1000000 + 2 * 1000 + 0"), 2000);
+    assert_eq!(number("0 * 1000000 + 3 * 1000 + 0"), 3000);
     assert_eq!(number("2^64 - 1"), u64::MAX);
 }

@@ -121,7 +121,7 @@ fn files_at_the_limit_and_beyond() {
 /// The largest recording that is accepted whole, of 61,440 bytes: 5,579 events and 7 ticks.
 #[test]
 fn the_largest_recording() {
-    let event = |time| Step::Event { kind: (time % 64) as u8, time };
+    let event = |time| Step::Event { kind: (time % 48) as u8, time };
     let mut steps: Vec<Step> = (0..5_579).map(event).collect();
     steps.extend((6_000..6_007).map(|time| Step::Tick { time }));
     let bytes = recording_bytes(&steps);
@@ -141,6 +141,6 @@ fn random_files() {
         compare(&damaged_table(&mut random), &RECORDING, &mut seen);
     }
     seen.demand_refusals(1..=2);
-    seen.demand_refusals(4..=7);
+    seen.demand_refusals((4..=7).chain([18]));
     seen.demand_refusals(13..=14);
 }

@@ -52,7 +52,7 @@ fn thousands_of_tables_and_recordings() {
         compare(&damaged_table(&mut random), &recording(&mut random, &rows, 4), &mut seen);
     }
     // 8 has no place in a recording: it is closed behind its last record
-    [1..=7, 9..=14].into_iter().for_each(|numbers| seen.demand_refusals(numbers));
+    seen.demand_refusals((1..=7).chain(9..=14).chain([18, 19]));
 }
 
 /// Buffers of every length, to some bytes more than the report has.

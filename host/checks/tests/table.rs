@@ -2,11 +2,12 @@
 
 use checks::rows::write;
 use checks::table_host::{read, rewrite};
+use model::constraint::TYPES;
 use model::notation::order;
 use model::random::Random;
 use model::random::seen::Seen;
 use model::random::tables::{any_table, damaged_rows, damaged_table, table};
-use model::{Constraint, Refusal, TYPES, read_table, table_bytes, write_table};
+use model::{Constraint, Refusal, read_table, table_bytes, write_table};
 
 /// What a buffer is filled with, so that a byte written is noticed.
 const FILL: u8 = 0xA5;
@@ -65,7 +66,7 @@ fn damaged_bytes() {
         let length = random.place(2 * bytes.len() + 2);
         compare_bytes(&bytes, length, &mut seen);
     }
-    seen.demand_refusals(1..=7);
+    seen.demand_refusals((1..=7).chain([18]));
     seen.demand_refusals(16..=16);
 }
 
@@ -78,7 +79,7 @@ fn rows_to_be_refused() {
         let length = random.place(2_000);
         compare_rows(&rows, length, &mut seen);
     }
-    seen.demand_refusals(3..=7);
+    seen.demand_refusals((3..=7).chain([18]));
     seen.demand_refusals(16..=16);
 }
 
@@ -123,5 +124,5 @@ fn every_byte_changed() {
         }
     }
     seen.demand_refusals(1..=2);
-    seen.demand_refusals(4..=7);
+    seen.demand_refusals((4..=7).chain([18]));
 }

@@ -11,6 +11,7 @@ unsafe extern "C" {
     pub fn delkuthi_fresh(monitor: &mut Monitor, table: *const u8, table_length: usize) -> u64;
     pub fn delkuthi_table(rows: *const u8, rows_size: usize, table: *mut u8, table_length: usize) -> u64;
     pub safe fn delkuthi_event(monitor: &mut Monitor, kind: u8, time: u64) -> u8;
+    pub safe fn delkuthi_coloured_event(monitor: &mut Monitor, kind: u8, colour: u8, time: u64) -> u8;
     pub safe fn delkuthi_tick(monitor: &mut Monitor, time: u64) -> u8;
     pub safe fn delkuthi_close(monitor: &mut Monitor) -> u8;
     pub safe fn delkuthi_row_verdict(monitor: &Monitor, row: u64) -> u8;

@@ -57,6 +57,10 @@ pub use version::{VERSION, library_version, matches};
 
 /// The largest kind of event.
 pub const LAST_KIND: u8 = 63;
+/// The first coloured kind: events of the kinds from here on have a colour.
+pub const FIRST_COLOURED: u8 = 48;
+/// The largest colour.
+pub const LAST_COLOUR: u8 = 7;
 /// The largest time, 2^56 − 1.
 pub const LAST_TIME: u64 = (1 << 56) - 1;
 /// How many rows a table has at most.

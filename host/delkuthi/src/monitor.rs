@@ -5,14 +5,14 @@ use crate::refusal::Refusal;
 use core::fmt;
 
 /// How many words of 64 bits a monitor takes.
-pub const WORDS: usize = 2948;
+pub const WORDS: usize = 3060;
 
 /// The word for each verdict, as the library answers it; any other says that there is no such row.
 const OPEN: u8 = 0;
 const KEPT: u8 = 1;
 const BROKEN: u8 = 2;
 
-/// A monitor over a table: 23,584 bytes, with no pointer in them. A copy is a monitor of its own.
+/// A monitor over a table: 24,480 bytes, with no pointer in them. A copy is a monitor of its own.
 #[derive(Clone, PartialEq, Eq)]
 #[repr(transparent)]
 pub struct Monitor {
@@ -44,7 +44,7 @@ impl Monitor {
     /// A fresh monitor over a table: clock 0, no events, count 0, not closed.
     ///
     /// # Errors
-    /// 1 to 7, with the place in the table.
+    /// 1 to 7 and 18, with the place in the table.
     ///
     /// # Panics
     /// If the archive that was linked is not this crate's: [`matches`](crate::matches).
@@ -57,20 +57,30 @@ impl Monitor {
     /// Makes this the fresh monitor over a table, in the memory that it has. On a refusal it stays as it was.
     ///
     /// # Errors
-    /// 1 to 7, with the place in the table.
+    /// 1 to 7 and 18, with the place in the table.
     pub fn restart(&mut self, table: &[u8]) -> Result<(), Refusal> {
         // SAFETY: pointer and length are a slice's, and its memory is not the monitor's.
         let answer = unsafe { ffi::delkuthi_fresh(self, table.as_ptr(), table.len()) };
         Refusal::of_table(answer)
     }
 
-    /// Takes an event, not before the clock and later than every earlier event of its kind. On a refusal the monitor
-    /// stays as it was.
+    /// Takes an event of a plain kind, 0 to 47, not before the clock and later than every earlier event of its kind. On
+    /// a refusal the monitor stays as it was.
     ///
     /// # Errors
-    /// 8 closed, 9 the kind, 10 the time's range, 11 its order, 12 more than 64 would wait in a row.
+    /// 8 closed, 9 the kind, 19 a coloured kind, 10 the time's range, 11 its order, 12 more than 64 would wait in a row.
     pub fn event(&mut self, kind: u8, time: u64) -> Result<(), Refusal> {
         Refusal::of_step(ffi::delkuthi_event(self, kind, time))
+    }
+
+    /// Takes an event of a coloured kind, 48 to 63, with a colour from 0 to 7: not before the clock and later than every
+    /// earlier event of its kind and colour. On a refusal the monitor stays as it was.
+    ///
+    /// # Errors
+    /// 8 closed, 9 the kind, 19 a plain kind or no colour, 10 the time's range, 11 its order, 12 more than 64 would wait
+    /// in a row.
+    pub fn coloured_event(&mut self, kind: u8, colour: u8, time: u64) -> Result<(), Refusal> {
+        Refusal::of_step(ffi::delkuthi_coloured_event(self, kind, colour, time))
     }
 
     /// Takes a tick: the clock moves to a time later than it. On a refusal the monitor stays as it was.

@@ -33,6 +33,8 @@ pub enum Row<'a> {
     StrongSynchronization { kinds: &'a [u8], tolerance: u64 },
     /// From each `start` to its `stop`, less the stretches from `preempt` to `resume`, it runs for `lower` to `upper`.
     ExecutionTime { start: u8, stop: u8, preempt: u8, resume: u8, lower: u64, upper: u64 },
+    /// The first response of a colour comes `minimum` to `maximum` after each stimulus of that colour.
+    Reaction { stimulus: u8, response: u8, minimum: u64, maximum: u64 },
     /// Each event is 0 to `jitter` after a hidden point; points `span` places apart, 1 to 8, are `lower` to `upper` apart.
     Repetition { event: u8, span: u8, lower: u64, upper: u64, jitter: u64 },
 }
@@ -41,7 +43,7 @@ pub enum Row<'a> {
 /// refusal all do.
 ///
 /// # Errors
-/// 3 to 7, of the first row concerned; 16 a buffer too short. They have no place.
+/// 3 to 7 and 18, of the first row concerned; 16 a buffer too short. They have no place.
 pub fn write_table(rows: &[Row], table: &mut [u8]) -> Result<usize, Refusal> {
     let mut bodies = [[0; ROW_SIZE]; ASKED];
     for (body, row) in bodies.iter_mut().zip(rows) {
@@ -64,6 +66,9 @@ impl Row<'_> {
             }
             Row::Burst { event, maximum, length, minimum } => body(&[5, event, maximum], &[length, minimum]),
             Row::Order { source, target } => body(&[6, source, target], &[]),
+            Row::Reaction { stimulus, response, minimum, maximum } => {
+                body(&[9, stimulus, response], &[minimum, maximum])
+            }
             Row::StrongSynchronization { kinds, tolerance } => {
                 let n = kinds.len().min(4);
                 let mut bytes = [7, kinds.len().min(255) as u8, 0, 0, 0, 0];

@@ -20,13 +20,13 @@ pub fn beside(row: &Constraint, one: &[Step], other: &[Step]) -> bool {
 
 /// Is the step an event of one of the row's kinds?
 pub fn is_own(row: &Constraint, step: Step) -> bool {
-    matches!(step, Step::Event { kind, .. } if row.kinds().contains(&kind))
+    step.kind().is_some_and(|kind| row.kinds().contains(&kind))
 }
 
 /// The time that the step leaves the clock at, but for the close, which leaves it where it was.
 pub fn time_of(step: Step) -> Option<u64> {
     match step {
-        Step::Event { time, .. } | Step::Tick { time } => Some(time),
+        Step::Event { time, .. } | Step::Coloured { time, .. } | Step::Tick { time } => Some(time),
         Step::Close => None,
     }
 }

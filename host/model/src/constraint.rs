@@ -2,6 +2,12 @@
 
 /// The last kind (§1.2).
 pub const LAST_KIND: u8 = 63;
+/// The first coloured kind (§1.2).
+pub const FIRST_COLOURED: u8 = 48;
+/// The last colour (§1.2).
+pub const LAST_COLOUR: u8 = 7;
+/// How many streams there are (§1.9).
+pub const STREAMS: u8 = 176;
 /// The last time (§1.1).
 pub const LAST_TIME: u64 = (1 << 56) - 1;
 /// The mark for no upper limit, in Delay, Repeat and Sporadic (§4.7).
@@ -16,7 +22,12 @@ pub const REPETITION_SPAN_LIMIT: u8 = 8;
 pub const WAITING_LIMIT: usize = 64;
 
 /// The types of rows (§4.5).
-pub const TYPES: [u8; 9] = [1, 2, 3, 4, 5, 6, 7, 8, 10];
+pub const TYPES: [u8; 10] = [1, 2, 3, 4, 5, 6, 7, 8, 9, 10];
+
+/// The stream of a coloured kind and a colour (§1.9); a plain kind is a stream by itself.
+pub fn stream(kind: u8, colour: u8) -> u8 {
+    FIRST_COLOURED + 8 * (kind - FIRST_COLOURED) + colour
+}
 
 /// A row of a table: its type and fields. Any values can stand in the fields; the questions say which are accepted.
 ///
@@ -39,6 +50,8 @@ pub enum Constraint {
     StrongSynchronization { kinds: Vec<u8>, tolerance: u64 },
     /// Type 8.
     ExecutionTime { start: u8, stop: u8, preempt: u8, resume: u8, lower: u64, upper: u64 },
+    /// Type 9.
+    Reaction { stimulus: u8, response: u8, minimum: u64, maximum: u64 },
     /// Type 10.
     Repetition { event: u8, span: u8, lower: u64, upper: u64, jitter: u64 },
 }
@@ -55,6 +68,7 @@ impl Constraint {
             Constraint::Order { .. } => 6,
             Constraint::StrongSynchronization { .. } => 7,
             Constraint::ExecutionTime { .. } => 8,
+            Constraint::Reaction { .. } => 9,
             Constraint::Repetition { .. } => 10,
         }
     }
@@ -71,6 +85,18 @@ impl Constraint {
             | Constraint::Repetition { event, .. } => vec![*event],
             Constraint::StrongSynchronization { kinds, .. } => kinds.clone(),
             Constraint::ExecutionTime { start, stop, preempt, resume, .. } => vec![*start, *stop, *preempt, *resume],
+            Constraint::Reaction { stimulus, response, .. } => vec![*stimulus, *response],
         }
+    }
+
+    /// Does the row take coloured kinds (§8.18)?
+    pub fn coloured(&self) -> bool {
+        matches!(self, Constraint::Reaction { .. })
+    }
+
+    /// The streams that an accepted row looks at: its plain kinds, or each colour of its coloured ones.
+    pub fn streams(&self) -> Vec<u8> {
+        let colours = |kind: &u8| (0..=LAST_COLOUR).map(|colour| stream(*kind, colour)).collect::<Vec<u8>>();
+        if self.coloured() { self.kinds().iter().flat_map(colours).collect() } else { self.kinds() }
     }
 }

@@ -1,6 +1,6 @@
 //! What each row asks of all events together, some of the clock too (§5.1 to §5.10).
 
-use crate::constraint::{Constraint, NO_LIMIT};
+use crate::constraint::{Constraint, LAST_COLOUR, NO_LIMIT, stream};
 use crate::executions::Executions;
 use crate::hidden_points::Spacing;
 use crate::steps::Events;
@@ -31,6 +31,10 @@ pub fn meets(constraint: &Constraint, events: &impl Events) -> bool {
             let executions = Executions::of(constraint, events);
             executions.rise() && executions.run_for(*lower, *upper)
         }
+        Constraint::Reaction { stimulus, response, minimum, maximum } => (0..=LAST_COLOUR).all(|colour| {
+            let of = |kind: &u8| events.times(stream(*kind, colour));
+            reaction(*minimum, *maximum, of(stimulus), of(response))
+        }),
         Constraint::Repetition { event, span, lower, upper, jitter } => {
             let spacing = Spacing { span: usize::from(*span), lower: *lower, upper: *upper, jitter: *jitter };
             spacing.has_points(times(event))
@@ -109,4 +113,10 @@ fn strong_synchronization(tolerance: u64, lists: &[&[u64]]) -> bool {
         one.len() == other.len() && one.iter().zip(other).all(|(x, y)| x.abs_diff(*y) <= tolerance)
     };
     lists.iter().enumerate().all(|(i, one)| lists[i..].iter().all(|other| together(one, other)))
+}
+
+/// Reaction (§5.9), of one colour: the first response of all is minimum to maximum after each stimulus.
+pub fn reaction(minimum: u64, maximum: u64, stimuli: &[u64], responses: &[u64]) -> bool {
+    let suits = |&stimulus: &u64| responses.first().is_some_and(|&first| between(minimum, maximum, stimulus, first));
+    stimuli.iter().all(suits)
 }

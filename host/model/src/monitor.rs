@@ -50,6 +50,10 @@ impl Monitor {
         self.step(Step::Event { kind, time })
     }
 
+    pub fn coloured_event(&mut self, kind: u8, colour: u8, time: u64) -> Answer {
+        self.step(Step::Coloured { kind, colour, time })
+    }
+
     pub fn tick(&mut self, time: u64) -> Answer {
         self.step(Step::Tick { time })
     }
@@ -58,7 +62,7 @@ impl Monitor {
         self.step(Step::Close)
     }
 
-    /// Takes a step, or refuses it as questions 8 to 12 say; then nothing is recorded (§3.3).
+    /// Takes a step, or refuses it as questions 8 to 12 and 19 say; then nothing is recorded (§3.3).
     pub fn step(&mut self, step: Step) -> Answer {
         let (after, open) = self.judge(step)?;
         for (broken, open) in self.broken.iter_mut().zip(open) {

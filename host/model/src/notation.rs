@@ -36,6 +36,11 @@ pub fn order() -> Constraint {
     Constraint::Order { source: 0, target: 1 }
 }
 
+/// A Reaction of kinds 48 and 49.
+pub fn reaction(minimum: u64, maximum: u64) -> Constraint {
+    Constraint::Reaction { stimulus: 48, response: 49, minimum, maximum }
+}
+
 /// A StrongSynchronization of kinds 0 to n − 1.
 pub fn synchronization(n: u8, tolerance: u64) -> Constraint {
     Constraint::StrongSynchronization { kinds: (0..n).collect(), tolerance }

@@ -6,7 +6,7 @@
 //!
 //! Both are for rows that pass questions 5 to 7.
 
-use crate::constraint::Constraint;
+use crate::constraint::{Constraint, LAST_COLOUR, stream};
 use crate::continuation::{Event, Together};
 use crate::executions::{Executions, Part};
 use crate::meets::{meets, without_target};
@@ -30,6 +30,7 @@ pub fn open(constraint: &Constraint, recorded: &History) -> bool {
 /// - ExecutionTime: whole executions that are right stay so with what follows, and further whole ones are not needed.
 ///   One that is begun needs its stop, and a preempted one its resume first; each more pair of preempt and resume would
 ///   only let it run longer.
+/// - Reaction needs a response in each colour that has stimuli and no response yet; further stimuli only ask for more.
 pub fn earliest_continuation(constraint: &Constraint, recorded: &History) -> Vec<Event> {
     if recorded.closed() {
         return Vec::new();
@@ -44,17 +45,18 @@ pub fn earliest_continuation(constraint: &Constraint, recorded: &History) -> Vec
         Constraint::Order { source, target } => partners(recorded, *source, *target, 0),
         Constraint::StrongSynchronization { kinds, .. } => members(recorded, kinds),
         Constraint::ExecutionTime { stop, resume, lower, .. } => way_out(constraint, recorded, *stop, *resume, *lower),
+        Constraint::Reaction { stimulus, response, minimum, .. } => responses(recorded, *stimulus, *response, *minimum),
     }
 }
 
-/// Further events of one kind, one for each bound: each as early as its bound, the clock and the event before allow.
+/// Further events of one stream, one for each bound: each as early as its bound, the clock and the event before allow.
 /// In any list of events not before these bounds, none is earlier than here.
-fn earliest(recorded: &History, kind: u8, bounds: impl Iterator<Item = u64>) -> Vec<Event> {
-    let mut free = Together::of(recorded, &[]).first_free(kind);
+fn earliest(recorded: &History, stream: u8, bounds: impl Iterator<Item = u64>) -> Vec<Event> {
+    let mut free = Together::of(recorded, &[]).first_free(stream);
     let at_bound = |bound: u64| {
         let time = bound.max(free);
         free = time + 1;
-        Event { kind, time }
+        Event { stream, time }
     };
     bounds.map(at_bound).collect()
 }
@@ -105,7 +107,20 @@ fn way_out(row: &Constraint, recorded: &History, stop: u8, resume: u8, lower: u6
     let left = lower.saturating_sub(ran);
     let next = recorded.clock().max(last + 1);
     if part == Part::Preempt {
-        return vec![Event { kind: resume, time: next }, Event { kind: stop, time: next + left.max(1) }];
+        return vec![Event { stream: resume, time: next }, Event { stream: stop, time: next + left.max(1) }];
     }
-    vec![Event { kind: stop, time: next.max(last + left) }]
+    vec![Event { stream: stop, time: next.max(last + left) }]
+}
+
+/// The missing first responses, one for each colour: as early as its newest stimulus and the clock allow. A later one
+/// could only be too late for its oldest stimulus.
+fn responses(recorded: &History, stimulus: u8, response: u8, minimum: u64) -> Vec<Event> {
+    let missing = |colour: u8| {
+        let (stimuli, responses) = (recorded.times(stream(stimulus, colour)), stream(response, colour));
+        let newest = stimuli.last().filter(|_| recorded.times(responses).is_empty())?;
+        Some(Event { stream: responses, time: (newest + minimum).max(recorded.clock()) })
+    };
+    let mut further: Vec<Event> = (0..=LAST_COLOUR).filter_map(missing).collect();
+    further.sort_by_key(|event| event.time);
+    further
 }

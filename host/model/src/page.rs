@@ -46,6 +46,7 @@ fn name(row: &Constraint) -> &'static str {
         Constraint::Order { .. } => "Order",
         Constraint::StrongSynchronization { .. } => "StrongSynchronization",
         Constraint::ExecutionTime { .. } => "ExecutionTime",
+        Constraint::Reaction { .. } => "Reaction",
         Constraint::Repetition { .. } => "Repetition",
     }
 }

@@ -1,6 +1,9 @@
-//! The questions put to rows and steps (§8.3 to §8.11), in their order (§9.5, §9.7).
+//! The questions put to rows and steps (§8.3 to §8.11, §8.18, §8.19), in their order (§9.5, §9.7).
 
-use crate::constraint::{Constraint, LAST_KIND, LAST_TIME, NO_LIMIT, REPETITION_SPAN_LIMIT, ROW_LIMIT, SPAN_LIMIT};
+use crate::constraint::{
+    Constraint, FIRST_COLOURED, LAST_COLOUR, LAST_KIND, LAST_TIME, NO_LIMIT, REPETITION_SPAN_LIMIT, ROW_LIMIT,
+    SPAN_LIMIT, stream,
+};
 use crate::steps::{History, Step};
 
 /// The answer to a call: taken, or refused with the number of the first question answered "no".
@@ -18,7 +21,7 @@ pub fn ask(number: u8, yes: bool) -> Answer {
     if yes { Ok(()) } else { Err(number) }
 }
 
-/// Questions 3 to 7, row by row, as fresh and the table writer put them (§9.7).
+/// Questions 3 to 7 and 18, row by row, as fresh and the table writer put them (§9.7).
 pub fn rows_questions(rows: &[Constraint]) -> Answer {
     for (before, row) in rows.iter().enumerate() {
         ask(3, before < ROW_LIMIT)?;
@@ -36,9 +39,10 @@ fn number_of_kinds_in_range(row: &Constraint) -> bool {
     }
 }
 
-/// 5 to 7, of one row.
+/// 5, 18, 6 and 7, of one row.
 pub fn fields_questions(row: &Constraint) -> Answer {
     ask(5, kinds_fit(&row.kinds()))?;
+    ask(18, row.kinds().iter().all(|&kind| (kind >= FIRST_COLOURED) == row.coloured()))?;
     ask(6, in_range(row))?;
     ask(7, lower_first(row))
 }
@@ -65,6 +69,7 @@ fn in_range(row: &Constraint) -> bool {
         Constraint::Order { .. } => true,
         Constraint::StrongSynchronization { tolerance, .. } => time(tolerance),
         Constraint::ExecutionTime { lower, upper, .. } => time(lower) && time(upper),
+        Constraint::Reaction { minimum, maximum, .. } => time(minimum) && time(maximum),
         Constraint::Repetition { span, lower, upper, jitter, .. } => {
             (1..=REPETITION_SPAN_LIMIT).contains(span) && time(lower) && time(upper) && time(jitter)
         }
@@ -79,19 +84,27 @@ fn lower_first(row: &Constraint) -> bool {
         | Constraint::Repeat { lower, upper, .. }
         | Constraint::Sporadic { lower, upper, .. }
         | Constraint::ExecutionTime { lower, upper, .. }
-        | Constraint::Repetition { lower, upper, .. } => lower <= upper,
+        | Constraint::Repetition { lower, upper, .. }
+        | Constraint::Reaction { minimum: lower, maximum: upper, .. } => lower <= upper,
         Constraint::Burst { .. } | Constraint::Order { .. } | Constraint::StrongSynchronization { .. } => true,
     }
 }
 
-/// Questions 8 to 11 of a step, over what is recorded (§9.5).
+/// Questions 8 to 11 and 19 of a step, over what is recorded (§9.5).
 pub fn step_questions(recorded: &History, step: Step) -> Answer {
     ask(8, !recorded.closed())?;
     match step {
         Step::Event { kind, time } => {
             ask(9, kind <= LAST_KIND)?;
+            ask(19, kind < FIRST_COLOURED)?;
             ask(10, time <= LAST_TIME)?;
             ask(11, recorded.event_in_order(kind, time))
+        }
+        Step::Coloured { kind, colour, time } => {
+            ask(9, kind <= LAST_KIND)?;
+            ask(19, kind >= FIRST_COLOURED && colour <= LAST_COLOUR)?;
+            ask(10, time <= LAST_TIME)?;
+            ask(11, recorded.event_in_order(stream(kind, colour), time))
         }
         Step::Tick { time } => {
             ask(10, time <= LAST_TIME)?;

@@ -7,11 +7,12 @@ use crate::table::{body_at_start, time_at, with_length};
 
 /// Gives every record of the recording to a fresh monitor: question 13 first, then record by record (§9.4).
 pub fn read_recording(mut monitor: Monitor, bytes: &[u8]) -> Result<Monitor, Refusal> {
-    ask(13, bytes.first() == Some(&1)).map_err(|number| Refusal { number, place: 0 })?;
+    let version = bytes.first().copied().unwrap_or(0);
+    ask(13, version == 1 || version == 2).map_err(|number| Refusal { number, place: 0 })?;
     let mut place = 1;
     while place < bytes.len() {
         let refused = |number| Refusal { number, place };
-        let (step, size) = read_record(&bytes[place..]).map_err(refused)?;
+        let (step, size) = read_record(version, &bytes[place..]).map_err(refused)?;
         // after 14 the questions of its step
         monitor.step(step).map_err(refused)?;
         place += size;
@@ -19,23 +20,33 @@ pub fn read_recording(mut monitor: Monitor, bytes: &[u8]) -> Result<Monitor, Ref
     Ok(monitor)
 }
 
+/// What is no colour: a recording of version 1 has none (§7.1).
+const NO_COLOUR: u8 = 255;
+
 /// Reads the record at the start of the bytes; gives its step and the number of bytes it takes (§7.2), or 14 (§8.14).
-pub fn read_record(bytes: &[u8]) -> Result<(Step, usize), u8> {
+pub fn read_record(version: u8, bytes: &[u8]) -> Result<(Step, usize), u8> {
     match body_at_start(bytes) {
+        Some(body) if body.len() == 10 => {
+            let colour = if version == 1 { NO_COLOUR } else { body[1] };
+            Ok((Step::Coloured { kind: body[0], colour, time: time_at(body, 2) }, 12))
+        }
         Some(body) if body.len() == 9 => Ok((Step::Event { kind: body[0], time: time_at(body, 1) }, 11)),
         Some(body) if body.len() == 8 => Ok((Step::Tick { time: time_at(body, 0) }, 10)),
         _ => Err(14),
     }
 }
 
-/// The recording (§7.1) of any events and ticks, no question put. A close has no record.
+/// The recording (§7.1) of any events and ticks, no question put: of version 2 where an event has a colour, else of
+/// version 1. A close has no record.
 pub fn recording_bytes(steps: &[Step]) -> Vec<u8> {
-    std::iter::once(1).chain(steps.iter().flat_map(record_bytes)).collect()
+    let coloured = steps.iter().any(|step| matches!(step, Step::Coloured { .. }));
+    std::iter::once(if coloured { 2 } else { 1 }).chain(steps.iter().flat_map(record_bytes)).collect()
 }
 
 fn record_bytes(step: &Step) -> Vec<u8> {
     match step {
         Step::Event { kind, time } => with_length(&[&[*kind], &time.to_be_bytes()[..]].concat()),
+        Step::Coloured { kind, colour, time } => with_length(&[&[*kind, *colour], &time.to_be_bytes()[..]].concat()),
         Step::Tick { time } => with_length(&time.to_be_bytes()),
         Step::Close => Vec::new(),
     }

@@ -4,7 +4,7 @@ use crate::constraint::{Constraint, ROW_LIMIT, TYPES};
 use crate::questions::{Refusal, ask, fields_questions, rows_questions};
 
 /// The length of each type (§4.5), by the type byte; to type 7 its n is added.
-const LENGTHS: [usize; 11] = [0, 19, 19, 19, 34, 19, 3, 10, 21, 0, 27];
+const LENGTHS: [usize; 11] = [0, 19, 19, 19, 34, 19, 3, 10, 21, 19, 27];
 
 /// A field, of one byte or of eight (§4.4).
 enum Field {
@@ -37,6 +37,9 @@ fn fields(row: &Constraint) -> Vec<Field> {
         }
         Constraint::ExecutionTime { start, stop, preempt, resume, lower, upper } => {
             vec![Byte(*start), Byte(*stop), Byte(*preempt), Byte(*resume), Time(*lower), Time(*upper)]
+        }
+        Constraint::Reaction { stimulus, response, minimum, maximum } => {
+            vec![Byte(*stimulus), Byte(*response), Time(*minimum), Time(*maximum)]
         }
         Constraint::Repetition { event, span, lower, upper, jitter } => {
             vec![Byte(*event), Byte(*span), Time(*lower), Time(*upper), Time(*jitter)]
@@ -76,7 +79,7 @@ pub fn table_bytes(rows: &[Constraint]) -> Vec<u8> {
     std::iter::once(1).chain(rows.iter().flat_map(row_bytes)).collect()
 }
 
-/// Writes the table and answers the number of bytes written, or the number of the refusal: questions 3 to 7, then 16
+/// Writes the table and answers the number of bytes written, or the number of the refusal: questions 3 to 7 and 18, then 16
 /// (§9.7, §9.8).
 pub fn write_table(rows: &[Constraint], buffer: &mut [u8]) -> Result<usize, u8> {
     rows_questions(rows)?;
@@ -152,6 +155,7 @@ fn constraint_of(body: &[u8]) -> Constraint {
             lower: time(5),
             upper: time(13),
         },
+        9 => Constraint::Reaction { stimulus: body[1], response: body[2], minimum: time(3), maximum: time(11) },
         10 => {
             Constraint::Repetition { event: body[1], span: body[2], lower: time(3), upper: time(11), jitter: time(19) }
         }

@@ -26,6 +26,7 @@ pub fn waiting(constraint: &Constraint, recorded: &History) -> usize {
         | Constraint::Burst { .. }
         | Constraint::Order { .. }
         | Constraint::ExecutionTime { .. }
+        | Constraint::Reaction { .. }
         | Constraint::Repetition { .. } => 0,
     }
 }

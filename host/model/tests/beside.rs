@@ -4,11 +4,12 @@ mod common;
 
 use common::{delay, fresh, steps};
 use model::beside::{beside, is_own, time_of};
+use model::constraint::TYPES;
 use model::random::Random;
 use model::random::calls::Play;
 use model::random::seen::Seen;
 use model::random::tables::{Scale, pool, row, row_of_type};
-use model::{Constraint, LAST_KIND, Monitor, Step, TYPES, Verdict};
+use model::{Constraint, Monitor, STREAMS, Step, Verdict};
 
 /// A table with a place for the row that it shares.
 struct Shared {
@@ -51,7 +52,7 @@ fn step_beside(random: &mut Random, monitor: &mut Monitor, row: &Constraint, ste
     let any = |random: &mut Random| match random.below(3) {
         0 => Step::Tick { time },
         1 => step,
-        _ => Step::Event { kind: random.from_to(0, LAST_KIND.into()) as u8, time },
+        _ => Step::of_stream(random.below(STREAMS.into()) as u8, time),
     };
     let tries: Vec<Step> = (0..12).map(|_| any(random)).collect();
     tries.into_iter().find(|other| !is_own(row, *other) && monitor.step(*other).is_ok())
@@ -73,7 +74,7 @@ fn two_lists(random: &mut Random, row: &Constraint, first: &Shared, second: &Sha
 fn the_row_reads_the_same_after_each_place() {
     let mut random = Random::new(70);
     let (mut seen, mut different) = (Seen::default(), 0);
-    for type_byte in TYPES.into_iter().cycle().take(4_500) {
+    for type_byte in TYPES.into_iter().cycle().take(4_000) {
         let (row, first, second) = two_tables(&mut random, type_byte);
         let (one, other) = two_lists(&mut random, &row, &first, &second);
         assert!(beside(&row, &one, &other), "{row:?} {one:?} {other:?}");
@@ -90,7 +91,7 @@ fn the_row_reads_the_same_after_each_place() {
 fn other_rows_change_no_verdict_while_none_has_64() {
     let mut random = Random::new(71);
     let mut seen = Seen::default();
-    for type_byte in TYPES.into_iter().cycle().take(3_600) {
+    for type_byte in TYPES.into_iter().cycle().take(3_200) {
         let (row, first, second) = two_tables(&mut random, type_byte);
         let mut play = Play::new(random.fork(), &first.rows, 100);
         let mut monitor = fresh(&second.rows);
@@ -105,7 +106,7 @@ fn other_rows_change_no_verdict_while_none_has_64() {
             verdict.iter().for_each(|verdict| seen.verdict(&row, *verdict));
         }
     }
-    seen.demand_refusals(8..=12);
+    seen.demand_refusals((8..=12).chain([19]));
     seen.demand_verdicts();
 }
 
@@ -152,7 +153,7 @@ fn one_later(random: &mut Random, table: &Shared, row: &Constraint, list: &[Step
     let place = if places.is_empty() { return None } else { *random.pick(&places) };
     let mut later = list.to_vec();
     match &mut later[place] {
-        Step::Event { time, .. } | Step::Tick { time } => *time += 1,
+        Step::Event { time, .. } | Step::Coloured { time, .. } | Step::Tick { time } => *time += 1,
         Step::Close => {}
     }
     let mut monitor = fresh(&table.rows);

@@ -58,7 +58,7 @@ fn clock_and_count() {
     assert_eq!(monitor.tick(0), Err(11));
     take(&mut monitor, "0@0, 1@0");
     assert_eq!((monitor.event(0, 0), monitor.tick(0)), (Err(11), Err(11)));
-    take(&mut monitor, "tick 5, 1@5, 0@5, 63@9");
+    take(&mut monitor, "tick 5, 1@5, 0@5, 47@9");
     assert_eq!((monitor.event(0, 8), monitor.tick(9), monitor.tick(8)), (Err(11), Err(11), Err(11)));
     assert_eq!((monitor.recorded().clock(), monitor.recorded().count()), (9, 6));
     take(&mut monitor, "tick 72057594037927935, 0@72057594037927935, 1@72057594037927935");
@@ -220,8 +220,22 @@ fn first_no(rows: &[Constraint], accepted: &[Step], call: Step) -> Answer {
         Step::Event { kind, time } => {
             let later = recorded.times(kind).iter().all(|earlier| *earlier < time);
             let in_order = recorded.clock() <= time && later;
-            let taken = open && kind <= 63 && time < 1 << 56 && in_order;
-            vec![(8, open), (9, kind <= 63), (10, time < 1 << 56), (11, in_order), (12, taken && room())]
+            let taken = open && kind < 48 && time < 1 << 56 && in_order;
+            vec![
+                (8, open),
+                (9, kind <= 63),
+                (19, kind < 48),
+                (10, time < 1 << 56),
+                (11, in_order),
+                (12, taken && room()),
+            ]
+        }
+        Step::Coloured { kind, colour, time } => {
+            let form = (48..=63).contains(&kind) && colour < 8;
+            let earlier = |earlier: &&Step| matches!(earlier, Step::Coloured { kind: k, colour: c, time: t } if (*k, *c) == (kind, colour) && *t >= time);
+            let in_order = recorded.clock() <= time && !accepted.iter().any(|step| earlier(&step));
+            let taken = open && form && time < 1 << 56 && in_order;
+            vec![(8, open), (9, kind <= 63), (19, form), (10, time < 1 << 56), (11, in_order), (12, taken && room())]
         }
         Step::Tick { time } => {
             let in_order = recorded.clock() < time;
@@ -262,7 +276,8 @@ fn lists_of_calls_by_the_definitions_alone() {
         let mut monitor = fresh(&rows);
         let mut accepted = Vec::new();
         for call in calls(&mut random, &rows, 10) {
-            if matches!(call, Step::Tick { time } | Step::Event { time, .. } if (100..=LAST_TIME).contains(&time)) {
+            if matches!(call, Step::Tick { time } | Step::Event { time, .. } | Step::Coloured { time, .. } if (100..=LAST_TIME).contains(&time))
+            {
                 break;
             }
             let answer = first_no(&rows, &accepted, call);
@@ -276,6 +291,6 @@ fn lists_of_calls_by_the_definitions_alone() {
             }
         }
     }
-    seen.demand_refusals(8..=11);
+    seen.demand_refusals((8..=11).chain([19]));
     seen.demand_verdicts();
 }

@@ -2,7 +2,7 @@
 
 mod common;
 
-use common::{burst, delay, execution_time, order, repeat, sporadic, strong_delay, synchronization};
+use common::{burst, delay, execution_time, order, reaction, repeat, sporadic, strong_delay, synchronization};
 use model::continuation::is_continuation;
 use model::open::earliest_continuation;
 use model::random::Random;
@@ -29,10 +29,12 @@ fn small_row(random: &mut Random, type_byte: u8) -> Constraint {
 
 /// A next step that can be accepted: mostly an event of the row's at the clock or soon after it, else a tick or close.
 fn next_step(random: &mut Random, row: &Constraint, recorded: &History) -> Step {
-    let kind = *random.pick(&row.kinds());
+    // of the colours the first two will do
+    let near: Vec<u8> = row.streams().into_iter().filter(|stream| *stream < 48 || stream % 8 < 2).collect();
+    let stream = *random.pick(&near);
     let time = recorded.clock() + *random.pick(&[0, 0, 1, 1, 2, 3, 5]);
     match random.below(20) {
-        0..=15 if recorded.event_in_order(kind, time) => Step::Event { kind, time },
+        0..=15 if recorded.event_in_order(stream, time) => Step::of_stream(stream, time),
         19 => Step::Close,
         _ => Step::Tick { time: recorded.clock() + 1 + random.below(2) },
     }
@@ -101,6 +103,11 @@ fn execution_time_beside_the_search() {
 }
 
 #[test]
+fn reaction_beside_the_search() {
+    compare(9, 8_000);
+}
+
+#[test]
 fn repetition_beside_the_search() {
     compare(10, 8_000);
 }
@@ -112,9 +119,10 @@ fn compare_all(row: &Constraint, recorded: &History, last: u64, steps: usize) ->
         return 1;
     }
     let times = recorded.clock()..=last;
-    let events = row.kinds().into_iter().flat_map(|kind| times.clone().map(move |time| (kind, time)));
-    let events = events.filter(|(kind, time)| recorded.event_in_order(*kind, *time));
-    let events = events.map(|(kind, time)| Step::Event { kind, time });
+    let one_colour = row.streams().into_iter().filter(|stream| *stream < 48 || stream % 8 == 0);
+    let events = one_colour.flat_map(|stream| times.clone().map(move |time| (stream, time)));
+    let events = events.filter(|(stream, time)| recorded.event_in_order(*stream, *time));
+    let events = events.map(|(stream, time)| Step::of_stream(stream, time));
     let ticks = (recorded.clock() + 1..=last).map(|time| Step::Tick { time });
     let next = events.chain(ticks).chain([Step::Close]);
     1 + next.map(|step| compare_all(row, &recorded.after(step), last, steps - 1)).sum::<u64>()
@@ -130,6 +138,7 @@ fn every_short_history_beside_the_search() {
         vec![sporadic(0, 0, 3, 0), sporadic(0, 1, 0, 0), sporadic(1, 1, 9, 2), sporadic(2, 2, 1, 0)],
         vec![sporadic(0, NO_LIMIT, 0, 0), sporadic(2, NO_LIMIT, 1, 0), sporadic(1, 3, 2, 0)],
         vec![burst(1, 0, 0), burst(1, 2, 0), burst(2, 3, 0), burst(2, 3, 2), burst(1, 0, 3)],
+        vec![reaction(0, 0), reaction(0, 1), reaction(1, 1), reaction(1, 2), reaction(2, 3)],
         vec![order(), synchronization(2, 0), synchronization(2, 1), synchronization(2, 3)],
     ];
     let compared: u64 = rows.iter().flatten().map(|row| compare_all(row, &History::default(), 4, 5)).sum();

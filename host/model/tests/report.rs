@@ -49,7 +49,8 @@ fn refusals_with_their_places() {
     assert_eq!(text(&TABLE, &RECORDING[..13]), "refused 14 12\n");
     assert_eq!(text(&TABLE, &[1, 0, 0]), "refused 14 1\n");
     assert_eq!(text(&TABLE, &[1, 0, 7, 0, 0, 0, 0, 0, 0, 0]), "refused 14 1\n");
-    assert_eq!(text(&TABLE, &[1, 0, 10, 0, 0, 0, 0, 0, 0, 0, 0, 0, 0]), "refused 14 1\n");
+    assert_eq!(text(&TABLE, &[1, 0, 10, 0, 0, 0, 0, 0, 0, 0, 0, 0, 0]), "refused 19 1\n");
+    assert_eq!(text(&TABLE, &[1, 0, 11, 0, 0, 0, 0, 0, 0, 0, 0, 0, 0, 0]), "refused 14 1\n");
     let steps_text = |list: &str| text(&TABLE, &recording_bytes(&steps(list)));
     assert_eq!(steps_text("0@10, 64@11"), "refused 9 12\n");
     assert_eq!(steps_text("tick 10, 1@72057594037927936"), "refused 10 11\n");
@@ -71,12 +72,36 @@ fn the_first_refusal_on_the_way_counts() {
 
 #[test]
 fn records() {
-    assert_eq!(read_record(&RECORDING[1..]), Ok((Step::Event { kind: 0, time: 10 }, 11)));
-    assert_eq!(read_record(&RECORDING[12..]), Ok((Step::Tick { time: 14 }, 10)));
-    assert_eq!((read_record(&[]), read_record(&[0]), read_record(&[0, 8, 0])), (Err(14), Err(14), Err(14)));
-    let all = "0@0, 63@0, tick 5, 5@72057594037927935";
+    assert_eq!(read_record(1, &RECORDING[1..]), Ok((Step::Event { kind: 0, time: 10 }, 11)));
+    assert_eq!(read_record(1, &RECORDING[12..]), Ok((Step::Tick { time: 14 }, 10)));
+    assert_eq!((read_record(1, &[]), read_record(1, &[0]), read_record(1, &[0, 8, 0])), (Err(14), Err(14), Err(14)));
+    let all = "0@0, 63/7@0, 48/0@0, 48/1@0, tick 5, 47@72057594037927935";
     let monitor = read_recording(fresh(&[]), &recording_bytes(&steps(all))).expect("an accepted recording");
     assert_eq!((monitor.steps(), monitor.recorded().clock()), (&steps(all)[..], LAST_TIME));
+}
+
+#[test]
+fn versions_and_colours() {
+    let text = |bytes: &[u8]| report_text(&[1], bytes);
+    let coloured = recording_bytes(&steps("48/1@10"));
+    assert_eq!(coloured, [2, 0, 10, 48, 1, 0, 0, 0, 0, 0, 0, 0, 10]);
+    assert_eq!(text(&coloured), "closed 2\n");
+    // in version 1 there is no colour, and a kind above 63 is asked for first
+    let with = |version: u8, kind: u8, colour: u8| [&[version, 0, 10, kind, colour], &[0; 8][..]].concat();
+    assert_eq!(text(&with(1, 48, 1)), "refused 19 1\n");
+    assert_eq!(text(&with(1, 64, 1)), "refused 9 1\n");
+    assert_eq!(text(&with(2, 48, 8)), "refused 19 1\n");
+    assert_eq!(text(&with(2, 47, 0)), "refused 19 1\n");
+    assert_eq!(text(&with(3, 48, 1)), "refused 13 0\n");
+    // an event of a coloured kind without a colour, in both versions, and version 2 without colours
+    for version in [1, 2] {
+        let plain = |kind: u8| [&[version, 0, 9, kind], &[0; 8][..]].concat();
+        assert_eq!((text(&plain(48)), text(&plain(47))), ("refused 19 1\n".to_string(), "closed 2\n".to_string()));
+    }
+    assert_eq!(text(&[&[2, 0, 11], &[0; 11][..]].concat()), "refused 14 1\n");
+    // times rise within a kind and a colour
+    assert_eq!(text(&recording_bytes(&steps("48/1@10, 48/2@10, 49/1@10"))), "closed 4\n");
+    assert_eq!(text(&recording_bytes(&steps("48/1@10, 48/1@10"))), "refused 11 13\n");
 }
 
 #[test]

@@ -2,7 +2,9 @@
 
 mod common;
 
-use common::{burst, delay, execution_time, order, repeat, repetition, sporadic, strong_delay, synchronization};
+use common::{
+    burst, delay, execution_time, order, reaction, repeat, repetition, sporadic, strong_delay, synchronization,
+};
 use model::random::Random;
 use model::random::seen::Seen;
 use model::random::tables::{any_table, damaged_rows, damaged_table};
@@ -33,6 +35,7 @@ fn every_type_in_bytes() {
         synchronization(3, 2),
         synchronization(4, 3),
         execution_time(2, 5),
+        reaction(4, 6),
         repetition(8, 5, 6, 7),
     ];
     let bytes = hex("01
@@ -46,6 +49,7 @@ fn every_type_in_bytes() {
         000D 07 03 00 01 02 0000000000000002
         000E 07 04 00 01 02 03 0000000000000003
         0015 08 00 01 02 03 0000000000000002 0000000000000005
+        0013 09 30 31 0000000000000004 0000000000000006
         001B 0A 00 08 0000000000000005 0000000000000006 0000000000000007");
     assert_eq!(table_bytes(&rows), bytes);
     assert_eq!(read_table(&bytes), Ok(rows.to_vec()));
@@ -80,7 +84,8 @@ fn shape() {
         "0001 08",
         "0003 08 00 01",
         "0003 09 00 01",
-        "0013 09 00 01 0000000000000002 0000000000000003",
+        "0012 09 30 31 0000000000000004 00000000000006",
+        "0013 0B 00 01 0000000000000002 0000000000000003",
         "0003 00 00 01",
         "0003 FF 00 01",
     ] {
@@ -126,6 +131,18 @@ fn fields_in_order() {
     assert_eq!(execution(0, 1, 2, 64, 2, 5), (5, 6));
     assert_eq!(execution(0, 1, 2, 3, 2, u64::MAX), (6, 6));
     assert_eq!(execution(0, 1, 2, 3, 6, 5), (7, 6));
+    // plain kinds in all types but 9, coloured ones in type 9: after 5, and before 6 and 7
+    let reaction = |stimulus, response, minimum, maximum| Constraint::Reaction { stimulus, response, minimum, maximum };
+    assert_eq!(number(delay(48, 1, u64::MAX, 0)), (18, 6));
+    assert_eq!(number(delay(0, 63, 2, 1)), (18, 6));
+    assert_eq!(number(Constraint::Repeat { event: 48, span: 0, lower: 0, upper: 0 }), (18, 6));
+    assert_eq!(number(Constraint::StrongSynchronization { kinds: vec![1, 2, 48], tolerance: 0 }), (18, 6));
+    assert_eq!(number(reaction(0, 49, 4, 6)), (18, 6));
+    assert_eq!(number(reaction(48, 47, 6, 4)), (18, 6));
+    assert_eq!(number(reaction(48, 48, 4, 6)), (5, 6));
+    assert_eq!(number(reaction(48, 64, 4, 6)), (5, 6));
+    assert_eq!(number(reaction(48, 49, 6, u64::MAX)), (6, 6));
+    assert_eq!(number(reaction(48, 49, 6, 4)), (7, 6));
     assert_eq!((number(repetition(0, 1, 2, 3)), number(repetition(9, 1, 2, 3))), ((6, 6), (6, 6)));
     assert_eq!((number(repetition(8, 2, 1, 3)), number(repetition(8, 1, u64::MAX, 3))), ((7, 6), (6, 6)));
     assert_eq!(number(repetition(8, 1, 2, LAST_TIME + 1)), (6, 6));
@@ -166,5 +183,5 @@ fn what_is_written_is_read_and_what_is_read_is_written() {
         let written = seen.answer(write_table(&rows, &mut buffer).map(|_| ()));
         assert_eq!(written, Monitor::fresh(&rows).map(|_| ()));
     }
-    seen.demand_refusals(1..=7);
+    seen.demand_refusals((1..=7).chain([18]));
 }

@@ -8,7 +8,7 @@ use mathlib.Core.Bool.{false}
 use mathlib.Core.List.{List, [], _∷_, _++_, map, append-nil, append-assoc}
 use mathlib.Core.Logic.{by-cases}
 use lib.ListN.{length, length-append}
-use Rattle.constraint.specs.Limits.{lastKind}
+use Rattle.constraint.specs.Limits.{streamCount}
 use Rattle.constraint.specs.Steps.{Step, event, tick, at, times, clock, closed}
 use Rattle.constraint.specs.Meets.{MeetsStrongSynchronization}
 use Rattle.constraint.specs.Continuation.{EventInOrder, Continues, stop, more}
@@ -17,7 +17,7 @@ use Rattle.constraint.specs.Accepted.{KindsFit}
 use Rattle.constraint.proofs.Lists.{at-left, at-right, Each, each-none, each-cons, each-append, each-tail, Rising, rising-snoc}
 use Rattle.constraint.proofs.History.{times-append, times-own, times-other, times-tick, clock-event, clock-tick, closed-event, with-time}
 use Rattle.constraint.proofs.Continuations.{SameTimes, continues-late}
-use Rattle.machine.proofs.SeveralKinds.{kinds-small, kinds-apart}
+use Rattle.machine.proofs.SeveralKinds.{kinds-stream, kinds-apart}
 use Rattle.groups.proofs.Laws.Groups.{Groups, Behind, Added, longer-own, longer-old, groups-before, oldest-first, groups-joined, groups-left}
 
 -- the times of the j-th of these kinds
@@ -118,7 +118,7 @@ module _ (ks : List ℕ) (fit : KindsFit ks) (tolerance : ℕ) where
   abbrev pub Completes : List Step → Type 0
   Completes steps = (further : List Step) × Continues steps further × MeetsStrongSynchronization ks tolerance (steps ++ further)
 
-  completes-before : (steps : List Step) (k t : ℕ) → closed steps ≡ false → k ≤ lastKind → EventInOrder steps k t
+  completes-before : (steps : List Step) (k t : ℕ) → closed steps ≡ false → k < streamCount → EventInOrder steps k t
       → Completes (steps ++ (event k t ∷ [])) → Completes steps
   completes-before steps k t goes-on small order (further, follows, meets) = (
     event k t ∷ further,
@@ -170,7 +170,7 @@ module _ (ks : List ℕ) (fit : KindsFit ks) (tolerance : ℕ) where
       (λ j l g. by-cases (ℕ-discrete j m) (λ e. rw e has) (λ e. full j (omega arith) g)) rest)
       (λ has. let lacks : length (column ks steps m) ≡ done = omega (arith, pending .groups .complete m h) in
       let added = columns-added ks fit steps m (f + tolerance) h in
-      completes-before steps (at ks m) (f + tolerance) (pending .goes-on) (kinds-small ks fit m h)
+      completes-before steps (at ks m) (f + tolerance) (pending .goes-on) (kinds-stream ks fit m h)
       (lacking-in-order done f fs steps pending m h lacks)
       (completes-oldest m done f fs (steps ++ (lacking f m ∷ [])) (omega arith) (pending-event done f fs steps pending m h lacks)
       (λ j l g. by-cases (ℕ-discrete j m)

@@ -12,15 +12,15 @@ use Rattle.constraint.specs.Steps.{Step, event, tick, at, own, clock, closed}
 use Rattle.constraint.specs.Meets.{Meets, MeetsStrongSynchronization}
 use Rattle.constraint.specs.Continuation.{Open}
 use Rattle.constraint.specs.Waiting.{waiting, begunIncomplete}
-use Rattle.constraint.specs.Accepted.{kinds, KindsFit}
+use Rattle.constraint.specs.Accepted.{kinds, streams, KindsFit}
 use Rattle.constraint.specs.declared.Constraint.{Constraint}
 use Rattle.constraint.specs.declared.Constraint.the-variants.{StrongSynchronization2, StrongSynchronization3, StrongSynchronization4}
 use Rattle.constraint.proofs.History.{Accepts, Past}
-use Rattle.constraint.proofs.Continuations.{same-times}
+use Rattle.constraint.proofs.Continuations.{SameTimes, same-times}
 use Rattle.machine.specs.Rule.{ruleOf, startWords}
 use Rattle.machine.specs.Parts.{dueOldest, none-left}
 use Rattle.machine.specs.declared.Marks.{Marks}
-use Rattle.machine.proofs.Exact.{Sound, OfKind, Starts, GoesOn, ByOutcome, Exact}
+use Rattle.machine.proofs.Exact.{Sound, OfStream, Starts, GoesOn, ByOutcome, Exact}
 use Rattle.machine.proofs.SeveralKinds.{by-place}
 use Rattle.machine.proofs.Oldest.{due-within, due-passed}
 use Rattle.groups.specs.StrongSynchronization.{decideStrongSynchronization}
@@ -31,6 +31,7 @@ use Rattle.groups.proofs.Laws.LiveGroups.{LiveGroups, due, kept, live-n
 -- a row of a list of kinds: its rule, its definition and what waits are those of the list
 record Synchronized (c : Constraint) : Type 1 where
   names : Names (ruleOf c) (kinds c)
+  streams-are : streams c ≡ kinds c
   no-words : startWords (ruleOf c) ≡ []
   meets : (steps : List Step) → Meets c steps ≡ MeetsStrongSynchronization (kinds c) (ruleOf c .upper) steps
   waits : (steps : List Step) → waiting c steps ≡ begunIncomplete (kinds c) steps
@@ -49,12 +50,12 @@ module _ (c : Constraint) (s : Synchronized c) where
 
   -- ---- Events
 
-  live-does : {steps : List Step} {marks : Marks} {firsts : List ℕ} {k t : ℕ} → Past steps → Live steps marks firsts → OfKind c k
+  live-does : {steps : List Step} {marks : Marks} {firsts : List ℕ} {k t : ℕ} → Past steps → Live steps marks firsts → OfStream c k
       → Accepts steps (event k t) → t ≤ dueOldest tolerance firsts
       → ByOutcome (¬ Open c (steps ++ (event k t ∷ []))) (GoesOn (Live (steps ++ (event k t ∷ []))) (due tolerance) kept firsts t)
       (decideStrongSynchronization (ruleOf c) marks firsts k t)
   live-does {steps} {marks} {firsts} {k} {t} past live =
-      by-place c (λ j. Accepts steps (event j t) → t ≤ dueOldest tolerance firsts
+      by-place c (kinds c) (s .streams-are) (λ j. Accepts steps (event j t) → t ≤ dueOldest tolerance firsts
       → ByOutcome (¬ Open c (steps ++ (event j t ∷ []))) (GoesOn (Live (steps ++ (event j t ∷ []))) (due tolerance) kept firsts t)
       (decideStrongSynchronization (ruleOf c) marks firsts j t))
       (λ i h accepts in-time. event-does (s .names) tolerance steps marks firsts i t past live h accepts in-time
@@ -62,9 +63,9 @@ module _ (c : Constraint) (s : Synchronized c) where
 
   -- ---- Ticks
 
-  live-same : (a b : List Step) (marks : Marks) (firsts : List ℕ) → own (kinds c) a ≡ own (kinds c) b → Live a marks firsts → Live b marks firsts
+  live-same : (a b : List Step) (marks : Marks) (firsts : List ℕ) → own (streams c) a ≡ own (streams c) b → Live a marks firsts → Live b marks firsts
   live-same a b marks firsts equal live =
-      let same = same-times (kinds c) a b equal in
+      let same : SameTimes (kinds c) a b = rw (s .streams-are) at (same-times (streams c) a b equal) in
       record {
         done = live .done;
         groups = groups-same (kinds c) tolerance a b same (live .groups);
@@ -127,6 +128,7 @@ unfolding Meets waiting
 exactStrongSynchronization2 a b tolerance sound =
     exact-synchronized (StrongSynchronization2 a b tolerance) (record {
       names = record { fit = sound .kinds-fit; several = omega arith; absent = 2; padded = refl };
+      streams-are = refl;
       no-words = refl;
       meets = λ steps. refl;
       waits = λ steps. refl;
@@ -138,6 +140,7 @@ unfolding Meets waiting
 exactStrongSynchronization3 a b c tolerance sound =
     exact-synchronized (StrongSynchronization3 a b c tolerance) (record {
       names = record { fit = sound .kinds-fit; several = omega arith; absent = 1; padded = refl };
+      streams-are = refl;
       no-words = refl;
       meets = λ steps. refl;
       waits = λ steps. refl;
@@ -149,6 +152,7 @@ unfolding Meets waiting
 exactStrongSynchronization4 a b c d tolerance sound =
     exact-synchronized (StrongSynchronization4 a b c d tolerance) (record {
       names = record { fit = sound .kinds-fit; several = omega arith; absent = 0; padded = refl };
+      streams-are = refl;
       no-words = refl;
       meets = λ steps. refl;
       waits = λ steps. refl;

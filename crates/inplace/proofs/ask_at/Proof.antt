@@ -17,6 +17,7 @@ use types.Part.{whole, sub, look-in}
 use sound.WpLaws.{fmOf}
 use denote.Triple.Statement.{Triple}
 use denote.Triple.Table.{cited}
+use Rattle.constraint.specs.Limits.{streamCount}
 use Rattle.monitor.specs.Machine.{placeFor}
 use Rattle.monitor.proofs.Answers.{place-small}
 use Rattle.inplace.proofs.Plain.{typed}
@@ -27,7 +28,7 @@ use Rattle.inplace.proofs.Loans.{opened, closed}
 use Rattle.inplace.proofs.Elem.{elem}
 use Rattle.inplace.proofs.Calls.{pure-triple, calls-plain}
 use Rattle.inplace.proofs.Rows.{word-vals}
-use Rattle.inplace.proofs.Numbers.{place-fits, got-next, next-64, within-next, next-known, clock-known, count-known, closed-known, len-known}
+use Rattle.inplace.proofs.Numbers.{place-fits, got-next, next-whole, within-next, next-known, clock-known, count-known, closed-known, len-known}
 use Rattle.inplace.proofs.Promises.{place, questions, ask-at}
 use Rattle.monitor.proofs.calls.place.Symbol as place-def
 use Rattle.monitor.proofs.calls.place.Symbol.{name as #monitor·calls·place}
@@ -48,11 +49,11 @@ module _
       calls-plain ! (fmOf 𝓤 H (W .laws) 𝓣) place cites-place (a .0, tt) (a-is .0, tt) tt (and-then ! (copies ! 5 refl) (no-more !)) (λ j j-is e.
       lands-in ! 5 refl (typed 𝓤 H A W word-type j j-is) $
       opened ! tt monitor-type L h (λ was.
-      let small : j < 64 = subst (λ (k : ℕ). k < 64) (sym e) (place-small (a .0)) in
+      let small : j < streamCount = subst (λ (k : ℕ). k < streamCount) (sym e) (place-small (a .0)) in
       sets ! (bin ! (copies ! 5 refl) (lit ! tt) (record { fits = place-fits j small })) 7 refl (tt, record { fits = place-fits j small }) $
       sets ! (addr ! (from ! (hop ! (look ! 3 refl) (fld ! refl (stop !))))) 8 refl (tt, tt) $
       sets ! (bin ! (copies ! 8 refl) (copies ! 7 refl) tt) 9 refl (tt, tt) $
-      sets ! (of-opd ! (load ! (from ! (hop ! (look ! 9 refl) (stop !))) (look-in ! 0 (elem ! (word-vals (h .next)) j (vint w64 0) (within-next h was j small) (next-64 h was) (sub ! 1 refl (whole !)))))) 10 refl
+      sets ! (of-opd ! (load ! (from ! (hop ! (look ! 9 refl) (stop !))) (look-in ! 0 (elem ! (word-vals (h .next)) j (vint w64 0) (within-next h was j small) (next-whole h was) (sub ! 1 refl (whole !)))))) 10 refl
       (subst (λ (u : Val). Yes (hasTy (tyInt w64) u) × WT u) (sym (got-next (h .next) j)) (typed 𝓤 H A W word-type (getD (h .next) j 0) (next-known h was j small))) $
       rewrite ! 10 (λ (u : Val). ‵ (fat fullShare (tyInt w64) (bs 8) 0 u)) (got-next (h .next) j) refl $
       sets ! (of-opd ! (copies ! 10 refl)) 6 refl (typed 𝓤 H A W word-type (getD (h .next) j 0) (next-known h was j small)) $

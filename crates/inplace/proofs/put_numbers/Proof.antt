@@ -20,7 +20,7 @@ use Rattle.inplace.proofs.Locals.{leaves, copies, sets}
 use Rattle.inplace.proofs.Loans.{cell, opened, closed}
 use Rattle.inplace.proofs.Elem.{elem}
 use Rattle.inplace.proofs.Rows.{word-vals}
-use Rattle.inplace.proofs.Numbers.{place-fits, with-next, put-next, next-64, within-next, time-known, step-known, free-known, mark-known, with-numbers-known}
+use Rattle.inplace.proofs.Numbers.{place-fits, with-next, put-next, next-whole, within-next, time-known, step-known, free-known, mark-known, with-numbers-known}
 use Rattle.inplace.proofs.Promises.{put-numbers}
 use Rattle.inplace.proofs.put_numbers.Key.{name as #inplace·put-numbers}
 use Rattle.inplace.proofs.put_numbers.Statement as stated
@@ -36,9 +36,9 @@ module _ {M : Type 1} (𝓤 : URA M) (H : Heap 𝓤) (A : Atoms 𝓤) (W : Given
       sets ! (addr ! (from ! (hop ! (look ! 3 refl) (fld ! refl (stop !))))) 6 refl (tt, tt) $
       sets ! (bin ! (copies ! 6 refl) (copies ! 5 refl) tt) 7 refl (tt, tt) $
       assigns ! (of-opd ! (load ! (from ! (fld ! refl (stop !))) (look-in ! 4 (sub ! 5 refl (whole !))))) (from ! (hop ! (look ! 7 refl) (stop !)))
-      (store-in ! 0 (elem ! (word-vals (h .next)) (q .place) (vint w64 0) (within-next h was (q .place) small) (next-64 h was) (sub ! 1 refl (whole !))) (typed 𝓤 H A W word-type (q .free) (free-known q (a-is .0)))) $
+      (store-in ! 0 (elem ! (word-vals (h .next)) (q .place) (vint w64 0) (within-next h was (q .place) small) (next-whole h was) (sub ! 1 refl (whole !))) (typed 𝓤 H A W word-type (q .free) (free-known q (a-is .0)))) $
       rewrite ! 0 (λ (ws : List Val). ‵ (cell monitor-type L (with-next h ws))) (put-next (h .next) (q .place) (q .free)) refl $
-      assigns ! (of-opd ! (load ! (from ! (fld ! refl (fld ! refl (stop !)))) (look-in ! 4 (sub ! 1 refl (sub ! 2 refl (whole !)))))) (from ! (hop ! (look ! 3 refl) (fld ! refl (stop !))))
+      assigns ! (of-opd ! (load ! (from ! (fld ! refl (fld ! refl (stop !)))) (look-in ! 4 (sub ! 2 refl (sub ! 2 refl (whole !)))))) (from ! (hop ! (look ! 3 refl) (fld ! refl (stop !))))
       (store-in ! 0 (sub ! 2 refl (whole !)) (typed 𝓤 H A W word-type (q .occurrence .time) (time-known q (a-is .0)))) $
       assigns ! (of-opd ! (load ! (from ! (fld ! refl (stop !))) (look-in ! 4 (sub ! 3 refl (whole !))))) (from ! (hop ! (look ! 3 refl) (fld ! refl (stop !))))
       (store-in ! 0 (sub ! 3 refl (whole !)) (typed 𝓤 H A W word-type (q .step) (step-known q (a-is .0)))) $

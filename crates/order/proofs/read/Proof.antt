@@ -3,6 +3,8 @@ use native.Mathlib.Omega.{arith}
 use borrow.Author.Needs.{needs}
 use mathlib.Core.Path.{_≡_}
 use denote.Ref.{now}
+use Rattle.queue.proofs.Shared.{free}
+use Rattle.constraint.specs.Steps.{at}
 use Rattle.recording.specs.Record.{ReadsRecord}
 use Rattle.recording.specs.declared.Record.{Record}
 use Rattle.recording.proofs.Records.{read-of-stretch}
@@ -12,13 +14,11 @@ use Rattle.order.proofs.read.Tie as tie
 
 -- what was read of the record at the place
 found : (c : tie.After-read-record) (r : Record) → c .read-record .result ≡ r
-    → ReadsRecord (now (c .before .before .before .before .args .bytes)) (c .before .before .before .before .args .place) r
+    → ReadsRecord (at (now (c .before .before .before .before .before .args .bytes)) 0) (now (c .before .before .before .before .before .args .bytes))
+    (c .before .before .before .before .before .args .place) r
 found c r e =
-    let args = c .before .before .before .before .args in
-    read-of-stretch (now (args .bytes)) (args .place) r (rw e at (c .read-record .ensures))
-
-refused-requires : tie.Need-refused-requires
-refused-requires c κs = search needs
+    let args = c .before .before .before .before .before .args in
+    read-of-stretch (at (now (args .bytes)) 0) (now (args .bytes)) (args .place) r (rw (e, c .before .before .version .ensures) at (c .read-record .ensures))
 
 returns : tie.Need-returns
 returns c =
@@ -34,9 +34,6 @@ part-read-record-start c = search needs
 part-read-record-end : tie.Need-part-read-record-end
 part-read-record-end c = search needs
 
-read-record-requires : tie.Need-read-record-requires
-read-record-requires c κs = search needs
-
 enum-known-kind : tie.Need-enum-known-kind
 enum-known-kind c = search needs
 
@@ -46,46 +43,53 @@ add-asked c =
     let there = found (at-kind .before .before) _ (at-kind .kind .given .1) in
     omega (arith, there .size-read, there .there .0 .1)
 
-asked-requires : tie.Need-asked-requires
-asked-requires c κs = search needs
+enum-known-kind-2 : tie.Need-enum-known-kind-2
+enum-known-kind-2 c = search needs
+
+add-asked-2 : tie.Need-add-asked-2
+add-asked-2 c =
+    let at-kind = c .before in
+    let there = found (at-kind .before .before) _ (at-kind .kind2 .given .1) in
+    omega (arith, there .size-read, there .there .0 .1)
 
 enum-known-time : tie.Need-enum-known-time
 enum-known-time c = search needs
 
-add-asked-2 : tie.Need-add-asked-2
-add-asked-2 c =
+add-asked-3 : tie.Need-add-asked-3
+add-asked-3 c =
     let at-time = c .before in
     let there = found (at-time .before .before) _ (at-time .time .given .1) in
     omega (arith, there .size-read, there .there .0 .1)
 
-asked-requires-2 : tie.Need-asked-requires-2
-asked-requires-2 c κs = search needs
-
 enum-known-number : tie.Need-enum-known-number
 enum-known-number c = search needs
-
-refused-requires-2 : tie.Need-refused-requires-2
-refused-requires-2 c κs = search needs
 
 returns-2 : tie.Need-returns-2
 returns-2 c =
     let at-kind = c .before .before in
     let at-record = at-kind .before .before in
-    let args = at-record .before .before .before .before .args in
+    let args = at-record .before .before .before .before .before .args in
     read-call (now (args .bytes)) (args .place) (args .order) _ _ _ (found at-record _ (at-kind .kind .given .1)) (c .asked .ensures)
 
 returns-3 : tie.Need-returns-3
 returns-3 c =
-    let at-time = c .before .before in
-    let at-record = at-time .before .before in
-    let args = at-record .before .before .before .before .args in
-    read-call (now (args .bytes)) (args .place) (args .order) _ _ _ (found at-record _ (at-time .time .given .1)) (c .asked2 .ensures)
+    let at-kind = c .before .before in
+    let at-record = at-kind .before .before in
+    let args = at-record .before .before .before .before .before .args in
+    read-call (now (args .bytes)) (args .place) (args .order) _ _ _ (found at-record _ (at-kind .kind2 .given .1)) (c .asked2 .ensures)
 
 returns-4 : tie.Need-returns-4
 returns-4 c =
+    let at-time = c .before .before in
+    let at-record = at-time .before .before in
+    let args = at-record .before .before .before .before .before .args in
+    read-call (now (args .bytes)) (args .place) (args .order) _ _ _ (found at-record _ (at-time .time .given .1)) (c .asked3 .ensures)
+
+returns-5 : tie.Need-returns-5
+returns-5 c =
     let at-number = c .before .before in
     let at-record = at-number .before .before in
-    let args = at-record .before .before .before .before .args in
+    let args = at-record .before .before .before .before .before .args in
     let refused = found at-record _ (at-number .number .given .1) in
     rw (c .refused2 .ensures, refused .1) (read-none (now (args .bytes)) (args .place) (args .order) (refused .0))
 
@@ -93,20 +97,5 @@ pub read-spec : {M : Type 1} → statement M
 read-spec =
     tie.close
     (tie.spec
-    refused-requires
-    returns
-    sub-read-record
-    part-read-record-start
-    part-read-record-end
-    read-record-requires
-    enum-known-kind
-    add-asked
-    asked-requires
-    enum-known-time
-    add-asked-2
-    asked-requires-2
-    enum-known-number
-    refused-requires-2
-    returns-2
-    returns-3
-    returns-4)
+    free returns free sub-read-record part-read-record-start part-read-record-end free enum-known-kind add-asked free enum-known-kind-2 add-asked-2 free
+    enum-known-time add-asked-3 free enum-known-number free returns-2 returns-3 returns-4 returns-5)

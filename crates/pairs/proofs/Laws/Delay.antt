@@ -239,7 +239,7 @@ module _ (source target lower upper : ℕ) (sound : Sound (Delay source target l
 
   delay-of : OfTwoKinds (Delay source target lower upper) source target (MeetsDelay lower upper) (unanswered lower upper)
   unfolding Meets waiting
-  delay-of = record { kinds-are = refl; kinds-fit = sound .kinds-fit; no-words = refl; meets-are = λ steps. refl; waiting-is = λ steps. refl }
+  delay-of = record { kinds-are = refl; streams-are = refl; kinds-fit = sound .kinds-fit; no-words = refl; meets-are = λ steps. refl; waiting-is = λ steps. refl }
 
   pub exactDelay : Exact (Delay source target lower upper) (decideDelay rule)
   exactDelay = exactTwoKinds delay-of (decideDelay rule) delay-laws

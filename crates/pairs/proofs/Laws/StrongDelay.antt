@@ -215,5 +215,5 @@ module _ (source target lower upper : ℕ) (sound : Sound (StrongDelay source ta
   unfolding Meets MeetsStrongDelay waiting
   exactStrongDelay =
       exactTwoKinds
-      (record { kinds-are = refl; kinds-fit = sound .kinds-fit; no-words = refl; meets-are = λ steps. refl; waiting-is = λ steps. refl })
+      (record { kinds-are = refl; streams-are = refl; kinds-fit = sound .kinds-fit; no-words = refl; meets-are = λ steps. refl; waiting-is = λ steps. refl })
       (decideStrongDelay rule) strong-delay-laws

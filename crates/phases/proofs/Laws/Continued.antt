@@ -6,7 +6,7 @@ use mathlib.Core.Path.{_≡_, refl, sym, ap, _∙_, subst}
 use mathlib.Core.Bool.{true, false, cond}
 use mathlib.Core.List.{List, [], _∷_, _++_, map, append-assoc}
 use lib.Dec.{eqb}
-use Rattle.constraint.specs.Limits.{lastKind}
+use Rattle.constraint.specs.Limits.{streamCount}
 use Rattle.constraint.specs.Steps.{Step, event, times, among, own, clock, closed}
 use Rattle.constraint.specs.Continuation.{Continues, stop, more}
 use Rattle.constraint.proofs.Lists.{split, Each, each-none, each-cons}
@@ -70,7 +70,7 @@ stepsFor (e ∷ es) = event (e .0) (e .1) ∷ stepsFor es
 
 abbrev pub OfKinds : List ℕ → List (ℕ × ℕ) → Type 0
 OfKinds ks [] = Unit {0}
-OfKinds ks (e ∷ es) = ((e .0 ≤ lastKind) × (among (e .0) ks ≡ true)) × OfKinds ks es
+OfKinds ks (e ∷ es) = ((e .0 < streamCount) × (among (e .0) ks ≡ true)) × OfKinds ks es
 
 pub own-steps : (ks : List ℕ) (es : List (ℕ × ℕ)) → OfKinds ks es → own ks (stepsFor es) ≡ es
 unfolding own

@@ -9,7 +9,7 @@ use mathlib.Core.Logic.{_↔_, inl, inr}
 use lib.ListN.{length}
 use lib.Dec.{leb, ltb, eqb}
 use borrow.Author.Tests.{eqb-true, eqb-false, ne-eqb, ltb-true, ltb-false}
-use Rattle.constraint.specs.Limits.{lastKind, lastTime, noLimit, waitingLimit}
+use Rattle.constraint.specs.Limits.{streamCount, lastTime, noLimit, waitingLimit}
 use Rattle.constraint.specs.Steps.{Step, event, tick, at, among, own, clock, closed}
 use Rattle.constraint.specs.Meets.{Meets, MeetsExecutionTime}
 use Rattle.constraint.specs.Continuation.{Continues, Open}
@@ -19,15 +19,15 @@ use Rattle.constraint.specs.declared.Constraint.{Constraint}
 use Rattle.constraint.specs.declared.Constraint.the-variants.{ExecutionTime}
 use Rattle.constraint.proofs.Lists.{split, both}
 use Rattle.constraint.proofs.History.{Accepts, Past, own-append, own-tick, clock-tick}
-use Rattle.constraint.proofs.Continuations.{among-at}
+use Rattle.constraint.proofs.Streams.{among-at}
 use Rattle.machine.specs.Rule.{ruleOf}
 use Rattle.machine.specs.Parts.{noMarks, plus, breaking}
 use Rattle.machine.specs.declared.Rule.{Rule}
 use Rattle.machine.specs.declared.Marks.{Marks}
 use Rattle.machine.specs.declared.Change.{Change}
-use Rattle.machine.proofs.Exact.{Sound, OfKind, GoesOn, ByOutcome, outcome-map, Exact}
+use Rattle.machine.proofs.Exact.{Sound, GoesOn, ByOutcome, outcome-map, Exact}
 use Rattle.machine.proofs.Tests.{Tells, holds, fails, tells-leb, tells-same, tells-and}
-use Rattle.machine.proofs.SeveralKinds.{kinds-small, kinds-apart, by-place}
+use Rattle.machine.proofs.SeveralKinds.{kinds-stream, kinds-apart, by-place}
 use Rattle.phases.specs.ExecutionTime.{ranTo, inPhase, idleFrom, runningFrom, preemptedFrom}
 use Rattle.phases.specs.ExecutionTime.{whileIdle, whileRunning, whilePreempted, decideExecutionTime}
 use Rattle.phases.proofs.Laws.Executions.{Phase, idle, runs, waits, ranBy, RisesFrom}
@@ -310,8 +310,8 @@ module _ (start stop preempt resume lower upper : ℕ) (sound : Sound (Execution
       → WayOut now (phaseBy x y (marks .ran)) (marks .last))
       (λ room in-time. ([], tt, tt, tt)) running-out preempted-out (keeps .room) soon
     where
-      of-place : (i : ℕ) → i < 4 → (at ks i ≤ lastKind) × (among (at ks i) ks ≡ true)
-      of-place i h = (kinds-small ks (sound .kinds-fit) i h, among-at ks i h)
+      of-place : (i : ℕ) → i < 4 → (at ks i < streamCount) × (among (at ks i) ks ≡ true)
+      of-place i h = (kinds-stream ks (sound .kinds-fit) i h, among-at ks i h)
 
       running-out : marks .ran + 1 ≤ upper → now ≤ plus (marks .last) (upper - (marks .ran + 1)) → WayOut now (runs (marks .ran)) (marks .last)
       running-out room in-time = (
@@ -373,7 +373,7 @@ module _ (start stop preempt resume lower upper : ℕ) (sound : Sound (Execution
           due-is = refl;
           kept-is = refl;
         };
-        does = λ p live of-kind a soon. event-does live (by-place c (λ k. among k ks ≡ true) (among-at ks) of-kind) a soon;
+        does = λ p live of-stream a soon. event-does live (by-place c ks refl (λ k. among k ks ≡ true) (among-at ks) of-stream) a soon;
         same = keeps-same _ _ _ _;
         late = λ p live passed recordable. shut _
             (rw (clock-tick _ _, own-tick ks _ _) (λ further first. too-late _ _ _ _ live passed recordable further first));

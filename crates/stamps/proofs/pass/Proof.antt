@@ -21,7 +21,7 @@ returns : tie.Need-returns Inv-loop μ-loop
 returns c =
     let asked = c .before in
     record {
-      refused = λ more. version-refused (failed (asked .version-one .result) (asked .version-one .ensures) (c .if1 .taken));
+      refused = λ more. version-refused (failed (asked .version-known .result) (asked .version-known .ensures) (c .if1 .taken));
       taken = λ e. absurd (omega (arith, e));
     }
 
@@ -32,7 +32,7 @@ loop-holds c =
     let asked = checked .before in
     let args = asked .before .before .args in
     rw (c .new .ensures)
-    (pass-start (now (args .bytes)) (args .asked) (passed (asked .version-one .result) (asked .version-one .ensures) (checked .if1 .left)) (started .start .result) (started .start .ensures))
+    (pass-start (now (args .bytes)) (args .asked) (passed (asked .version-known .result) (asked .version-known .ensures) (checked .if1 .left)) (started .start .result) (started .start .ensures))
 
 returns-2 : tie.Need-returns-2 Inv-loop μ-loop
 returns-2 c =

@@ -5,7 +5,8 @@ pub mod report;
 mod ring;
 mod rule;
 
-use model::{Answer, Constraint, LAST_KIND, LAST_TIME, Step, Verdict};
+use model::constraint::stream;
+use model::{Answer, Constraint, FIRST_COLOURED, LAST_COLOUR, LAST_KIND, LAST_TIME, Step, Verdict};
 use rule::Rule;
 
 /// A row: its rule, the last clock at which it is open without an event of its own, and the step that broke it (or 0).
@@ -20,15 +21,15 @@ struct Row {
 #[derive(Clone, Debug)]
 pub struct Plain {
     rows: Vec<Row>,
-    /// The rows that an event of each kind concerns.
-    concerned: [u32; 64],
+    /// The rows that an event of each stream concerns.
+    concerned: [u32; 176],
     /// The rows not broken, and those in which 64 wait.
     open: u32,
     full: u32,
     /// No open row is due before this time.
     soonest: u64,
-    /// For each kind the first time still free.
-    free: [u64; 64],
+    /// For each stream the first time still free.
+    free: [u64; 176],
     clock: u64,
     count: u64,
     closed: bool,
@@ -37,19 +38,20 @@ pub struct Plain {
 impl Plain {
     /// A fresh monitor over at most 32 rows that are accepted.
     pub fn new(rows: &[Constraint]) -> Plain {
-        let mut concerned = [0; 64];
+        let mut concerned = [0; 176];
         for (place, row) in rows.iter().enumerate() {
-            row.kinds().iter().for_each(|kind| concerned[usize::from(*kind)] |= 1 << place);
+            row.streams().iter().for_each(|stream| concerned[usize::from(*stream)] |= 1 << place);
         }
         let open = ((1u64 << rows.len()) - 1) as u32;
         let rows = rows.iter().map(|row| Row { rule: Rule::new(row), due: u64::MAX, broken: 0 }).collect();
-        Plain { rows, concerned, open, full: 0, soonest: u64::MAX, free: [0; 64], clock: 0, count: 0, closed: false }
+        Plain { rows, concerned, open, full: 0, soonest: u64::MAX, free: [0; 176], clock: 0, count: 0, closed: false }
     }
 
     /// Takes a step, or refuses it with the number of its refusal.
     pub fn step(&mut self, step: Step) -> Answer {
         match step {
             Step::Event { kind, time } => self.event(kind, time),
+            Step::Coloured { kind, colour, time } => self.coloured_event(kind, colour, time),
             Step::Tick { time } => self.tick(time),
             Step::Close => self.close(),
         }
@@ -62,22 +64,43 @@ impl Plain {
         if kind > LAST_KIND {
             return Err(9);
         }
+        if kind >= FIRST_COLOURED {
+            return Err(19);
+        }
+        self.stream_event(kind, time)
+    }
+
+    pub fn coloured_event(&mut self, kind: u8, colour: u8, time: u64) -> Answer {
+        if self.closed {
+            return Err(8);
+        }
+        if kind > LAST_KIND {
+            return Err(9);
+        }
+        if kind < FIRST_COLOURED || colour > LAST_COLOUR {
+            return Err(19);
+        }
+        self.stream_event(stream(kind, colour), time)
+    }
+
+    /// An event of a stream.
+    fn stream_event(&mut self, stream: u8, time: u64) -> Answer {
         if time > LAST_TIME {
             return Err(10);
         }
-        let place = usize::from(kind);
+        let place = usize::from(stream);
         if time < self.clock || time < self.free[place] {
             return Err(11);
         }
         let concerned = self.concerned[place] & self.open;
-        if concerned & self.full != 0 && self.crowded(concerned & self.full, kind, time) {
+        if concerned & self.full != 0 && self.crowded(concerned & self.full, stream, time) {
             return Err(12);
         }
         self.count += 1;
         self.clock = time;
         self.free[place] = time + 1;
         self.pass(time);
-        each(concerned & self.open, |row| self.row_event(row, kind, time));
+        each(concerned & self.open, |row| self.row_event(row, stream, time));
         Ok(())
     }
 

@@ -1,6 +1,7 @@
 //! A row's constraint with what it keeps of the events so far, changed in place.
 
 use super::ring::Ring;
+use model::constraint::stream;
 use model::{Constraint, NO_LIMIT};
 
 /// No time: later than all.
@@ -23,6 +24,8 @@ pub enum Rule {
     StrongSynchronization { kinds: [u8; 4], n: usize, tolerance: u64, begun: Ring, counts: [usize; 4] },
     /// The phase of the execution, its last event, and how long it has run up to that event.
     ExecutionTime { kinds: [u8; 4], lower: u64, upper: u64, phase: Phase, last: u64, ran: u64 },
+    /// For each colour where its first response has to come, or when it came.
+    Reaction { stimuli: u8, minimum: u64, maximum: u64, colours: [Colour; 8] },
     /// From where to where each of the last hidden points can be, as many as the span: low and high in turn.
     Repetition { span: u64, lower: u64, upper: u64, jitter: u64, places: Ring },
 }
@@ -33,6 +36,18 @@ pub enum Phase {
     Idle,
     Running,
     Preempted,
+}
+
+/// A colour of a Reaction.
+#[derive(Clone, Copy, Debug)]
+pub enum Colour {
+    Quiet,
+    /// The first response has to come from here to there.
+    Waits {
+        from: u64,
+        to: u64,
+    },
+    Answered(u64),
 }
 
 impl Rule {
@@ -59,6 +74,9 @@ impl Rule {
                 let kinds = [start, stop, preempt, resume];
                 Rule::ExecutionTime { kinds, lower, upper, phase: Phase::Idle, last: NEVER, ran: 0 }
             }
+            Constraint::Reaction { stimulus, minimum, maximum, .. } => {
+                Rule::Reaction { stimuli: stream(stimulus, 0), minimum, maximum, colours: [Colour::Quiet; 8] }
+            }
             Constraint::Repetition { span, lower, upper, jitter, .. } => {
                 Rule::Repetition { span: span.into(), lower, upper, jitter, places: Ring::default() }
             }
@@ -79,11 +97,12 @@ impl Rule {
             | Rule::Sporadic { .. }
             | Rule::Order { .. }
             | Rule::ExecutionTime { .. }
+            | Rule::Reaction { .. }
             | Rule::Repetition { .. } => false,
         }
     }
 
-    /// Takes an event of one of its kinds, before which it was not overdue. Is it still open?
+    /// Takes an event of one of its streams, before which it was not overdue. Is it still open?
     pub fn event(&mut self, kind: u8, time: u64) -> bool {
         match self {
             Rule::Delay { source, lower, waiting, target, .. } => {
@@ -114,6 +133,14 @@ impl Rule {
                 true
             }
             Rule::ExecutionTime { .. } => self.execution_event(kind, time),
+            Rule::Reaction { stimuli, minimum, maximum, colours } => {
+                let colour = &mut colours[usize::from(kind % 8)];
+                if kind - kind % 8 == *stimuli {
+                    stimulus(colour, *minimum, *maximum, time)
+                } else {
+                    response(colour, time)
+                }
+            }
             Rule::Repetition { .. } => self.repetition_event(time),
         }
     }
@@ -180,6 +207,7 @@ impl Rule {
             Rule::Sporadic { upper, jitter, high, .. } => high.saturating_add(*upper).saturating_add(*jitter),
             Rule::ExecutionTime { upper, phase: Phase::Running, last, ran, .. } => last + (upper - ran),
             Rule::ExecutionTime { .. } | Rule::Repetition { .. } => NEVER,
+            Rule::Reaction { colours, .. } => colours.iter().map(last_moment).min().unwrap_or(NEVER),
         }
     }
 
@@ -191,6 +219,7 @@ impl Rule {
             Rule::Order { ahead, early, .. } => *ahead == 0 && *early == NEVER,
             Rule::StrongSynchronization { begun, .. } => begun.is_empty(),
             Rule::ExecutionTime { phase, .. } => *phase == Phase::Idle,
+            Rule::Reaction { colours, .. } => !colours.iter().any(|colour| matches!(colour, Colour::Waits { .. })),
             Rule::Repeat { .. } | Rule::Sporadic { .. } | Rule::Repetition { .. } => true,
         }
     }
@@ -204,7 +233,43 @@ impl Rule {
             | Rule::Sporadic { .. }
             | Rule::Order { .. }
             | Rule::ExecutionTime { .. }
+            | Rule::Reaction { .. }
             | Rule::Repetition { .. } => false,
+        }
+    }
+}
+
+/// The last moment for a colour's first response.
+fn last_moment(colour: &Colour) -> u64 {
+    if let Colour::Waits { to, .. } = colour { *to } else { NEVER }
+}
+
+/// A Reaction's stimulus: the first of its colour opens the interval, a later one moves its start.
+fn stimulus(colour: &mut Colour, minimum: u64, maximum: u64, time: u64) -> bool {
+    let from = time + minimum;
+    match *colour {
+        Colour::Quiet => *colour = Colour::Waits { from, to: time + maximum },
+        Colour::Waits { to, .. } => *colour = Colour::Waits { from, to },
+        Colour::Answered(_) => {}
+    }
+    match *colour {
+        Colour::Waits { to, .. } => from <= to,
+        Colour::Answered(at) => from <= at,
+        Colour::Quiet => true,
+    }
+}
+
+/// A Reaction's response: the first of its colour is the one that counts.
+fn response(colour: &mut Colour, time: u64) -> bool {
+    match *colour {
+        Colour::Answered(_) => true,
+        Colour::Quiet => {
+            *colour = Colour::Answered(time);
+            true
+        }
+        Colour::Waits { from, .. } => {
+            *colour = Colour::Answered(time);
+            from <= time
         }
     }
 }

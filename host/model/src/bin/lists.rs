@@ -1,6 +1,7 @@
 //! Random lists of calls with the model's answers, for a host in another language: `lists SEED NUMBER CALLS` prints a line
-//! of JSON for each list, `{"table": BYTES, "calls": [[KIND, TIME, ANSWER, VERDICTS], ..]}`. The bytes are hexadecimal. A
-//! tick has kind -1 and the close kind -2; the answer is 0 or the refusal's number; the verdicts are of all rows after it.
+//! of JSON for each list, `{"table": BYTES, "calls": [[KIND, COLOUR, TIME, ANSWER, VERDICTS], ..]}`. The bytes are
+//! hexadecimal. A tick has kind -1 and the close kind -2; an event without a colour has colour -1; the answer is 0 or the
+//! refusal's number; the verdicts are of all rows after it.
 
 use model::random::Random;
 use model::random::calls::Play;
@@ -8,19 +9,20 @@ use model::random::tables::any_table;
 use model::{Answer, Monitor, Step, table_bytes};
 use std::fmt::Write;
 
-/// Kind and time of a call, as they are printed.
-fn numbers(call: Step) -> (i16, u64) {
+/// Kind, colour and time of a call, as they are printed.
+fn numbers(call: Step) -> (i16, i16, u64) {
     match call {
-        Step::Event { kind, time } => (kind.into(), time),
-        Step::Tick { time } => (-1, time),
-        Step::Close => (-2, 0),
+        Step::Event { kind, time } => (kind.into(), -1, time),
+        Step::Coloured { kind, colour, time } => (kind.into(), colour.into(), time),
+        Step::Tick { time } => (-1, -1, time),
+        Step::Close => (-2, -1, 0),
     }
 }
 
 fn call_text(call: Step, answer: Answer, monitor: &Monitor) -> String {
-    let (kind, time) = numbers(call);
+    let (kind, colour, time) = numbers(call);
     let verdicts: Vec<String> = monitor.verdicts().iter().map(|verdict| format!("\"{verdict}\"")).collect();
-    format!("[{kind},{time},{},[{}]]", answer.err().unwrap_or(0), verdicts.join(","))
+    format!("[{kind},{colour},{time},{},[{}]]", answer.err().unwrap_or(0), verdicts.join(","))
 }
 
 fn list_text(random: &mut Random, number: usize) -> String {

@@ -1,7 +1,7 @@
 //! Random lists of calls: events, ticks and closes, accepted and refused.
 
 use super::Random;
-use crate::constraint::{Constraint, LAST_KIND, LAST_TIME};
+use crate::constraint::{Constraint, FIRST_COLOURED, LAST_COLOUR, LAST_KIND, LAST_TIME, STREAMS};
 use crate::continuation::{Event, Together};
 use crate::monitor::{Monitor, Verdict};
 use crate::open::earliest_continuation;
@@ -138,8 +138,8 @@ impl Play {
         if missing.is_empty() {
             return Step::Tick { time: monitor.recorded().clock() + 1 };
         }
-        let Event { kind, time } = *random.pick(&missing);
-        Step::Event { kind, time }
+        let Event { stream, time } = *random.pick(&missing);
+        Step::of_stream(stream, time)
     }
 
     /// The first event of the continuation that the row is open by, at times a bit later.
@@ -147,30 +147,39 @@ impl Play {
         match earliest_continuation(row, self.monitor.recorded()).first() {
             Some(event) => {
                 let later = if self.random.chance(30) { self.random.below(4) } else { 0 };
-                Step::Event { kind: event.kind, time: event.time + later }
+                Step::of_stream(event.stream, event.time + later)
             }
             None => self.edge_event(row),
         }
     }
 
+    /// One of the row's streams: of a coloured kind mostly one of the first two colours, so that events meet.
+    fn stream_of(&mut self, row: &Constraint) -> u8 {
+        let streams = row.streams();
+        let last = if self.random.chance(80) { 1 } else { LAST_COLOUR };
+        let near: Vec<u8> =
+            streams.iter().copied().filter(|stream| *stream < FIRST_COLOURED || stream % 8 <= last).collect();
+        *self.random.pick(&near)
+    }
+
     /// An event of the row's at one of its edges.
     fn edge_event(&mut self, row: &Constraint) -> Step {
-        let kind = *self.random.pick(&row.kinds());
-        Step::Event { kind, time: self.edge(row).max(self.first_free(kind)) }
+        let stream = self.stream_of(row);
+        Step::of_stream(stream, self.edge(row).max(self.first_free(stream)))
     }
 
     /// An event of the row's soon.
     fn near_event(&mut self, row: &Constraint) -> Step {
-        let kind = *self.random.pick(&row.kinds());
+        let stream = self.stream_of(row);
         let later = *self.random.pick(&[0, 0, 0, 1, 1, 2, 5]);
-        Step::Event { kind, time: self.first_free(kind) + later }
+        Step::of_stream(stream, self.first_free(stream) + later)
     }
 
     /// A time where the row's verdict may change: a late event of the row's + one of its fields, or one off; mostly in
     /// range and after the clock.
     fn edge(&mut self, row: &Constraint) -> u64 {
-        let kind = *self.random.pick(&row.kinds());
-        let late: Vec<u64> = self.monitor.recorded().times(kind).iter().rev().take(5).copied().collect();
+        let stream = self.stream_of(row);
+        let late: Vec<u64> = self.monitor.recorded().times(stream).iter().rev().take(5).copied().collect();
         let base = if late.is_empty() { self.monitor.recorded().clock() } else { *self.random.pick(&late) };
         let fields: Vec<u64> = time_fields(row).into_iter().filter(|field| *field <= LAST_TIME).collect();
         let field = if fields.is_empty() { 0 } else { *self.random.pick(&fields) };
@@ -189,11 +198,11 @@ impl Play {
         if self.random.chance(4) {
             return Step::Tick { time: self.random.from_to(clock, LAST_TIME) };
         }
-        let kind = self.random.from_to(0, LAST_KIND.into()) as u8;
-        Step::Event { kind, time: self.first_free(kind) + self.random.below(2) }
+        let stream = self.random.below(STREAMS.into()) as u8;
+        Step::of_stream(stream, self.first_free(stream) + self.random.below(2))
     }
 
-    /// A call that is mostly to be refused, by one or more of questions 9 to 11.
+    /// A call that is mostly to be refused, by one or more of questions 9, 19, 10 and 11.
     fn refusable(&mut self) -> Step {
         let clock = self.monitor.recorded().clock();
         let any_kind = self.random.number() as u8;
@@ -201,7 +210,12 @@ impl Play {
         let last = self.monitor.recorded().times(kind).last().copied();
         let too_large = *self.random.pick(&[LAST_TIME + 1, LAST_TIME + 1 + clock, 1 << 63, u64::MAX]);
         let earlier = self.random.from_to(0, clock);
-        match self.random.below(8) {
+        let any_colour = *self.random.pick(&[0, LAST_COLOUR, LAST_COLOUR + 1, 255]);
+        match self.random.below(12) {
+            8 => Step::Coloured { kind: any_kind, colour: any_colour, time: too_large },
+            9 => Step::Coloured { kind, colour: any_colour, time: clock },
+            10 => Step::Coloured { kind: kind | FIRST_COLOURED, colour: any_colour, time: earlier },
+            11 => Step::Event { kind: kind | FIRST_COLOURED, time: clock },
             0 => Step::Event { kind: any_kind, time: too_large },
             1 => Step::Event { kind: any_kind, time: earlier },
             2 => Step::Event { kind: any_kind | 64, time: clock },

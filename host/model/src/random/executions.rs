@@ -189,7 +189,7 @@ fn beside(random: &mut Random, row: &Constraint, recorded: &History, standing: &
         _ => clock + 20,
     };
     let time = (clock + random.below(3)).min(latest.max(clock));
-    let other = 10 + random.below(54) as u8;
+    let other = 10 + random.below(38) as u8;
     if time > clock && random.chance(50) || !recorded.event_in_order(other, time) {
         return Step::Tick { time: time.max(clock + 1) };
     }
@@ -207,7 +207,7 @@ fn any_step(random: &mut Random, row: &Constraint, recorded: &History, standing:
     match random.below(10) {
         0 => Step::Close,
         1 => Step::Tick { time: past },
-        2 => Step::Event { kind: 10 + random.below(54) as u8, time: past },
+        2 => Step::Event { kind: 10 + random.below(38) as u8, time: past },
         _ if recorded.event_in_order(kind, time) => Step::Event { kind, time },
         _ => Step::Event { kind, time: past },
     }

@@ -14,7 +14,12 @@ pub fn recording(random: &mut Random, rows: &[Constraint], records: usize) -> Ve
     let mut play = Play::new(random.fork(), rows, records);
     let taken = std::iter::from_fn(|| play.call()).filter(|(_, answer)| answer.is_ok() || with_refused);
     let steps: Vec<Step> = taken.map(|(call, _)| call).collect();
-    recording_bytes(&steps)
+    let mut bytes = recording_bytes(&steps);
+    if random.chance(10) {
+        // version 2 without colours is taken, version 1 with colours is refused
+        bytes[0] = 3 - bytes[0];
+    }
+    bytes
 }
 
 /// The bytes of a recording of which every record is accepted but the last, if the list has a call that is refused:

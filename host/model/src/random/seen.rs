@@ -5,7 +5,6 @@ use crate::meets::meets;
 use crate::monitor::{Monitor, Verdict};
 use crate::steps::Step;
 use std::collections::BTreeMap;
-use std::ops::RangeInclusive;
 
 /// How often each refusal number, and each verdict of each row type, was seen.
 #[derive(Clone, Debug, Default, PartialEq, Eq)]
@@ -64,8 +63,8 @@ impl Seen {
     ///
     /// # Panics
     /// With the numbers that are missing.
-    pub fn demand_refusals(&self, numbers: RangeInclusive<u8>) {
-        let missing: Vec<u8> = numbers.filter(|number| self.refusals(*number) == 0).collect();
+    pub fn demand_refusals(&self, numbers: impl IntoIterator<Item = u8>) {
+        let missing: Vec<u8> = numbers.into_iter().filter(|number| self.refusals(*number) == 0).collect();
         assert!(missing.is_empty(), "refusals never seen: {missing:?}, of {:?}", self.refusals);
     }
 

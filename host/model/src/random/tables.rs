@@ -2,7 +2,7 @@
 
 use super::Random;
 use crate::constraint::{
-    Constraint, LAST_KIND, LAST_TIME, NO_LIMIT, REPETITION_SPAN_LIMIT, ROW_LIMIT, SPAN_LIMIT, TYPES,
+    Constraint, FIRST_COLOURED, LAST_KIND, LAST_TIME, NO_LIMIT, REPETITION_SPAN_LIMIT, ROW_LIMIT, SPAN_LIMIT, TYPES,
 };
 use crate::table::table_bytes;
 
@@ -57,9 +57,9 @@ pub(crate) fn different(random: &mut Random, pool: &[u8], number: usize) -> Vec<
     (0..number).map(|_| left.swap_remove(random.place(left.len()))).collect()
 }
 
-/// Kinds for the rows of a table to share: 4 to 8 of them, or all 64.
+/// Plain kinds for the rows of a table to share: 4 to 8 of them, or all 48.
 pub fn pool(random: &mut Random) -> Vec<u8> {
-    let all: Vec<u8> = (0..=LAST_KIND).collect();
+    let all: Vec<u8> = (0..FIRST_COLOURED).collect();
     if random.chance(10) {
         return all;
     }
@@ -73,7 +73,15 @@ fn span(random: &mut Random) -> u8 {
     random.from_to(1, last) as u8
 }
 
-/// A row of this type, accepted, with kinds of the pool (at least 4).
+/// A Reaction, accepted: mostly of the first coloured kinds, so that rows share them.
+fn reaction(random: &mut Random, minimum: u64, maximum: u64) -> Constraint {
+    let last = if random.chance(70) { FIRST_COLOURED + 2 } else { LAST_KIND };
+    let coloured: Vec<u8> = (FIRST_COLOURED..=last).collect();
+    let kinds = different(random, &coloured, 2);
+    Constraint::Reaction { stimulus: kinds[0], response: kinds[1], minimum, maximum }
+}
+
+/// A row of this type, accepted, with plain kinds of the pool (at least 4).
 pub fn row_of_type(random: &mut Random, type_byte: u8, scale: Scale, pool: &[u8]) -> Constraint {
     let kinds = different(random, pool, 2);
     let (event, source, target) = (kinds[0], kinds[0], kinds[1]);
@@ -103,6 +111,7 @@ pub fn row_of_type(random: &mut Random, type_byte: u8, scale: Scale, pool: &[u8]
             let (start, stop, preempt, resume) = (kinds[0], kinds[1], kinds[2], kinds[3]);
             Constraint::ExecutionTime { start, stop, preempt, resume, lower, upper }
         }
+        9 => reaction(random, lower, upper),
         10 => {
             let span = random.from_to(1, REPETITION_SPAN_LIMIT.into()) as u8;
             Constraint::Repetition { event, span, lower, upper, jitter: scale.time(random) }
@@ -144,7 +153,7 @@ pub fn any_table(random: &mut Random) -> Vec<Constraint> {
     table(random, rows)
 }
 
-/// Rows that are mostly to be refused, by questions 3 to 7: one or two of them damaged, or too many.
+/// Rows that are mostly to be refused, by questions 3 to 7 and 18: one or two of them damaged, or too many.
 pub fn damaged_rows(random: &mut Random) -> Vec<Constraint> {
     let number = if random.chance(20) { ROW_LIMIT + 1 + random.place(3) } else { 1 + random.place(ROW_LIMIT) };
     let mut rows = table(random, number);
@@ -161,9 +170,9 @@ fn odd_time(random: &mut Random) -> u64 {
     *random.pick(&[LAST_TIME, LAST_TIME + 1, 1 << 63, NO_LIMIT - 1, NO_LIMIT])
 }
 
-/// A kind outside the range, or just inside it.
+/// A kind outside the range, just inside it, or at the border of plain and coloured ones.
 fn odd_kind(random: &mut Random) -> u8 {
-    *random.pick(&[LAST_KIND, LAST_KIND + 1, 128, 255])
+    *random.pick(&[LAST_KIND, LAST_KIND + 1, 128, 255, FIRST_COLOURED - 1, FIRST_COLOURED])
 }
 
 /// Puts something odd in one field of the row.
@@ -181,6 +190,13 @@ fn damage_row(random: &mut Random, row: &mut Constraint) {
         Constraint::Order { source, target } => match choice {
             0..=2 => *source = odd_kind(random),
             _ => *target = *source,
+        },
+        Constraint::Reaction { stimulus, response, minimum, maximum } => match choice {
+            0 => *response = odd_kind(random),
+            1 => *response = *stimulus,
+            2 => *minimum = odd_time(random),
+            3 => *maximum = odd_time(random),
+            _ => (*minimum, *maximum) = (*maximum, *minimum),
         },
         Constraint::StrongSynchronization { kinds, tolerance } => damage_synchronization(random, kinds, tolerance),
         Constraint::ExecutionTime { start, stop, preempt, resume, lower, upper } => match choice {
@@ -230,7 +246,7 @@ fn damage_synchronization(random: &mut Random, kinds: &mut Vec<u8>, tolerance: &
         1 => kinds[1] = kinds[0],
         2 => *tolerance = odd_time(random),
         3 => kinds.truncate(random.place(3)),
-        _ => kinds.extend([60, 61, 62]),
+        _ => kinds.extend([45, 46, 47]),
     }
 }
 

@@ -2,7 +2,7 @@
 #![allow(dead_code, unused_imports)]
 
 pub use model::notation::{
-    burst, delay, execution_time, order, repeat, repetition, sporadic, steps, strong_delay, synchronization,
+    burst, delay, execution_time, order, reaction, repeat, repetition, sporadic, steps, strong_delay, synchronization,
 };
 use model::{Constraint, History, Monitor};
 

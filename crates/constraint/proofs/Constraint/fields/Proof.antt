@@ -49,6 +49,10 @@ returns-11 : tie.Need-returns-11
 unfolding fieldsAs
 returns-11 c = rw (c .before .before .self11 .given .1, c .new11 .ensures) (record { typed = refl; all = refl; bytes = refl; times = refl })
 
+returns-12 : tie.Need-returns-12
+unfolding fieldsAs
+returns-12 c = rw (c .before .before .self12 .given .1, c .new12 .ensures) (record { typed = refl; all = refl; bytes = refl; times = refl })
+
 pub fields-spec : {M : Type 1} → statement M
 fields-spec =
     tie.close
@@ -64,6 +68,7 @@ fields-spec =
     (λ c. c .match .keys9) free
     (λ c. c .match .keys10) free
     (λ c. c .match .keys11) free
+    (λ c. c .match .keys12) free
     returns
     returns-2
     returns-3
@@ -74,4 +79,5 @@ fields-spec =
     returns-8
     returns-9
     returns-10
-    returns-11)
+    returns-11
+    returns-12)

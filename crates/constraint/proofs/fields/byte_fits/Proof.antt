@@ -1,8 +1,6 @@
 -- A span or a maximum is asked to be from 1 to its limit, and of a byte of another role nothing is asked.
 use native.Mathlib.Omega.{arith}
-use lib.Dec.{leb}
-use Rattle.constraint.proofs.Judged.{same-test, test-le}
-use Rattle.constraint.proofs.FieldByField.{span-range}
+use Rattle.constraint.proofs.FieldByField.{span-range, span-test}
 use Rattle.constraint.proofs.fields.byte_fits.Statement.{statement}
 use Rattle.constraint.proofs.fields.byte_fits.Tie as tie
 
@@ -16,15 +14,20 @@ returns-3 : tie.Need-returns-3
 returns-3 c = rw (c .if3 .taken) tt
 
 returns-4 : tie.Need-returns-4
-returns-4 c =
-    let a = c .before .before .before .before .args in
-    rw (span-range (a .role) (a .value) (c .before .before .before .if1 .left) (c .before .before .if2 .left) (c .before .if3 .left)) (λ h. omega arith)
+returns-4 c = rw (c .if4 .taken) tt
 
 returns-5 : tie.Need-returns-5
 returns-5 c =
-    let a = c .before .before .before .before .args in
-    rw (span-range (a .role) (a .value) (c .before .before .before .if1 .left) (c .before .before .if2 .left) (c .before .if3 .left))
-    (same-test (λ h. (omega arith, h, tt)) (λ h. h .1) (leb (a .value) (a .role)) (test-le (a .value) (a .role)))
+    let b = c .before .before in
+    let a = b .before .before .before .args in
+    rw (span-range (a .role) (a .value) (b .before .before .if1 .left) (b .before .if2 .left) (b .if3 .left) (c .before .if4 .left)) (λ h. omega arith)
+
+returns-6 : tie.Need-returns-6
+returns-6 c =
+    let b = c .before .before in
+    let a = b .before .before .before .args in
+    rw (span-range (a .role) (a .value) (b .before .before .if1 .left) (b .before .if2 .left) (b .if3 .left) (c .before .if4 .left))
+    (span-test (a .role) (a .value) (c .if5 .left))
 
 pub byte-fits-spec : {M : Type 1} → statement M
-byte-fits-spec = tie.close (tie.spec returns returns-2 returns-3 returns-4 returns-5)
+byte-fits-spec = tie.close (tie.spec returns returns-2 returns-3 returns-4 returns-5 returns-6)

@@ -1,13 +1,13 @@
 -- The loop goes from byte to byte: where none before was the kind, the answer to what is asked of those left is the answer to all.
 use native.Mathlib.Omega.{arith}
 use Prim.Native.Nat.{_-_, _≤_}
-use mathlib.Core.Path.{sym}
+use mathlib.Core.Path.{sym, _∙_}
 use mathlib.Core.Bool.{Bool, true, false}
 use mathlib.Core.Logic.{⊎-elim}
 use Rattle.constraint.specs.Questions.{Decides}
 use Rattle.constraint.specs.Accepted.{kindsIn}
 use Rattle.constraint.specs.Records.{Absent, byteField, bytesFrom}
-use Rattle.constraint.proofs.Judged.{same-test}
+use Rattle.constraint.proofs.Judged.{free, same-test}
 use Rattle.constraint.proofs.FieldByField.{fields-end, kind-here, kind-elsewhere}
 use Rattle.constraint.proofs.fields.is_new.Statement.{statement}
 use Rattle.constraint.proofs.fields.is_new.Tie as tie
@@ -22,18 +22,19 @@ abbrev μ-loop : tie.MeasureT-loop
 loop-holds : tie.Need-loop-holds Inv-loop μ-loop
 loop-holds c = (omega arith, λ b h. h)
 
-array-read-if1 : tie.Need-array-read-if1 Inv-loop μ-loop
-array-read-if1 c = omega arith
+array-read-is-kind : tie.Need-array-read-is-kind Inv-loop μ-loop
+array-read-is-kind c = omega arith
 
 array-read-if2 : tie.Need-array-read-if2 Inv-loop μ-loop
 array-read-if2 c = omega arith
 
 returns : tie.Need-returns Inv-loop μ-loop
 returns c =
-    let at-loop = c .before .before .before in
+    let at-loop = c .before .before .before .before in
     let a = at-loop .before .args in
+    let is = sym (c .before .before .is-kind .ensures) ∙ c .before .if1 .taken in
     at-loop .loop .inv .1 false
-    (λ absent. (rw (kind-here (a .t2) (a .t3) (at-loop .loop .i) (omega arith) (omega arith) (c .before .if1 .taken)) at absent) .0 (sym (c .if2 .taken)))
+    (λ absent. (rw (kind-here (a .t2) (a .t3) (at-loop .loop .i) (omega arith) (omega arith) is) at absent) .0 (sym (c .if2 .taken)))
 
 add-i : tie.Need-add-i Inv-loop μ-loop
 add-i c = omega arith
@@ -43,15 +44,16 @@ loop-less c = omega arith
 
 loop-again : tie.Need-loop-again Inv-loop μ-loop
 loop-again c =
-    let at-loop = c .before .before in
+    let at-loop = c .before .before .before in
     let a = at-loop .before .args in
+    let is = sym (c .before .is-kind .ensures) in
     let i = at-loop .loop .i in (
       omega arith,
       λ b later. at-loop .loop .inv .1 b
           (⊎-elim
-          (λ came. rw (kind-here (a .t2) (a .t3) i (omega arith) (omega arith) (came .0 .taken))
+          (λ came. rw (kind-here (a .t2) (a .t3) i (omega arith) (omega arith) (is ∙ came .0 .taken))
           (same-test (λ absent. (λ e. came .1 .left (sym e), absent)) (λ absent. absent .1) b later))
-          (λ came. rw (kind-elsewhere (a .t2) (a .t3) i (omega arith) (omega arith) (came .left)) later)
+          (λ came. rw (kind-elsewhere (a .t2) (a .t3) i (omega arith) (omega arith) (is ∙ came .left)) later)
           (c .if1 .came)),
     )
 
@@ -67,7 +69,8 @@ is-new-spec =
     Inv-loop
     μ-loop
     loop-holds
-    array-read-if1
+    array-read-is-kind
+    free
     array-read-if2
     returns
     add-i

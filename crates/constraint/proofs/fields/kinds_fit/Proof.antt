@@ -1,13 +1,14 @@
 -- The loop goes from byte to byte: each kind is asked to be at most 63 and none of the later ones, and the later ones fit by the turns to come.
 use native.Mathlib.Omega.{arith}
 use Prim.Native.Nat.{_-_, _≤_}
+use mathlib.Core.Path.{sym, _∙_}
 use mathlib.Core.Bool.{Bool, true, false}
 use mathlib.Core.Logic.{⊎-elim}
 use Rattle.constraint.specs.Steps.{at}
 use Rattle.constraint.specs.Questions.{Decides}
 use Rattle.constraint.specs.Accepted.{kindsIn, KindsFit}
 use Rattle.constraint.specs.Records.{byteField, bytesFrom}
-use Rattle.constraint.proofs.Judged.{passed, failed, same-test}
+use Rattle.constraint.proofs.Judged.{free, passed, failed, same-test}
 use Rattle.constraint.proofs.FittingKinds.{kinds-none, kinds-more, kinds-first, kinds-rest}
 use Rattle.constraint.proofs.FieldByField.{fields-end, kind-here, kind-elsewhere}
 use Rattle.constraint.proofs.fields.kinds_fit.Statement.{statement}
@@ -23,18 +24,19 @@ abbrev μ-loop : tie.MeasureT-loop
 loop-holds : tie.Need-loop-holds Inv-loop μ-loop
 loop-holds c = (omega arith, λ b h. h)
 
-array-read-if1 : tie.Need-array-read-if1 Inv-loop μ-loop
-array-read-if1 c = omega arith
+array-read-is-kind : tie.Need-array-read-is-kind Inv-loop μ-loop
+array-read-is-kind c = omega arith
 
 array-read-kind : tie.Need-array-read-kind Inv-loop μ-loop
 array-read-kind c = omega arith
 
 returns : tie.Need-returns Inv-loop μ-loop
 returns c =
-    let at-loop = c .before .before .before in
+    let at-loop = c .before .before .before .before in
     let a = at-loop .before .args in
+    let is = sym (c .before .before .is-kind .ensures) ∙ c .before .if1 .taken in
     at-loop .loop .inv .1 false
-    (λ fit. let first = kinds-first _ _ (rw (kind-here (a .t1) (a .t2) (at-loop .loop .i) (omega arith) (omega arith) (c .before .if1 .taken)) at fit) in omega arith)
+    (λ fit. let first = kinds-first _ _ (rw (kind-here (a .t1) (a .t2) (at-loop .loop .i) (omega arith) (omega arith) is) at fit) in omega arith)
 
 add-is-new : tie.Need-add-is-new Inv-loop μ-loop
 add-is-new c = omega arith
@@ -44,12 +46,14 @@ is-new-requires c κs = omega arith
 
 returns-2 : tie.Need-returns-2 Inv-loop μ-loop
 returns-2 c =
-    let at-loop = c .before .before .before .before .before in
+    let at-kind = c .before .before .before .before in
+    let at-loop = at-kind .before .before in
     let a = at-loop .before .args in
+    let is = sym (at-kind .is-kind .ensures) ∙ c .before .before .before .if1 .taken in
     let test = c .before .is-new in
     at-loop .loop .inv .1 false
     (λ fit. failed (test .result) (test .ensures) (c .if3 .taken)
-    (kinds-first _ _ (rw (kind-here (a .t1) (a .t2) (at-loop .loop .i) (omega arith) (omega arith) (c .before .before .before .if1 .taken)) at fit) .1))
+    (kinds-first _ _ (rw (kind-here (a .t1) (a .t2) (at-loop .loop .i) (omega arith) (omega arith) is) at fit) .1))
 
 add-i : tie.Need-add-i Inv-loop μ-loop
 add-i c = omega arith
@@ -59,16 +63,17 @@ loop-less c = omega arith
 
 loop-again : tie.Need-loop-again Inv-loop μ-loop
 loop-again c =
-    let at-loop = c .before .before in
+    let at-loop = c .before .before .before in
     let a = at-loop .before .args in
+    let is = sym (c .before .is-kind .ensures) in
     let i = at-loop .loop .i in (
       omega arith,
       λ b later. at-loop .loop .inv .1 b
           (⊎-elim
           (λ came. let new = passed (came .2 .result) (came .2 .ensures) (came .3 .left) in
-          rw (kind-here (a .t1) (a .t2) i (omega arith) (omega arith) (came .0 .taken))
+          rw (kind-here (a .t1) (a .t2) i (omega arith) (omega arith) (is ∙ came .0 .taken))
           (same-test (kinds-more (at (a .t2) i) _ (came .1 .left, new)) (kinds-rest (at (a .t2) i) _) b later))
-          (λ came. rw (kind-elsewhere (a .t1) (a .t2) i (omega arith) (omega arith) (came .left)) later)
+          (λ came. rw (kind-elsewhere (a .t1) (a .t2) i (omega arith) (omega arith) (is ∙ came .left)) later)
           (c .if1 .came)),
     )
 
@@ -84,7 +89,8 @@ kinds-fit-spec =
     Inv-loop
     μ-loop
     loop-holds
-    array-read-if1
+    array-read-is-kind
+    free
     array-read-kind
     returns
     add-is-new

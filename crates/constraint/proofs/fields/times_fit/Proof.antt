@@ -6,7 +6,7 @@ use Rattle.constraint.specs.Questions.{Decides}
 use Rattle.constraint.specs.Accepted.{FieldsInRange}
 use Rattle.constraint.specs.Records.{timeField, timesFrom}
 use Rattle.constraint.proofs.Judged.{free, passed, failed}
-use Rattle.constraint.proofs.FieldByField.{fields-end, range-here, range-missed}
+use Rattle.constraint.proofs.FieldByField.{fields-end, range-wise, field-here, field-missed}
 use Rattle.constraint.proofs.fields.times_fit.Statement.{statement}
 use Rattle.constraint.proofs.fields.times_fit.Tie as tie
 
@@ -35,7 +35,7 @@ returns c =
     let a = at-loop .before .args in
     let test = c .before .time-fits in
     at-loop .loop .inv .1 false
-    (range-missed timeField (a .t1) (a .t2) (at-loop .loop .i) (omega arith) (omega arith) (failed (test .result) (test .ensures) (c .if1 .taken)))
+    (field-missed range-wise timeField (a .t1) (a .t2) (at-loop .loop .i) (omega arith) (omega arith) (failed (test .result) (test .ensures) (c .if1 .taken)))
 
 add-i : tie.Need-add-i Inv-loop μ-loop
 add-i c = omega arith
@@ -49,7 +49,7 @@ loop-again c =
     let a = at-loop .before .args in
     let test = c .before .time-fits in
     let here = passed (test .result) (test .ensures) (c .if1 .left) in
-    (omega arith, λ b later. at-loop .loop .inv .1 b (range-here timeField (a .t1) (a .t2) (at-loop .loop .i) (omega arith) (omega arith) here b later))
+    (omega arith, λ b later. at-loop .loop .inv .1 b (field-here range-wise timeField (a .t1) (a .t2) (at-loop .loop .i) (omega arith) (omega arith) here b later))
 
 returns-2 : tie.Need-returns-2 Inv-loop μ-loop
 returns-2 c =

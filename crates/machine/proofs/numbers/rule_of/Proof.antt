@@ -18,6 +18,7 @@ rule-of-spec =
     (λ c. c .match .keys9) free
     (λ c. c .match .keys10) free
     (λ c. c .match .keys11) free
+    (λ c. c .match .keys12) free
     (λ c. rw (c .before .before .c .given .1) (c .pair-rule .ensures))
     (λ c. rw (c .before .before .c2 .given .1) (c .pair-rule2 .ensures))
     (λ c. rw (c .before .before .c3 .given .1) (c .pair-rule3 .ensures))
@@ -28,4 +29,5 @@ rule-of-spec =
     (λ c. rw (c .before .before .c8 .given .1) (c .group-rule2 .ensures))
     (λ c. rw (c .before .before .c9 .given .1) (c .group-rule3 .ensures))
     (λ c. rw (c .before .before .c10 .given .1) (c .group-rule4 .ensures))
-    (λ c. rw (c .before .before .c11 .given .1) (c .pair-rule7 .ensures)))
+    (λ c. rw (c .before .before .c11 .given .1) (c .pair-rule7 .ensures))
+    (λ c. rw (c .before .before .c12 .given .1) (c .pair-rule8 .ensures)))

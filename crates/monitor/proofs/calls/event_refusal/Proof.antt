@@ -1,5 +1,6 @@
 -- The tests are those of `refusalBy`, in its order.
-use borrow.Author.Tests.{lt-ltb, le-ltb}
+use borrow.Author.Needs.{needs}
+use borrow.Author.Tests.{lt-ltb, le-ltb, le-leb, lt-leb}
 use Rattle.monitor.proofs.calls.event_refusal.Statement.{statement}
 use Rattle.monitor.proofs.calls.event_refusal.Tie as tie
 
@@ -10,34 +11,16 @@ returns-2 : tie.Need-returns-2
 returns-2 c = rw (le-ltb _ _ (c .before .if1 .left), lt-ltb _ _ (c .if2 .taken))
 
 returns-3 : tie.Need-returns-3
-returns-3 c = rw (le-ltb _ _ (c .before .before .if1 .left), le-ltb _ _ (c .before .if2 .left), lt-ltb _ _ (c .if3 .taken))
+returns-3 c = rw (le-ltb _ _ (c .before .before .if1 .left), le-ltb _ _ (c .before .if2 .left), le-leb _ _ (c .if3 .taken))
+
+time-refusal-requires : tie.Need-time-refusal-requires
+time-refusal-requires c κs = search needs
 
 returns-4 : tie.Need-returns-4
 returns-4 c =
     let b = c .before in
-    rw (le-ltb _ _ (b .before .before .if1 .left), le-ltb _ _ (b .before .if2 .left), le-ltb _ _ (b .if3 .left), lt-ltb _ _ (c .if4 .taken))
-
-returns-5 : tie.Need-returns-5
-returns-5 c =
-    let b = c .before .before in
-    rw (
-      le-ltb _ _ (b .before .before .if1 .left),
-      le-ltb _ _ (b .before .if2 .left),
-      le-ltb _ _ (b .if3 .left),
-      le-ltb _ _ (c .before .if4 .left),
-      lt-ltb _ _ (c .if5 .taken),
-    )
-
-returns-6 : tie.Need-returns-6
-returns-6 c =
-    let b = c .before .before in
-    rw (
-      le-ltb _ _ (b .before .before .if1 .left),
-      le-ltb _ _ (b .before .if2 .left),
-      le-ltb _ _ (b .if3 .left),
-      le-ltb _ _ (c .before .if4 .left),
-      le-ltb _ _ (c .if5 .left),
-    )
+    rw (le-ltb _ _ (b .before .before .if1 .left), le-ltb _ _ (b .before .if2 .left), lt-leb _ _ (b .if3 .left)) (c .time-refusal .ensures)
 
 pub event-refusal-spec : {M : Type 1} → statement M
-event-refusal-spec = tie.close (tie.spec returns returns-2 returns-3 returns-4 returns-5 returns-6)
+event-refusal-spec =
+    tie.close (tie.spec returns returns-2 returns-3 time-refusal-requires returns-4)

@@ -12,6 +12,12 @@ event-refusal-requires c κs = search needs
 enum-known-call-2 : tie.Need-enum-known-call-2
 enum-known-call-2 c = search needs
 
+coloured-refusal-requires : tie.Need-coloured-refusal-requires
+coloured-refusal-requires c κs = search needs
+
+enum-known-call-3 : tie.Need-enum-known-call-3
+enum-known-call-3 c = search needs
+
 tick-refusal-requires : tie.Need-tick-refusal-requires
 tick-refusal-requires c κs = search needs
 
@@ -25,10 +31,13 @@ returns : tie.Need-returns
 returns c = rw (c .before .before .call .given .1) (c .event-refusal .ensures)
 
 returns-2 : tie.Need-returns-2
-returns-2 c = rw (c .before .before .call2 .given .1) (c .tick-refusal .ensures (c .before .before .before .before .args .next))
+returns-2 c = rw (c .before .before .call2 .given .1) (c .coloured-refusal .ensures)
 
 returns-3 : tie.Need-returns-3
-returns-3 c = rw (c .before .enum-told .given .1) (c .close-refusal .ensures (c .before .before .before .args .clock) (c .before .before .before .args .next))
+returns-3 c = rw (c .before .before .call3 .given .1) (c .tick-refusal .ensures (c .before .before .before .before .args .next))
+
+returns-4 : tie.Need-returns-4
+returns-4 c = rw (c .before .enum-told .given .1) (c .close-refusal .ensures (c .before .before .before .args .clock) (c .before .before .before .args .next))
 
 pub refusal-spec : {M : Type 1} → statement M
 refusal-spec =
@@ -37,9 +46,12 @@ refusal-spec =
     enum-known-call
     event-refusal-requires
     enum-known-call-2
+    coloured-refusal-requires
+    enum-known-call-3
     tick-refusal-requires
     enum-told
     close-refusal-requires
     returns
     returns-2
-    returns-3)
+    returns-3
+    returns-4)

@@ -41,7 +41,7 @@ whole r o number =
     whole-either (ltb 0 (r .now .broken)) r _ _ (whole-stays r r)
     (whole-either (ltb (r .now .due) (o .time)) r _ _ (whole-stays r (brokenRow r number))
     (whole-either (concerns (r .rule) (o .kind)) r _ _
-    (whole-changed r (decide (r .rule) (r .now .marks) (itemsOf r) (o .kind) (o .time)) number)
+    (whole-changed r (decide (r .rule) (r .now .marks) (itemsOf r) (o .stream) (o .time)) number)
     (whole-either (o .closes && eqb (r .now .kept) 0) r _ _ (whole-stays r (brokenRow r number)) (whole-stays r r))))
 
 returns : tie.Need-returns

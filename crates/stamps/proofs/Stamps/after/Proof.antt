@@ -17,6 +17,9 @@ enum-told c = search needs
 enum-told-2 : tie.Need-enum-told-2
 enum-told-2 c = search needs
 
+enum-told-3 : tie.Need-enum-told-3
+enum-told-3 c = search needs
+
 returns-2 : tie.Need-returns-2
 returns-2 c = rw (c .before .before .before .call .given .1, ne-eqb _ _ (c .if1 .left))
 
@@ -26,5 +29,8 @@ returns-3 c = search needs
 returns-4 : tie.Need-returns-4
 returns-4 c = search needs
 
+returns-5 : tie.Need-returns-5
+returns-5 c = search needs
+
 pub after-spec : {M : Type 1} → statement M
-after-spec = tie.close (tie.spec enum-known-call free returns enum-told enum-told-2 returns-2 returns-3 returns-4)
+after-spec = tie.close (tie.spec enum-known-call free returns enum-told enum-told-2 enum-told-3 returns-2 returns-3 returns-4 returns-5)

@@ -39,19 +39,24 @@ returns-8 c = rw (c .match .keys8)
 
 returns-9 : tie.Need-returns-9
 unfolding rowFrom
-returns-9 c =
+returns-9 c = rw (c .match .keys9)
+
+returns-10 : tie.Need-returns-10
+unfolding rowFrom
+returns-10 c =
     let other = c .before .match .rest in
     rw (
-      ne-eqb _ 1 (other .0 .0 .0 .0 .0 .0 .0 .1),
-      ne-eqb _ 2 (other .0 .0 .0 .0 .0 .0 .1),
-      ne-eqb _ 3 (other .0 .0 .0 .0 .0 .1),
-      ne-eqb _ 4 (other .0 .0 .0 .0 .1),
-      ne-eqb _ 5 (other .0 .0 .0 .1),
-      ne-eqb _ 6 (other .0 .0 .1),
-      ne-eqb _ 8 (other .0 .1),
+      ne-eqb _ 1 (other .0 .0 .0 .0 .0 .0 .0 .0 .1),
+      ne-eqb _ 2 (other .0 .0 .0 .0 .0 .0 .0 .1),
+      ne-eqb _ 3 (other .0 .0 .0 .0 .0 .0 .1),
+      ne-eqb _ 4 (other .0 .0 .0 .0 .0 .1),
+      ne-eqb _ 5 (other .0 .0 .0 .0 .1),
+      ne-eqb _ 6 (other .0 .0 .0 .1),
+      ne-eqb _ 8 (other .0 .0 .1),
+      ne-eqb _ 9 (other .0 .1),
       ne-eqb _ 10 (other .1),
     )
     (c .group-from .ensures)
 
 pub row-from-spec : {M : Type 1} → statement M
-row-from-spec = tie.close (tie.spec free returns returns-2 returns-3 returns-4 returns-5 returns-6 returns-7 returns-8 returns-9)
+row-from-spec = tie.close (tie.spec free returns returns-2 returns-3 returns-4 returns-5 returns-6 returns-7 returns-8 returns-9 returns-10)

@@ -1,0 +1,4 @@
+-- The laws of each type.
+mod Words
+mod Colour
+pub mod Reaction

@@ -1,0 +1,2 @@
+-- Why the machine of rows of coloured kinds is exact.
+pub mod Laws

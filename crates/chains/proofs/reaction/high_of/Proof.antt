@@ -1,0 +1,23 @@
+-- The test is that of `highBut`.
+use borrow.Author.Needs.{needs}
+use borrow.Author.Tests.{eq-eqb, ne-eqb}
+use Rattle.chains.proofs.reaction.high_of.Statement.{statement}
+use Rattle.chains.proofs.reaction.high_of.Tie as tie
+
+returns : tie.Need-returns
+returns c = rw (eq-eqb _ _ (c .if1 .taken))
+
+mul-word : tie.Need-mul-word
+mul-word c = search needs
+
+add-word : tie.Need-add-word
+add-word c = search needs
+
+word-requires : tie.Need-word-requires
+word-requires c κs = search needs
+
+returns-2 : tie.Need-returns-2
+returns-2 c = rw (ne-eqb _ _ (c .before .if1 .left)) (c .word .ensures)
+
+pub high-of-spec : {M : Type 1} → statement M
+high-of-spec = tie.close (tie.spec returns mul-word add-word word-requires returns-2)

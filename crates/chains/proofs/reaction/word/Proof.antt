@@ -1,0 +1,32 @@
+-- A place within the row is that of the ring, and past its end there is none.
+use borrow.Author.Needs.{needs}
+use native.Mathlib.Omega.{arith}
+use mathlib.Core.Path.{_≡_, refl, sym, _∙_}
+use Prim.Native.Nat.{ℕ, zero, suc, _≤_}
+use mathlib.Core.List.{List, [], _∷_}
+use lib.ListN.{length, getD}
+use denote.Ref.{now}
+use Rattle.queue.specs.Ring.{ring}
+use Rattle.queue.proofs.Laws.{ring-length, ring-read}
+use Rattle.chains.proofs.reaction.word.Statement.{statement}
+use Rattle.chains.proofs.reaction.word.Tie as tie
+
+past-end : (list : List ℕ) (i : ℕ) → length list ≤ i → getD list i 0 ≡ 0
+past-end [] i h = refl
+past-end (x ∷ list) zero h = absurd (omega arith)
+past-end (x ∷ list) (suc i) h = past-end list i (omega arith)
+
+time-at-requires : tie.Need-time-at-requires
+time-at-requires c κs = search needs
+
+returns : tie.Need-returns
+returns c = c .time-at .ensures ∙ ring-read _ _ _ _ (c .before .if1 .taken)
+
+returns-2 : tie.Need-returns-2
+returns-2 c =
+    let a = c .before .args in
+    let list = ring (now (a .times)) (a .head) (a .len) in
+    sym (past-end list (a .i) (omega (arith, ring-length (now (a .times)) (a .head) (a .len), c .if1 .left)))
+
+pub word-spec : {M : Type 1} → statement M
+word-spec = tie.close (tie.spec time-at-requires returns returns-2)

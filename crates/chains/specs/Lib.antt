@@ -1,0 +1,2 @@
+-- The machine of rows of coloured kinds.
+pub mod Reaction

@@ -1,0 +1,163 @@
+-- What colours leave as it was, for tables and events of plain kinds: their questions have the answers that they had, and a row of any type but 9
+-- is open just where it was over continuations of kinds 0 to 63, since of any continuation the row's own events alone will do.
+use Prim.Native.Nat.{ℕ, _≤_, _<_}
+use native.Mathlib.Omega.{arith}
+use mathlib.Core.Path.{_≡_, refl, sym, ap, _∙_, subst}
+use mathlib.Core.Bool.{true, false, cond}
+use mathlib.Core.List.{List, [], _∷_, _++_}
+use mathlib.Core.Logic.{_⊎_, inl, inr, _↔_}
+use lib.ListN.{length}
+use Rattle.constraint.specs.Limits.{lastKind, firstColoured, streamCount, lastTime}
+use Rattle.constraint.specs.Steps.{Step, event, tick, close, at, times, among, own, clockFrom, clock, closed}
+use Rattle.constraint.specs.Meets.{Meets}
+use Rattle.constraint.specs.Continuation.{EventInOrder, Continues, stop, more, Open}
+use Rattle.constraint.specs.Questions.{Question, Judged}
+use Rattle.constraint.specs.Types.{typeOf}
+use Rattle.constraint.specs.Accepted.{kinds, streams, KindsFit, KindsSuit, InRange, LowerFirst, rowQuestions}
+use Rattle.constraint.specs.Run.{Room, questions}
+use Rattle.constraint.specs.declared.Answer.{Answer}
+use Rattle.constraint.specs.declared.Call.{Call}
+use Rattle.constraint.specs.declared.Constraint.{Constraint}
+use Rattle.constraint.specs.declared.Constraint.the-variants.{Delay, StrongDelay, Repeat, Sporadic, Burst, Order, StrongSynchronization2, StrongSynchronization3, StrongSynchronization4, ExecutionTime, Reaction, Repetition}
+use Rattle.constraint.proofs.Lists.{split, both, Each, each-none, each-cons}
+use Rattle.constraint.proofs.Streams.{among-where}
+use Rattle.constraint.proofs.History.{times-append, times-other, own-append, clock-append, clock-event, closed-event}
+use Rattle.constraint.proofs.Continuations.{meets-same}
+
+-- ---- questions
+
+-- a question that is answered "yes" may be left out
+skipped : (before later : List Question) (n : ℕ) (asked : Type 0) → asked → (a : Answer) → Judged (before ++ ((n, asked) ∷ later)) a → Judged (before ++ later) a
+unfolding Judged
+skipped [] later n asked holds a (inl h) = h .1
+skipped [] later n asked holds a (inr h) = absurd (h .0 holds)
+skipped (q ∷ before) later n asked holds a (inl h) = inl (h .0, skipped before later n asked holds a (h .1))
+skipped (q ∷ before) later n asked holds a (inr h) = inr h
+
+put-in : (before later : List Question) (n : ℕ) (asked : Type 0) → asked → (a : Answer) → Judged (before ++ later) a → Judged (before ++ ((n, asked) ∷ later)) a
+unfolding Judged
+put-in [] later n asked holds a j = inl (holds, j)
+put-in (q ∷ before) later n asked holds a (inl h) = inl (h .0, put-in before later n asked holds a (h .1))
+put-in (q ∷ before) later n asked holds a (inr h) = inr h
+
+-- the questions of a row before there were colours; a row whose kinds suit its type is answered as it was
+abbrev pub rowQuestionsBefore : Constraint → List Question
+rowQuestionsBefore c = (5, KindsFit (kinds c)) ∷ (6, InRange c) ∷ (7, LowerFirst c) ∷ []
+
+pub row-as-before : (c : Constraint) → KindsSuit c → (a : Answer) → Judged (rowQuestions c) a ↔ Judged (rowQuestionsBefore c) a
+row-as-before c suit a =
+    let first : List Question = (5, KindsFit (kinds c)) ∷ [] in
+    let later : List Question = (6, InRange c) ∷ (7, LowerFirst c) ∷ [] in
+    (skipped first later 18 (KindsSuit c) suit a, put-in first later 18 (KindsSuit c) suit a)
+
+-- the questions of an event before there were colours; one of a plain kind is answered as it was
+abbrev pub eventQuestionsBefore : List Constraint → List Step → ℕ → ℕ → List Question
+eventQuestionsBefore rows steps k t =
+    (8, closed steps ≡ false) ∷ (9, k ≤ lastKind) ∷ (10, t ≤ lastTime) ∷ (11, EventInOrder steps k t) ∷ (12, Room rows (steps ++ (event k t ∷ []))) ∷ []
+
+pub event-as-before : (rows : List Constraint) (steps : List Step) (k t : ℕ) → k < firstColoured → (a : Answer)
+    → Judged (questions rows steps (Call.Event k t)) a ↔ Judged (eventQuestionsBefore rows steps k t) a
+unfolding questions
+event-as-before rows steps k t plain a =
+    let first : List Question = (8, closed steps ≡ false) ∷ (9, k ≤ lastKind) ∷ [] in
+    let later : List Question = (10, t ≤ lastTime) ∷ (11, EventInOrder steps k t) ∷ (12, Room rows (steps ++ (event k t ∷ []))) ∷ [] in
+    (skipped first later 19 (k < firstColoured) plain a, put-in first later 19 (k < firstColoured) plain a)
+
+-- ---- verdicts
+
+-- continuations before there were colours, and when a row was open
+pub data ContinuesBefore : List Step → List Step → Type 0 where
+  stop-before : {steps : List Step} → ContinuesBefore steps []
+  more-before : {steps further : List Step} (k t : ℕ) → closed steps ≡ false → k ≤ lastKind → EventInOrder steps k t
+      → ContinuesBefore (steps ++ (event k t ∷ [])) further → ContinuesBefore steps (event k t ∷ further)
+
+abbrev pub OpenBefore : Constraint → List Step → Type 0
+OpenBefore c steps = (further : List Step) × ContinuesBefore steps further × Meets c (steps ++ further)
+
+-- such a continuation is one still
+continues-still : {steps further : List Step} → ContinuesBefore steps further → Continues steps further
+continues-still stop-before = stop
+continues-still (more-before k t o small order rest) = more k t o (omega arith) order (continues-still rest)
+
+-- the events of some streams alone
+thin : List ℕ → List Step → List Step
+thin ks [] = []
+thin ks (event k t ∷ steps) = cond (among k ks) (event k t ∷ thin ks steps) (thin ks steps)
+thin ks (tick t ∷ steps) = thin ks steps
+thin ks (close ∷ steps) = thin ks steps
+
+own-thin : (ks : List ℕ) (steps : List Step) → own ks (thin ks steps) ≡ own ks steps
+unfolding own thin
+own-thin ks [] = refl
+own-thin ks (event k t ∷ steps) =
+    split (among k ks) (λ x. among k ks ≡ x → own ks (cond x (event k t ∷ thin ks steps) (thin ks steps)) ≡ cond x ((k, t) ∷ own ks steps) (own ks steps))
+    (λ e f. rw f (ap (λ (l : List (ℕ × ℕ)). (k, t) ∷ l) (own-thin ks steps))) (λ e f. own-thin ks steps) refl
+own-thin ks (tick t ∷ steps) = own-thin ks steps
+own-thin ks (close ∷ steps) = own-thin ks steps
+
+-- without the others they still continue, and the clock is no later after them
+module _ (ks : List ℕ) (small : Each (λ k. k ≤ lastKind) ks) where
+  -- the events that are left follow b, and the clock after them is no later than that after all of them
+  abbrev Left : List Step → ℕ → List Step → List Step → Type 0
+  Left b now further left = ContinuesBefore b left × (clockFrom (clock b) left ≤ clockFrom now further)
+
+  continues-thin : {a further : List Step} → Continues a further → (b : List Step) → closed b ≡ closed a
+      → ((k : ℕ) → among k ks ≡ true → times k a ≡ times k b) → clock b ≤ clock a → Left b (clock a) further (thin ks further)
+  unfolding thin clockFrom
+  continues-thin stop b o same before = (stop-before, before)
+  continues-thin (more {steps = a} {further = further} k t open-a stream order rest) b o same before =
+      split (among k ks) (λ x. among k ks ≡ x → Left b t further (cond x (event k t ∷ thin ks further) (thin ks further)))
+      (λ e f. let here = among-where k ks f in
+      let later = continues-thin rest (b ++ (event k t ∷ [])) (closed-event k t b ∙ o ∙ sym (closed-event k t a))
+      (λ j own-j. times-append j a (event k t ∷ []) ∙ rw (same j own-j) (sym (times-append j b (event k t ∷ []))))
+      (rw (clock-event k t b, clock-event k t a) (omega arith)) in (
+        more-before k t (o ∙ open-a) (omega (arith, small (here .0) (here .1), here .2)) (omega (arith, order .0), rw (← same k f) (order .1)) (later .0),
+        rw (clock-event k t b, clock-event k t a) at (later .1),
+      ))
+      (λ e f. let later = continues-thin rest b (o ∙ sym (closed-event k t a))
+      (λ j own-j. times-other j k t a (λ is. both (sym own-j ∙ ap (λ (i : ℕ). among i ks) (sym is) ∙ f)) ∙ same j own-j)
+      (rw (clock-event k t a) (omega (arith, order .0))) in
+      (later .0, rw (clock-event k t a) at (later .1)))
+      refl
+
+-- the streams of a row of any type but 9 are plain kinds
+plain-two : (a b : ℕ) → a < firstColoured → b < firstColoured → Each (λ k. k ≤ lastKind) (a ∷ b ∷ [])
+plain-two a b h k = each-cons (λ k. k ≤ lastKind) a (b ∷ []) (omega arith) (each-cons (λ k. k ≤ lastKind) b [] (omega arith) (each-none (λ k. k ≤ lastKind)))
+
+plain-one : (a : ℕ) → a < firstColoured → Each (λ k. k ≤ lastKind) (a ∷ [])
+plain-one a h = each-cons (λ k. k ≤ lastKind) a [] (omega arith) (each-none (λ k. k ≤ lastKind))
+
+plain-streams : (c : Constraint) → KindsSuit c → ¬ (typeOf c ≡ 9) → Each (λ k. k ≤ lastKind) (streams c)
+unfolding KindsSuit
+plain-streams (Delay source target lower upper) suit other = plain-two source target (suit .0) (suit .1 .0)
+plain-streams (StrongDelay source target lower upper) suit other = plain-two source target (suit .0) (suit .1 .0)
+plain-streams (Repeat kind span lower upper) suit other = plain-one kind (suit .0)
+plain-streams (Sporadic kind lower upper jitter minimum) suit other = plain-one kind (suit .0)
+plain-streams (Burst kind maximum len minimum) suit other = plain-one kind (suit .0)
+plain-streams (Order source target) suit other = plain-two source target (suit .0) (suit .1 .0)
+plain-streams (StrongSynchronization2 a b tolerance) suit other = plain-two a b (suit .1 .0) (suit .1 .1 .0)
+plain-streams (StrongSynchronization3 a b c tolerance) suit other =
+    each-cons (λ k. k ≤ lastKind) a (b ∷ c ∷ []) (omega (arith, suit .1 .0)) (plain-two b c (suit .1 .1 .0) (suit .1 .1 .1 .0))
+plain-streams (StrongSynchronization4 a b c d tolerance) suit other =
+    each-cons (λ k. k ≤ lastKind) a (b ∷ c ∷ d ∷ []) (omega (arith, suit .1 .0))
+    (each-cons (λ k. k ≤ lastKind) b (c ∷ d ∷ []) (omega (arith, suit .1 .1 .0)) (plain-two c d (suit .1 .1 .1 .0) (suit .1 .1 .1 .1 .0)))
+plain-streams (ExecutionTime a b c d lower upper) suit other =
+    each-cons (λ k. k ≤ lastKind) a (b ∷ c ∷ d ∷ []) (omega (arith, suit .0))
+    (each-cons (λ k. k ≤ lastKind) b (c ∷ d ∷ []) (omega (arith, suit .1 .0)) (plain-two c d (suit .1 .1 .0) (suit .1 .1 .1 .0)))
+plain-streams (Reaction stimulus response minimum maximum) suit other = absurd (other refl)
+plain-streams (Repetition kind span lower upper jitter) suit other = plain-one kind (suit .0)
+
+-- a row of any type but 9 whose kinds are plain is open just where it was; and its verdict is read off that alone (§2.4, §2.5, §2.6)
+pub open-as-before : (c : Constraint) → KindsSuit c → ¬ (typeOf c ≡ 9) → (steps : List Step) → Open c steps ↔ OpenBefore c steps
+open-as-before c suit other steps = (
+  λ (further, follows, meets).
+      let ks = streams c in
+      let left = continues-thin ks (plain-streams c suit other) follows steps refl (λ k e. refl) (omega arith) in (
+        thin ks further,
+        left .0,
+        meets-same c (steps ++ further) (steps ++ thin ks further)
+            (own-append ks steps further ∙ sym (own-append ks steps (thin ks further) ∙ ap (λ (l : List (ℕ × ℕ)). own ks steps ++ l) (own-thin ks further)))
+            (rw (clock-append 0 steps further, clock-append 0 steps (thin ks further)) (left .1)) meets,
+      ),
+  λ (further, follows, meets). (further, continues-still follows, meets),
+)

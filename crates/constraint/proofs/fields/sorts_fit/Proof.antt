@@ -1,0 +1,70 @@
+-- The loop asks field after field: the answer to what is asked of those left is the answer to all.
+use native.Mathlib.Omega.{arith}
+use Prim.Native.Nat.{_-_, _≤_}
+use mathlib.Core.Bool.{Bool, true, false}
+use Rattle.constraint.specs.Questions.{Decides}
+use Rattle.constraint.specs.Accepted.{SortsFit}
+use Rattle.constraint.specs.Records.{byteField, bytesFrom}
+use Rattle.constraint.proofs.Judged.{free, passed, failed}
+use Rattle.constraint.proofs.FieldByField.{fields-end, sort-wise, field-here, field-missed}
+use Rattle.constraint.proofs.fields.sorts_fit.Statement.{statement}
+use Rattle.constraint.proofs.fields.sorts_fit.Tie as tie
+
+abbrev Inv-loop : tie.InvT-loop
+Inv-loop roles values i₀ i =
+    (i ≤ 5) × ((b : Bool) → Decides (SortsFit (bytesFrom roles values i)) b → Decides (SortsFit (bytesFrom roles values 0)) b)
+
+abbrev μ-loop : tie.MeasureT-loop
+μ-loop roles values i₀ i = 5 - i
+
+loop-holds : tie.Need-loop-holds Inv-loop μ-loop
+loop-holds c = (omega arith, λ b h. h)
+
+array-read-sort-fits : tie.Need-array-read-sort-fits Inv-loop μ-loop
+array-read-sort-fits c = omega arith
+
+array-read-sort-fits-2 : tie.Need-array-read-sort-fits-2 Inv-loop μ-loop
+array-read-sort-fits-2 c = omega arith
+
+returns : tie.Need-returns Inv-loop μ-loop
+returns c =
+    let at-loop = c .before .before .before in
+    let a = at-loop .before .args in
+    let test = c .before .sort-fits in
+    at-loop .loop .inv .1 false
+    (field-missed sort-wise byteField (a .t1) (a .t2) (at-loop .loop .i) (omega arith) (omega arith) (failed (test .result) (test .ensures) (c .if1 .taken)))
+
+add-i : tie.Need-add-i Inv-loop μ-loop
+add-i c = omega arith
+
+loop-less : tie.Need-loop-less Inv-loop μ-loop
+loop-less c = omega arith
+
+loop-again : tie.Need-loop-again Inv-loop μ-loop
+loop-again c =
+    let at-loop = c .before .before .before in
+    let a = at-loop .before .args in
+    let test = c .before .sort-fits in
+    let here = passed (test .result) (test .ensures) (c .if1 .left) in
+    (omega arith, λ b later. at-loop .loop .inv .1 b (field-here sort-wise byteField (a .t1) (a .t2) (at-loop .loop .i) (omega arith) (omega arith) here b later))
+
+returns-2 : tie.Need-returns-2 Inv-loop μ-loop
+returns-2 c =
+    let a = c .before .before .args in
+    c .before .loop .inv .1 true (rw (fields-end byteField (a .t1) (a .t2) (c .before .loop .i) (omega arith)) tt)
+
+pub sorts-fit-spec : {M : Type 1} → statement M
+sorts-fit-spec =
+    tie.close
+    (tie.spec
+    Inv-loop
+    μ-loop
+    loop-holds
+    array-read-sort-fits
+    array-read-sort-fits-2
+    free
+    returns
+    add-i
+    loop-less
+    loop-again
+    returns-2)

@@ -1,0 +1,25 @@
+"""The number of a signal: of a plain kind the kind itself, of a coloured one kind and colour together.
+
+Events of one number are of one stream: their times rise. Steps, reasons and pictures go by these numbers.
+"""
+from __future__ import annotations
+
+from .library import LAST_COLOUR
+
+#: What stands for a colour that is none.
+NO_COLOUR = 255
+
+
+def signal(kind: int, colour: int | None) -> int:
+    """The number of the events of a kind, with a colour if they have one."""
+    return kind if colour is None else kind + 256 * (colour + 1)
+
+
+def parts(number: int) -> tuple[int, int | None]:
+    """Kind and colour of a signal."""
+    return number % 256, None if number < 256 else number // 256 - 1
+
+
+def colours(kind: int) -> tuple[int, ...]:
+    """The signals of a coloured kind, a colour after the other."""
+    return tuple(signal(kind, colour) for colour in range(LAST_COLOUR + 1))

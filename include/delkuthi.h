@@ -91,8 +91,8 @@
  *
  * What waits in a row: sources that have no target yet (Delay, StrongDelay),
  * groups begun and not complete (StrongSynchronization). In other rows nothing
- * waits. The stack that a call uses is measured, not proved: a verdict and a
- * page use no more than a step may, a table that is made no more than fresh.
+ * waits. The stack that a call uses is measured, not proved: a verdict uses no
+ * more than a step may, a table that is made no more than fresh.
  *
  *
  * THE TABLE

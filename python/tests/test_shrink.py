@@ -7,6 +7,7 @@ from delkuthi import Monitor, Refused, Table, report
 from delkuthi.logs import Step
 from delkuthi.recording import join, recording_bytes
 from delkuthi.shrink import Stretch, shortest
+from delkuthi.signals import signal
 
 from strategies import played
 
@@ -80,7 +81,9 @@ def test_joined_recordings(first, second):
     assert all(time in times or time == 0 for _, time in first + second)
 
 
-def test_a_kind_in_both():
+@pytest.mark.parametrize("first, second", [(0, 0), (signal(48, 1), signal(48, 2))])
+def test_a_kind_in_both(first, second):
+    """A kind is one kind, whatever its colours."""
     with pytest.raises(Refused) as refusal:
-        list(join([(0, 1)], [(0, 2)]))
+        list(join([(first, 1)], [(second, 2)]))
     assert refusal.value.number == 20

@@ -13,8 +13,8 @@ pub struct Ring {
 /// Where the oldest time is, and how many there are. An event that adds no time over an older one is withdrawn by these alone.
 #[derive(Clone, Copy, Debug, Default)]
 pub struct Ends {
-    head: u32,
-    length: u32,
+    head: usize,
+    length: usize,
 }
 
 impl Default for Ring {
@@ -25,7 +25,7 @@ impl Default for Ring {
 
 impl Ring {
     pub fn length(&self) -> usize {
-        self.ends.length as usize
+        self.ends.length
     }
 
     pub fn is_empty(&self) -> bool {
@@ -44,13 +44,13 @@ impl Ring {
     /// The oldest two. There must be so many.
     pub fn two(&self) -> (u64, u64) {
         debug_assert!(self.length() > 1);
-        (self.at_head(), self.times[(self.ends.head as usize + 1) % SIZE])
+        (self.at_head(), self.times[(self.ends.head + 1) % SIZE])
     }
 
     /// Takes the oldest time away.
     pub fn pop(&mut self) -> Option<u64> {
         let first = self.first()?;
-        self.ends.head = (self.ends.head + 1) % SIZE as u32;
+        self.ends.head = (self.ends.head + 1) % SIZE;
         self.ends.length -= 1;
         Some(first)
     }
@@ -58,13 +58,13 @@ impl Ring {
     /// Adds a time behind the others. There must be room.
     pub fn push(&mut self, time: u64) {
         debug_assert!(!self.is_full());
-        self.times[(self.ends.head + self.ends.length) as usize % SIZE] = time;
+        self.times[(self.ends.head + self.ends.length) % SIZE] = time;
         self.ends.length += 1;
     }
 
     /// What is at the place of the oldest time, if there is one or not.
     pub fn at_head(&self) -> u64 {
-        self.times[self.ends.head as usize % SIZE]
+        self.times[self.ends.head % SIZE]
     }
 
     pub fn ends(&self) -> Ends {
@@ -79,6 +79,6 @@ impl Ring {
     /// Goes back to where the ends were, with what was at the place of the oldest time, as a full ring needs it.
     pub fn restore_all(&mut self, ends: Ends, at_head: u64) {
         self.ends = ends;
-        self.times[ends.head as usize % SIZE] = at_head;
+        self.times[ends.head % SIZE] = at_head;
     }
 }

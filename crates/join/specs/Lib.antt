@@ -1,0 +1,3 @@
+-- What the walk over two recordings promises.
+pub mod Joined
+pub mod Walk

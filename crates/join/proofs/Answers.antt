@@ -11,9 +11,9 @@ use Rattle.constraint.specs.Steps.{Step, at, among}
 use Rattle.constraint.specs.Recording.{ReadsInOrder, recording-of}
 use Rattle.constraint.proofs.Lists.{split, both}
 use Rattle.number.proofs.Stores.{stores-front}
-use Rattle.join.specs.Joined.{kindsOf, NoneInCommon, joinedBytes, AnswersJoin, no-first, no-second, in-common, too-short, written}
+use Rattle.constraint.specs.Joined.{kindsOf, NoneInCommon, joinedBytes, AnswersJoin, no-first, no-second, in-common, too-short, written}
 use Rattle.join.specs.Walk.{Records, Walks, Passes, Marks, Found}
-use Rattle.join.specs.declared.JoinAnswer.{JoinAnswer}
+use Rattle.constraint.specs.declared.JoinAnswer.{JoinAnswer}
 use Rattle.join.specs.declared.Passed.{Passed}
 use Rattle.join.specs.declared.Walked.{Walked}
 use Rattle.join.proofs.Records.{whole}

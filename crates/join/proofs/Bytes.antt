@@ -28,7 +28,7 @@ use Rattle.number.proofs.Numbers.{bytes-length, number-of-bytes}
 use Rattle.recording.specs.Record.{CallAt, ReadsRecord}
 use Rattle.recording.specs.declared.Record.{Record}
 use Rattle.recording.proofs.Records.{event-read, coloured-read, tick-read, read-of-stretch, record-judged}
-use Rattle.join.specs.Joined.{timeOf, eventBytes, colouredBytes, tickBytes, stepBytes, stepsBytes, recordingBytes}
+use Rattle.constraint.specs.Joined.{timeOf, eventBytes, colouredBytes, tickBytes, stepBytes, stepsBytes, recordingBytes}
 use Rattle.join.proofs.Merging.{Fits, Line}
 
 -- the call that a step was

@@ -14,7 +14,7 @@ use Rattle.constraint.specs.Steps.{Step, event, tick, close, among, times, cloc
 use Rattle.constraint.proofs.Lists.{split, both, or-false, Each, Rising, rising-across}
 use Rattle.constraint.proofs.Judged.{never}
 use Rattle.constraint.proofs.History.{times-append, times-tick, clock-event, clock-tick, closed-event, closed-tick, AcceptsEvent, Valid, valid-none, valid-more, past-of}
-use Rattle.join.specs.Joined.{timeOf, merged, fallsAway, left, joined, kindsOf, NoneInCommon}
+use Rattle.constraint.specs.Joined.{timeOf, merged, fallsAway, left, joined, kindsOf, NoneInCommon}
 
 -- a step that a record of a version can hold: version 1 has no colours
 abbrev pub Fits : ℕ → Step → Type 0

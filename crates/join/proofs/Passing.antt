@@ -25,7 +25,7 @@ use Rattle.order.specs.Order.{After, ReadsNext}
 use Rattle.order.specs.declared.Order.{Order}
 use Rattle.order.specs.declared.RecordRead.{RecordRead}
 use Rattle.order.proofs.Laws.{ReadUpTo, up-to-start, up-to-more, up-to-refused, up-to-end}
-use Rattle.join.specs.Joined.{kindsOf, ofKinds, FirstOf, here, later}
+use Rattle.constraint.specs.Joined.{kindsOf, ofKinds, FirstOf, here, later}
 use Rattle.join.specs.Walk.{callKind, Marks, Found, firstCommon}
 
 -- ---- one more of some kinds

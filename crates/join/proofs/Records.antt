@@ -21,7 +21,7 @@ use Rattle.constraint.specs.declared.Call.{Call}
 use Rattle.constraint.proofs.Judged.{judged-all}
 use Rattle.constraint.proofs.History.{clock-event, clock-tick, Accepts, Valid, valid-none, valid-more}
 use Rattle.constraint.proofs.Runs.{accepts-taken}
-use Rattle.join.specs.Joined.{timeOf, stepBytes}
+use Rattle.constraint.specs.Joined.{timeOf, stepBytes}
 use Rattle.join.specs.Walk.{callBytes, Records, none, more}
 use Rattle.join.proofs.Merging.{Fits, Line}
 

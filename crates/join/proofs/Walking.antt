@@ -14,7 +14,7 @@ use Rattle.constraint.specs.declared.Call.{Call}
 use Rattle.constraint.proofs.Lists.{split, both}
 use Rattle.number.proofs.Stores.{stores-append}
 use Rattle.recording.specs.Record.{CallAt}
-use Rattle.join.specs.Joined.{timeOf, merged, fallsAway, left, joined, stepBytes, stepsBytes, joinedBytes}
+use Rattle.constraint.specs.Joined.{timeOf, merged, fallsAway, left, joined, stepBytes, stepsBytes, joinedBytes}
 use Rattle.join.specs.Walk.{callBytes, leftBytes, leftClock, Records, none, more, Heads, Behind, Nexts}
 use Rattle.join.specs.declared.Head.{Head}
 use Rattle.join.specs.declared.Next.{Next}

@@ -12,7 +12,7 @@ use Rattle.constraint.specs.Run.{stepFor}
 use Rattle.constraint.specs.Table.{lengthAt}
 use Rattle.constraint.specs.Recording.{callAt, RecordAt, ReadsInOrder, recording-of, recording-refused}
 use Rattle.constraint.specs.declared.Call.{Call}
-use Rattle.join.specs.Joined.{timeOf, merged, fallsAway, eventBytes, colouredBytes, tickBytes, stepBytes, joinedBytes, kindsOf, FirstOf}
+use Rattle.constraint.specs.Joined.{timeOf, merged, fallsAway, eventBytes, colouredBytes, tickBytes, stepBytes, joinedBytes, kindsOf, FirstOf}
 use Rattle.join.specs.declared.Head.{Head}
 use Rattle.join.specs.declared.Next.{Next}
 use Rattle.join.specs.declared.Walked.{Walked}

@@ -1,6 +1,7 @@
 // Two recordings joined: records by time, at equal times those of the first before those of the second, without the ticks that are not later
 // than the joined clock.
 use constraint::Call;
+use constraint::JoinAnswer;
 use order::Order;
 use recording::Record;
 ghost use mathlib.Core.Path.{_≡_};
@@ -11,17 +12,8 @@ ghost use lib.ListN.{length, set};
 ghost use lib.Seq.{sets};
 ghost use Rattle.constraint.specs.Steps.{at};
 ghost use Rattle.constraint.specs.Run.{stepFor};
-ghost use Rattle.join.specs.Joined.{timeOf, fallsAway, AnswersJoin};
+ghost use Rattle.constraint.specs.Joined.{timeOf, fallsAway, AnswersJoin};
 ghost use Rattle.join.specs.Walk.{callBytes, callKind, leftBytes, leftClock, Heads, Nexts, Walks, firstCommon, Passes};
-
-// The answer to a join: how many bytes it has; or refused, with the number of the first question answered "no" and the place, at the first
-// recording or at the second; or the buffer is too short.
-pub enum JoinAnswer {
-    Joined { length: usize },
-    FirstRefused { number: u8, place: usize },
-    SecondRefused { number: u8, place: usize },
-    TooShort,
-}
 
 // The record at a place, if there is one: its call, and the place behind it.
 pub struct Head {

@@ -5,7 +5,7 @@ use lib.Dec.{leb}
 use denote.Ref.{now}
 use Rattle.constraint.specs.Run.{stepFor}
 use Rattle.queue.proofs.Shared.{free}
-use Rattle.join.specs.Joined.{timeOf}
+use Rattle.constraint.specs.Joined.{timeOf}
 use Rattle.join.proofs.Walking.{comes-true, comes-false, next-first, next-second}
 use Rattle.join.proofs.following.Statement.{statement}
 use Rattle.join.proofs.following.Tie as tie

@@ -11,7 +11,7 @@ use denote.Ref.{now}
 use Rattle.constraint.specs.Steps.{Step, at}
 use Rattle.constraint.proofs.Lists.{both}
 use Rattle.queue.proofs.Shared.{free}
-use Rattle.join.specs.Joined.{joined, stepsBytes, joinedBytes}
+use Rattle.constraint.specs.Joined.{joined, stepsBytes, joinedBytes}
 use Rattle.join.specs.Walk.{leftBytes, Records}
 use Rattle.join.proofs.Walking.{Walking, walk-start, walk-end, walk-more, walk-short}
 use Rattle.join.proofs.walk.Statement.{statement}

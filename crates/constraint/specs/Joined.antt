@@ -5,14 +5,14 @@ use mathlib.Core.Bool.{Bool, true, false, cond}
 use mathlib.Core.List.{List, [], _∷_, _++_}
 use lib.ListN.{length, drop}
 use lib.Dec.{leb, ltb}
 use Rattle.constraint.specs.Limits.{firstColoured}
 use Rattle.constraint.specs.Streams.{kindOf}
 use Rattle.constraint.specs.Steps.{Step, event, tick, close, at, among}
 use Rattle.constraint.specs.Bytes.{bytesOf}
 use Rattle.constraint.specs.Run.{stepFor}
 use Rattle.constraint.specs.Table.{lengthAt}
 use Rattle.constraint.specs.Recording.{callAt, ReadsInOrder, recording-of, recording-refused}
-use Rattle.join.specs.declared.JoinAnswer.{JoinAnswer}
+use Rattle.constraint.specs.declared.JoinAnswer.{JoinAnswer}
 
 -- the time of a record's step; no record is a close
 abbrev pub timeOf : Step → ℕ
@@ -40,6 +40,26 @@ left now (s ∷ steps) = cond (fallsAway now s) (left now steps) (s ∷ left (ti
 -- §13.1, §13.2: what the joined recording holds
 abbrev pub joined : List Step → List Step → List Step
 joined first second = left 0 (merged first second)
+
+-- §13.4: the records of both, those of each in their order, every one, and no other
+pub data Interleaves : List Step → List Step → List Step → Type 0 where
+  no-record : Interleaves [] [] []
+  of-first : {first second all : List Step} (s : Step) → Interleaves first second all → Interleaves (s ∷ first) second (s ∷ all)
+  of-second : {first second all : List Step} (s : Step) → Interleaves first second all → Interleaves first (s ∷ second) (s ∷ all)
+
+-- §13.4: the steps without the ticks at these times
+abbrev pub timesOf : List Step → List ℕ
+timesOf [] = []
+timesOf (s ∷ steps) = timeOf s ∷ timesOf steps
+
+abbrev pub tickAt : List ℕ → Step → Bool
+tickAt moments (event s t) = false
+tickAt moments (tick t) = among t moments
+tickAt moments close = false
+
+unfoldable pub without : List ℕ → List Step → List Step
+without moments [] = []
+without moments (s ∷ steps) = cond (tickAt moments s) (without moments steps) (s ∷ without moments steps)
 
 -- §7.2: a record's bytes: a plain event, one with a colour, a tick
 abbrev pub eventBytes : ℕ → ℕ → List ℕ

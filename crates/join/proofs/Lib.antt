@@ -5,3 +5,5 @@ pub mod Records
 pub mod Walking
 pub mod Passing
 pub mod Answers
+pub mod Holding
+pub mod Theorem

@@ -27,6 +27,17 @@ abbrev pub Line : ℕ → ℕ → List Step → Type 0
 Line version now [] = Unit {0}
 Line version now (s ∷ steps) = (now ≤ timeOf s) × Fits version s × Line version (timeOf s) steps
 
+-- a step that comes after a clock: a tick is later
+abbrev pub Comes : ℕ → Step → Type 0
+Comes now (event s t) = now ≤ t
+Comes now (tick t) = now < t
+Comes now close = ⊥
+
+-- steps each of which comes after the one before it
+abbrev pub Strict : ℕ → List Step → Type 0
+Strict now [] = Unit {0}
+Strict now (s ∷ steps) = Comes now s × Strict (timeOf s) steps
+
 module _ (version : ℕ) where
   line-earlier : (now before : ℕ) (steps : List Step) → before ≤ now → Line version now steps → Line version before steps
   line-earlier now before [] h l = tt
@@ -110,11 +121,11 @@ module _ (version : ℕ) where
   valid-left (event s t ∷ steps) done now v is unclosed l r =
       let own : Rising (times s done ++ t ∷ times s steps) = subst Rising (times-append s done (event s t ∷ steps) ∙ ap (λ (x : List ℕ). times s done ++ x) (own-first s t steps)) (r s) in
       let accepts : AcceptsEvent done s t = record {
-            not-closed = unclosed;
-            stream-small = l .1 .0;
-            time-small = l .1 .1;
-            in-order = (omega (arith, is, l .0), λ i h. rising-across (times s done) (t ∷ times s steps) own i h 0 (omega arith));
-          } in
+        not-closed = unclosed;
+        stream-small = l .1 .0;
+        time-small = l .1 .1;
+        in-order = (omega (arith, is, l .0), λ i h. rising-across (times s done) (t ∷ times s steps) own i h 0 (omega arith));
+      } in
       subst Valid (append-snoc done (event s t) (left t steps))
       (valid-left steps (done ++ (event s t ∷ [])) t (valid-more (event s t) v accepts) (clock-event s t done) (closed-event s t done ∙ unclosed) (l .2)
       (λ j. subst (λ (x : List Step). Rising (times j x)) (sym (append-snoc done (event s t) steps)) (r j)))

@@ -82,10 +82,10 @@ marks-set : (marks ks : List ℕ) (k : ℕ) → k < 64 → Marks marks ks → Ma
 marks-set marks ks k h m =
     record {
       each = λ j small. split (eqb j k) (λ x. at (set marks k 1) j ≡ cond (among j (ks ++ (k ∷ []))) 1 0)
-      (λ e. let same : k ≡ j = sym (eqb-true j k e) in
-      subst (λ (i : ℕ). at (set marks k 1) i ≡ cond (among i (ks ++ (k ∷ []))) 1 0) same
-      (getD-set-same marks k 1 0 (omega (arith, m .size, h)) ∙ rw (among-last k ks)))
-      (λ e. getD-set-other marks k j 1 0 (eqb-false j k e) ∙ m .each j small ∙ rw (among-others j k ks (eqb-false j k e)));
+          (λ e. let same : k ≡ j = sym (eqb-true j k e) in
+          subst (λ (i : ℕ). at (set marks k 1) i ≡ cond (among i (ks ++ (k ∷ []))) 1 0) same
+          (getD-set-same marks k 1 0 (omega (arith, m .size, h)) ∙ rw (among-last k ks)))
+          (λ e. getD-set-other marks k j 1 0 (eqb-false j k e) ∙ m .each j small ∙ rw (among-others j k ks (eqb-false j k e)));
       size = length-set marks k 1 ∙ m .size;
     }
 

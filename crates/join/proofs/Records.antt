@@ -23,7 +23,7 @@ use Rattle.constraint.proofs.History.{clock-event, clock-tick, Accepts, Valid, 
 use Rattle.constraint.proofs.Runs.{accepts-taken}
 use Rattle.constraint.specs.Joined.{timeOf, stepBytes}
 use Rattle.join.specs.Walk.{callBytes, Records, none, more}
-use Rattle.join.proofs.Merging.{Fits, Line}
+use Rattle.join.proofs.Merging.{Fits, Line, Comes, Strict}
 
 -- ---- what a record that is taken holds
 
@@ -63,9 +63,9 @@ module _ (version : ℕ) (steps : List Step) where
       go false false j = fits-tick (numberAt 8 body 0) j
 
   -- it is no earlier than the clock, and the clock is at its time then
-  in-time : (s : Step) → Fits version s → Accepts steps s → (clock steps ≤ timeOf s) × (clock (steps ++ (s ∷ [])) ≡ timeOf s)
-  in-time (event s t) fits a = (a .in-order .0, clock-event s t steps)
-  in-time (tick t) fits a = (omega (arith, a .later), clock-tick t steps)
+  in-time : (s : Step) → Fits version s → Accepts steps s → (clock steps ≤ timeOf s) × Comes (clock steps) s × (clock (steps ++ (s ∷ [])) ≡ timeOf s)
+  in-time (event s t) fits a = (a .in-order .0, a .in-order .0, clock-event s t steps)
+  in-time (tick t) fits a = (omega (arith, a .later), a .later, clock-tick t steps)
   in-time close fits a = absurd fits
 
 -- its bytes are those of its step
@@ -97,6 +97,7 @@ pub record Chain (bytes : List ℕ) (before : List Step) (place : ℕ) (all : Li
   pub is : all ≡ before ++ rest
   pub records : Records bytes place rest
   pub line : Line (at bytes 0) (clock before) rest
+  pub strict : Strict (clock before) rest
   pub valid : Valid all
 
 module _ (bytes : List ℕ) where
@@ -115,12 +116,13 @@ module _ (bytes : List ℕ) where
         rest = s ∷ c .rest;
         is = c .is ∙ append-snoc before s (c .rest);
         records = more there whole (bytes-call before (callAt bytes place) asked) (c .records);
-        line = (timed .0, fits, subst (λ (n : ℕ). Line (at bytes 0) n (c .rest)) (timed .1) (c .line));
+        line = (timed .0, fits, subst (λ (n : ℕ). Line (at bytes 0) n (c .rest)) (timed .2) (c .line));
+        strict = (timed .1, subst (λ (n : ℕ). Strict n (c .rest)) (timed .2) (c .strict));
         valid = c .valid;
       }
 
   chain : {before : List Step} {place : ℕ} {all : List Step} → ReadsRecords [] bytes before place (recording-of all) → Valid before → Chain bytes before place all
-  chain {before} (no-more end) v = record { rest = []; is = sym (append-nil before); records = none end; line = tt; valid = v }
+  chain {before} (no-more end) v = record { rest = []; is = sym (append-nil before); records = none end; line = tt; strict = tt; valid = v }
   chain {before} {place} {all} (record-taken there judged reads) v = chain-more before place all there v judged (λ w. chain reads w)
 
   -- a recording that is read: its version, its records, and their order
@@ -128,6 +130,7 @@ module _ (bytes : List ℕ) where
     pub known : VersionKnown bytes
     pub records : Records bytes 1 all
     pub line : Line (at bytes 0) 0 all
+    pub strict : Strict 0 all
     pub valid : Valid all
 
   pub whole : (all : List Step) → ReadsInOrder bytes (recording-of all) → Whole all
@@ -138,5 +141,6 @@ module _ (bytes : List ℕ) where
         known = known;
         records = subst (Records bytes 1) (sym (c .is)) (c .records);
         line = subst (Line (at bytes 0) 0) (sym (c .is)) (c .line);
+        strict = subst (Strict 0) (sym (c .is)) (c .strict);
         valid = c .valid;
       }

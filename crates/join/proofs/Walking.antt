@@ -119,14 +119,14 @@ module _ (one two : List ℕ) (place other : ℕ) (a b : Head) (heads : Heads on
     next-first =
         record {
           there = λ e first second records more-records. let f = head-first one place a heads first there records in
-          record {
-            rest = f .rest;
-            other = second;
-            is = ap (λ (l : List Step). merged l second) (f .is) ∙ taken-first (f .rest) second more-records;
-            records = f .records;
-            others = more-records;
-            bytes = f .same;
-          };
+              record {
+                rest = f .rest;
+                other = second;
+                is = ap (λ (l : List Step). merged l second) (f .is) ∙ taken-first (f .rest) second more-records;
+                records = f .records;
+                others = more-records;
+                bytes = f .same;
+              };
           ends = λ e. both e;
           less = λ e. omega (arith, head-less one place a heads there);
         }
@@ -150,14 +150,14 @@ module _ (one two : List ℕ) (place other : ℕ) (a b : Head) (heads : Heads on
     next-second =
         record {
           there = λ e first second records more-records. let f = head-first two other b others second e more-records in
-          record {
-            rest = first;
-            other = f .rest;
-            is = ap (λ (l : List Step). merged first l) (f .is) ∙ taken-second first (f .rest) records;
-            records = records;
-            others = f .records;
-            bytes = f .same;
-          };
+              record {
+                rest = first;
+                other = f .rest;
+                is = ap (λ (l : List Step). merged first l) (f .is) ∙ taken-second first (f .rest) records;
+                records = records;
+                others = f .records;
+                bytes = f .same;
+              };
           ends = nothing-left;
           less = λ e. omega (arith, head-less two other b others e);
         }

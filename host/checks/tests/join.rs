@@ -1,11 +1,15 @@
 //! Two recordings joined: the exported function beside the model.
 
 use checks::contract::{blocks, text};
+use checks::places::example;
+use checks::reports::report_in;
+use delkuthi::REPORT_LIMIT;
 use model::join::{Input, JoinRefusal, join, joined_steps};
 use model::notation::steps;
 use model::random::{Random, damage};
-use model::{LAST_TIME, Refusal, Step, recording_bytes};
+use model::{Constraint, LAST_TIME, Refusal, Step, recording_bytes, table_bytes};
 use std::collections::HashSet;
+use std::fs;
 
 /// What stands in a lent buffer before the call, so that a byte that is written is seen.
 const BEFORE: u8 = 0xA5;
@@ -187,4 +191,45 @@ fn long_recordings() {
     let expected = join(&first, &second, room).expect("a join");
     assert_eq!(expected.len(), room - 1 - 10 * 2000);
     assert_eq!(library(&first, &second, room), Ok(expected));
+}
+
+/// The files of `examples/join`: two recordings, their join, and its report. To write them anew after a change here:
+/// `JOIN=write cargo test --test join`.
+#[test]
+fn the_example() {
+    let ms = 1_000;
+    let (button, light, chime) = (0, 1, 2);
+    let rows = [
+        Constraint::Delay { source: button, target: light, lower: 0, upper: 50 * ms },
+        Constraint::Delay { source: button, target: chime, lower: 0, upper: 20 * ms },
+    ];
+    let event = |kind, time| Step::Event { kind, time };
+    let bus = recording_bytes(&[
+        event(light, 40 * ms),
+        event(chime, 60 * ms),
+        Step::Tick { time: 100 * ms },
+        event(light, 150 * ms),
+        event(chime, 150 * ms),
+        Step::Tick { time: 200 * ms },
+    ]);
+    let pressed =
+        recording_bytes(&[event(button, 10 * ms), Step::Tick { time: 100 * ms }, event(button, 130 * ms), Step::Tick { time: 190 * ms }]);
+    let joined = library(&bus, &pressed, bus.len() + pressed.len()).expect("a join");
+    assert_eq!(joined.len(), bus.len() + pressed.len() - 1 - 10, "one tick falls away");
+    let report = report_in(&table_bytes(&rows), &joined, REPORT_LIMIT).expect("a report");
+    assert_eq!(report, b"closed 10\n0 kept\n1 broken 2\n");
+    let files = [
+        ("table.bin", table_bytes(&rows)),
+        ("bus.bin", bus),
+        ("button.bin", pressed),
+        ("joined.bin", joined),
+        ("report.txt", report),
+    ];
+    for (name, bytes) in files {
+        let path = example(&format!("join/{name}"));
+        if std::env::var_os("JOIN").is_some() {
+            fs::write(&path, &bytes).expect("examples/join can be written");
+        }
+        assert_eq!(fs::read(&path).ok(), Some(bytes), "{name}");
+    }
 }

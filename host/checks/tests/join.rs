@@ -66,7 +66,8 @@ fn random_pairs() {
     let mut seen = HashSet::new();
     for _ in 0..60_000 {
         let one = random_steps(&mut random, &[0, 2, 48, 50]);
-        let two = random_steps(&mut random, if random.chance(80) { &[1, 3, 49] } else { &[1, 2, 50] });
+        let kinds = if random.chance(80) { [1, 3, 49] } else { [1, 2, 50] };
+        let two = random_steps(&mut random, &kinds);
         let (mut first, mut second) = (recording(&mut random, &one), recording(&mut random, &two));
         for bytes in [&mut first, &mut second] {
             if random.chance(6) {

@@ -87,6 +87,7 @@
  *   stack, report    at most 256 KiB      DELKUTHI_REPORT_STACK
  *   stack, page      at most 2 KiB        DELKUTHI_PAGE_STACK
  *   stack, stamps    at most 16 KiB       DELKUTHI_STAMPS_STACK
+ *   stack, join      at most 16 KiB       DELKUTHI_JOIN_STACK
  *   stack, fresh     at most 256 KiB      DELKUTHI_MONITOR_STACK
  *   stack, steps     at most 1 KiB        DELKUTHI_STEP_STACK
  *
@@ -297,6 +298,7 @@ extern "C" {
 #define DELKUTHI_REPORT_STACK  262144
 #define DELKUTHI_PAGE_STACK    2048
 #define DELKUTHI_STAMPS_STACK  16384
+#define DELKUTHI_JOIN_STACK    16384
 #define DELKUTHI_MONITOR_STACK 262144
 #define DELKUTHI_STEP_STACK    1024
 
@@ -374,8 +376,13 @@ enum delkuthi_refusal {
     /* A row's number (delkuthi_row_verdict). Rows are numbered from 0. */
     DELKUTHI_NO_ROW = 15, /* the table has no row of that number */
 
-    /* A buffer (delkuthi_make_table). Lend a longer one. */
-    DELKUTHI_TABLE_ROOM = 16, /* it is too short for the table */
+    /* A buffer (delkuthi_make_table, delkuthi_join). Lend a longer one. */
+    DELKUTHI_TABLE_ROOM = 16, /* it is too short for the table, or for the
+                                 joined recording */
+
+    /* Two recordings (delkuthi_join). Join others, or give the kinds of one
+       other numbers. */
+    DELKUTHI_COMMON_KIND = 20, /* a kind is found in both */
 
     /* A row for late stamps (delkuthi_stamps). Ask for another row. */
     DELKUTHI_NOT_REPEAT = 25 /* the row is not a Repeat of span 1 */
@@ -432,6 +439,8 @@ static inline const char *delkuthi_refusal_text(uint8_t number)
     case DELKUTHI_FORM:
         return "an event has no colour and a coloured kind, or a colour and a "
                "plain kind, or no such colour";
+    case DELKUTHI_COMMON_KIND:
+        return "a kind is found in both recordings";
     case DELKUTHI_COUNT_FULL:
         return "the count of steps is full";
     case DELKUTHI_NOT_REPEAT:
@@ -751,6 +760,36 @@ uint64_t delkuthi_stamps(const uint8_t *table, size_t table_length,
 #define DELKUTHI_STAMPS_KEPT   0
 #define DELKUTHI_STAMPS_BROKEN 1
 #define DELKUTHI_STAMPS_UNSURE 2
+
+/*
+ * Joins two recordings that have no kind in common, and writes the joined one
+ * to the front of a buffer. Records stand by time, at equal times those of the
+ * first before those of the second; a tick that is not later than the joined
+ * clock falls away. The version is the higher of the two. A buffer of as many
+ * bytes as both recordings have together is always long enough. Bytes behind
+ * the joined recording stay as they were.
+ *
+ * Returns the number of bytes, DELKUTHI_LENGTH of the answer; or, if
+ * DELKUTHI_JOIN_NUMBER of it is not DELKUTHI_TAKEN, a refusal with that number and
+ * DELKUTHI_PLACE: of a record of the first recording or its step (8 to 14 and 19,
+ * never DELKUTHI_CROWDED), then of the second; then DELKUTHI_COMMON_KIND, with
+ * the place of the second's first record of such a kind; then
+ * DELKUTHI_TABLE_ROOM, with the place 0. DELKUTHI_JOIN_SECOND tells whether it
+ * is the second recording that is refused. A place or a length above 2^56 - 1
+ * is given as that. On a refusal the buffer stays as it was.
+ */
+uint64_t delkuthi_join(const uint8_t *first, size_t first_length,
+                       const uint8_t *second, size_t second_length,
+                       uint8_t *joined, size_t joined_length);
+
+/* The number in an answer of delkuthi_join, and whether the second recording
+   is refused: 1, or 0. */
+#ifdef __cplusplus
+#define DELKUTHI_JOIN_NUMBER(answer) (static_cast<uint8_t>((answer) & 127))
+#else
+#define DELKUTHI_JOIN_NUMBER(answer) ((uint8_t)((answer) & 127))
+#endif
+#define DELKUTHI_JOIN_SECOND(answer) (((answer) >> 7) & 1)
 
 #ifdef __cplusplus
 }

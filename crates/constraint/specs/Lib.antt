@@ -30,3 +30,4 @@ pub mod Page
 pub mod Examples
 -- What the code's records hold.
 pub mod Records
+pub mod Joined

@@ -154,6 +154,15 @@ pub enum StampedAnswer {
     Refused { number: u8, place: usize },
 }
 
+// The answer to a join: how many bytes it has; or refused, with the number of the first question answered "no" and the place, at the first
+// recording or at the second; or the buffer is too short.
+pub enum JoinAnswer {
+    Joined { length: usize },
+    FirstRefused { number: u8, place: usize },
+    SecondRefused { number: u8, place: usize },
+    TooShort,
+}
+
 // An entry of a table: one row.
 pub struct Entry {
     pub constraint: Constraint,

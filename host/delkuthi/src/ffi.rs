@@ -34,4 +34,12 @@ unsafe extern "C" {
         row: u64,
         late: u64,
     ) -> u64;
+    pub fn delkuthi_join(
+        first: *const u8,
+        first_length: usize,
+        second: *const u8,
+        second_length: usize,
+        joined: *mut u8,
+        joined_length: usize,
+    ) -> u64;
 }

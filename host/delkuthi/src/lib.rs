@@ -39,6 +39,7 @@
 #![warn(missing_docs)]
 
 mod ffi;
+mod join;
 mod monitor;
 mod page;
 mod refusal;
@@ -47,6 +48,7 @@ mod stamps;
 mod table;
 mod version;
 
+pub use join::{Input, JoinRefusal, join};
 pub use monitor::{Monitor, Verdict, WORDS};
 pub use page::PAGE_LIMIT;
 pub use refusal::{Refusal, refusal_text};

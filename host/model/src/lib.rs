@@ -21,6 +21,7 @@ pub mod continuation;
 pub mod examples;
 pub mod executions;
 pub mod hidden_points;
+pub mod join;
 pub mod meets;
 pub mod monitor;
 pub mod notation;

@@ -1,0 +1,3 @@
+-- What the search for the shortest stretch computes and promises.
+pub mod Stretches
+pub mod Machine

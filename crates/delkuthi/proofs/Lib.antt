@@ -10,3 +10,4 @@ mod RowNumbers
 pub mod Printing
 pub mod StampNumbers
 pub mod StampWords
+pub mod StretchNumbers

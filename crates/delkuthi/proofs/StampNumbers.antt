@@ -17,7 +17,7 @@ call-above steps (Call.ColouredEvent k c t) = (omega arith, (omega arith, (omega
 call-above steps (Call.Tick t) = (omega arith, (omega arith, (omega arith, (omega arith, tt))))
 call-above steps Call.Close = (omega arith, tt)
 
-records-above : (bytes : List ℕ) {before : List Step} {place n last : ℕ} → ReadsRecords [] bytes before place (recording-refused n last) → 0 < n
+pub records-above : (bytes : List ℕ) {before : List Step} {place n last : ℕ} → ReadsRecords [] bytes before place (recording-refused n last) → 0 < n
 unfolding recordQuestions AllAbove
 records-above bytes (record-refused {before} {place} n there judged) =
     number-above (recordQuestions [] before bytes place) n (omega arith, call-above before (callAt bytes place)) judged

@@ -5,3 +5,4 @@ pub mod Lent
 pub mod Tables
 pub mod Printed
 pub mod Stamps
+pub mod Stretches

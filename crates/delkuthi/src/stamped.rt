@@ -19,7 +19,7 @@ fn verdict_number(verdict: StampedVerdict) -> u64
 }
 
 // 256 times a place.
-fn place_number(place: usize) -> u64
+pub(crate) fn place_number(place: usize) -> u64
     ensures { λ r. ⌜ r ≡ placeNumber place ⌝ }
 {
     if LAST_PLACE < place {

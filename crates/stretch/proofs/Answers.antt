@@ -1,10 +1,10 @@
 -- The numbers of the starts say which stretches break the row, so the first that is as long as its start needs is the first that breaks it;
 -- and the answer is put together in the order of the questions.
-use Prim.Native.Nat.{ℕ, zero, suc, _+_, _≤_, _<_, min}
+use Prim.Native.Nat.{ℕ, _+_, _≤_, _<_, min}
 use native.Mathlib.Omega.{arith}
 use mathlib.Core.Path.{_≡_, refl, sym, ap, subst, _∙_}
 use mathlib.Core.Bool.{Bool, true, false}
-use mathlib.Core.List.{List, [], _∷_, _++_, map}
+use mathlib.Core.List.{List, [], _∷_, _++_}
 use mathlib.Core.Logic.{inl}
 use mathlib.Core.Option.{some}
 use lib.ListN.{length, take, drop, getD, getElem?, length-drop}
@@ -14,7 +14,6 @@ use Rattle.constraint.specs.Steps.{Step, at}
 use Rattle.constraint.specs.Questions.{Judged, Decides}
 use Rattle.constraint.specs.Accepted.{rowsQuestions, Accepted}
 use Rattle.constraint.specs.Rows.{tableOf}
-use Rattle.constraint.specs.Records.{entryOf}
 use Rattle.constraint.specs.Recording.{ReadsInOrder, recording-of}
 use Rattle.constraint.specs.declared.Answer.{Answer}
 use Rattle.constraint.specs.declared.Answer.the-variants.{Taken, Refused}
@@ -22,14 +21,14 @@ use Rattle.constraint.specs.declared.Constraint.{Constraint}
 use Rattle.constraint.specs.declared.Entry.{Entry}
 use Rattle.constraint.specs.declared.Table.{Table}
 use Rattle.constraint.proofs.Judged.{never, judged-none, judged-yes, judged-no}
-use Rattle.constraint.proofs.Records.{record-count}
+use Rattle.constraint.proofs.Records.{record-count, row-there}
 use Rattle.row.proofs.Exact.{Sound}
 use Rattle.monitor.proofs.Demand.{accepted-sound}
 use Rattle.monitor.proofs.FittingRows.{sound-at}
-use Rattle.stretch.specs.Stretches.{Stretch, stretchOf, stretches, Some, FirstAt, Breaks, Breaking, stretchQuestions, AnswersRow, no-stretch, found}
+use Rattle.constraint.specs.Stretches.{Stretch, stretchOf, stretches, Some, FirstAt, Breaks, Breaking, stretchQuestions, AnswersRow, no-stretch, found}
 use Rattle.stretch.specs.Machine.{Kept, Run, Needs, NeedsFrom, Enough, Searches, Tries, TriesAll, Asks}
 use Rattle.stretch.specs.declared.Found.{Found}
-use Rattle.stretch.specs.declared.StretchAnswer.{StretchAnswer}
+use Rattle.constraint.specs.declared.StretchAnswer.{StretchAnswer}
 use Rattle.stretch.proofs.Taking.{recording-taken}
 use Rattle.stretch.proofs.Places.{Inside, some-as, first-as, stretches-inside, some-right}
 
@@ -82,16 +81,6 @@ row-accepted c sound =
     judged-yes 3 _ _ Taken (omega arith)
     (judged-yes 5 _ _ Taken (sound .kinds-fit)
     (judged-yes 18 _ _ Taken (sound .kinds-suit) (judged-yes 6 _ _ Taken (sound .in-range) (judged-yes 7 _ _ Taken (sound .lower-first) judged-none))))
-
-entry-row : (rows rest : List Constraint) (i : ℕ) (d : Entry) → i < length rows → getElem? rows i ≡ some (getD (map entryOf (rows ++ rest)) i d .constraint)
-entry-row [] rest i d h = absurd (omega arith)
-entry-row (c ∷ rows) rest zero d h = refl
-entry-row (c ∷ rows) rest (suc i) d h = entry-row rows rest i d (omega arith)
-
-row-there : (table : Table) (rows : List Constraint) (i : ℕ) (d : Entry) → table ≡ tableOf rows → i < length rows
-    → getElem? rows i ≡ some (getD (table .rows) i d .constraint)
-unfolding tableOf
-row-there table rows i d e h = entry-row rows _ i d h ∙ ap (λ (t : Table). some (getD (t .rows) i d .constraint)) (sym e)
 
 -- the first that breaks is one that breaks
 some-first : (P : Stretch → Type 0) (list : List Stretch) (s : Stretch) (place : ℕ) → FirstAt P list s place → Some P list

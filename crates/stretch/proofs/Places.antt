@@ -1,5 +1,6 @@
 -- The search goes through the list of stretches one by one: what it has tried and what is left are the list, so its counter is the place.
 use Prim.Native.Nat.{ℕ, zero, suc, _+_, _-_, _*_, _≤_, _<_}
+use native.Mathlib.Nat.{zero-mul, one-mul, mul-one, mul-add, add-mul}
 use native.Mathlib.Omega.{arith}
 use mathlib.Core.Path.{_≡_, refl, sym, ap, subst, _∙_}
 use mathlib.Core.List.{List, [], _∷_, _++_, append-nil}
@@ -7,7 +8,7 @@ use mathlib.Core.Logic.{_⊎_, inl, inr, ⊎-elim}
 use lib.ListN.{length, length-append}
 use lib.Seq.{append-snoc}
 use Rattle.constraint.specs.Steps.{at}
-use Rattle.stretch.specs.Stretches.{Stretch, stretchOf, starts, sizes, stretches, Some, FirstAt}
+use Rattle.constraint.specs.Stretches.{Stretch, stretchOf, starts, sizes, stretches, Some, FirstAt}
 use Rattle.stretch.specs.Machine.{Enough, Searches}
 use Rattle.stretch.specs.declared.Found.{Found}
 
@@ -230,3 +231,82 @@ module _ (n : ℕ) where
                 size-small = omega (arith, more);
                 small = omega (arith, s .small, s .inside more, s .positive, few);
               }
+
+-- ---- the place by a formula
+
+-- of n records: with p one less than its length, twice the stretches before it and p(p + 1) are twice p(n + 1) and its first record's number
+abbrev pub Formula : ℕ → ℕ → Stretch → Type 0
+Formula n before s = (p : ℕ) → s .size ≡ p + 1 → 2 * before + (p + 1) * p ≡ 2 * (p * (n + 1) + s .first)
+
+-- each of a list by its place, the first having so many before it
+abbrev Numbered : ℕ → ℕ → List Stretch → Type 0
+Numbered n i [] = Unit {0}
+Numbered n i (s ∷ later) = Formula n i s × Numbered n (i + 1) later
+
+numbered-append : (n i : ℕ) (a b : List Stretch) → Numbered n i a → Numbered n (i + length a) b → Numbered n i (a ++ b)
+numbered-append n i [] b h k = let same : i + 0 ≡ i = omega arith in subst (λ (j : ℕ). Numbered n j b) same k
+numbered-append n i (s ∷ a) b h k =
+    let same : i + suc (length a) ≡ i + 1 + length a = omega arith in
+    (h .0, numbered-append n (i + 1) a b (h .1) (subst (λ (j : ℕ). Numbered n j b) same k))
+
+numbered-at : (n i : ℕ) (before : List Stretch) (s : Stretch) (later : List Stretch) → Numbered n i (before ++ (s ∷ later)) → Formula n (i + length before) s
+numbered-at n i [] s later h = let same : i ≡ i + 0 = omega arith in subst (λ (j : ℕ). Formula n j s) same (h .0)
+numbered-at n i (x ∷ before) s later h =
+    let same : i + 1 + length before ≡ i + suc (length before) = omega arith in
+    subst (λ (j : ℕ). Formula n j s) same (numbered-at n (i + 1) before s later (h .1))
+
+length-starts : (left first size : ℕ) → length (starts left first size) ≡ left
+unfolding starts
+length-starts zero first size = refl
+length-starts (suc left) first size = ap suc (length-starts left (first + 1) size)
+
+-- one more start is one more place
+numbered-starts : (n i left first size : ℕ) → Formula n i (stretchOf first size) → Numbered n i (starts left first size)
+unfolding starts
+numbered-starts n i zero first size f = tt
+numbered-starts n i (suc left) first size f =
+    (f, numbered-starts n (i + 1) left (first + 1) size (λ p is. next ((p + 1) * p) (p * (n + 1)) (f p is)))
+  where
+    next : (square rows : ℕ) → 2 * i + square ≡ 2 * (rows + first) → 2 * (i + 1) + square ≡ 2 * (rows + (first + 1))
+    next square rows e = omega (arith, e)
+
+-- products with one more
+one-more : (p k : ℕ) → (p + 1) * k ≡ p * k + k
+one-more p k = add-mul p 1 k ∙ ap (λ (x : ℕ). p * k + x) (one-mul k)
+
+squares : (p : ℕ) → (p + 1 + 1) * (p + 1) ≡ (p + 1) * p + 2 * (p + 1)
+squares p = one-more (p + 1) (p + 1) ∙ ap (λ (x : ℕ). x + (p + 1)) (mul-add (p + 1) p 1 ∙ ap (λ (x : ℕ). (p + 1) * p + x) (mul-one (p + 1))) ∙ twice ((p + 1) * p)
+  where
+    twice : (x : ℕ) → x + (p + 1) + (p + 1) ≡ x + 2 * (p + 1)
+    twice x = omega arith
+
+-- one more length is as many places as the last had starts
+numbered-sizes : (n i left p : ℕ) → left + p ≤ n → Formula n i (stretchOf 0 (p + 1)) → Numbered n i (sizes left n (p + 1))
+unfolding sizes
+numbered-sizes n i zero p h f = tt
+numbered-sizes n i (suc left) p h f =
+    numbered-append n i (starts (n + 1 - (p + 1)) 0 (p + 1)) (sizes left n (p + 1 + 1)) (numbered-starts n i (n + 1 - (p + 1)) 0 (p + 1) f)
+    (subst (λ (j : ℕ). Numbered n (i + j) (sizes left n (p + 1 + 1))) (sym (length-starts (n + 1 - (p + 1)) 0 (p + 1)))
+    (numbered-sizes n (i + (n + 1 - (p + 1))) left (p + 1) (omega (arith, h)) longer))
+  where
+    by-rows : (square rows square′ rows′ : ℕ) → square′ ≡ square + 2 * (p + 1) → rows′ ≡ rows + (n + 1) → 2 * i + square ≡ 2 * (rows + 0)
+        → 2 * (i + (n + 1 - (p + 1))) + square′ ≡ 2 * (rows′ + 0)
+    by-rows square rows square′ rows′ a b e = omega (arith, h, a, b, e)
+
+    longer : Formula n (i + (n + 1 - (p + 1))) (stretchOf 0 (p + 1 + 1))
+    longer q is =
+        let same : p + 1 ≡ q = omega (arith, is) in
+        subst (λ (k : ℕ). 2 * (i + (n + 1 - (p + 1))) + (k + 1) * k ≡ 2 * (k * (n + 1) + 0)) same
+        (by-rows ((p + 1) * p) (p * (n + 1)) ((p + 1 + 1) * (p + 1)) ((p + 1) * (n + 1)) (squares p) (one-more p (n + 1)) (f p refl))
+
+-- §14.4: the place of a stretch of n records by its start and length
+pub place-formula : (P : Stretch → Type 0) (n : ℕ) (s : Stretch) (place : ℕ) → FirstAt P (stretches n) s place → Formula n (place - 1) s
+place-formula P n s place f =
+    let before : 0 + length (f .before) ≡ place - 1 = omega (arith, f .placed) in
+    subst (λ (i : ℕ). Formula n i s) before
+    (numbered-at n 0 (f .before) s (f .later) (subst (Numbered n 0) (f .in-order) (numbered-sizes n 0 n 0 (omega arith) start)))
+  where
+    start : Formula n 0 (stretchOf 0 (0 + 1))
+    start p is =
+        let none : 0 ≡ p = omega (arith, is) in
+        subst (λ (k : ℕ). 2 * 0 + (k + 1) * k ≡ 2 * (k * (n + 1) + 0)) none (ap (λ (x : ℕ). 2 * (x + 0)) (sym (zero-mul (n + 1))))

@@ -35,7 +35,7 @@ use Rattle.row.specs.declared.RowStep.{RowStep}
 use Rattle.row.proofs.Exact.{Sound, Exact}
 use Rattle.row.proofs.Engine.{engine}
 use Rattle.row.proofs.Steps.{Fits, Going, Broken, After, seen, fits-start, fits-room, fits-step, fits-reads}
-use Rattle.stretch.specs.Stretches.{TakesEach, takes-none, takes-more, Breaks}
+use Rattle.constraint.specs.Stretches.{TakesEach, takes-none, takes-more, Breaks}
 use Rattle.stretch.specs.Machine.{stepAs, seenAs, Kept, Needs}
 use Rattle.stretch.proofs.Taking.{takes-valid, CallAt, takes-at, next, next-is, part-next, next-judged, takes-next}
 

@@ -21,7 +21,7 @@ use Rattle.constraint.proofs.Lists.{Each, each-right}
 use Rattle.constraint.proofs.History.{times-append, clock-append, clock-later, Valid, valid-none, valid-more}
 use Rattle.constraint.proofs.Judged.{judged-none, judged-yes, judged-all}
 use Rattle.constraint.proofs.Runs.{accepts-taken}
-use Rattle.stretch.specs.Stretches.{TakesEach, takes-none, takes-more}
+use Rattle.constraint.specs.Stretches.{TakesEach, takes-none, takes-more}
 
 -- ---- records that are taken
 

@@ -15,10 +15,10 @@ use Rattle.constraint.specs.declared.Constraint.{Constraint}
 use Rattle.constraint.specs.declared.Table.{Table}
 use Rattle.row.specs.Machine.{eventAt, tickAt}
 use Rattle.row.specs.declared.Occurrence.{Occurrence}
-use Rattle.stretch.specs.Stretches.{TakesEach, Breaks, stretchOf, stretches, Some, FirstAt, Breaking, Stretch, recordLimit, AnswersRow}
+use Rattle.constraint.specs.Stretches.{TakesEach, Breaks, stretchOf, stretches, Some, FirstAt, Breaking, Stretch, recordLimit, AnswersRow}
 use Rattle.stretch.specs.declared.Gathered.{Gathered}
 use Rattle.stretch.specs.declared.Found.{Found}
-use Rattle.stretch.specs.declared.StretchAnswer.{StretchAnswer}
+use Rattle.constraint.specs.declared.StretchAnswer.{StretchAnswer}
 
 -- a record as two numbers, its stream and its time; the number after the last stream stands for a tick
 abbrev pub stepAs : ℕ → ℕ → Step

@@ -2,6 +2,7 @@
 // records that break the row from there; then the stretches are tried by length and by start.
 use constraint::Constraint;
 use constraint::STREAM_COUNT;
+use constraint::StretchAnswer;
 use constraint::Table;
 use machine::parts::kind_of;
 use monitor::calls;
@@ -12,7 +13,7 @@ use table::ReadAnswer;
 ghost use mathlib.Core.Path.{_≡_};
 ghost use Prim.Native.Nat.{ℕ, _≤_, _<_};
 ghost use lib.ListN.{length, getD};
-ghost use Rattle.stretch.specs.Stretches.{AnswersStretch};
+ghost use Rattle.constraint.specs.Stretches.{AnswersStretch};
 ghost use Rattle.stretch.specs.Machine.{seenAs, Keeps, Gathers, NeedsFrom, Searches, TriesAll, Asks};
 
 // How many records a recording may have.
@@ -25,13 +26,6 @@ const NEVER: usize = RECORD_LIMIT + 1;
 const NO_EVENT: u64 = 65;
 
 const NO_STREAM: u64 = STREAM_COUNT as u64;
-
-// The answer: the number of the stretch's first record, from 0, its length, and how many stretches were tried, with it; or refused with the
-// number of the first question answered "no" and the place.
-pub enum StretchAnswer {
-    Found { first: u8, size: u16, tried: u32 },
-    Refused { number: u8, place: usize },
-}
 
 // How many records there are, more than 256 counting as 257; or (number above 0) a refusal with its place.
 pub struct Gathered {
@@ -118,7 +112,13 @@ fn gather(bytes: &[u8], streams: &mut [u64; 256], times: &mut [u64; 256]) -> Gat
 }
 
 // The least number of records from a start on that break the row; 257 where none do, as the end or a 12 comes first.
-fn need_from(constraint: Constraint, streams: &[u64; 256], times: &[u64; 256], count: usize, start: usize) -> usize
+fn need_from(
+    constraint: Constraint,
+    streams: &[u64; 256],
+    times: &[u64; 256],
+    count: usize,
+    start: usize,
+) -> usize
     requires { ⌜ count ≤ 256 ⌝ }
     ensures { λ r. ⌜ NeedsFrom constraint (now (streams .entry)) (now (times .entry)) count start r ⌝ }
 {
@@ -144,7 +144,12 @@ fn need_from(constraint: Constraint, streams: &[u64; 256], times: &[u64; 256], c
 }
 
 // The same for each start.
-fn needs(constraint: Constraint, streams: &[u64; 256], times: &[u64; 256], count: usize) -> [usize; 256]
+fn needs(
+    constraint: Constraint,
+    streams: &[u64; 256],
+    times: &[u64; 256],
+    count: usize,
+) -> [usize; 256]
     requires { ⌜ count ≤ 256 ⌝ }
     ensures { λ r. ⌜ ((start : ℕ) → start < count → NeedsFrom constraint (now (streams .entry)) (now (times .entry)) count start (getD r start 0)) ⌝ }
 {
@@ -185,7 +190,12 @@ fn search(need: &[usize; 256], count: usize) -> Found
 }
 
 // The answer of a row: the first stretch that breaks it, or 23.
-fn try_row(constraint: Constraint, streams: &[u64; 256], times: &[u64; 256], count: usize) -> StretchAnswer
+fn try_row(
+    constraint: Constraint,
+    streams: &[u64; 256],
+    times: &[u64; 256],
+    count: usize,
+) -> StretchAnswer
     requires { ⌜ count ≤ 256 ⌝ }
     ensures { λ r. ⌜ TriesAll constraint (now (streams .entry)) (now (times .entry)) count r ⌝ }
 {
@@ -205,7 +215,13 @@ fn try_row(constraint: Constraint, streams: &[u64; 256], times: &[u64; 256], cou
 }
 
 // The answer of a row of a table: question 15 first.
-fn ask_row(table: Table, row: u64, streams: &[u64; 256], times: &[u64; 256], count: usize) -> StretchAnswer
+fn ask_row(
+    table: Table,
+    row: u64,
+    streams: &[u64; 256],
+    times: &[u64; 256],
+    count: usize,
+) -> StretchAnswer
     requires { ⌜ count ≤ 256 ⌝ }
     ensures { λ r. ⌜ Asks table row (now (streams .entry)) (now (times .entry)) count r ⌝ }
 {

@@ -34,4 +34,11 @@ unsafe extern "C" {
         row: u64,
         late: u64,
     ) -> u64;
+    pub fn delkuthi_shortest_stretch(
+        table: *const u8,
+        table_length: usize,
+        recording: *const u8,
+        recording_length: usize,
+        row: u64,
+    ) -> u64;
 }

@@ -1,11 +1,9 @@
--- TODO
+-- The loop reads record after record and keeps what each is, as long as there is room.
 use native.Mathlib.Omega.{arith}
-use Prim.Native.Nat.{_+_, _-_, _*_, _≤_, _<_}
+use Prim.Native.Nat.{_-_}
 use lib.ListN.{length}
-use mathlib.Core.Path.{_≡_, refl, sym, ap, subst, _∙_}
 use denote.Ref.{now}
 use Rattle.queue.proofs.Shared.{free}
-use borrow.Author.Needs.{needs}
 use Rattle.stretch.proofs.Gathering.{GatheredTo, gather-start, gather-more, gather-refused, gather-end}
 use Rattle.constraint.specs.Recording.{version-refused}
 use Rattle.constraint.proofs.Judged.{passed, failed}

@@ -1,10 +1,7 @@
--- TODO
+-- Two stores where there is room, none where there is not.
 use native.Mathlib.Omega.{arith}
-use Prim.Native.Nat.{_+_, _-_, _*_, _≤_}
-use lib.ListN.{length}
-use mathlib.Core.Path.{_≡_, refl, sym, ap, subst, _∙_}
-use denote.Ref.{now}
-use Rattle.queue.proofs.Shared.{free}
+use Prim.Native.Nat.{_-_}
+use mathlib.Core.Path.{refl}
 use borrow.Author.Needs.{needs}
 use Rattle.stretch.proofs.keep.Statement.{statement}
 use Rattle.stretch.proofs.keep.Tie as tie

@@ -1,8 +1,7 @@
--- TODO
+-- The loop steps one row from record to record: it ends where the row breaks, where a step crowds it, or behind the last record.
 use native.Mathlib.Omega.{arith}
-use Prim.Native.Nat.{_+_, _-_, _*_, _≤_, _<_}
-use lib.ListN.{length}
-use mathlib.Core.Path.{_≡_, refl, sym, ap, subst, _∙_}
+use Prim.Native.Nat.{_-_, _≤_}
+use mathlib.Core.Path.{sym}
 use denote.Ref.{now}
 use Rattle.queue.proofs.Shared.{free}
 use borrow.Author.Needs.{needs}
@@ -74,10 +73,12 @@ loop-again c =
     let at-loop = at-seen .before .before .before .before in
     let begin = at-loop .before .before .before .before in
     let args = begin .before .args in
-    let inv = at-loop .loop .inv in
-    (inv .0, to-next (args .streams .now) (args .times .now) (args .count) (args .start) (inv .0) _ _ _ _ _ (inv .1) (c .before .before .before .before .before .before .before .before .before .before .loop-test .taken)
-    (λ number. rw (← at-seen .seen .ensures, ← at-crowded .crowded .ensures number) (sym (c .before .before .before .before .if1 .left)))
-    (c .before .before .step .last .1 .1 .0) (c .before .before .step .result) (rw (← at-seen .seen .ensures) (c .before .before .step .ensures)) (c .if2 .left))
+    let inv = at-loop .loop .inv in (
+      inv .0,
+      to-next (args .streams .now) (args .times .now) (args .count) (args .start) (inv .0) _ _ _ _ _ (inv .1) (c .before .before .before .before .before .before .before .before .before .before .loop-test .taken)
+          (λ number. rw (← at-seen .seen .ensures, ← at-crowded .crowded .ensures number) (sym (c .before .before .before .before .if1 .left)))
+          (c .before .before .step .last .1 .1 .0) (c .before .before .step .result) (rw (← at-seen .seen .ensures) (c .before .before .step .ensures)) (c .if2 .left),
+    )
 
 returns-3 : tie.Need-returns-3 Inv-loop μ-loop
 returns-3 c =

@@ -1,10 +1,7 @@
--- TODO
+-- The loop goes through the stretches one by one and counts them, so its counter is the place.
 use native.Mathlib.Omega.{arith}
-use Prim.Native.Nat.{_+_, _-_, _*_, _≤_, _<_}
-use lib.ListN.{length}
-use mathlib.Core.Path.{_≡_, refl, sym, ap, subst, _∙_}
+use Prim.Native.Nat.{_+_, _-_, _*_, _<_}
 use denote.Ref.{now}
-use Rattle.queue.proofs.Shared.{free}
 use borrow.Author.Needs.{needs}
 use Rattle.stretch.proofs.Places.{Searching, search-start, search-found, search-on, search-longer, search-end}
 use Rattle.stretch.proofs.search.Statement.{statement}

@@ -1,12 +1,7 @@
--- TODO
-use native.Mathlib.Omega.{arith}
-use Prim.Native.Nat.{_+_, _-_, _*_, _≤_}
-use lib.ListN.{length}
-use mathlib.Core.Path.{_≡_, refl, sym, ap, subst, _∙_}
+-- A tick where the stream is none, else an event.
+use Prim.Native.Nat.{_-_}
 use borrow.Author.Tests.{eq-eqb, ne-eqb}
-use denote.Ref.{now}
 use Rattle.queue.proofs.Shared.{free}
-use borrow.Author.Needs.{needs}
 use Rattle.stretch.proofs.seen.Statement.{statement}
 use Rattle.stretch.proofs.seen.Tie as tie
 

@@ -7,7 +7,7 @@ use Rattle.constraint.specs.Rows.{rowsOf, tableOf}
 use Rattle.constraint.specs.Table.{ReadsTable, table-of, table-refused}
 use Rattle.queue.proofs.Shared.{free}
 use Rattle.table.proofs.AcceptedRows.{read-accepted}
-use Rattle.stretch.specs.Stretches.{no-table, no-recording, answers}
+use Rattle.constraint.specs.Stretches.{no-table, no-recording, answers}
 use Rattle.stretch.proofs.Answers.{run-of, too-many}
 use Rattle.stretch.proofs.shortest.Statement.{statement}
 use Rattle.stretch.proofs.shortest.Tie as tie

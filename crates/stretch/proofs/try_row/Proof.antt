@@ -17,9 +17,12 @@ returns : tie.Need-returns
 returns c steps run accepted =
     let at-search = c .before .before in
     let at-needs = at-search .before .before in
-    let args = at-needs .before .args in
-    (refl, refl, tries-none (args .constraint) (args .streams .now) (args .times .now) (args .count) (at-needs .needs .result) (at-needs .needs .ensures) steps run accepted
-    (at-search .search .result) (at-search .search .ensures) (c .if1 .taken))
+    let args = at-needs .before .args in (
+      refl,
+      refl,
+      tries-none (args .constraint) (args .streams .now) (args .times .now) (args .count) (at-needs .needs .result) (at-needs .needs .ensures) steps run accepted
+          (at-search .search .result) (at-search .search .ensures) (c .if1 .taken),
+    )
 
 cast-t10 : tie.Need-cast-t10
 cast-t10 c = search needs

@@ -5,16 +5,16 @@ use mathlib.Core.List.{List, [], _∷_, _++_}
 use mathlib.Core.Logic.{_⊎_}
 use mathlib.Core.Option.{some}
 use lib.ListN.{length, take, drop, getElem?}
 use Rattle.constraint.specs.Steps.{Step}
 use Rattle.constraint.specs.Continuation.{Open}
 use Rattle.constraint.specs.Questions.{Question, Judged}
 use Rattle.constraint.specs.Run.{stepFor, questions}
 use Rattle.constraint.specs.Table.{ReadsTable, table-of, table-refused}
 use Rattle.constraint.specs.Recording.{ReadsInOrder, recording-of, recording-refused}
 use Rattle.constraint.specs.declared.Answer.the-variants.{Taken, Refused}
 use Rattle.constraint.specs.declared.Call.{Call}
 use Rattle.constraint.specs.declared.Constraint.{Constraint}
-use Rattle.stretch.specs.declared.StretchAnswer.{StretchAnswer}
+use Rattle.constraint.specs.declared.StretchAnswer.{StretchAnswer}
 
 -- §14.1: a stretch of consecutive records: the number of its first record, from 0, and its length
 pub record Stretch : Type 0 where

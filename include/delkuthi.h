@@ -88,6 +88,7 @@
  *   stack, page      at most 2 KiB        DELKUTHI_PAGE_STACK
  *   stack, stamps    at most 16 KiB       DELKUTHI_STAMPS_STACK
  *   stack, join      at most 16 KiB       DELKUTHI_JOIN_STACK
+ *   stack, stretch   at most 32 KiB       DELKUTHI_STRETCH_STACK
  *   stack, fresh     at most 256 KiB      DELKUTHI_MONITOR_STACK
  *   stack, steps     at most 1 KiB        DELKUTHI_STEP_STACK
  *
@@ -299,6 +300,7 @@ extern "C" {
 #define DELKUTHI_PAGE_STACK    2048
 #define DELKUTHI_STAMPS_STACK  16384
 #define DELKUTHI_JOIN_STACK    16384
+#define DELKUTHI_STRETCH_STACK 32768
 #define DELKUTHI_MONITOR_STACK 262144
 #define DELKUTHI_STEP_STACK    1024
 
@@ -384,6 +386,11 @@ enum delkuthi_refusal {
        other numbers. */
     DELKUTHI_COMMON_KIND = 20, /* a kind is found in both */
 
+    /* The shortest stretch (delkuthi_shortest_stretch). */
+    DELKUTHI_TOO_MANY_RECORDS = 22, /* the recording has more than 256: give a
+                                       part of it */
+    DELKUTHI_NO_STRETCH = 23, /* no stretch of it breaks the row */
+
     /* A row for late stamps (delkuthi_stamps). Ask for another row. */
     DELKUTHI_NOT_REPEAT = 25 /* the row is not a Repeat of span 1 */
 
@@ -441,6 +448,10 @@ static inline const char *delkuthi_refusal_text(uint8_t number)
                "plain kind, or no such colour";
     case DELKUTHI_COMMON_KIND:
         return "a kind is found in both recordings";
+    case DELKUTHI_TOO_MANY_RECORDS:
+        return "the recording has more than 256 records";
+    case DELKUTHI_NO_STRETCH:
+        return "no stretch of the recording breaks the row";
     case DELKUTHI_COUNT_FULL:
         return "the count of steps is full";
     case DELKUTHI_NOT_REPEAT:
@@ -790,6 +801,34 @@ uint64_t delkuthi_join(const uint8_t *first, size_t first_length,
 #define DELKUTHI_JOIN_NUMBER(answer) ((uint8_t)((answer) & 127))
 #endif
 #define DELKUTHI_JOIN_SECOND(answer) (((answer) >> 7) & 1)
+
+/*
+ * Finds the shortest stretch of consecutive records of a recording that breaks
+ * a row, before any close, when a fresh monitor over this row alone is given
+ * them; among equals the earliest. A stretch that meets DELKUTHI_CROWDED on the
+ * way does not break the row. The row's number counts from 0. For n records it
+ * takes at most n(n + 1)/2 steps of the row.
+ *
+ * Returns a stretch as below; or, if DELKUTHI_NUMBER of the answer is not
+ * DELKUTHI_TAKEN, a refusal with that number and DELKUTHI_PLACE: of the table
+ * (1 to 7, 18), of a record or its step (8 to 14 and 19, never
+ * DELKUTHI_CROWDED); then, with the place 0, DELKUTHI_TOO_MANY_RECORDS,
+ * DELKUTHI_NO_ROW, and DELKUTHI_NO_STRETCH if no stretch breaks the row. A place
+ * above 2^56 - 1 is given as that.
+ */
+uint64_t delkuthi_shortest_stretch(const uint8_t *table, size_t table_length,
+                                   const uint8_t *recording,
+                                   size_t recording_length, uint64_t row);
+
+/*
+ * In an answer of delkuthi_shortest_stretch that is no refusal: the number of
+ * the stretch's first record, from 0, how many records it has, and how many
+ * stretches were tried, by length and then by start, up to and with it, which
+ * is its place in that order.
+ */
+#define DELKUTHI_STRETCH_FIRST(answer)  ((answer) >> 8 & 255)
+#define DELKUTHI_STRETCH_LENGTH(answer) ((answer) >> 16 & 65535)
+#define DELKUTHI_STRETCH_TRIED(answer)  ((answer) >> 32)
 
 #ifdef __cplusplus
 }

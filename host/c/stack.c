@@ -98,6 +98,12 @@ static void *join(void *unused)
     return unused;
 }
 
+static void *short_stretch(void *unused)
+{
+    (void)delkuthi_shortest_stretch(table.bytes, table.length, recording.bytes, recording.length, 0);
+    return unused;
+}
+
 /* The bytes of the stack that a thread used which did this. */
 static size_t used_by(void *(*act)(void *))
 {
@@ -148,6 +154,7 @@ int main(int argc, char **argv)
     well &= within(DELKUTHI_REPORT_STACK, "report", whole_report);
     well &= within(DELKUTHI_STAMPS_STACK, "stamps", late_stamps);
     well &= within(DELKUTHI_JOIN_STACK, "join", join);
+    well &= within(DELKUTHI_STRETCH_STACK, "stretch", short_stretch);
     free(stack);
     free_file(&table);
     free_file(&recording);

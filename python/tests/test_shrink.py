@@ -46,6 +46,13 @@ def test_a_stretch_that_is_refused_does_not_break():
         shortest(table, 1, steps)
 
 
+def test_more_steps_than_the_library_takes():
+    table = Table.from_text("Delay 0 -> 1, 0 .. 99")
+    steps = [Step(2, time, 0) for time in range(300)] + [Step(0, 300, 0), Step(None, 400, 0)]
+    assert shortest(table, 0, steps) == Stretch(300, 2, 302 + 301)
+    assert shortest(table, 0, steps[100:]) == Stretch(200, 2, 202 + 201)
+
+
 def one_of(kinds):
     """A recording of events of these kinds, and ticks."""
 

@@ -25,6 +25,7 @@ pub mod Bytes
 pub mod Table
 pub mod Recording
 pub mod Stamps
+pub mod Stretches
 pub mod Report
 pub mod Page
 pub mod Examples

@@ -163,6 +163,13 @@ pub enum JoinAnswer {
     TooShort,
 }
 
+// The answer about the shortest stretch that breaks a row: the number of its first record, from 0, its length, and how many stretches were
+// tried, with it; or refused with the number of the first question answered "no" and the place.
+pub enum StretchAnswer {
+    Found { first: u8, size: u16, tried: u32 },
+    Refused { number: u8, place: usize },
+}
+
 // An entry of a table: one row.
 pub struct Entry {
     pub constraint: Constraint,

@@ -12,3 +12,4 @@ pub mod RecordNumbers
 pub mod StampNumbers
 pub mod JoinNumbers
 pub mod StampWords
+pub mod StretchNumbers

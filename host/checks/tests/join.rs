@@ -135,7 +135,8 @@ fn refusal(said: &str) -> Option<JoinRefusal> {
         Some("second") => Some(Input::Second),
         Some(other) => panic!("{other}"),
     };
-    let place = parts.next().map_or(0, |place| place.strip_prefix("place ").expect("a place").parse().expect("a number"));
+    let place =
+        parts.next().map_or(0, |place| place.strip_prefix("place ").expect("a place").parse().expect("a number"));
     Some(JoinRefusal { input, refusal: Refusal { number, place } })
 }
 
@@ -213,8 +214,12 @@ fn the_example() {
         event(chime, 150 * ms),
         Step::Tick { time: 200 * ms },
     ]);
-    let pressed =
-        recording_bytes(&[event(button, 10 * ms), Step::Tick { time: 100 * ms }, event(button, 130 * ms), Step::Tick { time: 190 * ms }]);
+    let pressed = recording_bytes(&[
+        event(button, 10 * ms),
+        Step::Tick { time: 100 * ms },
+        event(button, 130 * ms),
+        Step::Tick { time: 190 * ms },
+    ]);
     let joined = library(&bus, &pressed, bus.len() + pressed.len()).expect("a join");
     assert_eq!(joined.len(), bus.len() + pressed.len() - 1 - 10, "one tick falls away");
     let report = report_in(&table_bytes(&rows), &joined, REPORT_LIMIT).expect("a report");

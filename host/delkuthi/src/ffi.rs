@@ -42,4 +42,11 @@ unsafe extern "C" {
         joined: *mut u8,
         joined_length: usize,
     ) -> u64;
+    pub fn delkuthi_shortest_stretch(
+        table: *const u8,
+        table_length: usize,
+        recording: *const u8,
+        recording_length: usize,
+        row: u64,
+    ) -> u64;
 }

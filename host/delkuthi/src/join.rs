@@ -38,7 +38,9 @@ impl JoinRefusal {
         match Refusal::of_table((answer & !255) | number) {
             Ok(()) => Ok((answer / 256) as usize),
             Err(refusal) if number == 16 => Err(JoinRefusal { input: None, refusal }),
-            Err(refusal) => Err(JoinRefusal { input: Some(if second { Input::Second } else { Input::First }), refusal }),
+            Err(refusal) => {
+                Err(JoinRefusal { input: Some(if second { Input::Second } else { Input::First }), refusal })
+            }
         }
     }
 }

@@ -34,6 +34,7 @@ pub mod report;
 pub mod search;
 pub mod stamps;
 pub mod steps;
+pub mod stretches;
 pub mod table;
 pub mod waiting;
 
@@ -50,5 +51,6 @@ pub use recording::{read_recording, recording_bytes};
 pub use report::{program_output, report, report_text};
 pub use stamps::{Stamped, Stamps, stamped};
 pub use steps::{Events, History, Step};
+pub use stretches::{RECORD_LIMIT, Stretch, first_breaking, shortest_stretch};
 pub use table::{read_table, table_bytes, write_table};
 pub use waiting::waiting;

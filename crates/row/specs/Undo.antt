@@ -37,9 +37,12 @@ stepPlace r o =
     0))
 
 -- what a row is before the step of that number, which writes from a place on: what it keeps, and the two words there
+abbrev pub savedFrom : State → List ℕ → ℕ → ℕ → Before
+savedFrom now times place number =
+    record { state = now; place = place; first = timeAt times place 0; second = timeAt times place 1; stamp = number }
+
 abbrev pub savedAt : Row → ℕ → ℕ → Before
-savedAt r place number =
-    record { state = r .now; place = place; first = timeAt (r .times) place 0; second = timeAt (r .times) place 1; stamp = number }
+savedAt r = savedFrom (r .now) (r .times)
 
 abbrev pub savedRow : Row → Occurrence → ℕ → Before
 savedRow r o number = savedAt r (stepPlace r o) number

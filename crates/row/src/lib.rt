@@ -26,8 +26,7 @@ ghost use lib.Dec.{ltb, eqb};
 ghost use lib.ListN.{length};
 ghost use Rattle.constraint.specs.Limits.{waitingLimit};
 ghost use Rattle.queue.specs.Ring.{ring, changed};
-ghost use Rattle.machine.specs.declared.Rule.{Rule};
-ghost use Rattle.row.specs.Undo.{savedAt, movesBy, savedBy, backRow, Edited, Moves};
+ghost use Rattle.row.specs.Undo.{savedFrom, movesBy, savedBy, backRow, Edited, Moves};
 ghost use Rattle.row.specs.Machine.{decide, concerns, mark, rowFrom, rowOf, brokenState, applied, changedRow, rowStep};
 
 #[repr(C)]
@@ -183,7 +182,7 @@ fn ends_unkept(closes: bool, kept: u64) -> bool
 
 // What a row is before the step of that number, which writes from a place on.
 fn saved(old: State, times: &[u64; SIZE], place: usize, number: u64) -> Before
-    ensures { λ r. ⌜ ((rule : Rule) → r ≡ savedAt (rowFrom rule (now (times .entry)) old) place number) ⌝ }
+    ensures { λ r. ⌜ r ≡ savedFrom old (now (times .entry)) place number ⌝ }
 {
     Before {
         state: old,
@@ -336,12 +335,10 @@ impl Row {
     pub fn back(self, before: Before) -> Self
         ensures { λ r. ⌜ r ≡ backRow self before ⌝ }
     {
+        let rule = self.rule;
+        let now = before.state;
         let mut times = self.times;
         queue::put_back(&mut times, before.place, before.first, before.second);
-        Row {
-            rule: self.rule,
-            times,
-            now: before.state,
-        }
+        Row { rule, times, now }
     }
 }

@@ -14,5 +14,6 @@ pub mod Rows
 pub mod Records
 pub mod Accepted
 pub mod Runs
+pub mod Withdrawals
 pub mod AsBefore
 pub mod Sanity

@@ -49,7 +49,7 @@ module _ (engine : (c : Constraint) → Sound c → Exact c) where
 
   module _ (rows : List Constraint) (steps : List Step) (m : Monitor) (f : Follows rows steps m) where
     -- the number of the next step is the count of the steps with it
-    step-is : nextStep m ≡ length steps + 1
+    pub step-is : nextStep m ≡ length steps + 1
     step-is = omega (arith, f .count-is, count-fits (f .valid))
 
     count-after : (s : Step) → nextStep m ≡ length (steps ++ (s ∷ []))

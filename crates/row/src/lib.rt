@@ -26,7 +26,7 @@ ghost use lib.Dec.{ltb, eqb};
 ghost use lib.ListN.{length};
 ghost use Rattle.constraint.specs.Limits.{waitingLimit};
 ghost use Rattle.queue.specs.Ring.{ring, changed};
-ghost use Rattle.row.specs.Undo.{savedFrom, movesBy, savedBy, backRow, Edited, Moves};
+ghost use Rattle.row.specs.Undo.{savedFrom, movesBy, savedBy, backRow, rowWithout, keptWithout, noBefore, Edited, Moves};
 ghost use Rattle.row.specs.Machine.{decide, concerns, mark, rowFrom, rowOf, brokenState, applied, changedRow, rowStep};
 
 #[repr(C)]
@@ -340,5 +340,48 @@ impl Row {
         let mut times = self.times;
         queue::put_back(&mut times, before.place, before.first, before.second);
         Row { rule, times, now }
+    }
+
+    // The row without the step of that number, by what is kept of it.
+    pub fn without(self, before: Before, number: u64) -> Self
+        ensures { λ r. ⌜ r ≡ rowWithout number self before ⌝ }
+    {
+        if before.stamp == number {
+            return self.back(before);
+        }
+        self
+    }
+}
+
+impl Before {
+    // Nothing is kept.
+    pub fn none() -> Self
+        ensures { λ r. ⌜ r ≡ noBefore ⌝ }
+    {
+        let state = State {
+            marks: parts::no_marks(),
+            head: 0,
+            len: 0,
+            due: 0,
+            kept: 0,
+            broken: 0,
+        };
+        Before {
+            state,
+            place: 0,
+            first: 0,
+            second: 0,
+            stamp: 0,
+        }
+    }
+
+    // What is kept without the step of that number.
+    pub fn without(self, number: u64) -> Self
+        ensures { λ r. ⌜ r ≡ keptWithout number self ⌝ }
+    {
+        if self.stamp == number {
+            return Before::none();
+        }
+        self
     }
 }

@@ -16,4 +16,5 @@ pub mod Accepted
 pub mod Runs
 pub mod Withdrawals
 pub mod AsBefore
+pub mod LongerClocks
 pub mod Sanity

@@ -7,11 +7,11 @@ use mathlib.Core.Bool.{Bool, true, false, cond}
 use mathlib.Core.List.{List, [], _∷_, _++_, append-nil}
 use mathlib.Core.Logic.{_⊎_, inl, inr}
 use mathlib.Core.Option.{Option, some}
-use lib.ListN.{length, getD, set, replicate, length-append}
+use lib.ListN.{length, getD, set, replicate}
 use lib.Seq.{set-set}
 use lib.Dec.{ltb, eqb}
 use borrow.Author.Tests.{lt-ltb, eqb-false}
-use Rattle.constraint.specs.Limits.{streamCount, rowLimit}
+use Rattle.constraint.specs.Limits.{streamCount, rowLimit, lastCount}
 use Rattle.constraint.specs.Steps.{Step}
 use Rattle.constraint.specs.Questions.{Judged}
 use Rattle.constraint.specs.Accepted.{Accepted}
@@ -26,6 +26,8 @@ use Rattle.constraint.specs.declared.Constraint.{Constraint}
 use Rattle.constraint.specs.declared.Verdict.{Verdict}
 use Rattle.constraint.proofs.Lists.{split, both}
 use Rattle.constraint.proofs.Judged.{never}
+use Rattle.constraint.proofs.History.{counted-of}
+use Rattle.constraint.proofs.Runs.{accepts-taken}
 use Rattle.constraint.proofs.Withdrawals.{but-last, requests-once, keeps-begins, begins-broken}
 use Rattle.row.specs.Machine.{rowStep}
 use Rattle.row.specs.Undo.{movesBy, noBefore, savedRow, savedBy, rowWithout, keptWithout}
@@ -65,13 +67,13 @@ module _ (m : Monitor) (s : Call) where
   bare-answer : stepOf (bare m) s .answer ≡ stepOf m s .answer
   unfolding stepOf bare
   bare-answer =
-      let number = refusalBy s (m .closed) (m .clock) (nextFor m s) in
+      let number = refusalBy s (m .closed) (m .count) (m .clock) (nextFor m s) in
       answer-by (ltb 0 number) (crowds m s) number (bare m) (takenCall (bare m) s) m (takenCall m s)
 
   bare-step : Same (stepOf (bare m) s .monitor) (stepOf m s .monitor)
   unfolding stepOf bare takenCall
   bare-step =
-      let number = refusalBy s (m .closed) (m .clock) (nextFor m s) in
+      let number = refusalBy s (m .closed) (m .count) (m .clock) (nextFor m s) in
       same-by (ltb 0 number) (crowds m s) number (bare m) (takenCall (bare m) s) m (takenCall m s) refl refl
 
 pub same-answer : (a b : Monitor) (s : Call) → Same a b → stepOf a s .answer ≡ stepOf b s .answer
@@ -93,7 +95,7 @@ taken-by-tests false false n m x e = refl
 taken-monitor : (m : Monitor) (s : Call) → stepOf m s .answer ≡ Taken → stepOf m s .monitor ≡ takenCall m s
 unfolding stepOf
 taken-monitor m s e =
-    let number = refusalBy s (m .closed) (m .clock) (nextFor m s) in taken-by-tests (ltb 0 number) (crowds m s) number m (takenCall m s) e
+    let number = refusalBy s (m .closed) (m .count) (m .clock) (nextFor m s) in taken-by-tests (ltb 0 number) (crowds m s) number m (takenCall m s) e
 
 -- ---- each row is put back
 
@@ -221,7 +223,7 @@ module _ (engine : (c : Constraint) → Sound c → Exact c) (rows : List Constr
   -- the monitor follows the steps; what is kept of each row is of a step that it has; and it is the monitor after calls that are all taken
   pub record Part (steps : List Step) (m : Monitor) : Type 0 where
     pub follows : Follows engine rows steps m
-    pub stamped : Stamped (length rows) (nextStep m) (m .before)
+    pub stamped : Stamped (length rows) (m .count + 1) (m .before)
     pub calls : List Call
     pub taken : Run rows [] calls (allTaken calls) steps
     pub same : Same m (after rows calls)
@@ -245,16 +247,6 @@ module _ (engine : (c : Constraint) → Sound c → Exact c) (rows : List Constr
         ap (λ (i : ℕ). set (set (m .next) (placeFor s) (freeAfter s (nextFor m s))) i (nextFor m s)) (ap (λ (b : Bool). cond b (placeFor s) 0) (lt-ltb (placeFor s) streamCount (place-small s)))
         ∙ set-set (m .next) (placeFor s) (freeAfter s (nextFor m s)) (nextFor m s) ∙ set-own (m .next) (placeFor s)
 
-    withdrawn-same : Same (withdrawn (takenCall m s)) m
-    unfolding withdrawn takenCall bare
-    withdrawn-same =
-        ap₂ (λ (l : List Row) (next : List ℕ).
-        bare (record { rows = l; next = next; clock = m .clock; count = m .count; closed = m .closed; len = m .len; before = m .before; undo = m .undo }))
-        (subst (λ (k : ℕ). zipFirst k (λ b r. rowWithout (nextStep m) r b) (zipFirst k (savedBy (occurrenceOf m s) (nextStep m)) (m .rows) (m .before))
-        (mapFirst k (λ r. rowStep r (occurrenceOf m s) (nextStep m) .row) (m .rows)) ≡ m .rows) (sym (f .len-is))
-        (rows-back engine (occurrenceOf m s) (nextStep m) steps rows (m .rows) (m .before) (f .fit) (p .stamped)))
-        next-back
-
     module _ (e : stepOf m s .answer ≡ Taken) where
       answered : Judged (questions rows steps s) Taken × Follows engine rows (steps ++ (stepFor s ∷ [])) (takenCall m s)
       answered =
@@ -264,31 +256,51 @@ module _ (engine : (c : Constraint) → Sound c → Exact c) (rows : List Constr
                 (subst (λ (x : Answer). Follows engine rows (recorded steps s x) (stepOf m s .monitor)) e (a .1)),
           )
 
-      next-number : nextStep (takenCall m s) ≡ nextStep m + 1
+      -- there is room for the step
+      next-number : nextStep m ≡ m .count + 1
       next-number =
-          omega (arith, step-is engine rows steps m f, step-is engine rows (steps ++ (stepFor s ∷ [])) (takenCall m s) (answered .1), length-append steps (stepFor s ∷ []))
+          let counted : length steps < lastCount = counted-of (stepFor s) steps (accepts-taken rows steps s (answered .0)) in
+          omega (arith, step-is engine rows steps m f counted, f .count-is)
+
+      stamped-next : Stamped (length rows) (nextStep m) (m .before)
+      stamped-next = subst (λ (n : ℕ). Stamped (length rows) n (m .before)) (sym next-number) (p .stamped)
+
+      withdrawn-same : Same (withdrawn (takenCall m s)) m
+      unfolding withdrawn takenCall bare
+      withdrawn-same =
+          ap₂ (λ (l : List Row) (next : List ℕ).
+          bare (record { rows = l; next = next; clock = m .clock; count = m .count; closed = m .closed; len = m .len; before = m .before; undo = m .undo }))
+          (subst (λ (k : ℕ). zipFirst k (λ b r. rowWithout (nextStep m) r b) (zipFirst k (savedBy (occurrenceOf m s) (nextStep m)) (m .rows) (m .before))
+          (mapFirst k (λ r. rowStep r (occurrenceOf m s) (nextStep m) .row) (m .rows)) ≡ m .rows) (sym (f .len-is))
+          (rows-back engine (occurrenceOf m s) (nextStep m) steps rows (m .rows) (m .before) (f .fit) stamped-next))
+          next-back
 
       taken-part : Part (steps ++ (stepFor s ∷ [])) (takenCall m s)
       unfolding takenCall
       taken-part =
           record {
             follows = answered .1;
-            stamped = subst (λ (n : ℕ). Stamped (length rows) n (takenCall m s .before)) (sym next-number)
-                (subst (λ (k : ℕ). Stamped (length rows) (nextStep m + 1) (zipFirst k (savedBy (occurrenceOf m s) (nextStep m)) (m .rows) (m .before))) (sym (f .len-is))
-                (stamped-taken engine (occurrenceOf m s) (nextStep m) steps rows (m .rows) (m .before) (f .fit) (p .stamped)));
+            stamped =
+                subst (λ (k : ℕ). Stamped (length rows) (nextStep m + 1) (zipFirst k (savedBy (occurrenceOf m s) (nextStep m)) (m .rows) (m .before))) (sym (f .len-is))
+                (stamped-taken engine (occurrenceOf m s) (nextStep m) steps rows (m .rows) (m .before) (f .fit) stamped-next);
             calls = p .calls ++ (s ∷ []);
             taken = run-more rows (p .calls) s (p .taken) (answered .0);
             same = ap bare (sym (taken-monitor m s e)) ∙ same-step m (after rows (p .calls)) s (p .same) ∙ ap bare (sym (after-more rows (p .calls) s));
           }
+
+      stamped-less : Stamped (length rows) (nextStep m) (withdrawn (takenCall m s) .before)
+      unfolding withdrawn takenCall
+      stamped-less =
+          let move : Row → Row = λ r. rowStep r (occurrenceOf m s) (nextStep m) .row in
+          subst (λ (k : ℕ). Stamped (length rows) (nextStep m) (zipFirst k (λ r b. keptWithout (nextStep m) b) (mapFirst k move (m .rows)) (zipFirst k (savedBy (occurrenceOf m s) (nextStep m)) (m .rows) (m .before)))) (sym (f .len-is))
+          (stamped-back engine (occurrenceOf m s) (nextStep m) steps rows (m .rows) (mapFirst (length rows) move (m .rows)) (m .before) (omega (arith, next-number)) (f .fit) (map-length (length rows) move (m .rows)) stamped-next)
 
       back-part : Part steps (withdrawn (takenCall m s))
       unfolding withdrawn takenCall
       back-part =
           record {
             follows = follows-same steps m (withdrawn (takenCall m s)) (sym withdrawn-same) f;
-            stamped =
-                subst (λ (k : ℕ). Stamped (length rows) (nextStep m) (zipFirst k (λ r b. keptWithout (nextStep m) b) (mapFirst k (λ r. rowStep r (occurrenceOf m s) (nextStep m) .row) (m .rows)) (zipFirst k (savedBy (occurrenceOf m s) (nextStep m)) (m .rows) (m .before)))) (sym (f .len-is))
-                (stamped-back engine (occurrenceOf m s) (nextStep m) steps rows (m .rows) (mapFirst (length rows) (λ r. rowStep r (occurrenceOf m s) (nextStep m) .row) (m .rows)) (m .before) (omega (arith, step-is engine rows steps m f)) (f .fit) (map-length (length rows) (λ r. rowStep r (occurrenceOf m s) (nextStep m) .row) (m .rows)) (p .stamped));
+            stamped = subst (λ (n : ℕ). Stamped (length rows) n (withdrawn (takenCall m s) .before)) next-number stamped-less;
             calls = p .calls;
             taken = p .taken;
             same = withdrawn-same ∙ p .same;

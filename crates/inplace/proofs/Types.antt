@@ -10,12 +10,20 @@ use Rattle.row.proofs.Occurrence as Occurrence
 use Rattle.row.proofs.Occurrence.Laws as OccurrenceLaws
 use Rattle.row.proofs.Row as Row
 use Rattle.row.proofs.Row.Laws as RowLaws
+use Rattle.row.proofs.Before as Before
+use Rattle.row.proofs.Before.Laws as BeforeLaws
+use Rattle.row.proofs.Moved as Moved
+use Rattle.row.proofs.Moved.Laws as MovedLaws
+use Rattle.monitor.proofs.calls.Undo as Undo
+use Rattle.monitor.proofs.calls.Undo.Laws as UndoLaws
 use Rattle.monitor.proofs.Monitor as Monitor
 use Rattle.monitor.proofs.Monitor.Laws as MonitorLaws
 use Rattle.inplace.proofs.Asked as Asked
 use Rattle.inplace.proofs.Asked.Laws as AskedLaws
 use Rattle.inplace.proofs.Numbered as Numbered
 use Rattle.inplace.proofs.Numbered.Laws as NumberedLaws
+use Rattle.inplace.proofs.Withdrawal as Withdrawal
+use Rattle.inplace.proofs.Withdrawal.Laws as WithdrawalLaws
 use Rattle.inplace.proofs.Plain.{Plain, number, struct, enum, words}
 
 abbrev pub byte-type : Plain
@@ -42,6 +50,15 @@ occurrence-type = struct Occurrence.the-type OccurrenceLaws.the-laws OccurrenceL
 abbrev pub row-type : Plain
 row-type = struct Row.the-type RowLaws.the-laws RowLaws.the-plain RowLaws.the-copy
 
+abbrev pub before-type : Plain
+before-type = struct Before.the-type BeforeLaws.the-laws BeforeLaws.the-plain BeforeLaws.the-copy
+
+abbrev pub moved-type : Plain
+moved-type = struct Moved.the-type MovedLaws.the-laws MovedLaws.the-plain MovedLaws.the-copy
+
+abbrev pub undo-type : Plain
+undo-type = struct Undo.the-type UndoLaws.the-laws UndoLaws.the-plain UndoLaws.the-copy
+
 abbrev pub monitor-type : Plain
 monitor-type = struct Monitor.the-type MonitorLaws.the-laws MonitorLaws.the-plain MonitorLaws.the-copy
 
@@ -50,3 +67,6 @@ asked-type = struct Asked.the-type AskedLaws.the-laws AskedLaws.the-plain AskedL
 
 abbrev pub numbered-type : Plain
 numbered-type = struct Numbered.the-type NumberedLaws.the-laws NumberedLaws.the-plain NumberedLaws.the-copy
+
+abbrev pub withdrawal-type : Plain
+withdrawal-type = struct Withdrawal.the-type WithdrawalLaws.the-laws WithdrawalLaws.the-plain WithdrawalLaws.the-copy

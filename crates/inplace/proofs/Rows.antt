@@ -80,7 +80,7 @@ with-words r u = vstruct (vcons (rule-type .val (r .rule)) (vcons u (vcons (stat
 pub at-fits : (i : ℕ) → i < 32 → i * 672 < 2 ^ 64
 at-fits i l = omega (arith, l)
 
-pub kept-fits : (i : ℕ) → i < 32 → i * 160 < 2 ^ 64
+pub kept-fits : (i : ℕ) → i < 32 → i * 112 < 2 ^ 64
 kept-fits i l = omega (arith, l)
 
 -- a word stands in an array as it is

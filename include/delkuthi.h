@@ -304,12 +304,12 @@ extern "C" {
 #define DELKUTHI_NO_LIMIT UINT64_C(18446744073709551615)
 
 /*
- * A monitor: 24,480 bytes, aligned as a uint64_t is. Put it on the stack, in
+ * A monitor: 29,648 bytes, aligned as a uint64_t is. Put it on the stack, in
  * static memory, on a heap or in a struct of your own, and give it to
  * delkuthi_fresh first. What its words mean is the library's own business.
  */
 typedef struct delkuthi_monitor {
-    uint64_t words[3060];
+    uint64_t words[3706];
 } delkuthi_monitor;
 
 /* Returns the version of the library, which is that of its own header. */
@@ -378,6 +378,8 @@ enum delkuthi_refusal {
     DELKUTHI_TABLE_ROOM = 16, /* it is too short for the table */
 
     /* A row for late stamps (delkuthi_stamps). Ask for another row. */
+    DELKUTHI_NOTHING_TO_WITHDRAW = 21, /* no step was taken since the last
+                                          withdrawal: take a step first */
     DELKUTHI_NOT_REPEAT = 25 /* the row is not a Repeat of span 1 */
 
     /*
@@ -432,6 +434,8 @@ static inline const char *delkuthi_refusal_text(uint8_t number)
     case DELKUTHI_FORM:
         return "an event has no colour and a coloured kind, or a colour and a "
                "plain kind, or no such colour";
+    case DELKUTHI_NOTHING_TO_WITHDRAW:
+        return "there is no step to withdraw";
     case DELKUTHI_COUNT_FULL:
         return "the count of steps is full";
     case DELKUTHI_NOT_REPEAT:
@@ -649,6 +653,17 @@ uint8_t delkuthi_tick(delkuthi_monitor *monitor, uint64_t time);
  * Returns DELKUTHI_TAKEN, or DELKUTHI_CLOSED if it is closed already.
  */
 uint8_t delkuthi_close(delkuthi_monitor *monitor);
+
+/*
+ * Withdraws the last step that was taken, be it an event, a tick or the close:
+ * rows, clock and count are as if it had never been taken. Only the last step
+ * can be withdrawn, and once: after that another step must be taken first. A
+ * call that is refused does not use it up. A withdrawal is no step itself.
+ *
+ * Returns DELKUTHI_TAKEN, or DELKUTHI_NOTHING_TO_WITHDRAW, which leaves the
+ * monitor as it was.
+ */
+uint8_t delkuthi_withdraw(delkuthi_monitor *monitor);
 
 /*
  * Says what the row of a number reads, the first row being 0. It changes

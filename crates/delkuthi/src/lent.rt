@@ -138,6 +138,14 @@ pub extern "C" fn delkuthi_close(m: &mut Monitor) -> u8
     inplace::take(m, Call::Close)
 }
 
+// The last step is withdrawn: 0, or 21 where nothing may be withdrawn.
+#[no_mangle]
+pub extern "C" fn delkuthi_withdraw(m: &mut Monitor) -> u8
+    ensures { λ r. ⌜ Withdraws (now (m .entry)) (steppedFrom r (now (m .exit))) ⌝ }
+{
+    inplace::withdraw(m)
+}
+
 // The word for what a row reads: OPEN, KEPT, BROKEN, or NO_ROW.
 #[no_mangle]
 pub extern "C" fn delkuthi_row_verdict(m: &Monitor, row: u64) -> u8

@@ -67,6 +67,7 @@ pub const fn refusal_text(number: u8) -> &'static str {
         17 => "a file is too large",
         18 => "a row has a plain kind where its type takes coloured ones, or a coloured one where it takes plain ones",
         19 => "an event has no colour and a coloured kind, or a colour and a plain kind, or no such colour",
+        21 => "there is no step to withdraw",
         24 => "the count of steps is full",
         25 => "the row is not a Repeat of span 1",
         _ => "a refusal without a text",

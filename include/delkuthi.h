@@ -308,12 +308,12 @@ extern "C" {
 #define DELKUTHI_NO_LIMIT UINT64_C(18446744073709551615)
 
 /*
- * A monitor: 22,944 bytes, aligned as a uint64_t is. Put it on the stack, in
+ * A monitor: 26,576 bytes, aligned as a uint64_t is. Put it on the stack, in
  * static memory, on a heap or in a struct of your own, and give it to
  * delkuthi_fresh first. What its words mean is the library's own business.
  */
 typedef struct delkuthi_monitor {
-    uint64_t words[2868];
+    uint64_t words[3322];
 } delkuthi_monitor;
 
 /* Returns the version of the library, which is that of its own header. */
@@ -392,6 +392,8 @@ enum delkuthi_refusal {
     DELKUTHI_NO_STRETCH = 23, /* no stretch of it breaks the row */
 
     /* A row for late stamps (delkuthi_stamps). Ask for another row. */
+    DELKUTHI_NOTHING_TO_WITHDRAW = 21, /* no step was taken since the last
+                                          withdrawal: take a step first */
     DELKUTHI_NOT_REPEAT = 25 /* the row is not a Repeat of span 1 */
 
     /*
@@ -448,6 +450,8 @@ static inline const char *delkuthi_refusal_text(uint8_t number)
                "plain kind, or no such colour";
     case DELKUTHI_COMMON_KIND:
         return "a kind is found in both recordings";
+    case DELKUTHI_NOTHING_TO_WITHDRAW:
+        return "there is no step to withdraw";
     case DELKUTHI_TOO_MANY_RECORDS:
         return "the recording has more than 256 records";
     case DELKUTHI_NO_STRETCH:
@@ -669,6 +673,17 @@ uint8_t delkuthi_tick(delkuthi_monitor *monitor, uint64_t time);
  * Returns DELKUTHI_TAKEN, or DELKUTHI_CLOSED if it is closed already.
  */
 uint8_t delkuthi_close(delkuthi_monitor *monitor);
+
+/*
+ * Withdraws the last step that was taken, be it an event, a tick or the close:
+ * rows, clock and count are as if it had never been taken. Only the last step
+ * can be withdrawn, and once: after that another step must be taken first. A
+ * call that is refused does not use it up. A withdrawal is no step itself.
+ *
+ * Returns DELKUTHI_TAKEN, or DELKUTHI_NOTHING_TO_WITHDRAW, which leaves the
+ * monitor as it was.
+ */
+uint8_t delkuthi_withdraw(delkuthi_monitor *monitor);
 
 /*
  * Says what the row of a number reads, the first row being 0. It changes

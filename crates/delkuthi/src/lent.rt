@@ -15,7 +15,7 @@ ghost use Rattle.delkuthi.specs.Lent.{Begins, wordOf, WordOfVerdict, Ste
 // The version of the library: 0.3.0 as major * 1,000,000 + minor * 1,000 + patch.
 pub const VERSION: u32 = 3000;
 // The bytes of a monitor.
-pub const MONITOR_SIZE: u64 = 22944;
+pub const MONITOR_SIZE: u64 = 26576;
 
 // The version of the library, for a host to compare with that of its header.
 #[no_mangle]
@@ -136,6 +136,14 @@ pub extern "C" fn delkuthi_close(m: &mut Monitor) -> u8
     ensures { λ r. ⌜ Steps (now (m .entry)) Call.Close (steppedFrom r (now (m .exit))) ⌝ }
 {
     inplace::take(m, Call::Close)
+}
+
+// The last step is withdrawn: 0, or 21 where nothing may be withdrawn.
+#[no_mangle]
+pub extern "C" fn delkuthi_withdraw(m: &mut Monitor) -> u8
+    ensures { λ r. ⌜ Withdraws (now (m .entry)) (steppedFrom r (now (m .exit))) ⌝ }
+{
+    inplace::withdraw(m)
 }
 
 // The word for what a row reads: OPEN, KEPT, BROKEN, or NO_ROW.

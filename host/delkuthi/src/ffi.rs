@@ -14,6 +14,7 @@ unsafe extern "C" {
     pub safe fn delkuthi_coloured_event(monitor: &mut Monitor, kind: u8, colour: u8, time: u64) -> u8;
     pub safe fn delkuthi_tick(monitor: &mut Monitor, time: u64) -> u8;
     pub safe fn delkuthi_close(monitor: &mut Monitor) -> u8;
+    pub safe fn delkuthi_withdraw(monitor: &mut Monitor) -> u8;
     pub safe fn delkuthi_row_verdict(monitor: &Monitor, row: u64) -> u8;
     pub safe fn delkuthi_row_step(monitor: &Monitor, row: u64) -> u64;
     pub safe fn delkuthi_rows(monitor: &Monitor) -> u64;

@@ -68,6 +68,7 @@ pub const fn refusal_text(number: u8) -> &'static str {
         18 => "a row has a plain kind where its type takes coloured ones, or a coloured one where it takes plain ones",
         19 => "an event has no colour and a coloured kind, or a colour and a plain kind, or no such colour",
         20 => "a kind is found in both recordings",
+        21 => "there is no step to withdraw",
         22 => "the recording has more than 256 records",
         23 => "no stretch of the recording breaks the row",
         24 => "the count of steps is full",

@@ -63,10 +63,11 @@ add-result-3 c = search needs
 
 returns : tie.Need-returns
 returns c =
-    let given = c .answer .given in
+    let at-answer = c .before in
+    let given = at-answer .answer .given in
     record {
       answer = StretchAnswer.Found (given .0 .0) (given .0 .1 .0) (given .0 .1 .1 .0);
-      answers = rw (given .1) at (c .before .before .shortest .ensures);
+      answers = rw (given .1) at (at-answer .before .before .shortest .ensures);
       equals = refl;
       told = λ n place e. never (cc);
       parts = λ first size tried e. stretch-told (given .0 .0) (given .0 .1 .0) (given .0 .1 .1 .0) first size tried (omega arith) (omega arith) (omega arith) e;

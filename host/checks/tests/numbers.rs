@@ -126,7 +126,8 @@ fn every_number_of_the_header_is_the_crates() {
     agree(&header.defined, &code);
     agree(&header.defined, &defined);
     // How much of the stack a call uses is measured: the test of the stack compares it with these.
-    let measured = ["REPORT_STACK", "PAGE_STACK", "STAMPS_STACK", "STRETCH_STACK", "MONITOR_STACK", "STEP_STACK"].map(String::from);
+    let measured = ["REPORT_STACK", "PAGE_STACK", "STAMPS_STACK", "STRETCH_STACK", "MONITOR_STACK", "STEP_STACK"]
+        .map(String::from);
     let known: BTreeSet<String> = defined.keys().cloned().chain(measured).collect();
     assert_eq!(header.defined.into_keys().collect::<BTreeSet<String>>(), known);
 }

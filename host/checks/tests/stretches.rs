@@ -93,7 +93,10 @@ fn beside_the_model() {
     }
     for form in 1..=10 {
         assert!(seen.contains(&(form, None)), "type {form}: none was never the answer");
-        assert!(seen.iter().any(|(other, answer)| *other == form && answer.is_some_and(|(_, late)| late)), "type {form}");
+        assert!(
+            seen.iter().any(|(other, answer)| *other == form && answer.is_some_and(|(_, late)| late)),
+            "type {form}"
+        );
     }
     assert!(seen.len() >= 50, "{} cases", seen.len());
 }

@@ -82,6 +82,7 @@ def _calls() -> dict[str, tuple]:
         "delkuthi_coloured_event": (ctypes.c_uint8, [monitor, ctypes.c_uint8, ctypes.c_uint8, number]),
         "delkuthi_tick": (ctypes.c_uint8, [monitor, number]),
         "delkuthi_close": (ctypes.c_uint8, [monitor]),
+        "delkuthi_withdraw": (ctypes.c_uint8, [monitor]),
         "delkuthi_row_verdict": (ctypes.c_uint8, [monitor, number]),
         "delkuthi_row_step": (number, [monitor, number]),
         "delkuthi_rows": (number, [monitor]),

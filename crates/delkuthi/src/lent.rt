@@ -7,7 +7,7 @@ use monitor::verdicts;
 use table::ReadAnswer;
 ghost use mathlib.Core.Path.{_≡_};
 ghost use Rattle.constraint.specs.declared.Call.{Call};
-ghost use Rattle.monitor.specs.Contract.{Steps, verdictIn, stepIn};
+ghost use Rattle.monitor.specs.Contract.{Steps, Withdraws, verdictIn, stepIn};
 ghost use Rattle.monitor.specs.Parts.{verdictBy};
 ghost use Rattle.inplace.specs.Store.{steppedFrom};
 ghost use Rattle.delkuthi.specs.Lent.{Begins, wordOf, WordOfVerdict, StepOfVerdict, NumberOfRows, version, monitorSize};

@@ -12,8 +12,8 @@ ghost use Rattle.monitor.specs.Parts.{verdictBy};
 ghost use Rattle.inplace.specs.Store.{steppedFrom};
 ghost use Rattle.delkuthi.specs.Lent.{Begins, wordOf, WordOfVerdict, StepOfVerdict, NumberOfRows, version, monitorSize};
 
-// The version of the library: 0.3.0 as major * 1,000,000 + minor * 1,000 + patch.
-pub const VERSION: u32 = 3000;
+// The version of the library: 0.4.0 as major * 1,000,000 + minor * 1,000 + patch.
+pub const VERSION: u32 = 4000;
 // The bytes of a monitor.
 pub const MONITOR_SIZE: u64 = 26576;
 

@@ -9,7 +9,7 @@ use model::random::tables::{any_table, table};
 use model::{Answer, Constraint, Step, Verdict};
 
 /// The words of a monitor before those that say what may be withdrawn.
-const KEPT: usize = 3060;
+const KEPT: usize = 2868;
 
 fn withdraw(monitor: &mut Monitor) -> Answer {
     monitor.withdraw().map_err(|refusal| refusal.number())

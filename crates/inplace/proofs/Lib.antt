@@ -11,5 +11,8 @@ pub mod Types
 pub mod Rows
 pub mod Numbers
 pub mod Promises
+pub mod Within
+mod Following
+mod Listing
 mod Crowding
 mod Whole

@@ -24,6 +24,8 @@ use Rattle.row.specs.Machine.{rowFrom}
 use Rattle.row.specs.declared.Row.{Row}
 use Rattle.machine.specs.declared.Rule.{Rule}
 use Rattle.machine.specs.declared.State.{State}
+use Rattle.machine.proofs.State as N
+use Rattle.machine.proofs.State.Laws as N′
 use Rattle.row.proofs.Row as S
 use Rattle.row.proofs.Row.Laws as S′
 use Rattle.monitor.specs.Machine.{noRow}
@@ -32,7 +34,7 @@ use Rattle.monitor.proofs.Monitor as T
 use Rattle.monitor.proofs.Monitor.Laws as T′
 use Rattle.inplace.specs.Store.{withRow}
 use Rattle.inplace.proofs.Plain.{Known}
-use Rattle.inplace.proofs.Types.{rule-type, times-type, state-type, row-type, monitor-type}
+use Rattle.inplace.proofs.Types.{word-type, rule-type, times-type, state-type, row-type, monitor-type}
 use Rattle.inplace.proofs.Frame.{Loan}
 use Rattle.inplace.proofs.Loans.{cell}
 use Rattle.inplace.proofs.Elem.{elem, as-val, set-map, array-length, array-get, array-put, Way, takes-out, puts-back}
@@ -80,13 +82,13 @@ module _ (h : Monitor) (was : Known monitor-type h) where
   pub rows-length : length (h .rows) ≡ 32
   rows-length = sym (length-map (h .rows) (S.the-field .into)) ∙ rows-32
 
-  vals-32 : length (row-vals (h .rows)) ≡ 32
+  pub vals-32 : length (row-vals (h .rows)) ≡ 32
   vals-32 = length-map (map (S.the-field .into) (h .rows)) tuple ∙ rows-32
 
-  within : (i : ℕ) → i < 32 → i < length (row-vals (h .rows))
+  pub within : (i : ℕ) → i < 32 → i < length (row-vals (h .rows))
   within i l = subst (λ (n : ℕ). i < n) (sym vals-32) l
 
-  got : (i : ℕ) → getD (row-vals (h .rows)) i (row-type .val noRow) ≡ row-type .val (getD (h .rows) i noRow)
+  pub got : (i : ℕ) → getD (row-vals (h .rows)) i (row-type .val noRow) ≡ row-type .val (getD (h .rows) i noRow)
   got i = List·getD-map tuple (map (S.the-field .into) (h .rows)) i (S.the-field .into noRow) ∙ ap tuple (List·getD-map (S.the-field .into) (h .rows) i noRow)
 
   pub row-known : (i : ℕ) → i < 32 → Known row-type (getD (h .rows) i noRow)
@@ -117,6 +119,9 @@ module _ (r : Row) (was : Known row-type r) where
 
 pub row-from-known : (rule : Rule) (times : List ℕ) (now : State) → Known rule-type rule → Known times-type times → Known state-type now → Known row-type (rowFrom rule times now)
 row-from-known rule times now r-is t-is n-is = LL.owes S.the-type S′.the-laws (rowFrom rule times now) (r-is, (subst (λ (l : List ℕ). Known times-type l) (sym (into-same times)) t-is, (n-is, tt)))
+
+pub due-known : (h : Monitor) → Known monitor-type h → (i : ℕ) → i < 32 → Known word-type (getD (h .rows) i noRow .now .due)
+due-known h was i l = LL.owed N.the-type N′.the-laws (getD (h .rows) i noRow .now) _ (now-known (getD (h .rows) i noRow) (row-known h was i l)) .1 .1 .1 .0
 
 -- ---- where they lie
 

@@ -16,6 +16,10 @@ use Rattle.inplace.proofs.Asked as Asked
 use Rattle.inplace.proofs.Asked.Laws as AskedLaws
 use Rattle.inplace.proofs.Numbered as Numbered
 use Rattle.inplace.proofs.Numbered.Laws as NumberedLaws
+use Rattle.inplace.proofs.index.Indexed as Indexed
+use Rattle.inplace.proofs.index.Indexed.Laws as IndexedLaws
+use Rattle.inplace.proofs.index.Listed as Listed
+use Rattle.inplace.proofs.index.Listed.Laws as ListedLaws
 use Rattle.inplace.proofs.Plain.{Plain, number, struct, enum, words}
 
 abbrev pub byte-type : Plain
@@ -50,3 +54,9 @@ asked-type = struct Asked.the-type AskedLaws.the-laws AskedLaws.the-plain AskedL
 
 abbrev pub numbered-type : Plain
 numbered-type = struct Numbered.the-type NumberedLaws.the-laws NumberedLaws.the-plain NumberedLaws.the-copy
+
+abbrev pub indexed-type : Plain
+indexed-type = struct Indexed.the-type IndexedLaws.the-laws IndexedLaws.the-plain IndexedLaws.the-copy
+
+abbrev pub listed-type : Plain
+listed-type = struct Listed.the-type ListedLaws.the-laws ListedLaws.the-plain ListedLaws.the-copy

@@ -20,6 +20,8 @@ ghost use Rattle.monitor.specs.Machine.{noRow};
 ghost use Rattle.monitor.specs.Contract.{Steps};
 ghost use Rattle.inplace.specs.Store.{steppedFrom, askedRows, askedOf, askedBy, answerOf, rowStepped, rowsStepped, rowsCrowded, withNumbers};
 
+pub mod index;
+
 // A row with fewer waiting has room for two more words.
 const ROOMY: usize = WAITING_LIMIT - 1;
 

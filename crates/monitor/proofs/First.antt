@@ -19,7 +19,7 @@ use Rattle.monitor.specs.declared.Monitor.{Monitor}
 -- ---- each of them changed
 
 module _ (f : Row → Row) where
-  map-behind : (rows : List Row) (n : ℕ) (other : Row) → getD (mapFirst n f rows) n other ≡ getD rows n other
+  pub map-behind : (rows : List Row) (n : ℕ) (other : Row) → getD (mapFirst n f rows) n other ≡ getD rows n other
   unfolding mapFirst
   map-behind rows zero other = refl
   map-behind [] (suc n) other = refl

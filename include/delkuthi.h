@@ -75,7 +75,8 @@
  *
  * LIMITS
  *
- *   times            0 to 2^56 - 1        DELKUTHI_LAST_TIME
+ *   times            0 to 2^60 - 1        DELKUTHI_LAST_TIME
+ *   steps            at most 2^64 - 1     DELKUTHI_LAST_COUNT
  *   kinds            0 to 63              DELKUTHI_LAST_KIND
  *   colours          0 to 7               DELKUTHI_LAST_COLOUR
  *   rows of a table  0 to 32              DELKUTHI_ROW_LIMIT
@@ -283,7 +284,8 @@ extern "C" {
 /* The version of this header, 0.3.0: major * 1000000 + minor * 1000 + patch. */
 #define DELKUTHI_VERSION UINT32_C(3000)
 
-#define DELKUTHI_LAST_TIME     UINT64_C(72057594037927935)
+#define DELKUTHI_LAST_TIME     UINT64_C(1152921504606846975)
+#define DELKUTHI_LAST_COUNT    UINT64_C(18446744073709551615)
 #define DELKUTHI_LAST_KIND     63
 #define DELKUTHI_FIRST_COLOURED 48
 #define DELKUTHI_LAST_COLOUR   7
@@ -348,12 +350,14 @@ enum delkuthi_refusal {
 
     /* A step (delkuthi_event, _coloured_event, _tick, _close, _report). */
     DELKUTHI_CLOSED = 8,     /* it is closed: start a fresh monitor */
+    DELKUTHI_COUNT_FULL = 24,/* 2^64 - 1 steps were taken: start a fresh
+                                monitor. Asked after 8, also of the close */
     DELKUTHI_KIND = 9,       /* a kind above 63: leave the event out */
     DELKUTHI_FORM = 19,      /* a coloured kind without a colour, a plain one
                                 with one, or a colour above 7; in a recording
                                 of version 1 any colour. Asked after 9: use
                                 the other call, or the other form of record */
-    DELKUTHI_TIME_RANGE = 10,/* a time above 2^56 - 1: mend the host's clock */
+    DELKUTHI_TIME_RANGE = 10,/* a time above 2^60 - 1: mend the host's clock */
     DELKUTHI_TIME_ORDER = 11,/* an event before the clock, or not after the
                                 last one of its kind and colour; a tick not
                                 after the clock: give steps in the order of
@@ -407,7 +411,7 @@ static inline const char *delkuthi_refusal_text(uint8_t number)
     case DELKUTHI_KIND:
         return "the kind is above 63";
     case DELKUTHI_TIME_RANGE:
-        return "the time is above 2^56 - 1";
+        return "the time is above 2^60 - 1";
     case DELKUTHI_TIME_ORDER:
         return "the time is not in order";
     case DELKUTHI_CROWDED:
@@ -428,6 +432,8 @@ static inline const char *delkuthi_refusal_text(uint8_t number)
     case DELKUTHI_FORM:
         return "an event has no colour and a coloured kind, or a colour and a "
                "plain kind, or no such colour";
+    case DELKUTHI_COUNT_FULL:
+        return "the count of steps is full";
     case DELKUTHI_NOT_REPEAT:
         return "the row is not a Repeat of span 1";
     default:

@@ -13,7 +13,7 @@ from typing import Iterator
 VERSION = (Path(__file__).parent / "VERSION").read_text(encoding="ascii").strip()
 INTERFACE = VERSION.rsplit(".", 1)[0]
 
-LAST_TIME = 2**56 - 1
+LAST_TIME = 2**60 - 1
 LAST_KIND = 63
 FIRST_COLOURED = 48
 LAST_COLOUR = 7
@@ -33,7 +33,7 @@ REFUSALS = {
     7: "a row has a lower that is more than its upper",
     8: "the recording is closed",
     9: "the kind is above 63",
-    10: "the time is above 2^56 - 1",
+    10: "the time is above 2^60 - 1",
     11: "the time is not in order",
     12: "more than 64 would wait in a row",
     13: "the recording does not begin with a version byte 1 or 2",
@@ -43,6 +43,7 @@ REFUSALS = {
     17: "a file is too large",
     18: "a row has a plain kind where its type takes coloured ones, or a coloured one where it takes plain ones",
     19: "an event has no colour and a coloured kind, or a colour and a plain kind, or no such colour",
+    24: "the count of steps is full",
     25: "the row is not a Repeat of span 1",
 }
 

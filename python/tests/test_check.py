@@ -68,7 +68,7 @@ def test_refusals_of_steps(tmp_path):
     path.write_text("time_s,event\n1600000000,a\n")
     outcome = check(table, str(path))
     assert (outcome.status, outcome.refused) == (2, 10)
-    assert outcome.error.endswith("the time is above 2^56 - 1; --from-zero counts the stamps from the first one")
+    assert outcome.error.endswith("the time is above 2^60 - 1; --from-zero counts the stamps from the first one")
     path.write_text("time,event\n" + "".join(f"{time},a\n" for time in range(65)))
     outcome = check(table, str(path))
     assert (outcome.status, outcome.refused) == (2, 12)

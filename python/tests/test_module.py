@@ -54,7 +54,7 @@ def test_a_copy_goes_its_own_way():
 
 @pytest.mark.parametrize("call, number", [
     (lambda m: m.event(64, 10), 9), (lambda m: m.event(300, 10), 9), (lambda m: m.event(-1, 10), 9),
-    (lambda m: m.tick(2**56), 10), (lambda m: m.tick(2**70), 10), (lambda m: m.tick(-1), 11), (lambda m: m.event(0, 0), 11),
+    (lambda m: m.tick(2**60), 10), (lambda m: m.tick(2**70), 10), (lambda m: m.tick(-1), 11), (lambda m: m.event(0, 0), 11),
     (lambda m: m.event(48, 10), 19), (lambda m: m.event(0, 10, 1), 19), (lambda m: m.event(48, 10, 8), 19),
     (lambda m: m.event(48, 10, -1), 19), (lambda m: m.event(48, 10, 300), 19), (lambda m: m.event(64, 10, 1), 9),
     (lambda m: m.verdict(1), 15), (lambda m: m.verdict(-1), 15),

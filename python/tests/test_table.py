@@ -63,7 +63,7 @@ ERRORS = [
     (UNIT + "Order pedel -> light", "t:4:7: expected an event for source; pedel is not declared (did you mean pedal?)"),
     (UNIT + "Order pedal -> horn", "t:4:16: expected an event for target; horn is not declared"),
     (UNIT + "Delay pedal -> light, 0.5 us .. 1", "t:4:23: 0.5 us is no whole number of us"),
-    (UNIT + "Delay pedal -> light, 0 .. 99999999999999999999", "t:4:28: expected a time up to 72057594037927935"),
+    (UNIT + "Delay pedal -> light, 0 .. 99999999999999999999", "t:4:28: expected a time up to 1152921504606846975"),
     (UNIT + "event horn = 1", "t:4:14: kind 1 is light already"),
     (UNIT + "event light = 2", "t:4:7: a second event with the name light"),
     (UNIT + "event horn = 48 from key m", "t:4:22: kind 48 is coloured: its source needs a colour"),

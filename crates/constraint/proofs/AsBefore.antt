@@ -7,7 +7,7 @@ use mathlib.Core.Bool.{true, false, cond}
 use mathlib.Core.List.{List, [], _∷_, _++_}
 use mathlib.Core.Logic.{_⊎_, inl, inr, _↔_}
 use lib.ListN.{length}
-use Rattle.constraint.specs.Limits.{lastKind, firstColoured, streamCount, lastTime}
+use Rattle.constraint.specs.Limits.{lastKind, firstColoured, streamCount, lastTime, lastCount}
 use Rattle.constraint.specs.Steps.{Step, event, tick, close, at, times, among, own, clockFrom, clock, closed}
 use Rattle.constraint.specs.Meets.{Meets}
 use Rattle.constraint.specs.Continuation.{EventInOrder, Continues, stop, more, Open}
@@ -20,25 +20,12 @@ use Rattle.constraint.specs.declared.Call.{Call}
 use Rattle.constraint.specs.declared.Constraint.{Constraint}
 use Rattle.constraint.specs.declared.Constraint.the-variants.{Delay, StrongDelay, Repeat, Sporadic, Burst, Order, StrongSynchronization2, StrongSynchronization3, StrongSynchronization4, ExecutionTime, Reaction, Repetition}
 use Rattle.constraint.proofs.Lists.{split, both, Each, each-none, each-cons}
+use Rattle.constraint.proofs.Judged.{skipped, put-in}
 use Rattle.constraint.proofs.Streams.{among-where}
 use Rattle.constraint.proofs.History.{times-append, times-other, own-append, clock-append, clock-event, closed-event}
 use Rattle.constraint.proofs.Continuations.{meets-same}
 
 -- ---- questions
-
--- a question that is answered "yes" may be left out
-skipped : (before later : List Question) (n : ℕ) (asked : Type 0) → asked → (a : Answer) → Judged (before ++ ((n, asked) ∷ later)) a → Judged (before ++ later) a
-unfolding Judged
-skipped [] later n asked holds a (inl h) = h .1
-skipped [] later n asked holds a (inr h) = absurd (h .0 holds)
-skipped (q ∷ before) later n asked holds a (inl h) = inl (h .0, skipped before later n asked holds a (h .1))
-skipped (q ∷ before) later n asked holds a (inr h) = inr h
-
-put-in : (before later : List Question) (n : ℕ) (asked : Type 0) → asked → (a : Answer) → Judged (before ++ later) a → Judged (before ++ ((n, asked) ∷ later)) a
-unfolding Judged
-put-in [] later n asked holds a j = inl (holds, j)
-put-in (q ∷ before) later n asked holds a (inl h) = inl (h .0, put-in before later n asked holds a (h .1))
-put-in (q ∷ before) later n asked holds a (inr h) = inr h
 
 -- the questions of a row before there were colours; a row whose kinds suit its type is answered as it was
 abbrev pub rowQuestionsBefore : Constraint → List Question
@@ -50,16 +37,17 @@ row-as-before c suit a =
     let later : List Question = (6, InRange c) ∷ (7, LowerFirst c) ∷ [] in
     (skipped first later 18 (KindsSuit c) suit a, put-in first later 18 (KindsSuit c) suit a)
 
--- the questions of an event before there were colours; one of a plain kind is answered as it was
+-- the questions of an event without those of colours; one of a plain kind is answered as it was
 abbrev pub eventQuestionsBefore : List Constraint → List Step → ℕ → ℕ → List Question
 eventQuestionsBefore rows steps k t =
-    (8, closed steps ≡ false) ∷ (9, k ≤ lastKind) ∷ (10, t ≤ lastTime) ∷ (11, EventInOrder steps k t) ∷ (12, Room rows (steps ++ (event k t ∷ []))) ∷ []
+    (8, closed steps ≡ false) ∷ (24, length steps < lastCount) ∷ (9, k ≤ lastKind) ∷ (10, t ≤ lastTime) ∷ (11, EventInOrder steps k t)
+    ∷ (12, Room rows (steps ++ (event k t ∷ []))) ∷ []
 
 pub event-as-before : (rows : List Constraint) (steps : List Step) (k t : ℕ) → k < firstColoured → (a : Answer)
     → Judged (questions rows steps (Call.Event k t)) a ↔ Judged (eventQuestionsBefore rows steps k t) a
 unfolding questions
 event-as-before rows steps k t plain a =
-    let first : List Question = (8, closed steps ≡ false) ∷ (9, k ≤ lastKind) ∷ [] in
+    let first : List Question = (8, closed steps ≡ false) ∷ (24, length steps < lastCount) ∷ (9, k ≤ lastKind) ∷ [] in
     let later : List Question = (10, t ≤ lastTime) ∷ (11, EventInOrder steps k t) ∷ (12, Room rows (steps ++ (event k t ∷ []))) ∷ [] in
     (skipped first later 19 (k < firstColoured) plain a, put-in first later 19 (k < firstColoured) plain a)
 

@@ -4,9 +4,10 @@ use native.Mathlib.Omega.{arith}
 use mathlib.Core.Path.{_≡_, refl, sym, ap, _∙_, subst}
 use mathlib.Core.Bool.{true, false, cond}
 use mathlib.Core.List.{List, [], _∷_, _++_, append-nil}
+use lib.ListN.{length, length-append}
 use lib.Dec.{eqb}
 use borrow.Author.Tests.{eqb-true, eq-eqb, ne-eqb}
-use Rattle.constraint.specs.Limits.{streamCount, lastTime}
+use Rattle.constraint.specs.Limits.{streamCount, lastTime, lastCount}
 use Rattle.constraint.specs.Steps.{Step, event, tick, close, times, among, own, clockFrom, clock, closed}
 use Rattle.constraint.specs.Continuation.{EventInOrder}
 use Rattle.constraint.proofs.Lists.{split, Each, each-none, each-append, each-cons, Rising, rising-snoc}
@@ -114,6 +115,7 @@ closed-close (close ∷ steps) = refl
 -- an event that is accepted after the steps, question 12 aside
 pub record AcceptsEvent (steps : List Step) (k t : ℕ) : Type 0 where
   pub not-closed : closed steps ≡ false
+  pub counted : length steps < lastCount
   pub stream-small : k < streamCount
   pub time-small : t ≤ lastTime
   pub in-order : EventInOrder steps k t
@@ -121,14 +123,20 @@ pub record AcceptsEvent (steps : List Step) (k t : ℕ) : Type 0 where
 -- a tick that is
 pub record AcceptsTick (steps : List Step) (t : ℕ) : Type 0 where
   pub not-closed : closed steps ≡ false
+  pub counted : length steps < lastCount
   pub time-small : t ≤ lastTime
   pub later : clock steps < t
+
+-- a close that is
+pub record AcceptsClose (steps : List Step) : Type 0 where
+  pub not-closed : closed steps ≡ false
+  pub counted : length steps < lastCount
 
 -- a step that is
 abbrev pub Accepts : List Step → Step → Type 0
 Accepts steps (event k t) = AcceptsEvent steps k t
 Accepts steps (tick t) = AcceptsTick steps t
-Accepts steps close = closed steps ≡ false
+Accepts steps close = AcceptsClose steps
 
 -- steps each of which was accepted after those before it
 pub data Valid : List Step → Type 0 where
@@ -190,3 +198,13 @@ pub past-of : {steps : List Step} → Valid steps → Past steps
 unfolding times clockFrom
 past-of valid-none = record { rising = λ k. tt; past = λ k. each-none (λ t. t ≤ 0); small = omega arith }
 past-of (valid-more {steps = steps} s v a) = past-more s steps (past-of v) a
+
+-- there is room for the count of the step that is accepted, so the count of all of them fits
+pub counted-of : (s : Step) (steps : List Step) → Accepts steps s → length steps < lastCount
+counted-of (event k t) steps a = a .counted
+counted-of (tick t) steps a = a .counted
+counted-of close steps a = a .counted
+
+pub count-of : {steps : List Step} → Valid steps → length steps ≤ lastCount
+count-of valid-none = omega arith
+count-of (valid-more {steps = steps} s v a) = omega (arith, length-append steps (s ∷ []), counted-of s steps a)

@@ -107,6 +107,29 @@ judged-first [] later n h = never (cc)
 judged-first (q ∷ first) later n (inl h) = inl (h .0, judged-first first later n (h .1))
 judged-first (q ∷ first) later n (inr h) = inr h
 
+-- a question that is answered "yes" may be left out, or put in
+pub skipped : (before later : List Question) (n : ℕ) (asked : Type 0) → asked → (a : Answer) → Judged (before ++ ((n, asked) ∷ later)) a → Judged (before ++ later) a
+unfolding Judged
+skipped [] later n asked holds a (inl h) = h .1
+skipped [] later n asked holds a (inr h) = absurd (h .0 holds)
+skipped (q ∷ before) later n asked holds a (inl h) = inl (h .0, skipped before later n asked holds a (h .1))
+skipped (q ∷ before) later n asked holds a (inr h) = inr h
+
+pub put-in : (before later : List Question) (n : ℕ) (asked : Type 0) → asked → (a : Answer) → Judged (before ++ later) a → Judged (before ++ ((n, asked) ∷ later)) a
+unfolding Judged
+put-in [] later n asked holds a j = inl (holds, j)
+put-in (q ∷ before) later n asked holds a (inl h) = inl (h .0, put-in before later n asked holds a (h .1))
+put-in (q ∷ before) later n asked holds a (inr h) = inr h
+
+-- a question that asks less may stand for another of its number, where the answer is not that number
+pub widened : (first later : List Question) (n : ℕ) (asked wider : Type 0) → (asked → wider) → (a : Answer) → ¬ (a ≡ Refused n)
+    → Judged (first ++ ((n, asked) ∷ later)) a → Judged (first ++ ((n, wider) ∷ later)) a
+unfolding Judged
+widened [] later n asked wider less a other (inl h) = inl (less (h .0), h .1)
+widened [] later n asked wider less a other (inr h) = absurd (other (h .1))
+widened (q ∷ first) later n asked wider less a other (inl h) = inl (h .0, widened first later n asked wider less a other (h .1))
+widened (q ∷ first) later n asked wider less a other (inr h) = inr h
+
 -- questions have one answer
 pub judged-once : (questions : List Question) (a b : Answer) → Judged questions a → Judged questions b → a ≡ b
 unfolding Judged

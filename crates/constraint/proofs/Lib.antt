@@ -15,4 +15,5 @@ pub mod Records
 pub mod Accepted
 pub mod Runs
 pub mod AsBefore
+pub mod LongerClocks
 pub mod Sanity

@@ -4,8 +4,9 @@ use native.Mathlib.Omega.{arith}
 use mathlib.Core.Path.{_≡_, refl, sym, ap, _∙_, subst}
 use mathlib.Core.Bool.{true, false}
 use mathlib.Core.List.{List, _++_, append-nil}
-use mathlib.Core.Logic.{inl, inr, _↔_}
-use Rattle.constraint.specs.Limits.{streamCount}
+use mathlib.Core.Logic.{_↔_}
+use lib.ListN.{length}
+use Rattle.constraint.specs.Limits.{streamCount, lastCount}
 use Rattle.constraint.specs.Streams.{stream}
 use Rattle.constraint.specs.Steps.{Step, event, closed}
 use Rattle.constraint.specs.Meets.{Meets}
@@ -22,37 +23,38 @@ use Rattle.constraint.proofs.Streams.{stream-below}
 use Rattle.constraint.proofs.History.{Accepts, Valid, valid-more}
 use Rattle.constraint.proofs.Continuations.{continues-closed}
 use Rattle.constraint.proofs.Verdicts.{broken-later, broken-shut, broken-once, open-of-meets}
-use Rattle.constraint.proofs.Judged.{never}
+use Rattle.constraint.proofs.Judged.{never, judged-all}
 
 -- ---- the steps that a list of calls accepts
 
 -- an event of a stream whose questions are all answered "yes"
-accepts-event : (rows : List Constraint) (steps : List Step) (s t : ℕ) → closed steps ≡ false → s < streamCount
+accepts-event : (rows : List Constraint) (steps : List Step) (s t : ℕ) → closed steps ≡ false → length steps < lastCount → s < streamCount
     → Judged (eventQuestions rows steps s t) Taken → Accepts steps (event s t)
-unfolding Judged
-accepts-event rows steps s t open-still small (inl (a, inl (b, later))) =
-    record { not-closed = open-still; stream-small = small; time-small = a; in-order = b }
-accepts-event rows steps s t open-still small (inl (a, inr e)) = never (cc (e .1))
-accepts-event rows steps s t open-still small (inr e) = never (cc (e .1))
+accepts-event rows steps s t open-still counted small judged =
+    let ten = judged-all 10 _ _ judged in
+    record { not-closed = open-still; counted = counted; stream-small = small; time-small = ten .0; in-order = judged-all 11 _ _ (ten .1) .0 }
 
 -- a step whose questions are all answered "yes"
 pub accepts-taken : (rows : List Constraint) (steps : List Step) (s : Call) → Judged (questions rows steps s) Taken → Accepts steps (stepFor s)
-unfolding Judged questions
-accepts-taken rows steps (Call.Event k t) (inl (a, inl (b, inl (plain, later)))) = accepts-event rows steps k t a (omega arith) later
-accepts-taken rows steps (Call.Event k t) (inl (a, inl (b, inr e))) = never (cc (e .1))
-accepts-taken rows steps (Call.Event k t) (inl (a, inr e)) = never (cc (e .1))
-accepts-taken rows steps (Call.Event k t) (inr e) = never (cc (e .1))
-accepts-taken rows steps (Call.ColouredEvent k c t) (inl (a, inl (b, inl (coloured, later)))) =
-    accepts-event rows steps (stream k c) t a (stream-below k c b (coloured .1)) later
-accepts-taken rows steps (Call.ColouredEvent k c t) (inl (a, inl (b, inr e))) = never (cc (e .1))
-accepts-taken rows steps (Call.ColouredEvent k c t) (inl (a, inr e)) = never (cc (e .1))
-accepts-taken rows steps (Call.ColouredEvent k c t) (inr e) = never (cc (e .1))
-accepts-taken rows steps (Call.Tick t) (inl (a, inl (b, inl (c, later)))) = record { not-closed = a; time-small = b; later = c }
-accepts-taken rows steps (Call.Tick t) (inl (a, inl (b, inr e))) = never (cc (e .1))
-accepts-taken rows steps (Call.Tick t) (inl (a, inr e)) = never (cc (e .1))
-accepts-taken rows steps (Call.Tick t) (inr e) = never (cc (e .1))
-accepts-taken rows steps Call.Close (inl (a, later)) = a
-accepts-taken rows steps Call.Close (inr e) = never (cc (e .1))
+unfolding questions
+accepts-taken rows steps (Call.Event k t) judged =
+    let eight = judged-all 8 _ _ judged in
+    let full = judged-all 24 _ _ (eight .1) in
+    let form = judged-all 19 _ _ (judged-all 9 _ _ (full .1) .1) in
+    accepts-event rows steps k t (eight .0) (full .0) (omega (arith, form .0)) (form .1)
+accepts-taken rows steps (Call.ColouredEvent k c t) judged =
+    let eight = judged-all 8 _ _ judged in
+    let full = judged-all 24 _ _ (eight .1) in
+    let nine = judged-all 9 _ _ (full .1) in
+    let form = judged-all 19 _ _ (nine .1) in
+    accepts-event rows steps (stream k c) t (eight .0) (full .0) (stream-below k c (nine .0) (form .0 .1)) (form .1)
+accepts-taken rows steps (Call.Tick t) judged =
+    let eight = judged-all 8 _ _ judged in
+    let full = judged-all 24 _ _ (eight .1) in
+    let ten = judged-all 10 _ _ (full .1) in
+    record { not-closed = eight .0; counted = full .0; time-small = ten .0; later = judged-all 11 _ _ (ten .1) .0 }
+accepts-taken rows steps Call.Close judged =
+    let eight = judged-all 8 _ _ judged in record { not-closed = eight .0; counted = judged-all 24 _ _ (eight .1) .0 }
 
 pub run-valid : {rows : List Constraint} {steps end : List Step} {calls : List Call} {answers : List Answer} → Run rows steps calls answers end → Valid steps → Valid end
 run-valid done v = v

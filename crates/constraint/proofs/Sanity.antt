@@ -4,13 +4,13 @@ use native.Mathlib.Omega.{arith}
 use mathlib.Core.Path.{_≡_, refl, sym, ap, ap₂, subst}
 use mathlib.Core.List.{List, [], _∷_, _++_, map}
 use mathlib.Core.Logic.{_⊎_, inl, inr, _↔_, ⊎-elim}
-use mathlib.Core.Bool.{Bool, _&&_, _||_}
+use mathlib.Core.Bool.{Bool, false, _&&_, _||_}
 use lib.ListN.{length}
 use lib.Dec.{leb}
 use borrow.Author.Tests.{ne-eqb}
-use Rattle.constraint.specs.Limits.{lastColour, noLimit}
+use Rattle.constraint.specs.Limits.{lastColour, lastCount, noLimit}
 use Rattle.constraint.specs.Streams.{stream}
-use Rattle.constraint.specs.Steps.{Step, event, tick, at, times, clockFrom, own}
+use Rattle.constraint.specs.Steps.{Step, event, tick, at, times, clockFrom, own, closed}
 use Rattle.constraint.specs.Meets.{Between, NotLater, Apart, SpansApart, AtLeastApart, HiddenPoints, Execution, Executes, paused, pauseEvents, executionEvents}
 use Rattle.constraint.specs.Meets.{Meets, MeetsDelay, MeetsStrongDelay, MeetsRepeat, MeetsSporadic, MeetsBurst, MeetsOrder}
 use Rattle.constraint.specs.Meets.{MeetsStrongSynchronization, MeetsExecutionTime, MeetsReaction, MeetsRepetition}
@@ -24,7 +24,7 @@ use Rattle.constraint.specs.declared.Answer.the-variants.{Taken, Refused
 use Rattle.constraint.specs.declared.Constraint.{Constraint}
 use Rattle.constraint.specs.declared.Constraint.the-variants.{Delay, StrongDelay, Repeat, Sporadic, Burst, Order, StrongSynchronization2, StrongSynchronization3, StrongSynchronization4}
 use Rattle.constraint.specs.declared.Constraint.the-variants.{ExecutionTime, Reaction, Repetition}
-use Rattle.constraint.proofs.Judged.{judged-once}
+use Rattle.constraint.proofs.Judged.{judged-yes, judged-no, judged-once}
 use Rattle.constraint.proofs.Verdicts.{open-of-meets}
 
 -- ---- lists of calls
@@ -44,6 +44,15 @@ judged-some [] none = none (Taken, refl)
 judged-some (q ∷ later) none =
     let answered-no : ¬ ¬ q .1 = λ shut. none (Refused (q .0), inr (shut, refl)) in
     answered-no (λ asked. judged-some later (λ found. none (found .0, inl (asked, found .1))))
+
+-- at the last count every call is answered 24, whatever it gives, until the recording is closed (§8.24)
+pub full-refused : (rows : List Constraint) (steps : List Step) → closed steps ≡ false → length steps ≡ lastCount → (s : Call)
+    → Judged (questions rows steps s) (Refused 24)
+unfolding questions
+full-refused rows steps open-still full (Call.Event k t) = judged-yes 8 _ _ _ open-still (judged-no 24 _ _ (λ h. omega (arith, full)))
+full-refused rows steps open-still full (Call.ColouredEvent k c t) = judged-yes 8 _ _ _ open-still (judged-no 24 _ _ (λ h. omega (arith, full)))
+full-refused rows steps open-still full (Call.Tick t) = judged-yes 8 _ _ _ open-still (judged-no 24 _ _ (λ h. omega (arith, full)))
+full-refused rows steps open-still full Call.Close = judged-yes 8 _ _ _ open-still (judged-no 24 _ _ (λ h. omega (arith, full)))
 
 -- a list of calls cannot fail to have answers
 pub run-some : (rows : List Constraint) (calls : List Call) (steps : List Step) → ¬ ¬ ((answers : List Answer) × (end : List Step) × Run rows steps calls answers end)

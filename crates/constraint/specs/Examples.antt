@@ -1,6 +1,6 @@
 -- The contract's examples 1 to 12 (§10.1 to §10.12), those of Delays without an upper limit, of signals that stop, of ExecutionTime, of
--- Reaction and of Repetition: a row, calls that are all taken, and what the row reads after them.
-use Prim.Native.Nat.{ℕ, zero, suc, _+_, _-_}
+-- Reaction, of Repetition and of long clocks: a row, calls that are all taken, and what the row reads after them.
+use Prim.Native.Nat.{ℕ, zero, suc, _+_, _-_, _^_}
 use mathlib.Core.List.{List, [], _∷_, _++_}
 use lib.ListN.{replicate}
 use Rattle.constraint.specs.Limits.{lastTime, noLimit}
@@ -203,6 +203,22 @@ repetitions =
     ∷ reads (Repetition 0 2 0 lastTime lastTime) (Event 0 0 ∷ Event 0 1 ∷ Event 0 2 ∷ Event 0 lastTime ∷ []) Open
     ∷ reads (Repetition 0 2 lastTime lastTime lastTime) (Event 0 0 ∷ Event 0 1 ∷ Event 0 lastTime ∷ []) Open
     ∷ reads (Repetition 0 2 lastTime lastTime lastTime) (Event 0 0 ∷ Event 0 1 ∷ Event 0 (lastTime - 1) ∷ []) (Broken 3)
+    ∷ []
+
+-- §1.1: past the last time of the first versions, and up to the last
+abbrev pub long-clocks : List Example
+long-clocks =
+    reads (Delay 0 1 2 3) (Event 0 (2 ^ 56) ∷ Tick (2 ^ 56 + 3) ∷ []) Open
+    ∷ reads (Delay 0 1 2 3) (Event 0 (2 ^ 56) ∷ Tick (2 ^ 56 + 3) ∷ Tick (2 ^ 56 + 4) ∷ []) (Broken 3)
+    ∷ reads (Delay 0 1 lastTime lastTime) (Event 0 0 ∷ Event 1 lastTime ∷ Close ∷ []) Kept
+    ∷ reads (Delay 0 1 lastTime lastTime) (Event 0 lastTime ∷ []) Open
+    ∷ reads (Delay 0 1 lastTime lastTime) (Event 0 lastTime ∷ Close ∷ []) (Broken 2)
+    -- the largest deadline: a point at the last time, an upper and a jitter
+    ∷ reads (Sporadic 0 lastTime lastTime lastTime 0) (Event 0 (lastTime - 1) ∷ Event 0 lastTime ∷ []) Open
+    ∷ reads (Sporadic 0 lastTime lastTime lastTime 0) (Event 0 (lastTime - 1) ∷ Event 0 lastTime ∷ Close ∷ []) Kept
+    ∷ reads (Sporadic 0 lastTime lastTime 0 0) (Event 0 0 ∷ Event 0 lastTime ∷ Close ∷ []) Kept
+    ∷ reads (Sporadic 0 lastTime lastTime 0 0) (Event 0 1 ∷ Event 0 lastTime ∷ []) (Broken 2)
+    ∷ reads (ExecutionTime 0 1 2 3 0 lastTime) (Event 0 (lastTime - 1) ∷ Event 1 lastTime ∷ Close ∷ []) Kept
     ∷ []
 
 -- §5.3.5: a table of two rows: sources crowd the first, and the second falls silent

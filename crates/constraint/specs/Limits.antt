@@ -18,7 +18,11 @@ streamCount = 176
 
 -- §1.1: the last time
 abbrev pub lastTime : ℕ
-lastTime = 2 ^ 56 - 1
+lastTime = 2 ^ 60 - 1
+
+-- §1.7: the last count of steps
+abbrev pub lastCount : ℕ
+lastCount = 2 ^ 64 - 1
 
 -- §4.7: the mark for no upper limit
 abbrev pub noLimit : ℕ

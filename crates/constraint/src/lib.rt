@@ -26,8 +26,10 @@ pub const FIRST_COLOURED: u8 = 48;
 pub const LAST_COLOUR: u8 = 7;
 // How many streams there are: 48 plain kinds, and 16 coloured ones of 8 colours.
 pub const STREAM_COUNT: usize = 176;
-// The largest time, 2^56 - 1.
-pub const LAST_TIME: u64 = 72057594037927935;
+// The largest time, 2^60 - 1.
+pub const LAST_TIME: u64 = 1152921504606846975;
+// The largest count of steps, 2^64 - 1.
+pub const LAST_COUNT: u64 = 18446744073709551615;
 // The mark for an upper that is no limit, 2^64 - 1.
 pub const NO_LIMIT: u64 = 18446744073709551615;
 // How many rows a table has at most.

@@ -25,8 +25,7 @@ use Rattle.constraint.specs.declared.Constraint.{Constraint}
 use Rattle.constraint.specs.declared.Constraint.the-variants.{Delay, StrongDelay, Repeat, Sporadic, Burst, Order}
 use Rattle.constraint.specs.declared.Constraint.the-variants.{StrongSynchronization2, StrongSynchronization3, StrongSynchronization4, ExecutionTime, Reaction, Repetition}
 use Rattle.constraint.specs.declared.Verdict.{Verdict}
-use Rattle.constraint.proofs.History.{Valid}
-use Rattle.constraint.proofs.Counting.{count-fits}
+use Rattle.constraint.proofs.History.{Valid, count-of}
 use Rattle.constraint.proofs.Lists.{getD-within}
 use Rattle.text.specs.Content.{Copied}
 use Rattle.machine.specs.Rule.{ruleOf}
@@ -158,7 +157,7 @@ verdict-made m i h small = rw (lt-ltb i (m .len) h, lt-ltb i rowLimit small)
 reads-fits : (c : Constraint) (steps : List Step) (v : Verdict) → Valid steps → Reads c steps v → StepFits v
 reads-fits c steps v valid (reads-open e o) = tt
 reads-fits c steps v valid (reads-kept e o) = tt
-reads-fits c steps v valid (reads-broken n b) = omega (arith, b .counted, count-fits valid)
+reads-fits c steps v valid (reads-broken n b) = omega (arith, b .counted, count-of valid)
 
 row-in : (rows : List Constraint) (i : ℕ) → i < length rows → (c : Constraint) × (getElem? rows i ≡ some c)
 row-in [] i h = absurd (omega arith)

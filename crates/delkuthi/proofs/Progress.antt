@@ -1,11 +1,12 @@
 -- Records are taken one after the other: what reading gives from a place on, over the steps taken before it, is what it gives from the start.
-use Prim.Native.Nat.{ℕ, zero, suc, _+_, _≤_, _<_}
+use Prim.Native.Nat.{ℕ, zero, suc, _+_, _*_, _≤_, _<_}
 use mathlib.Core.Path.{_≡_, refl, sym, ap, subst, _∙_}
 use mathlib.Core.Bool.{Bool, true, false, cond}
 use mathlib.Core.List.{List, [], _∷_, _++_}
 use native.Mathlib.Omega.{arith}
-use lib.ListN.{length}
+use lib.ListN.{length, length-append}
 use lib.Dec.{eqb}
+use Rattle.constraint.specs.Limits.{lastCount}
 use Rattle.constraint.specs.Streams.{stream}
 use Rattle.constraint.specs.Steps.{Step, at, closed}
 use Rattle.constraint.specs.Questions.{Judged}
@@ -17,7 +18,7 @@ use Rattle.constraint.specs.declared.Call.{Call}
 use Rattle.constraint.specs.declared.Answer.the-variants.{Taken, Refused}
 use Rattle.constraint.specs.declared.Constraint.{Constraint}
 use Rattle.constraint.proofs.History.{closed-event, closed-tick}
-use Rattle.constraint.proofs.Judged.{never, judged-yes, judged-once}
+use Rattle.constraint.proofs.Judged.{never, judged-yes, judged-all, judged-once}
 use Rattle.recording.specs.Record.{CallAt}
 use Rattle.recording.proofs.Records.{record-judged, record-refused as record-not-there, unclosed-more}
 use Rattle.monitor.specs.Machine.{stepOf as machineStep}
@@ -46,6 +47,21 @@ step-judged rows steps m bytes place s size result read kept took = record-judge
 -- Record by record
 
 module _ (rows : List Constraint) (bytes : List ℕ) where
+  -- each record has ten bytes at least, all of them among these
+  records-few : {place : ℕ} {steps : List Step} → StepsBefore rows bytes place steps → (10 * length steps ≤ place) × (10 * length steps ≤ length bytes)
+  unfolding recordQuestions
+  records-few at-version = (omega arith, omega arith)
+  records-few at-first = (omega arith, omega arith)
+  records-few (behind {place} {steps} there before judged) =
+      let whole = judged-all 14 (RecordAt bytes place) _ judged .0 in
+      let one-more = length-append steps (stepFor (callAt bytes place) ∷ []) in
+      let fewer = records-few before in
+      (omega (arith, fewer .0, whole .1, one-more), omega (arith, fewer .0, whole .0 .1, whole .1, one-more))
+
+  -- so neither a record nor the close meets 24 (§8.24)
+  pub count-left : length bytes ≤ lastCount → {place : ℕ} {steps : List Step} → StepsBefore rows bytes place steps → length steps < lastCount
+  count-left fits before = omega (arith, records-few before .1)
+
   pub up-to-start : (m : Monitor) → Took rows [] m → TakenUpTo rows bytes m 1
   unfolding closed
   up-to-start m took =
@@ -90,12 +106,14 @@ module _ (rows : List Constraint) (bytes : List ℕ) where
         version-taken one (before .whole (recording-refused 14 place) (record-refused 14 there (record-not-there rows (before .steps) bytes place not-there))),
       )
 
-    -- the close is taken
-    pub up-to-end : (result : Stepped) → VersionKnown bytes → length bytes ≤ place → Steps m Call.Close result → RecordingTakenAs rows bytes ReadAnswer.Accepted (result .monitor)
+    -- the close is taken: the count has room, as each record has ten bytes at least
+    pub up-to-end : (result : Stepped) → VersionKnown bytes → length bytes ≤ lastCount → length bytes ≤ place → Steps m Call.Close result → RecordingTakenAs rows bytes ReadAnswer.Accepted (result .monitor)
     unfolding questions Judged
-    up-to-end result one end kept =
+    up-to-end result one fits end kept =
         let asked = took-judged rows (before .steps) m (before .took) Call.Close result kept in
-        let taken = judged-once (questions rows (before .steps) Call.Close) (result .answer) Taken asked (judged-yes 8 _ [] Taken (before .not-closed) refl) in
+        let room = count-left fits (before .steps-before) in
+        let taken = judged-once (questions rows (before .steps) Call.Close) (result .answer) Taken asked
+        (judged-yes 8 _ ((24, length (before .steps) < lastCount) ∷ []) Taken (before .not-closed) (judged-yes 24 _ [] Taken room refl)) in
         (before .steps, version-taken one (before .whole (recording-of (before .steps)) (no-more end)), took-more rows (before .steps) m (before .took) Call.Close result kept taken)
 
 -- Turn by turn
@@ -119,12 +137,12 @@ module _ (fresh : Monitor) (bytes : List ℕ) where
     turn-none there not-there = over {answer = ReadAnswer.Refused 14 place} (record { means = λ rows took. up-to-none rows bytes m place (before .taken rows took) there (before .version) not-there })
 
   -- what follows a turn whose call was answered with a number: the close was taken; a record was refused; or a record was taken
-  pub next-closed : (turn : Turn) (m m′ : Monitor) (number : ℕ) → length bytes ≤ turn .place → turn .more ≡ true → Turns fresh bytes turn m → Steps m (turn .call) (steppedFrom number m′)
+  pub next-closed : (turn : Turn) (m m′ : Monitor) (number : ℕ) → length bytes ≤ lastCount → length bytes ≤ turn .place → turn .more ≡ true → Turns fresh bytes turn m → Steps m (turn .call) (steppedFrom number m′)
       → Turns fresh bytes (endsWith ReadAnswer.Accepted) m′ × (left bytes (endsWith ReadAnswer.Accepted) < left bytes turn)
-  next-closed turn m m′ number end e (on (of-record {place} call size there read) before) kept = never (omega (arith, there, end))
-  next-closed turn m m′ number end e (on (of-close {place} end′) before) kept =
-      (over {answer = ReadAnswer.Accepted} (record { means = λ rows took. up-to-end rows bytes m place (before .taken rows took) (steppedFrom number m′) (before .version) end kept }), omega arith)
-  next-closed turn m m′ number end e (over taken) kept = never (cc)
+  next-closed turn m m′ number fits end e (on (of-record {place} call size there read) before) kept = never (omega (arith, there, end))
+  next-closed turn m m′ number fits end e (on (of-close {place} end′) before) kept =
+      (over {answer = ReadAnswer.Accepted} (record { means = λ rows took. up-to-end rows bytes m place (before .taken rows took) (steppedFrom number m′) (before .version) fits end kept }), omega arith)
+  next-closed turn m m′ number fits end e (over taken) kept = never (cc)
 
   pub next-refused : (turn : Turn) (m m′ : Monitor) (number : ℕ) → 0 < number → turn .place < length bytes → turn .more ≡ true → Turns fresh bytes turn m → Steps m (turn .call) (steppedFrom number m′)
       → Turns fresh bytes (endsWith (ReadAnswer.Refused number (turn .place))) m′ × (left bytes (endsWith (ReadAnswer.Refused number (turn .place))) < left bytes turn)

@@ -12,10 +12,10 @@ use Rattle.delkuthi.proofs.Refusals.{AllAbove, number-above, refused-sm
 
 call-above : (steps : List Step) (s : Call) → AllAbove (questions [] steps s)
 unfolding questions AllAbove
-call-above steps (Call.Event k t) = (omega arith, (omega arith, (omega arith, (omega arith, (omega arith, (omega arith, tt))))))
-call-above steps (Call.ColouredEvent k c t) = (omega arith, (omega arith, (omega arith, (omega arith, (omega arith, (omega arith, tt))))))
-call-above steps (Call.Tick t) = (omega arith, (omega arith, (omega arith, (omega arith, tt))))
-call-above steps Call.Close = (omega arith, tt)
+call-above steps (Call.Event k t) = (omega arith, (omega arith, (omega arith, (omega arith, (omega arith, (omega arith, (omega arith, tt)))))))
+call-above steps (Call.ColouredEvent k c t) = (omega arith, (omega arith, (omega arith, (omega arith, (omega arith, (omega arith, (omega arith, tt)))))))
+call-above steps (Call.Tick t) = (omega arith, (omega arith, (omega arith, (omega arith, (omega arith, tt)))))
+call-above steps Call.Close = (omega arith, (omega arith, tt))
 
 records-above : (bytes : List ℕ) {before : List Step} {place n last : ℕ} → ReadsRecords [] bytes before place (recording-refused n last) → 0 < n
 unfolding recordQuestions AllAbove

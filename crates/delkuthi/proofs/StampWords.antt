@@ -14,9 +14,10 @@ use Rattle.constraint.specs.declared.Constraint.{Constraint}
 use Rattle.constraint.specs.declared.Constraint.the-variants.{Repeat}
 use Rattle.constraint.specs.declared.StampedAnswer.{StampedAnswer}
 use Rattle.constraint.specs.declared.Verdict.{Verdict}
-use Rattle.constraint.proofs.History.{closed-close}
+use Rattle.constraint.proofs.History.{valid-none, closed-close}
 use Rattle.constraint.proofs.Judged.{never}
 use Rattle.constraint.proofs.Lists.{both}
+use Rattle.constraint.proofs.Runs.{run-valid}
 use Rattle.constraint.proofs.Sanity.{run-once}
 use Rattle.monitor.specs.declared.Monitor.{Monitor}
 use Rattle.stamps.proofs.Agreement.{stampedOf, stamps-agree}
@@ -45,6 +46,7 @@ stamps-as-the-monitor table recording rows m i k lower upper word number read ta
     of-row o (row c v e r) w =
         let same : c ≡ Repeat k 1 lower upper = cc in
         let reading : Reads (Repeat k 1 lower upper) (taken .0 ++ (close ∷ [])) v = subst (λ (x : Constraint). Reads x (taken .0 ++ (close ∷ [])) v) same r in
-        let agrees = stamps-agree table recording rows (taken .0) i k lower upper v (numbers .answer) read (taken .1) there reading (numbers .answers) in
+        let closes = run-valid (taken .2 .recorded .1) valid-none in
+        let agrees = stamps-agree table recording rows (taken .0) i k lower upper v (numbers .answer) read (taken .1) closes there reading (numbers .answers) in
         numbers .equals ∙ ap stampedNumber agrees ∙ numbers-agree (Repeat k 1 lower upper) (taken .0) v reading ∙ ap (λ (x : ℕ). (x - 1) * 256) (sym w)
     of-row o (no-row e) w = never (cc)

@@ -10,7 +10,7 @@ use Rattle.constraint.specs.Steps.{Step}
 use Rattle.constraint.specs.Continuation.{Reads}
 use Rattle.constraint.specs.Run.{stepFor, Run, done, call}
 use Rattle.constraint.specs.Promise.{ReadsRow, row, play, Played}
-use Rattle.constraint.specs.Examples.{Example, examples, unlimited-delays, silences, execution-times, reactions, repetitions}
+use Rattle.constraint.specs.Examples.{Example, examples, unlimited-delays, silences, execution-times, reactions, repetitions, long-clocks}
 use Rattle.constraint.specs.Examples.{crowdedRows, crowdedCalls, crowdedAnswers}
 use Rattle.constraint.specs.declared.Answer.{Answer}
 use Rattle.constraint.specs.declared.Answer.the-variants.{Taken, Refused}
@@ -110,6 +110,10 @@ repetitions-computed : allCompute repetitions ≡ true
 unfolding allCompute computes playOf allTaken isVerdict play monitorOf mapFirst anyFirst takenCall stepOf verdictOf rowOf brokenRow applied changedRow rowStep rowVerdict ring pushRing putRing placed decideRepetition
 repetitions-computed = refl
 
+long-clocks-computed : allCompute long-clocks ≡ true
+unfolding allCompute computes playOf allTaken isVerdict play monitorOf mapFirst anyFirst takenCall stepOf verdictOf rowOf brokenRow applied changedRow rowStep rowVerdict ring pushRing putRing answeredBy decideDelay laterSporadic decideSporadic whileIdle whileRunning whilePreempted decideExecutionTime
+long-clocks-computed = refl
+
 -- ---- so each reads by the definitions what the machine computes
 
 -- calls that are all taken are the steps accepted
@@ -167,6 +171,10 @@ reactions-hold = all-read reactions reactions-computed
 -- §5.10 to §5.10.4
 pub repetitions-hold : AllRead repetitions
 repetitions-hold = all-read repetitions repetitions-computed
+
+-- §1.1
+pub long-clocks-hold : AllRead long-clocks
+long-clocks-hold = all-read long-clocks long-clocks-computed
 
 -- ---- a table of two rows
 

@@ -38,7 +38,7 @@ told-by m call (suc n) = subst Told (refused-by m call (suc n) (omega arith)) re
 
 step-told : (m : Monitor) (call : Call) → Told (stepOf m call)
 unfolding stepOf
-step-told m call = told-by m call (refusalBy call (m .closed) (m .clock) (nextFor m call))
+step-told m call = told-by m call (refusalBy call (m .closed) (m .count) (m .clock) (nextFor m call))
 
 -- a step whose answer is said by a number keeps the contract of a step
 pub numbered-kept : (m : Monitor) (call : Call) (s : Stepped) (n : ℕ) → Steps m call s → n ≡ numberOf (s .answer) → Steps m call (steppedFrom n (s .monitor))

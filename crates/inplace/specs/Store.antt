@@ -42,8 +42,8 @@ askedRows number len = cond (ltb 0 number) 0 (min len rowLimit)
 abbrev pub askedOf : Call → ℕ → ℕ → ℕ → ℕ → ℕ → Asked
 askedOf call closed clock next count len =
     record {
-      number = refusalBy call closed clock next;
-      rows = askedRows (refusalBy call closed clock next) len;
+      number = refusalBy call closed count clock next;
+      rows = askedRows (refusalBy call closed count clock next) len;
       occurrence = occurrenceBy call clock;
       step = plus count 1;
       place = placeFor call;

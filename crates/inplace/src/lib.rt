@@ -55,7 +55,7 @@ fn asked_rows(number: u8, len: usize) -> usize
 fn questions(call: Call, closed: u64, clock: u64, next: u64, count: u64, len: usize) -> Asked
     ensures { λ r. ⌜ r ≡ askedOf call closed clock next count len ⌝ }
 {
-    let number = calls::refusal(call, closed, clock, next);
+    let number = calls::refusal(call, closed, count, clock, next);
     Asked {
         number,
         rows: asked_rows(number, len),

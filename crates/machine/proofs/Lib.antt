@@ -3,6 +3,7 @@ pub mod Exact
 pub mod SeveralKinds
 pub mod OneKind
 pub mod TwoKinds
+pub mod Sums
 pub mod Oldest
 pub mod Spans
 pub mod Tests

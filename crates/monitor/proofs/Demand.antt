@@ -52,7 +52,7 @@ untouched-taken m after = record { same = λ n e. never (cc) }
 step-untouched : (m : Monitor) (s : Call) → Untouched m (stepOf m s)
 unfolding stepOf
 step-untouched m s =
-    let number = refusalBy s (m .closed) (m .clock) (nextFor m s) in
+    let number = refusalBy s (m .closed) (m .count) (m .clock) (nextFor m s) in
     untouched-or m number (ltb 0 number) (untouched-or m 12 (crowds m s) (untouched-taken m (takenCall m s)))
 
 -- ---- lists of calls

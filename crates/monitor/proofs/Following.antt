@@ -11,11 +11,11 @@ use lib.ListN.{length, getD, set, length-append, length-set}
 use lib.Seq.{getD-set-same, getD-set-other, set-out}
 use lib.Dec.{leb, ltb}
 use borrow.Author.Tests.{ltb-true, ltb-false, leb-true, leb-false, le-ltb}
-use Rattle.constraint.specs.Limits.{lastKind, firstColoured, lastColour, streamCount, lastTime, rowLimit}
+use Rattle.constraint.specs.Limits.{lastKind, firstColoured, lastColour, streamCount, lastTime, lastCount, rowLimit}
 use Rattle.constraint.specs.Streams.{stream}
 use Rattle.constraint.specs.Steps.{Step, event, tick, close, times, clock, closed}
 use Rattle.constraint.specs.Continuation.{EventInOrder}
-use Rattle.constraint.specs.Questions.{Judged}
+use Rattle.constraint.specs.Questions.{Question, Judged}
 use Rattle.constraint.specs.Run.{stepFor, Room, eventQuestions, questions, recorded}
 use Rattle.constraint.specs.declared.Answer.{Answer}
 use Rattle.constraint.specs.declared.Answer.the-variants.{Taken, Refused}
@@ -23,13 +23,13 @@ use Rattle.constraint.specs.declared.Call.{Call}
 use Rattle.constraint.specs.declared.Constraint.{Constraint}
 use Rattle.constraint.proofs.Lists.{split, both}
 use Rattle.constraint.proofs.Streams.{stream-below}
-use Rattle.constraint.proofs.History.{times-own, times-other, times-tick, times-close, clock-event, clock-tick, clock-close, closed-event, closed-tick, closed-close, Accepts, Valid, valid-more}
-use Rattle.constraint.proofs.Counting.{nextFree, next-above, next-least, next-snoc, count-fits}
+use Rattle.constraint.proofs.History.{times-own, times-other, times-tick, times-close, clock-event, clock-tick, clock-close, closed-event, closed-tick, closed-close, Accepts, Valid, valid-more, counted-of}
+use Rattle.constraint.proofs.Counting.{nextFree, next-above, next-least, next-snoc}
 use Rattle.machine.specs.Parts.{plus}
 use Rattle.row.specs.Machine.{closeAt, rowStep}
 use Rattle.row.proofs.Exact.{Sound, Exact}
 use Rattle.row.proofs.Steps.{seen}
-use Rattle.monitor.specs.Machine.{anyFirst, refuses, takes, nextStep, placeFor, timeRefusal, refusalBy, freeAfter, closedAfter, nextFor, occurrenceOf, takenCall, crowds, steppedBy, stepOf}
+use Rattle.monitor.specs.Machine.{anyFirst, refuses, takes, nextStep, placeFor, timeRefusal, ownRefusal, refusalBy, freeAfter, closedAfter, nextFor, occurrenceOf, takenCall, crowds, steppedBy, stepOf}
 use Rattle.monitor.specs.declared.Monitor.{Monitor}
 use Rattle.monitor.specs.declared.Stepped.{Stepped}
 use Rattle.monitor.proofs.Answers.{stream-place}
@@ -48,12 +48,12 @@ module _ (engine : (c : Constraint) → Sound c → Exact c) where
     pub fit : FitRows engine steps rows (m .rows)
 
   module _ (rows : List Constraint) (steps : List Step) (m : Monitor) (f : Follows rows steps m) where
-    -- the number of the next step is the count of the steps with it
-    step-is : nextStep m ≡ length steps + 1
-    step-is = omega (arith, f .count-is, count-fits (f .valid))
+    -- where there is room, the number of the next step is the count of the steps with it
+    step-is : length steps < lastCount → nextStep m ≡ length steps + 1
+    step-is counted = omega (arith, f .count-is)
 
-    count-after : (s : Step) → nextStep m ≡ length (steps ++ (s ∷ []))
-    count-after s = omega (arith, step-is, length-append steps (s ∷ []))
+    count-after : (s : Step) → length steps < lastCount → nextStep m ≡ length (steps ++ (s ∷ []))
+    count-after s counted = omega (arith, step-is counted, length-append steps (s ∷ []))
 
     -- what a call gives: the answer that its questions give, and a monitor that follows the steps with it, if it is taken
     abbrev pub Answered : Call → Stepped → Type 0
@@ -66,6 +66,14 @@ module _ (engine : (c : Constraint) → Sound c → Exact c) where
 
     is-closed : ltb 0 (m .closed) ≡ true → ¬ (closed steps ≡ false)
     is-closed e o = both (sym (sym (f .closed-is) ∙ e) ∙ o)
+
+    -- ---- question 24
+
+    not-full : leb lastCount (m .count) ≡ false → length steps < lastCount
+    not-full e = omega (arith, leb-false lastCount (m .count) e, f .count-is)
+
+    is-full : leb lastCount (m .count) ≡ true → ¬ (length steps < lastCount)
+    is-full e h = omega (arith, leb-true lastCount (m .count) e, f .count-is)
 
     -- ---- question 11
 
@@ -129,6 +137,9 @@ module _ (engine : (c : Constraint) → Sound c → Exact c) where
     next-after Call.Close accepts j kind = next-same 0 j ∙ f .next-is j kind ∙ sym (ap nextFree (times-close j steps))
 
     module _ (call : Call) (accepts : Accepts steps (stepFor call)) where
+      counted : length steps < lastCount
+      counted = counted-of (stepFor call) steps accepts
+
       -- what the rows see is what the definitions' step is
       crowds-is : crowds m call ≡ anyFirst (length rows) (λ r. rowStep r (seen steps (stepFor call)) (nextStep m) .crowded) (m .rows)
       crowds-is = rw (f .len-is, seen-is call)
@@ -139,14 +150,14 @@ module _ (engine : (c : Constraint) → Sound c → Exact c) where
           record {
             valid = valid-more (stepFor call) (f .valid) accepts;
             clock-is = clock-after call;
-            count-is = count-after (stepFor call);
+            count-is = count-after (stepFor call) counted;
             closed-is = closed-after call;
             next-whole = length-set (m .next) (placeFor call) (freeAfter call (nextFor m call)) ∙ f .next-whole;
             next-is = next-after call accepts;
             len-is = f .len-is;
             few = f .few;
             fit = rw (f .len-is, seen-is call)
-                (fit-step engine steps (f .valid) (stepFor call) (nextStep m) step-is accepts rows (m .rows) (f .fit) (sym crowds-is ∙ free));
+                (fit-step engine steps (f .valid) (stepFor call) (nextStep m) (step-is counted) accepts rows (m .rows) (f .fit) (sym crowds-is ∙ free));
           }
 
       room-left : crowds m call ≡ false → Room rows (steps ++ (stepFor call ∷ []))
@@ -157,7 +168,7 @@ module _ (engine : (c : Constraint) → Sound c → Exact c) where
       no-room : crowds m call ≡ true → ¬ Room rows (steps ++ (stepFor call ∷ []))
       unfolding Room
       no-room crowded room =
-          let full = fit-crowded engine steps (f .valid) (stepFor call) (nextStep m) step-is accepts rows (m .rows) (f .fit) (sym crowds-is ∙ crowded) in
+          let full = fit-crowded engine steps (f .valid) (stepFor call) (nextStep m) (step-is counted) accepts rows (m .rows) (f .fit) (sym crowds-is ∙ crowded) in
           omega (arith, room (full .0) (full .1) (full .2) (full .3), full .4)
 
     -- ---- the answers
@@ -175,7 +186,7 @@ module _ (engine : (c : Constraint) → Sound c → Exact c) where
         (λ e. (others Taken (inl (room-left call accepts e, refl)), followed call accepts e))
 
     -- 10, 11 and 12 of an event, those before them being answered "yes"
-    module _ (call : Call) (s t : ℕ) (is : event s t ≡ stepFor call) (place : placeFor call ≡ s) (small : s < streamCount) (open-still : closed steps ≡ false)
+    module _ (call : Call) (s t : ℕ) (is : event s t ≡ stepFor call) (place : placeFor call ≡ s) (small : s < streamCount) (open-still : closed steps ≡ false) (counted : length steps < lastCount)
         (others : (a : Answer) → Judged (eventQuestions rows steps s t) a → Judged (questions rows steps call) a) where
       time-answered : Left call (timeRefusal t (m .clock) (nextFor m call))
       unfolding Judged
@@ -190,7 +201,7 @@ module _ (engine : (c : Constraint) → Sound c → Exact c) where
           split (ltb t free) (λ x. Left call (cond x 11 0))
           (λ e. (others _ (inl (fits, inr (not-free s t small (sym (ap (ltb t) there) ∙ e), refl))), f)) (λ taken.
           let order = in-order s t small late (sym (ap (ltb t) there) ∙ taken) in
-          let accepts : Accepts steps (event s t) = record { not-closed = open-still; stream-small = small; time-small = fits; in-order = order } in
+          let accepts : Accepts steps (event s t) = record { not-closed = open-still; counted = counted; stream-small = small; time-small = fits; in-order = order } in
           last-asked call (subst (Accepts steps) is accepts) (λ a j. others a (inl (
             fits,
             inl (
@@ -199,61 +210,79 @@ module _ (engine : (c : Constraint) → Sound c → Exact c) where
             ),
           ))))))
 
-    event-answered : (k t : ℕ) → Left (Call.Event k t) (refusalBy (Call.Event k t) (m .closed) (m .clock) (nextFor m (Call.Event k t)))
+    -- 8 and 24, and then the call's own
+    first-asked : (call : Call) (later : List Question)
+        → ((a : Answer) → Judged ((8, closed steps ≡ false) ∷ (24, length steps < lastCount) ∷ later) a → Judged (questions rows steps call) a)
+        → (closed steps ≡ false → length steps < lastCount → ((a : Answer) → Judged later a → Judged (questions rows steps call) a)
+        → Left call (ownRefusal call (m .clock) (nextFor m call)))
+        → Left call (refusalBy call (m .closed) (m .count) (m .clock) (nextFor m call))
+    unfolding Judged
+    first-asked call later others own =
+        let last = ownRefusal call (m .clock) (nextFor m call) in
+        split (ltb 0 (m .closed)) (λ x. Left call (cond x 8 (cond (leb lastCount (m .count)) 24 last)))
+        (λ e. (others _ (inr (is-closed e, refl)), f)) (λ e8.
+        split (leb lastCount (m .count)) (λ x. Left call (cond x 24 last))
+        (λ e. (others _ (inl (not-closed e8, inr (is-full e, refl))), f)) (λ e24.
+        own (not-closed e8) (not-full e24) (λ a j. others a (inl (not-closed e8, inl (not-full e24, j))))))
+
+    abbrev Asked : Call → Type 0
+    Asked call = Left call (refusalBy call (m .closed) (m .count) (m .clock) (nextFor m call))
+
+    event-answered : (k t : ℕ) → Asked (Call.Event k t)
     unfolding Judged questions
     event-answered k t =
         let c = Call.Event k t in
         let last = timeRefusal t (m .clock) (nextFor m c) in
-        split (ltb 0 (m .closed)) (λ x. Left c (cond x 8 (cond (ltb lastKind k) 9 (cond (leb firstColoured k) 19 last))))
-        (λ e. (inr (is-closed e, refl), f)) (λ e8.
+        first-asked c ((9, k ≤ lastKind) ∷ (19, k < firstColoured) ∷ eventQuestions rows steps k t) (λ a j. j) (λ open-still counted others.
         split (ltb lastKind k) (λ x. Left c (cond x 9 (cond (leb firstColoured k) 19 last)))
-        (λ e. (inl (not-closed e8, inr (λ h. omega (arith, ltb-true lastKind k e), refl)), f)) (λ e9.
+        (λ e. (others _ (inr (λ h. omega (arith, ltb-true lastKind k e), refl)), f)) (λ e9.
         let kind = ltb-false lastKind k e9 in
         split (leb firstColoured k) (λ x. Left c (cond x 19 last))
-        (λ e. (inl (not-closed e8, inl (kind, inr (λ h. omega (arith, leb-true firstColoured k e), refl))), f)) (λ e19.
+        (λ e. (others _ (inl (kind, inr (λ h. omega (arith, leb-true firstColoured k e), refl))), f)) (λ e19.
         let plain : k < firstColoured = leb-false firstColoured k e19 in
-        time-answered c k t refl (stream-place c (omega arith)) (omega arith) (not-closed e8) (λ a j. inl (not-closed e8, inl (kind, inl (plain, j)))))))
+        time-answered c k t refl (stream-place c (omega arith)) (omega arith) open-still counted (λ a j. others a (inl (kind, inl (plain, j)))))))
 
-    coloured-answered : (k colour t : ℕ) → Left (Call.ColouredEvent k colour t)
-        (refusalBy (Call.ColouredEvent k colour t) (m .closed) (m .clock) (nextFor m (Call.ColouredEvent k colour t)))
+    coloured-answered : (k colour t : ℕ) → Asked (Call.ColouredEvent k colour t)
     unfolding Judged questions
     coloured-answered k colour t =
         let c = Call.ColouredEvent k colour t in
         let last = timeRefusal t (m .clock) (nextFor m c) in
-        split (ltb 0 (m .closed)) (λ x. Left c (cond x 8 (cond (ltb lastKind k) 9 (cond (ltb k firstColoured) 19 (cond (ltb lastColour colour) 19 last)))))
-        (λ e. (inr (is-closed e, refl), f)) (λ e8.
+        first-asked c ((9, k ≤ lastKind) ∷ (19, (firstColoured ≤ k) × (colour ≤ lastColour)) ∷ eventQuestions rows steps (stream k colour) t) (λ a j. j)
+        (λ open-still counted others.
         split (ltb lastKind k) (λ x. Left c (cond x 9 (cond (ltb k firstColoured) 19 (cond (ltb lastColour colour) 19 last))))
-        (λ e. (inl (not-closed e8, inr (λ h. omega (arith, ltb-true lastKind k e), refl)), f)) (λ e9.
+        (λ e. (others _ (inr (λ h. omega (arith, ltb-true lastKind k e), refl)), f)) (λ e9.
         let kind = ltb-false lastKind k e9 in
         split (ltb k firstColoured) (λ x. Left c (cond x 19 (cond (ltb lastColour colour) 19 last)))
-        (λ e. (inl (not-closed e8, inl (kind, inr (λ h. omega (arith, ltb-true k firstColoured e, h .0), refl))), f)) (λ e19.
+        (λ e. (others _ (inl (kind, inr (λ h. omega (arith, ltb-true k firstColoured e, h .0), refl))), f)) (λ e19.
         let coloured = ltb-false k firstColoured e19 in
         split (ltb lastColour colour) (λ x. Left c (cond x 19 last))
-        (λ e. (inl (not-closed e8, inl (kind, inr (λ h. omega (arith, ltb-true lastColour colour e, h .1), refl))), f)) (λ few.
+        (λ e. (others _ (inl (kind, inr (λ h. omega (arith, ltb-true lastColour colour e, h .1), refl))), f)) (λ few.
         let small = stream-below k colour kind (ltb-false lastColour colour few) in
-        time-answered c (stream k colour) t refl (stream-place c small) small (not-closed e8)
-        (λ a j. inl (not-closed e8, inl (kind, inl ((coloured, ltb-false lastColour colour few), j))))))))
+        time-answered c (stream k colour) t refl (stream-place c small) small open-still counted
+        (λ a j. others a (inl (kind, inl ((coloured, ltb-false lastColour colour few), j))))))))
 
-    tick-answered : (t : ℕ) → Left (Call.Tick t) (refusalBy (Call.Tick t) (m .closed) (m .clock) (nextFor m (Call.Tick t)))
+    tick-answered : (t : ℕ) → Asked (Call.Tick t)
     unfolding Judged questions
     tick-answered t =
         let c = Call.Tick t in
-        split (ltb 0 (m .closed)) (λ x. Left c (cond x 8 (cond (ltb lastTime t) 10 (cond (leb t (m .clock)) 11 0)))) (λ e. (inr (is-closed e, refl), f)) (λ e8.
+        first-asked c ((10, t ≤ lastTime) ∷ (11, clock steps < t) ∷ (12, Room rows (steps ++ (tick t ∷ []))) ∷ []) (λ a j. j) (λ open-still counted others.
         split (ltb lastTime t) (λ x. Left c (cond x 10 (cond (leb t (m .clock)) 11 0)))
-        (λ e. (inl (not-closed e8, inr (λ h. omega (arith, ltb-true lastTime t e), refl)), f)) (λ e10.
+        (λ e. (others _ (inr (λ h. omega (arith, ltb-true lastTime t e), refl)), f)) (λ e10.
+        let fits = ltb-false lastTime t e10 in
         split (leb t (m .clock)) (λ x. Left c (cond x 11 0))
-        (λ e. (inl (not-closed e8, inl (ltb-false lastTime t e10, inr (λ h. omega (arith, leb-true t (m .clock) e, f .clock-is), refl))), f)) (λ e11.
+        (λ e. (others _ (inl (fits, inr (λ h. omega (arith, leb-true t (m .clock) e, f .clock-is), refl))), f)) (λ e11.
         let later : clock steps < t = omega (arith, leb-false t (m .clock) e11, f .clock-is) in
-        last-asked c (record { not-closed = not-closed e8; time-small = ltb-false lastTime t e10; later = later }) (λ a j. inl (not-closed e8, inl (ltb-false lastTime t e10, inl (later, j)))))))
+        last-asked c (record { not-closed = open-still; counted = counted; time-small = fits; later = later }) (λ a j. others a (inl (fits, inl (later, j)))))))
 
-    -- the close has only question 8: it crowds no row
-    close-answered : Left Call.Close (refusalBy Call.Close (m .closed) (m .clock) (nextFor m Call.Close))
+    -- the close has only questions 8 and 24: it crowds no row
+    close-answered : Asked Call.Close
     unfolding Judged questions
     close-answered =
-        split (ltb 0 (m .closed)) (λ x. Left Call.Close (cond x 8 0)) (λ e. (inr (is-closed e, refl), f)) (λ e8.
-        let calm = crowds-is Call.Close (not-closed e8) ∙ fit-calm engine steps (f .valid) (nextStep m) rows (m .rows) (f .fit) in
+        first-asked Call.Close [] (λ a j. j) (λ open-still counted others.
+        let accepts : Accepts steps close = record { not-closed = open-still; counted = counted } in
+        let calm = crowds-is Call.Close accepts ∙ fit-calm engine steps (f .valid) (nextStep m) rows (m .rows) (f .fit) in
         subst (λ (b : Bool). Answered Call.Close (cond b (refuses 12 m) (takes (takenCall m Call.Close)))) (sym calm)
-        (inl (not-closed e8, refl), followed Call.Close (not-closed e8) calm))
+        (others Taken refl, followed Call.Close accepts calm))
 
     pub step-answered : (call : Call) → Answered call (stepOf m call)
     unfolding stepOf

@@ -5,7 +5,7 @@ use mathlib.Core.List.{List, [], _∷_, _++_, map}
 use mathlib.Core.Option.{Option, none, some}
 use lib.ListN.{length, getD, set, replicate}
 use lib.Dec.{leb, ltb}
-use Rattle.constraint.specs.Limits.{lastKind, firstColoured, lastColour, streamCount, lastTime, rowLimit}
+use Rattle.constraint.specs.Limits.{lastKind, firstColoured, lastColour, streamCount, lastTime, lastCount, rowLimit}
 use Rattle.constraint.specs.Streams.{stream}
 use Rattle.constraint.specs.Rows.{filler}
 use Rattle.constraint.specs.declared.Answer.the-variants.{Taken, Refused}
@@ -74,15 +74,17 @@ placeFor call = cond (ltb (streamFor call) streamCount) (streamFor call) 0
 abbrev pub timeRefusal : ℕ → ℕ → ℕ → ℕ
 timeRefusal t clock next = cond (ltb lastTime t) 10 (cond (ltb t clock) 11 (cond (ltb t next) 11 0))
 
--- 8, 9, 19, 10, 11 for an event; 8, 10, 11 for a tick; 8 for the close
-abbrev pub refusalBy : Call → ℕ → ℕ → ℕ → ℕ
-refusalBy (Call.Event kind t) closed clock next =
-    cond (ltb 0 closed) 8 (cond (ltb lastKind kind) 9 (cond (leb firstColoured kind) 19 (timeRefusal t clock next)))
-refusalBy (Call.ColouredEvent kind colour t) closed clock next =
-    cond (ltb 0 closed) 8
-    (cond (ltb lastKind kind) 9 (cond (ltb kind firstColoured) 19 (cond (ltb lastColour colour) 19 (timeRefusal t clock next))))
-refusalBy (Call.Tick t) closed clock next = cond (ltb 0 closed) 8 (cond (ltb lastTime t) 10 (cond (leb t clock) 11 0))
-refusalBy Call.Close closed clock next = cond (ltb 0 closed) 8 0
+-- 9, 19, 10, 11 for an event; 10, 11 for a tick; none for the close
+abbrev pub ownRefusal : Call → ℕ → ℕ → ℕ
+ownRefusal (Call.Event kind t) clock next = cond (ltb lastKind kind) 9 (cond (leb firstColoured kind) 19 (timeRefusal t clock next))
+ownRefusal (Call.ColouredEvent kind colour t) clock next =
+    cond (ltb lastKind kind) 9 (cond (ltb kind firstColoured) 19 (cond (ltb lastColour colour) 19 (timeRefusal t clock next)))
+ownRefusal (Call.Tick t) clock next = cond (ltb lastTime t) 10 (cond (leb t clock) 11 0)
+ownRefusal Call.Close clock next = 0
+
+-- 8 and 24, by the mark of the close and the count; then the call's own
+abbrev pub refusalBy : Call → ℕ → ℕ → ℕ → ℕ → ℕ
+refusalBy call closed count clock next = cond (ltb 0 closed) 8 (cond (leb lastCount count) 24 (ownRefusal call clock next))
 
 -- what the rows see of a call at a clock
 abbrev pub occurrenceBy : Call → ℕ → Occurrence
@@ -133,7 +135,7 @@ abbrev pub steppedBy : Monitor → Call → ℕ → Stepped
 steppedBy m call number = cond (ltb 0 number) (refuses number m) (cond (crowds m call) (refuses 12 m) (takes (takenCall m call)))
 
 unfoldable pub stepOf : Monitor → Call → Stepped
-stepOf m call = steppedBy m call (refusalBy call (m .closed) (m .clock) (nextFor m call))
+stepOf m call = steppedBy m call (refusalBy call (m .closed) (m .count) (m .clock) (nextFor m call))
 
 -- the verdict of a row number, or none where there is no row of that number
 unfoldable pub verdictOf : Monitor → ℕ → Option Verdict

@@ -2,6 +2,7 @@
 use constraint::Call;
 use constraint::FIRST_COLOURED;
 use constraint::LAST_COLOUR;
+use constraint::LAST_COUNT;
 use constraint::LAST_KIND;
 use constraint::LAST_TIME;
 use constraint::STREAM_COUNT;
@@ -14,7 +15,7 @@ ghost use Prim.Native.Nat.{ℕ};
 ghost use Rattle.constraint.specs.Streams.{stream};
 ghost use Rattle.constraint.specs.declared.Call.{Call};
 ghost use Rattle.row.specs.Machine.{eventAt};
-ghost use Rattle.monitor.specs.Machine.{streamFor, placeFor, timeRefusal, refusalBy, occurrenceBy, freeAfter, closedAfter};
+ghost use Rattle.monitor.specs.Machine.{streamFor, placeFor, timeRefusal, ownRefusal, refusalBy, occurrenceBy, freeAfter, closedAfter};
 
 // No event: a kind that no row has, and no stream.
 const NO_EVENT: u64 = 65;
@@ -68,13 +69,10 @@ fn time_refusal(time: u64, clock: u64, next: u64) -> u8
     0
 }
 
-// Questions 8, 9, 19, 10 and 11 for an event of a plain kind, over the mark of the close too.
-fn event_refusal(kind: u8, time: u64, closed: u64, clock: u64, next: u64) -> u8
-    ensures { λ r. ⌜ r ≡ refusalBy (Call.Event kind time) closed clock next ⌝ }
+// Questions 9, 19, 10 and 11 for an event of a plain kind.
+fn event_refusal(kind: u8, time: u64, clock: u64, next: u64) -> u8
+    ensures { λ r. ⌜ r ≡ ownRefusal (Call.Event kind time) clock next ⌝ }
 {
-    if 0 < closed {
-        return 8;
-    }
     if LAST_KIND < kind {
         return 9;
     }
@@ -85,12 +83,9 @@ fn event_refusal(kind: u8, time: u64, closed: u64, clock: u64, next: u64) -> u8
 }
 
 // The same for an event with a colour.
-fn coloured_refusal(kind: u8, colour: u8, time: u64, closed: u64, clock: u64, next: u64) -> u8
-    ensures { λ r. ⌜ r ≡ refusalBy (Call.ColouredEvent kind colour time) closed clock next ⌝ }
+fn coloured_refusal(kind: u8, colour: u8, time: u64, clock: u64, next: u64) -> u8
+    ensures { λ r. ⌜ r ≡ ownRefusal (Call.ColouredEvent kind colour time) clock next ⌝ }
 {
-    if 0 < closed {
-        return 8;
-    }
     if LAST_KIND < kind {
         return 9;
     }
@@ -103,13 +98,10 @@ fn coloured_refusal(kind: u8, colour: u8, time: u64, closed: u64, clock: u64, ne
     time_refusal(time, clock, next)
 }
 
-// Questions 8, 10 and 11 for a tick.
-fn tick_refusal(time: u64, closed: u64, clock: u64) -> u8
-    ensures { λ r. ⌜ ((next : ℕ) → r ≡ refusalBy (Call.Tick time) closed clock next) ⌝ }
+// Questions 10 and 11 for a tick.
+fn tick_refusal(time: u64, clock: u64) -> u8
+    ensures { λ r. ⌜ ((next : ℕ) → r ≡ ownRefusal (Call.Tick time) clock next) ⌝ }
 {
-    if 0 < closed {
-        return 8;
-    }
     if LAST_TIME < time {
         return 10;
     }
@@ -119,33 +111,31 @@ fn tick_refusal(time: u64, closed: u64, clock: u64) -> u8
     0
 }
 
-// Question 8 for the close.
-fn close_refusal(closed: u64) -> u8
-    ensures { λ r. ⌜ ((clock next : ℕ) → r ≡ refusalBy Call.Close closed clock next) ⌝ }
+// A call's questions but 8, 24 and 12, over the clock and the first free time of its stream: the number of the first "no", or 0.
+fn own_refusal(call: Call, clock: u64, next: u64) -> u8
+    ensures { λ r. ⌜ r ≡ ownRefusal call clock next ⌝ }
+{
+    match call {
+        Call::Event { kind, time } => event_refusal(kind, time, clock, next),
+        Call::ColouredEvent { kind, colour, time } => {
+            coloured_refusal(kind, colour, time, clock, next)
+        }
+        Call::Tick { time } => tick_refusal(time, clock),
+        Call::Close => 0,
+    }
+}
+
+// A call's questions but 12, over the mark of the close and the count of steps too: the number of the first "no", or 0.
+pub fn refusal(call: Call, closed: u64, count: u64, clock: u64, next: u64) -> u8
+    ensures { λ r. ⌜ r ≡ refusalBy call closed count clock next ⌝ }
 {
     if 0 < closed {
         return 8;
     }
-    0
-}
-
-// A call's questions but 12, over the mark of the close, the clock and the first free time of its stream: the number of the first "no", or 0.
-pub fn refusal(call: Call, closed: u64, clock: u64, next: u64) -> u8
-    ensures { λ r. ⌜ r ≡ refusalBy call closed clock next ⌝ }
-{
-    match call {
-        Call::Event { kind, time } => event_refusal(kind, time, closed, clock, next),
-        Call::ColouredEvent { kind, colour, time } => coloured_refusal(
-            kind,
-            colour,
-            time,
-            closed,
-            clock,
-            next,
-        ),
-        Call::Tick { time } => tick_refusal(time, closed, clock),
-        Call::Close => close_refusal(closed),
+    if LAST_COUNT <= count {
+        return 24;
     }
+    own_refusal(call, clock, next)
 }
 
 // What the rows see of an event.

@@ -46,8 +46,10 @@ impl Monitor {
     pub const ROW_LIMIT: usize = constraint::ROW_LIMIT;
     // How many a row keeps waiting at most.
     pub const WAITING_LIMIT: usize = constraint::WAITING_LIMIT;
-    // The largest time, 2^56 - 1.
+    // The largest time, 2^60 - 1.
     pub const LAST_TIME: u64 = constraint::LAST_TIME;
+    // The largest count of steps, 2^64 - 1.
+    pub const LAST_COUNT: u64 = constraint::LAST_COUNT;
 
     // A monitor over a table, with clock 0, or the refusal: questions 3 to 7 and 18, row by row.
     pub fn fresh(table: Table) -> Stepped
@@ -65,13 +67,13 @@ impl Monitor {
         }
     }
 
-    // The monitor after a call, or the refusal: questions 8 to 12 and 19.
+    // The monitor after a call, or the refusal: questions 8 to 12, 19 and 24.
     pub fn step(self, call: Call) -> Stepped
         ensures { λ r. ⌜ Steps self call r ⌝ }
     {
         let at = calls::place(call);
         let next = self.next[at];
-        let number = calls::refusal(call, self.closed, self.clock, next);
+        let number = calls::refusal(call, self.closed, self.count, self.clock, next);
         if 0 < number {
             return self.refused(number);
         }

@@ -1,4 +1,4 @@
--- A monitor over no rows has no row to crowd, so its clock, first free times and mark of the close alone answer each call; and what reading
+-- A monitor over no rows has no row to crowd, so its clock, count, first free times and mark of the close alone answer each call; and what reading
 -- gives from a place on, over the steps read before it, is what it gives from the start.
 use Prim.Native.Nat.{ℕ, _+_, _≤_, _<_}
 use native.Mathlib.Omega.{arith}
@@ -25,6 +25,7 @@ use Rattle.constraint.proofs.Judged.{judged-none}
 use Rattle.constraint.proofs.History.{Valid, valid-none}
 use Rattle.constraint.proofs.Runs.{run-valid}
 use Rattle.constraint.proofs.Sanity.{run-once}
+use Rattle.machine.specs.Parts.{plus}
 use Rattle.row.proofs.Engine.{engine}
 use Rattle.monitor.specs.Machine.{monitorOf, anyFirst, refuses, takes, placeFor, refusalBy, occurrenceBy, freeAfter, closedAfter, crowds, takenCall, steppedBy, stepOf}
 use Rattle.monitor.specs.Contract.{step, after, Recorded, Steps}
@@ -46,13 +47,14 @@ freeFor o s = getD (o .next) (placeFor s) 0
 
 -- the number of the first "no" to its questions but 12, or 0
 abbrev pub refusalOf : Order → Call → ℕ
-refusalOf o s = refusalBy s (o .closed) (o .clock) (freeFor o s)
+refusalOf o s = refusalBy s (o .closed) (o .count) (o .clock) (freeFor o s)
 
 -- the order after it
 abbrev pub orderAfter : Order → Call → Order
 orderAfter o s =
     record {
       clock = occurrenceBy s (o .clock) .time;
+      count = plus (o .count) 1;
       next = set (o .next) (placeFor s) (freeAfter s (freeFor o s));
       closed = closedAfter s (o .closed);
     }
@@ -70,7 +72,7 @@ pub run-more : {rows : List Constraint} {steps end : List Step} {calls : List Ca
 run-more s done judged = call s Taken judged done
 run-more s (call t a earlier rest) judged = call t a earlier (run-more s rest judged)
 
-pub starts : After [] (record { clock = 0; next = replicate streamCount 0; closed = 0 })
+pub starts : After [] (record { clock = 0; count = 0; next = replicate streamCount 0; closed = 0 })
 unfolding after play monitorOf
 starts = record { calls = []; recorded = ([], done); is = refl }
 

@@ -16,9 +16,9 @@ use Rattle.order.specs.declared.Order.{Order}
 use Rattle.order.specs.declared.RecordRead.{RecordRead}
 use Rattle.order.specs.declared.Answered.{Answered}
 
--- the clock, first free times and mark of the close of a monitor
+-- the clock, count, first free times and mark of the close of a monitor
 abbrev pub orderOf : Monitor → Order
-orderOf m = record { clock = m .clock; next = m .next; closed = m .closed }
+orderOf m = record { clock = m .clock; count = m .count; next = m .next; closed = m .closed }
 
 -- the order after these steps: that of a monitor over no rows, after calls that have recorded them
 pub record After (steps : List Step) (o : Order) : Type 0 where

@@ -1,6 +1,7 @@
-// The order of a recording: its clock and the first free time of each stream, with the questions of a step but 12. Records are read over
+// The order of a recording: its clock, its count and the first free time of each stream, with the questions of a step but 12. Records are read over
 // it one by one, with no row stepped.
 use constraint::Call;
+use machine::parts::plus;
 use monitor::calls;
 use recording::Record;
 ghost use mathlib.Core.Path.{_≡_};
@@ -8,6 +9,8 @@ ghost use Rattle.order.specs.Order.{Starts, Takes, refusedRead, AsksCall
 
 pub struct Order {
     pub clock: u64,
+    // the steps taken
+    pub count: u64,
     // for each stream the first time still free: one more than the time of its last event; 0: none
     pub next: [u64; 176],
     // 0: not closed
@@ -35,18 +38,19 @@ impl Order {
     {
         Order {
             clock: 0,
+            count: 0,
             next: [0u64; 176],
             closed: 0,
         }
     }
 
-    // The answer to a call: questions 8 to 11 and 19; and the order after it, on a refusal as it was.
+    // The answer to a call: questions 8 to 11, 19 and 24; and the order after it, on a refusal as it was.
     pub fn take(self, call: Call) -> Answered
         ensures { λ r. ⌜ Takes self call r ⌝ }
     {
         let at = calls::place(call);
         let next = self.next[at];
-        let number = calls::refusal(call, self.closed, self.clock, next);
+        let number = calls::refusal(call, self.closed, self.count, self.clock, next);
         if 0 < number {
             return Answered {
                 number,
@@ -57,6 +61,7 @@ impl Order {
         let mut order = self;
         order.next[at] = calls::free(call, next);
         order.clock = o.time;
+        order.count = plus(self.count, 1);
         order.closed = calls::closed(call, self.closed);
         Answered { number: 0, order }
     }

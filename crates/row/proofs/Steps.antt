@@ -379,7 +379,7 @@ module _ (c : Constraint) (exact : Exact c) (steps : List Step) (valid : Valid s
         by-step (event k t) a words was whole unbroken g = event-going k t a words was whole g (sound .kinds-suit) unbroken
         by-step (tick t) a words was whole unbroken g = rw (no-event words was t false (length steps + 1) unbroken) (tick-going t a words was whole g)
         by-step close a words was whole unbroken g =
-            rw (no-event words was (clock steps) true (length steps + 1) unbroken) (close-going a words was whole g)
+            rw (no-event words was (clock steps) true (length steps + 1) unbroken) (close-going (a .not-closed) words was whole g)
 
     -- the close crowds no row
     pub close-calm : (r : Row) → Fits c exact steps r → (number : ℕ) → rowStep r (closeAt (clock steps)) number .crowded ≡ false

@@ -2,12 +2,12 @@
 use Prim.Native.Nat.{ℕ, suc, _+_, _≤_, _<_}
 use native.Mathlib.Omega.{arith}
 use mathlib.Core.Path.{_≡_, refl, sym, ap, subst, _∙_}
-use mathlib.Core.Bool.{true, false}
+use mathlib.Core.Bool.{true}
 use mathlib.Core.List.{List, [], _∷_, _++_}
 use mathlib.Core.Option.{some}
 use lib.ListN.{length, getElem?}
 use lib.Seq.{ext-getD}
-use Rattle.constraint.specs.Steps.{Step, event, tick, close, at, times, clock, closed}
+use Rattle.constraint.specs.Steps.{Step, event, tick, close, times, clock}
 use Rattle.constraint.specs.Meets.{Meets, MeetsRepeat}
 use Rattle.constraint.specs.Continuation.{Reads, reads-open, reads-kept, reads-broken}
 use Rattle.constraint.specs.Questions.{Judged}
@@ -28,7 +28,6 @@ use Rattle.constraint.proofs.Lists.{both, rising-at}
 use Rattle.constraint.proofs.Judged.{never, judged-none, judged-yes, judged-all, judged-once}
 use Rattle.constraint.proofs.History.{Valid, valid-none, valid-more, past-of, times-close, clock-close, closed-close}
 use Rattle.constraint.proofs.Runs.{accepts-taken, kept-exactly}
-use Rattle.recording.proofs.Records.{unclosed-more}
 use Rattle.table.proofs.Once.{reads-once}
 use Rattle.stamps.proofs.Progress.{record-accepts}
 use Rattle.stamps.proofs.Answers.{within}
@@ -75,20 +74,25 @@ none-taken : (rows : List Constraint) (steps : List Step) (s : Call) → Judged 
 unfolding questions
 none-taken rows steps (Call.Event k t) judged =
     let eight = judged-all 8 _ _ judged in
-    let nine = judged-all 9 _ _ (eight .1) in
+    let full = judged-all 24 _ _ (eight .1) in
+    let nine = judged-all 9 _ _ (full .1) in
     let form = judged-all 19 _ _ (nine .1) in
-    judged-yes 8 _ _ Taken (eight .0) (judged-yes 9 _ _ Taken (nine .0) (judged-yes 19 _ _ Taken (form .0) (event-taken rows steps k t (form .1))))
+    judged-yes 8 _ _ Taken (eight .0) (judged-yes 24 _ _ Taken (full .0) (judged-yes 9 _ _ Taken (nine .0)
+    (judged-yes 19 _ _ Taken (form .0) (event-taken rows steps k t (form .1)))))
 none-taken rows steps (Call.ColouredEvent k c t) judged =
     let eight = judged-all 8 _ _ judged in
-    let nine = judged-all 9 _ _ (eight .1) in
+    let full = judged-all 24 _ _ (eight .1) in
+    let nine = judged-all 9 _ _ (full .1) in
     let form = judged-all 19 _ _ (nine .1) in
-    judged-yes 8 _ _ Taken (eight .0) (judged-yes 9 _ _ Taken (nine .0) (judged-yes 19 _ _ Taken (form .0) (event-taken rows steps (stream k c) t (form .1))))
+    judged-yes 8 _ _ Taken (eight .0) (judged-yes 24 _ _ Taken (full .0) (judged-yes 9 _ _ Taken (nine .0)
+    (judged-yes 19 _ _ Taken (form .0) (event-taken rows steps (stream k c) t (form .1)))))
 none-taken rows steps (Call.Tick t) judged =
     let eight = judged-all 8 _ _ judged in
-    let ten = judged-all 10 _ _ (eight .1) in
+    let full = judged-all 24 _ _ (eight .1) in
+    let ten = judged-all 10 _ _ (full .1) in
     let eleven = judged-all 11 _ _ (ten .1) in
-    judged-yes 8 _ _ Taken (eight .0) (judged-yes 10 _ _ Taken (ten .0) (judged-yes 11 _ _ Taken (eleven .0)
-    (judged-yes 12 _ _ Taken (room-none (steps ++ (tick t ∷ []))) judged-none)))
+    judged-yes 8 _ _ Taken (eight .0) (judged-yes 24 _ _ Taken (full .0) (judged-yes 10 _ _ Taken (ten .0) (judged-yes 11 _ _ Taken (eleven .0)
+    (judged-yes 12 _ _ Taken (room-none (steps ++ (tick t ∷ []))) judged-none))))
 none-taken rows steps Call.Close judged = judged
 
 module _ (bytes : List ℕ) where
@@ -109,11 +113,6 @@ module _ (bytes : List ℕ) where
   records-valid rows (no-more end) valid = valid
   records-valid rows (record-taken {before} {place} there judged later) valid =
       records-valid rows later (valid-more _ valid (accepts-taken rows before (callAt bytes place) (record-accepts bytes rows before place judged .1)))
-
-  records-open : (rows : List Constraint) {before : List Step} {place : ℕ} {steps : List Step} → ReadsRecords rows bytes before place (recording-of steps)
-      → closed before ≡ false → closed steps ≡ false
-  records-open rows (no-more end) unclosed = unclosed
-  records-open rows (record-taken {before} {place} there judged later) unclosed = records-open rows later (unclosed-more (at bytes 0) (bodyAt bytes place) before unclosed)
 
   records-once : {before : List Step} {place : ℕ} {x y : RecordingRead} → ReadsRecords [] bytes before place x → ReadsRecords [] bytes before place y → x ≡ y
   records-once (no-more h) (no-more k) = refl
@@ -142,10 +141,6 @@ module _ (bytes : List ℕ) where
 
   pub recording-valid : (rows : List Constraint) {steps : List Step} → ReadsRecording rows bytes (recording-of steps) → Valid steps
   recording-valid rows (version-taken one records) = records-valid rows records valid-none
-
-  pub recording-open : (rows : List Constraint) {steps : List Step} → ReadsRecording rows bytes (recording-of steps) → closed steps ≡ false
-  unfolding closed
-  recording-open rows (version-taken one records) = records-open rows records refl
 
 -- ---- never late
 
@@ -183,33 +178,31 @@ module _ (k lower upper : ℕ) (steps : List Step) (valid : Valid steps) where
   unmet m w (none-meets none) = refl
   unmet m w (both-occur one other c n d f) = absurd (m (same-choice one c (λ l. MeetsRepeat 1 lower upper l (clock steps)) n))
 
-  valid-closed : closed steps ≡ false → Valid after
-  valid-closed unclosed = valid-more close valid unclosed
-
-  word-agrees : closed steps ≡ false → (v : Verdict) → Reads (Repeat k 1 lower upper) after v → (w : StampedVerdict)
+  word-agrees : Valid after → (v : Verdict) → Reads (Repeat k 1 lower upper) after v → (w : StampedVerdict)
       → ReadsStamps 0 lower upper (times k steps) (clock steps) w → w ≡ stampedOf v
-  word-agrees unclosed Verdict.Open (reads-open e o) w r = both (sym (closed-close steps) ∙ e)
-  word-agrees unclosed Verdict.Kept reading w r =
-      met (subst (λ (t : Type 0). t) meets-is (kept-exactly (Repeat k 1 lower upper) after (valid-closed unclosed) (closed-close steps) Verdict.Kept reading .0 refl)) w r
-  word-agrees unclosed (Verdict.Broken n) reading w r =
-      unmet (λ m. let kept = kept-exactly (Repeat k 1 lower upper) after (valid-closed unclosed) (closed-close steps) (Verdict.Broken n) reading .1 (subst (λ (t : Type 0). t) (sym meets-is) m) in never (cc)) w r
+  word-agrees valid-closed Verdict.Open (reads-open e o) w r = both (sym (closed-close steps) ∙ e)
+  word-agrees valid-closed Verdict.Kept reading w r =
+      met (subst (λ (t : Type 0). t) meets-is (kept-exactly (Repeat k 1 lower upper) after valid-closed (closed-close steps) Verdict.Kept reading .0 refl)) w r
+  word-agrees valid-closed (Verdict.Broken n) reading w r =
+      unmet (λ m. let kept = kept-exactly (Repeat k 1 lower upper) after valid-closed (closed-close steps) (Verdict.Broken n) reading .1 (subst (λ (t : Type 0). t) (sym meets-is) m) in never (cc)) w r
 
--- the call with late = 0 over a table and a recording whose every record the monitor takes: its answer is the word for what the row reads at the close
+-- the call with late = 0 over a table and a recording whose every record the monitor takes, and the close: its answer is the word for what the row
+-- reads then
 pub stamps-agree : (table recording : List ℕ) (rows : List Constraint) (steps : List Step) (i k lower upper : ℕ) (v : Verdict) (answer : StampedAnswer)
-    → ReadsTable table (table-of rows) → ReadsRecording rows recording (recording-of steps) → RepeatRow rows i k lower upper
+    → ReadsTable table (table-of rows) → ReadsRecording rows recording (recording-of steps) → Valid (steps ++ (close ∷ [])) → RepeatRow rows i k lower upper
     → Reads (Repeat k 1 lower upper) (steps ++ (close ∷ [])) v → AnswersStamps table recording i 0 answer → answer ≡ StampedAnswer.Reads (stampedOf v)
-stamps-agree table recording rows steps i k lower upper v answer read taken row reading (no-table n place refused) =
+stamps-agree table recording rows steps i k lower upper v answer read taken closes row reading (no-table n place refused) =
     let same = reads-once table read refused in never (cc)
-stamps-agree table recording rows steps i k lower upper v answer read taken row reading (no-recording rows′ n place read′ refused) =
+stamps-agree table recording rows steps i k lower upper v answer read taken closes row reading (no-recording rows′ n place read′ refused) =
     let same = order-once recording (order-of recording rows taken) refused in never (cc)
-stamps-agree table recording rows steps i k lower upper v answer read taken row reading (not-asked rows′ steps′ n read′ taken′ refused) =
+stamps-agree table recording rows steps i k lower upper v answer read taken closes row reading (not-asked rows′ steps′ n read′ taken′ refused) =
     let same : table-of rows′ ≡ table-of rows = reads-once table read′ read in
     let rows-are : rows′ ≡ rows = cc in
     let there : (k : ℕ) × ((lower : ℕ) × ((upper : ℕ) × RepeatRow rows i k lower upper)) = (k, (lower, (upper, row))) in
     let all-yes : Judged (stampsQuestions rows i 0) Taken = judged-yes 15 _ _ Taken (within rows i _ row) (judged-yes 25 _ _ Taken there (judged-yes 10 _ _ Taken (omega arith) judged-none)) in
     let never-so = judged-once (stampsQuestions rows i 0) (Refused n) Taken (subst (λ (l : List Constraint). Judged (stampsQuestions l i 0) (Refused n)) rows-are refused) all-yes in
     never (cc)
-stamps-agree table recording rows steps i k lower upper v answer read taken row reading (reads rows′ steps′ k′ lower′ upper′ w read′ taken′ row′ small says) =
+stamps-agree table recording rows steps i k lower upper v answer read taken closes row reading (reads rows′ steps′ k′ lower′ upper′ w read′ taken′ row′ small says) =
     let same : table-of rows′ ≡ table-of rows = reads-once table read′ read in
     let rows-are : rows′ ≡ rows = cc in
     let same-steps : recording-of steps′ ≡ recording-of steps = order-once recording taken′ (order-of recording rows taken) in
@@ -218,4 +211,4 @@ stamps-agree table recording rows steps i k lower upper v answer read taken row 
     let lower-is : lower′ ≡ lower = cc in
     let upper-is : upper′ ≡ upper = cc in
     let word : ReadsStamps 0 lower upper (times k steps) (clock steps) w = rw (k-is, lower-is, upper-is, steps-are) at says in
-    ap (λ (x : StampedVerdict). StampedAnswer.Reads x) (word-agrees k lower upper steps (recording-valid recording rows taken) (recording-open recording rows taken) v reading w word)
+    ap (λ (x : StampedVerdict). StampedAnswer.Reads x) (word-agrees k lower upper steps (recording-valid recording rows taken) closes v reading w word)

@@ -1,6 +1,6 @@
 //! A monitor of the library beside the model: the same calls, and everything compared after each.
 
-use delkuthi::Monitor;
+use delkuthi::{Monitor, WORDS};
 use model::random::Random;
 use model::random::calls::Play;
 use model::random::seen::Seen;
@@ -12,6 +12,27 @@ use model::{Answer, Constraint, Step, Verdict, table_bytes};
 /// If they are refused.
 pub fn fresh(rows: &[Constraint]) -> Monitor {
     Monitor::fresh(&table_bytes(rows)).unwrap_or_else(|refusal| panic!("{refusal}: {rows:?}"))
+}
+
+/// The place of the count among the words of a monitor: the word that counts the first ticks.
+fn place_of_count() -> usize {
+    let mut monitor = fresh(&[]);
+    let mut words = vec![*monitor.words()];
+    for time in [10, 20, 30] {
+        monitor.tick(time).expect("a tick in order");
+        words.push(*monitor.words());
+    }
+    let counts = |place: &usize| words.iter().zip(0..).all(|(words, count)| words[*place] == count);
+    let found: Vec<usize> = (0..WORDS).filter(counts).collect();
+    assert_eq!(found.len(), 1, "words that count: {found:?}");
+    found[0]
+}
+
+/// A fresh monitor with its count as after so many steps: no test can take as many as the count goes to.
+pub fn counting_from(rows: &[Constraint], count: u64) -> Monitor {
+    let mut words = *fresh(rows).words();
+    words[place_of_count()] = count;
+    Monitor::from_words(words)
 }
 
 /// Gives a call to the library's monitor.
@@ -52,6 +73,12 @@ impl Beside {
         let beside = Beside { play: Play::new(random.fork(), rows, calls), monitor: fresh(rows) };
         beside.compare("fresh", &mut Seen::default());
         beside
+    }
+
+    /// The same, with the count as after so many steps.
+    pub fn counting_from(random: &mut Random, rows: &[Constraint], calls: usize, count: u64) -> Beside {
+        let play = Play::counting_from(random.fork(), rows, calls, count);
+        Beside { play, monitor: counting_from(rows, count) }
     }
 
     /// Makes the next call, if there is one: the answer must be the model's, and so must all verdicts after it. A

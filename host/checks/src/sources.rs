@@ -131,7 +131,7 @@ fn value(line: &str) -> Option<(String, u64)> {
     Some((name.to_string(), digits.parse().expect("a number")))
 }
 
-/// The name and number of a line of the list of limits, as `times  0 to 2^56 - 1  DELKUTHI_LAST_TIME`.
+/// The name and number of a line of the list of limits, as `times  0 to 2^60 - 1  DELKUTHI_LAST_TIME`.
 fn limit(line: &str) -> Option<(String, u64)> {
     let (words, name) = line.strip_prefix(" *   ")?.split_once("  DELKUTHI_")?;
     let most = words.split_once(" to ").or_else(|| words.split_once("at most "))?.1.trim();

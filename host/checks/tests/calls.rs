@@ -1,12 +1,12 @@
 //! Lists of calls through the exports, beside the model after every call.
 
-use checks::beside::{Beside, fresh, take, take_all, verdict};
+use checks::beside::{Beside, counting_from, fresh, take, take_all, verdict};
 use delkuthi::{Monitor, WORDS};
 use model::random::Random;
 use model::random::calls::calls;
 use model::random::seen::Seen;
 use model::random::tables::{any_table, damaged_table, table};
-use model::{Constraint, LAST_TIME, Step, read_table, table_bytes};
+use model::{Constraint, EARLIER_LAST_TIME, LAST_COUNT, LAST_TIME, Step, Verdict, read_table, table_bytes};
 
 #[test]
 fn thousands_of_lists() {
@@ -21,6 +21,40 @@ fn thousands_of_lists() {
     seen.demand_refusals(15..=15);
     seen.demand_verdicts();
     seen.demand_silences();
+}
+
+/// Lists of calls that run into the end of the count, from places before it.
+#[test]
+fn lists_at_the_end_of_the_count() {
+    let mut random = Random::new(111);
+    let mut seen = Seen::default();
+    for _ in 0..1_000 {
+        let rows = any_table(&mut random);
+        let count = LAST_COUNT - random.below(60);
+        Beside::counting_from(&mut random, &rows, 80, count).play(&mut seen);
+    }
+    seen.demand_refusals((8..=12).chain([19, 24]));
+    seen.demand_verdicts();
+}
+
+/// The step that makes the count 2^64 − 1 is taken, and nothing after it, the close neither; 8 stands before 24.
+#[test]
+fn the_end_of_the_count() {
+    let rows = [Constraint::Delay { source: 0, target: 1, lower: 2, upper: 3 }];
+    let mut monitor = counting_from(&rows, LAST_COUNT - 2);
+    let mut closed = monitor.clone();
+    assert_eq!((monitor.event(0, 10), monitor.tick(14)), (Ok(()), Ok(())));
+    assert_eq!(verdict(&monitor, 0), Ok(Verdict::Broken(LAST_COUNT)));
+    let before = monitor.clone();
+    for call in ["tick 15", "close", "1@15", "64@5", "48@5", "0/9@5", "0@1152921504606846976", "tick 3", "0@3"] {
+        assert_eq!(take(&mut monitor, call.parse().expect("a step")), Err(24), "{call}");
+    }
+    assert!(monitor == before);
+    assert_eq!((closed.event(1, 10), closed.close()), (Ok(()), Ok(())));
+    for call in ["tick 15", "close", "64@5", "0@1152921504606846976"] {
+        assert_eq!(take(&mut closed, call.parse().expect("a step")), Err(8), "{call}");
+    }
+    assert_eq!(verdict(&closed, 0), Ok(Verdict::Kept));
 }
 
 #[test]
@@ -181,7 +215,8 @@ fn the_ends_of_the_ranges() {
     ];
     let mut monitor = fresh(&rows);
     let mut model = model::Monitor::fresh(&rows).expect("an accepted table");
-    let times = [0, 1, LAST_TIME - 1, LAST_TIME, LAST_TIME + 1, 1 << 63, u64::MAX];
+    let earlier = [EARLIER_LAST_TIME, EARLIER_LAST_TIME + 1];
+    let times = [0, 1, earlier[0], earlier[1], LAST_TIME - 1, LAST_TIME, LAST_TIME + 1, 1 << 63, u64::MAX];
     for time in times {
         for kind in [0, 1, 46, 47, 48, 62, 63, 64, 128, 255] {
             let colours = [0, 7, 8, 255].map(|colour| Step::Coloured { kind, colour, time });

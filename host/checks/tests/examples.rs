@@ -4,7 +4,7 @@ use checks::beside::{fresh, take, verdict};
 use delkuthi::Monitor;
 use model::examples::examples;
 use model::notation::{delay, strong_delay};
-use model::{Constraint, LAST_TIME, NO_LIMIT, Verdict, table_bytes};
+use model::{Constraint, EARLIER_LAST_TIME, LAST_TIME, NO_LIMIT, Verdict, table_bytes};
 
 #[test]
 fn examples_1_to_12() {
@@ -60,6 +60,16 @@ fn sources_without_an_upper_limit() {
     assert_eq!(other.event(1, 65), Ok(()));
     assert!((65..125).all(|time| other.event(0, time).is_ok()));
     assert_eq!((number(other.event(0, 125)), verdict(&other, 0)), (Err(12), Ok(Verdict::Open)));
+}
+
+/// Rows that had 6 when times went to 2^56 − 1: accepted, or asked 7.
+#[test]
+fn rows_past_the_earlier_last_time() {
+    let answer = |row: Constraint| Monitor::fresh(&table_bytes(&[row])).map(|_| ()).map_err(|refusal| refusal.number());
+    assert_eq!(answer(delay(2, EARLIER_LAST_TIME + 1)), Ok(()));
+    assert_eq!(answer(strong_delay(EARLIER_LAST_TIME + 2, EARLIER_LAST_TIME + 1)), Err(7));
+    assert_eq!(answer(strong_delay(LAST_TIME, LAST_TIME)), Ok(()));
+    assert_eq!(answer(strong_delay(0, LAST_TIME + 1)), Err(6));
 }
 
 /// Only the upper may be the mark, and not in a StrongDelay.

@@ -18,6 +18,7 @@ fn by_code() -> BTreeMap<String, u64> {
     by_name([
         ("VERSION", constant(LENT, "VERSION")),
         ("LAST_TIME", constant(CONSTRAINT, "LAST_TIME")),
+        ("LAST_COUNT", constant(CONSTRAINT, "LAST_COUNT")),
         ("LAST_KIND", constant(CONSTRAINT, "LAST_KIND")),
         ("FIRST_COLOURED", constant(CONSTRAINT, "FIRST_COLOURED")),
         ("LAST_COLOUR", constant(CONSTRAINT, "LAST_COLOUR")),
@@ -35,6 +36,7 @@ fn by_definitions() -> BTreeMap<String, u64> {
     by_name([
         ("VERSION", definition(LENT_DEFINED, "version")),
         ("LAST_TIME", definition(LIMITS, "lastTime")),
+        ("LAST_COUNT", definition(LIMITS, "lastCount")),
         ("LAST_KIND", definition(LIMITS, "lastKind")),
         ("FIRST_COLOURED", definition(LIMITS, "firstColoured")),
         ("LAST_COLOUR", definition(LIMITS, "lastColour")),
@@ -92,6 +94,7 @@ fn refusals() -> BTreeMap<String, u64> {
         ("ROW_RANGE", question("InRange ")),
         ("ROW_BOUNDS", question("LowerFirst ")),
         ("CLOSED", question("closed steps ")),
+        ("COUNT_FULL", question("length steps < lastCount)")),
         ("KIND", question("k ≤ lastKind)")),
         ("FORM", question("k < firstColoured)")),
         ("TIME_RANGE", question("t ≤ lastTime)")),
@@ -132,7 +135,7 @@ fn every_number_of_the_header_is_the_crates() {
 #[test]
 fn every_limit_of_the_manual_is_the_headers() {
     let header = Header::read();
-    assert_eq!(header.limits.len(), 12, "{:?}", header.limits);
+    assert_eq!(header.limits.len(), 14, "{:?}", header.limits);
     for (name, limit) in &header.limits {
         assert_eq!(header.defined.get(name), Some(limit), "{name}");
     }
@@ -174,6 +177,7 @@ fn the_rust_crates_numbers_are_the_headers() {
     let of_crate = by_name([
         ("VERSION", delkuthi::VERSION.into()),
         ("LAST_TIME", delkuthi::LAST_TIME),
+        ("LAST_COUNT", delkuthi::LAST_COUNT),
         ("LAST_KIND", delkuthi::LAST_KIND.into()),
         ("FIRST_COLOURED", delkuthi::FIRST_COLOURED.into()),
         ("LAST_COLOUR", delkuthi::LAST_COLOUR.into()),
@@ -195,7 +199,7 @@ fn the_rust_crates_numbers_are_the_headers() {
 #[test]
 fn the_models_numbers_are_the_crates() {
     use model::constraint::{
-        FIRST_COLOURED, LAST_COLOUR, LAST_KIND, LAST_TIME, NO_LIMIT, REPETITION_SPAN_LIMIT, ROW_LIMIT,
+        FIRST_COLOURED, LAST_COLOUR, LAST_COUNT, LAST_KIND, LAST_TIME, NO_LIMIT, REPETITION_SPAN_LIMIT, ROW_LIMIT,
     };
     use model::constraint::{SPAN_LIMIT, STREAMS, WAITING_LIMIT};
     use model::report::{RECORDING_SIZE_LIMIT, TABLE_SIZE_LIMIT};
@@ -206,6 +210,7 @@ fn the_models_numbers_are_the_crates() {
         (LAST_COLOUR.into(), CONSTRAINT, "LAST_COLOUR", "lastColour"),
         (STREAMS.into(), CONSTRAINT, "STREAM_COUNT", "streamCount"),
         (LAST_TIME, CONSTRAINT, "LAST_TIME", "lastTime"),
+        (LAST_COUNT, CONSTRAINT, "LAST_COUNT", "lastCount"),
         (NO_LIMIT, CONSTRAINT, "NO_LIMIT", "noLimit"),
         (ROW_LIMIT as u64, CONSTRAINT, "ROW_LIMIT", "rowLimit"),
         (SPAN_LIMIT.into(), CONSTRAINT, "SPAN_LIMIT", "spanLimit"),

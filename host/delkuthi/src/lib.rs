@@ -61,8 +61,10 @@ pub const LAST_KIND: u8 = 63;
 pub const FIRST_COLOURED: u8 = 48;
 /// The largest colour.
 pub const LAST_COLOUR: u8 = 7;
-/// The largest time, 2^56 − 1.
-pub const LAST_TIME: u64 = (1 << 56) - 1;
+/// The largest time, 2^60 − 1.
+pub const LAST_TIME: u64 = (1 << 60) - 1;
+/// The largest count of steps, 2^64 − 1: a step or close beyond it is refused with 24.
+pub const LAST_COUNT: u64 = u64::MAX;
 /// How many rows a table has at most.
 pub const ROW_LIMIT: usize = 32;
 /// How many a row keeps waiting at most.

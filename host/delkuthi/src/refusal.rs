@@ -57,7 +57,7 @@ pub const fn refusal_text(number: u8) -> &'static str {
         7 => "a row has a lower that is more than its upper",
         8 => "the recording is closed",
         9 => "the kind is above 63",
-        10 => "the time is above 2^56 - 1",
+        10 => "the time is above 2^60 - 1",
         11 => "the time is not in order",
         12 => "more than 64 would wait in a row",
         13 => "the recording does not begin with a version byte 1 or 2",
@@ -67,6 +67,7 @@ pub const fn refusal_text(number: u8) -> &'static str {
         17 => "a file is too large",
         18 => "a row has a plain kind where its type takes coloured ones, or a coloured one where it takes plain ones",
         19 => "an event has no colour and a coloured kind, or a colour and a plain kind, or no such colour",
+        24 => "the count of steps is full",
         25 => "the row is not a Repeat of span 1",
         _ => "a refusal without a text",
     }

@@ -9,7 +9,11 @@ pub const LAST_COLOUR: u8 = 7;
 /// How many streams there are (§1.9).
 pub const STREAMS: u8 = 176;
 /// The last time (§1.1).
-pub const LAST_TIME: u64 = (1 << 56) - 1;
+pub const LAST_TIME: u64 = (1 << 60) - 1;
+/// The last time of the versions up to 0.3, at which tests look as at the last one.
+pub const EARLIER_LAST_TIME: u64 = (1 << 56) - 1;
+/// The last count of steps (§1.7).
+pub const LAST_COUNT: u64 = u64::MAX;
 /// The mark for no upper limit, in Delay, Repeat and Sporadic (§4.7).
 pub const NO_LIMIT: u64 = u64::MAX;
 /// How many rows a table has at most (§4.2).

@@ -37,8 +37,8 @@ pub mod table;
 pub mod waiting;
 
 pub use constraint::{
-    Constraint, FIRST_COLOURED, LAST_COLOUR, LAST_KIND, LAST_TIME, NO_LIMIT, REPETITION_SPAN_LIMIT, ROW_LIMIT,
-    SPAN_LIMIT, STREAMS, TYPES, WAITING_LIMIT,
+    Constraint, EARLIER_LAST_TIME, FIRST_COLOURED, LAST_COLOUR, LAST_COUNT, LAST_KIND, LAST_TIME, NO_LIMIT,
+    REPETITION_SPAN_LIMIT, ROW_LIMIT, SPAN_LIMIT, STREAMS, TYPES, WAITING_LIMIT,
 };
 pub use meets::meets;
 pub use monitor::{Monitor, Verdict};

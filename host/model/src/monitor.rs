@@ -46,6 +46,11 @@ impl Monitor {
         Ok(Monitor { rows, steps: Vec::new(), recorded: History::default(), broken })
     }
 
+    /// The same, with the count as after so many steps (§1.7).
+    pub fn counting_from(rows: &[Constraint], count: u64) -> Result<Monitor, u8> {
+        Ok(Monitor { recorded: History::counting_from(count), ..Monitor::fresh(rows)? })
+    }
+
     pub fn event(&mut self, kind: u8, time: u64) -> Answer {
         self.step(Step::Event { kind, time })
     }
@@ -62,7 +67,7 @@ impl Monitor {
         self.step(Step::Close)
     }
 
-    /// Takes a step, or refuses it as questions 8 to 12 and 19 say; then nothing is recorded (§3.3).
+    /// Takes a step, or refuses it as questions 8 to 12, 19 and 24 say; then nothing is recorded (§3.3).
     pub fn step(&mut self, step: Step) -> Answer {
         let (after, open) = self.judge(step)?;
         for (broken, open) in self.broken.iter_mut().zip(open) {

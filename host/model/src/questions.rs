@@ -1,8 +1,8 @@
-//! The questions put to rows and steps (§8.3 to §8.11, §8.18, §8.19), in their order (§9.5, §9.7).
+//! The questions put to rows and steps (§8.3 to §8.11, §8.18, §8.19, §8.24), in their order (§9.5, §9.7).
 
 use crate::constraint::{
-    Constraint, FIRST_COLOURED, LAST_COLOUR, LAST_KIND, LAST_TIME, NO_LIMIT, REPETITION_SPAN_LIMIT, ROW_LIMIT,
-    SPAN_LIMIT, stream,
+    Constraint, FIRST_COLOURED, LAST_COLOUR, LAST_COUNT, LAST_KIND, LAST_TIME, NO_LIMIT, REPETITION_SPAN_LIMIT,
+    ROW_LIMIT, SPAN_LIMIT, stream,
 };
 use crate::steps::{History, Step};
 
@@ -90,9 +90,10 @@ fn lower_first(row: &Constraint) -> bool {
     }
 }
 
-/// Questions 8 to 11 and 19 of a step, over what is recorded (§9.5).
+/// Questions 8 to 11, 19 and 24 of a step, over what is recorded (§9.5).
 pub fn step_questions(recorded: &History, step: Step) -> Answer {
     ask(8, !recorded.closed())?;
+    ask(24, recorded.count() < LAST_COUNT)?;
     match step {
         Step::Event { kind, time } => {
             ask(9, kind <= LAST_KIND)?;

@@ -96,6 +96,11 @@ impl Default for History {
 }
 
 impl History {
+    /// Nothing recorded, with the count as after so many steps: no test can take as many as the count goes to.
+    pub fn counting_from(count: u64) -> History {
+        History { count, ..History::default() }
+    }
+
     /// What the steps have recorded, from nothing on.
     pub fn of(steps: &[Step]) -> History {
         let mut history = History::default();
@@ -103,9 +108,10 @@ impl History {
         history
     }
 
-    /// Adds an accepted step: one more is counted, an event is put to its stream's, and the clock goes to the step's time.
+    /// Adds an accepted step: one more is counted, an event is put to its stream's, and the clock goes to the step's time. Only
+    /// a step that is not accepted, and of which it is asked what it would do, can come after the last count.
     pub fn record(&mut self, step: Step) {
-        self.count += 1;
+        self.count = self.count.saturating_add(1);
         match step {
             Step::Event { kind, time } => self.record_event(kind, time),
             Step::Coloured { kind, colour, time } => self.record_event(stream(kind, colour), time),

@@ -183,7 +183,7 @@ fn sporadic_corners() {
     assert!(of(&sporadic(0, 1, 0, 0), "0@5, 0@6") && !of(&sporadic(0, 1, 0, 0), "0@5, 0@7"));
     // jitter larger than the time: no point below 0
     assert!(!of(&sporadic(10, 10, 5, 0), "0@2, 0@9") && of(&sporadic(10, 10, 5, 0), "0@2, 0@10"));
-    assert!(of(&sporadic(0, NO_LIMIT, 0, 0), "0@0, 0@72057594037927935"));
+    assert!(of(&sporadic(0, NO_LIMIT, 0, 0), "0@0, 0@1152921504606846975"));
     assert!(!of(&sporadic(0, NO_LIMIT, 0, 3), "0@5, 0@7") && of(&sporadic(0, NO_LIMIT, 0, 3), "0@5, 0@8"));
     // three events need three points: 0, 1 and 2
     assert!(of(&sporadic(0, NO_LIMIT, 9, 0), "0@0, 0@1, 0@2"));
@@ -202,9 +202,9 @@ fn repetition_corners() {
     assert!(of(&repetition(8, 0, 8, 0), "0@1, 0@2, 0@3, 0@4, 0@5, 0@6, 0@7, 0@8, 0@9"));
     // no point below 0, and a span of 1 is a Sporadic without a minimum
     assert!(!of(&repetition(1, 2, 2, 1), "0@0, 0@1") && of(&repetition(1, 2, 2, 1), "0@0, 0@2"));
-    assert!(of(&repetition(2, 0, 72057594037927935, 72057594037927935), "0@0, 0@1, 0@2, 0@72057594037927935"));
+    assert!(of(&repetition(2, 0, 1152921504606846975, 1152921504606846975), "0@0, 0@1, 0@2, 0@1152921504606846975"));
     // silence is without effect
-    assert!(of(&repetition(1, 5, 5, 0), "0@0, tick 72057594037927935"));
+    assert!(of(&repetition(1, 5, 5, 0), "0@0, tick 1152921504606846975"));
 }
 
 #[test]
@@ -242,9 +242,9 @@ fn signals_that_stop() {
     assert!(of(&sporadic(5, 5, 2, 0), "0@2, tick 9") && !of(&sporadic(5, 5, 2, 0), "0@2, tick 10"));
     assert!(of(&sporadic(5, 5, 2, 0), "0@2, 0@9, tick 14") && !of(&sporadic(5, 5, 2, 0), "0@2, 0@9, tick 15"));
     // nothing is due before the first event, without a limit, or in a Burst
-    let late = "tick 72057594037927935";
+    let late = "tick 1152921504606846975";
     assert!(of(&repeat(1, 0, 0), late) && of(&sporadic(0, 0, 0, 0), late));
-    let late = "0@3, tick 72057594037927935";
+    let late = "0@3, tick 1152921504606846975";
     assert!(of(&repeat(1, 9, NO_LIMIT), late) && of(&sporadic(9, NO_LIMIT, 0, 0), late) && of(&burst(1, 9, 0), late));
 }
 
@@ -259,9 +259,11 @@ fn synchronization_corners() {
 
 #[test]
 fn no_number_is_too_large_for_the_definitions() {
-    let text = "0@0, 1@72057594037927935, 0@72057594037927935";
+    let text = "0@0, 1@1152921504606846975, 0@1152921504606846975";
     assert!(!of(&delay(NO_LIMIT, NO_LIMIT), text) && !of(&strong_delay(0, NO_LIMIT), text));
-    assert!(of(&delay(0, NO_LIMIT), text) && of(&delay(72_057_594_037_927_935, NO_LIMIT), "0@0, 1@72057594037927935"));
+    assert!(
+        of(&delay(0, NO_LIMIT), text) && of(&delay(1_152_921_504_606_846_975, NO_LIMIT), "0@0, 1@1152921504606846975")
+    );
     assert!(of(&repeat(1, 0, NO_LIMIT - 1), text) && !of(&repeat(1, NO_LIMIT, NO_LIMIT), text));
     assert!(!of(&sporadic(NO_LIMIT, NO_LIMIT, NO_LIMIT, 0), text) && of(&sporadic(0, NO_LIMIT, NO_LIMIT, 0), text));
     assert!(!of(&burst(1, NO_LIMIT, NO_LIMIT), text) && of(&synchronization(1, 0), text));

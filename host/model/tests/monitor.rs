@@ -10,7 +10,7 @@ use model::random::calls::calls;
 use model::random::seen::Seen;
 use model::random::tables::{Scale, row};
 use model::search::open_by_search;
-use model::{Answer, Constraint, Events, History, LAST_TIME, Monitor, NO_LIMIT, Step, Verdict, waiting};
+use model::{Answer, Constraint, Events, History, LAST_COUNT, LAST_TIME, Monitor, NO_LIMIT, Step, Verdict, waiting};
 
 #[test]
 fn fresh_monitor() {
@@ -61,7 +61,7 @@ fn clock_and_count() {
     take(&mut monitor, "tick 5, 1@5, 0@5, 47@9");
     assert_eq!((monitor.event(0, 8), monitor.tick(9), monitor.tick(8)), (Err(11), Err(11), Err(11)));
     assert_eq!((monitor.recorded().clock(), monitor.recorded().count()), (9, 6));
-    take(&mut monitor, "tick 72057594037927935, 0@72057594037927935, 1@72057594037927935");
+    take(&mut monitor, "tick 1152921504606846975, 0@1152921504606846975, 1@1152921504606846975");
     assert_eq!(monitor.tick(LAST_TIME + 1), Err(10));
     take(&mut monitor, "close");
     assert_eq!(monitor.recorded().count(), 10);
@@ -83,11 +83,30 @@ fn step_questions_in_order() {
     assert_eq!(monitor, before);
     take(&mut monitor, "close");
     let closed = monitor.clone();
-    for call in steps("64@72057594037927936, 0@72057594037927936, 0@3, 0@65, 1@65, tick 65, tick 3, close") {
+    for call in steps("64@1152921504606846976, 0@1152921504606846976, 0@3, 0@65, 1@65, tick 65, tick 3, close") {
         assert_eq!(monitor.step(call), Err(8), "{call}");
     }
     assert_eq!(monitor, closed);
     assert_eq!(verdicts(&monitor), "broken 65");
+}
+
+/// The step that makes the count 2^64 − 1 is taken, and nothing after it, the close neither; 8 stands before 24.
+#[test]
+fn the_end_of_the_count() {
+    let mut monitor = Monitor::counting_from(&[delay(2, 3)], LAST_COUNT - 2).expect("an accepted table");
+    let mut closed = monitor.clone();
+    take(&mut monitor, "0@10, tick 14");
+    assert_eq!((verdicts(&monitor), monitor.recorded().count()), (format!("broken {LAST_COUNT}"), LAST_COUNT));
+    let before = monitor.clone();
+    for call in steps("tick 15, close, 1@15, 64@5, 48@5, 0/9@5, 0@1152921504606846976, tick 3, 0@3") {
+        assert_eq!(monitor.step(call), Err(24), "{call}");
+    }
+    assert_eq!(monitor, before);
+    take(&mut closed, "1@10, close");
+    for call in steps("tick 15, close, 64@5, 0@1152921504606846976") {
+        assert_eq!(closed.step(call), Err(8), "{call}");
+    }
+    assert_eq!((verdicts(&closed), closed.recorded().count()), ("kept".to_string(), LAST_COUNT));
 }
 
 #[test]
@@ -212,6 +231,7 @@ fn corners_of_waiting_rows() {
 fn first_no(rows: &[Constraint], accepted: &[Step], call: Step) -> Answer {
     let recorded = History::of(accepted);
     let open = !recorded.closed();
+    let counted = recorded.count() < u64::MAX;
     let room = || {
         let after = History::of(&[accepted, &[call]].concat());
         rows.iter().all(|row| waiting(row, &after) <= 64 || !open_by_search(row, &after))
@@ -220,12 +240,13 @@ fn first_no(rows: &[Constraint], accepted: &[Step], call: Step) -> Answer {
         Step::Event { kind, time } => {
             let later = recorded.times(kind).iter().all(|earlier| *earlier < time);
             let in_order = recorded.clock() <= time && later;
-            let taken = open && kind < 48 && time < 1 << 56 && in_order;
+            let taken = open && kind < 48 && time < 1 << 60 && in_order;
             vec![
                 (8, open),
+                (24, counted),
                 (9, kind <= 63),
                 (19, kind < 48),
-                (10, time < 1 << 56),
+                (10, time < 1 << 60),
                 (11, in_order),
                 (12, taken && room()),
             ]
@@ -234,14 +255,22 @@ fn first_no(rows: &[Constraint], accepted: &[Step], call: Step) -> Answer {
             let form = (48..=63).contains(&kind) && colour < 8;
             let earlier = |earlier: &&Step| matches!(earlier, Step::Coloured { kind: k, colour: c, time: t } if (*k, *c) == (kind, colour) && *t >= time);
             let in_order = recorded.clock() <= time && !accepted.iter().any(|step| earlier(&step));
-            let taken = open && form && time < 1 << 56 && in_order;
-            vec![(8, open), (9, kind <= 63), (19, form), (10, time < 1 << 56), (11, in_order), (12, taken && room())]
+            let taken = open && form && time < 1 << 60 && in_order;
+            vec![
+                (8, open),
+                (24, counted),
+                (9, kind <= 63),
+                (19, form),
+                (10, time < 1 << 60),
+                (11, in_order),
+                (12, taken && room()),
+            ]
         }
         Step::Tick { time } => {
             let in_order = recorded.clock() < time;
-            vec![(8, open), (10, time < 1 << 56), (11, in_order), (12, open && in_order && room())]
+            vec![(8, open), (24, counted), (10, time < 1 << 60), (11, in_order), (12, open && in_order && room())]
         }
-        Step::Close => vec![(8, open)],
+        Step::Close => vec![(8, open), (24, counted)],
     };
     questions.iter().find(|(_, yes)| !yes).map_or(Ok(()), |(number, _)| Err(*number))
 }

@@ -53,7 +53,7 @@ fn refusals_with_their_places() {
     assert_eq!(text(&TABLE, &[1, 0, 11, 0, 0, 0, 0, 0, 0, 0, 0, 0, 0, 0]), "refused 14 1\n");
     let steps_text = |list: &str| text(&TABLE, &recording_bytes(&steps(list)));
     assert_eq!(steps_text("0@10, 64@11"), "refused 9 12\n");
-    assert_eq!(steps_text("tick 10, 1@72057594037927936"), "refused 10 11\n");
+    assert_eq!(steps_text("tick 10, 1@1152921504606846976"), "refused 10 11\n");
     assert_eq!(steps_text("tick 10, tick 10"), "refused 11 11\n");
     assert_eq!(steps_text("0@10, 0@10"), "refused 11 12\n");
 }
@@ -75,7 +75,7 @@ fn records() {
     assert_eq!(read_record(1, &RECORDING[1..]), Ok((Step::Event { kind: 0, time: 10 }, 11)));
     assert_eq!(read_record(1, &RECORDING[12..]), Ok((Step::Tick { time: 14 }, 10)));
     assert_eq!((read_record(1, &[]), read_record(1, &[0]), read_record(1, &[0, 8, 0])), (Err(14), Err(14), Err(14)));
-    let all = "0@0, 63/7@0, 48/0@0, 48/1@0, tick 5, 47@72057594037927935";
+    let all = "0@0, 63/7@0, 48/0@0, 48/1@0, tick 5, 47@1152921504606846975";
     let monitor = read_recording(fresh(&[]), &recording_bytes(&steps(all))).expect("an accepted recording");
     assert_eq!((monitor.steps(), monitor.recorded().clock()), (&steps(all)[..], LAST_TIME));
 }

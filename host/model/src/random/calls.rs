@@ -1,7 +1,7 @@
 //! Random lists of calls: events, ticks and closes, accepted and refused.
 
 use super::Random;
-use crate::constraint::{Constraint, FIRST_COLOURED, LAST_COLOUR, LAST_KIND, LAST_TIME, STREAMS};
+use crate::constraint::{Constraint, EARLIER_LAST_TIME, FIRST_COLOURED, LAST_COLOUR, LAST_KIND, LAST_TIME, STREAMS};
 use crate::continuation::{Event, Together};
 use crate::monitor::{Monitor, Verdict};
 use crate::open::earliest_continuation;
@@ -46,8 +46,13 @@ pub struct Play {
 
 impl Play {
     /// A list of so many calls from a fresh monitor over an accepted table. The last are a close and some after it.
-    pub fn new(mut random: Random, rows: &[Constraint], calls: usize) -> Play {
-        let monitor = Monitor::fresh(rows).expect("an accepted table");
+    pub fn new(random: Random, rows: &[Constraint], calls: usize) -> Play {
+        Play::counting_from(random, rows, calls, 0)
+    }
+
+    /// The same, with the count as after so many steps.
+    pub fn counting_from(mut random: Random, rows: &[Constraint], calls: usize, count: u64) -> Play {
+        let monitor = Monitor::counting_from(rows, count).expect("an accepted table");
         let manner = manner(&mut random, rows);
         let after_close = random.place(5);
         Play { random, monitor, manner, left: calls, after_close }
@@ -71,7 +76,8 @@ impl Play {
             return Step::Close;
         }
         if self.monitor.steps().is_empty() && self.random.chance(10) {
-            return Step::Tick { time: LAST_TIME - self.random.below(3000) };
+            let end = *self.random.pick(&[EARLIER_LAST_TIME, LAST_TIME]);
+            return Step::Tick { time: end - self.random.below(3000) };
         }
         match self.manner {
             _ if self.random.chance(6) => self.refusable(),

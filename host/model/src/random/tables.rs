@@ -2,7 +2,8 @@
 
 use super::Random;
 use crate::constraint::{
-    Constraint, FIRST_COLOURED, LAST_KIND, LAST_TIME, NO_LIMIT, REPETITION_SPAN_LIMIT, ROW_LIMIT, SPAN_LIMIT, TYPES,
+    Constraint, EARLIER_LAST_TIME, FIRST_COLOURED, LAST_KIND, LAST_TIME, NO_LIMIT, REPETITION_SPAN_LIMIT, ROW_LIMIT,
+    SPAN_LIMIT, TYPES,
 };
 use crate::table::table_bytes;
 
@@ -13,7 +14,7 @@ pub enum Scale {
     Small,
     /// Up to some thousands, the uppers large: rows stay open long enough for 64 to wait.
     Patient,
-    /// Any, and the ends of the range most of all: sums of two pass 2^56.
+    /// Any, and the ends of the range most of all: sums of two pass 2^60. The last time of earlier versions is looked at too.
     Extreme,
 }
 
@@ -23,10 +24,11 @@ impl Scale {
         match self {
             Scale::Small => random.below(5),
             Scale::Patient => random.from_to(0, 300),
-            Scale::Extreme => match random.below(4) {
+            Scale::Extreme => match random.below(5) {
                 0 => random.below(3),
                 1 => LAST_TIME - random.below(3),
-                2 => LAST_TIME >> random.below(56),
+                2 => LAST_TIME >> random.below(60),
+                3 => EARLIER_LAST_TIME - 1 + random.below(4),
                 _ => random.from_to(0, LAST_TIME),
             },
         }
@@ -167,7 +169,7 @@ pub fn damaged_rows(random: &mut Random) -> Vec<Constraint> {
 
 /// A time outside the range, or just inside it.
 fn odd_time(random: &mut Random) -> u64 {
-    *random.pick(&[LAST_TIME, LAST_TIME + 1, 1 << 63, NO_LIMIT - 1, NO_LIMIT])
+    *random.pick(&[EARLIER_LAST_TIME + 1, LAST_TIME, LAST_TIME + 1, 1 << 63, NO_LIMIT - 1, NO_LIMIT])
 }
 
 /// A kind outside the range, just inside it, or at the border of plain and coloured ones.

@@ -1,4 +1,4 @@
--- The tests are those of `refusalBy`, in its order.
+-- The tests are those of `ownRefusal`, in its order.
 use borrow.Author.Needs.{needs}
 use borrow.Author.Tests.{lt-ltb, le-ltb}
 use Rattle.monitor.proofs.calls.coloured_refusal.Statement.{statement}
@@ -13,20 +13,13 @@ returns-2 c = rw (le-ltb _ _ (c .before .if1 .left), lt-ltb _ _ (c .if2 .taken))
 returns-3 : tie.Need-returns-3
 returns-3 c = rw (le-ltb _ _ (c .before .before .if1 .left), le-ltb _ _ (c .before .if2 .left), lt-ltb _ _ (c .if3 .taken))
 
-returns-4 : tie.Need-returns-4
-returns-4 c =
-    let b = c .before in
-    rw (le-ltb _ _ (b .before .before .if1 .left), le-ltb _ _ (b .before .if2 .left), le-ltb _ _ (b .if3 .left), lt-ltb _ _ (c .if4 .taken))
-
 time-refusal-requires : tie.Need-time-refusal-requires
 time-refusal-requires c κs = search needs
 
-returns-5 : tie.Need-returns-5
-returns-5 c =
-    let b = c .before .before in
-    rw (le-ltb _ _ (b .before .before .if1 .left), le-ltb _ _ (b .before .if2 .left), le-ltb _ _ (b .if3 .left), le-ltb _ _ (c .before .if4 .left))
-    (c .time-refusal .ensures)
+returns-4 : tie.Need-returns-4
+returns-4 c =
+    let b = c .before in
+    rw (le-ltb _ _ (b .before .before .if1 .left), le-ltb _ _ (b .before .if2 .left), le-ltb _ _ (b .if3 .left)) (c .time-refusal .ensures)
 
 pub coloured-refusal-spec : {M : Type 1} → statement M
-coloured-refusal-spec =
-    tie.close (tie.spec returns returns-2 returns-3 returns-4 time-refusal-requires returns-5)
+coloured-refusal-spec = tie.close (tie.spec returns returns-2 returns-3 time-refusal-requires returns-4)

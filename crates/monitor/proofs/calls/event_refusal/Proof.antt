@@ -1,4 +1,4 @@
--- The tests are those of `refusalBy`, in its order.
+-- The tests are those of `ownRefusal`, in its order.
 use borrow.Author.Needs.{needs}
 use borrow.Author.Tests.{lt-ltb, le-ltb, le-leb, lt-leb}
 use Rattle.monitor.proofs.calls.event_refusal.Statement.{statement}
@@ -8,19 +8,13 @@ returns : tie.Need-returns
 returns c = rw (lt-ltb _ _ (c .if1 .taken))
 
 returns-2 : tie.Need-returns-2
-returns-2 c = rw (le-ltb _ _ (c .before .if1 .left), lt-ltb _ _ (c .if2 .taken))
-
-returns-3 : tie.Need-returns-3
-returns-3 c = rw (le-ltb _ _ (c .before .before .if1 .left), le-ltb _ _ (c .before .if2 .left), le-leb _ _ (c .if3 .taken))
+returns-2 c = rw (le-ltb _ _ (c .before .if1 .left), le-leb _ _ (c .if2 .taken))
 
 time-refusal-requires : tie.Need-time-refusal-requires
 time-refusal-requires c κs = search needs
 
-returns-4 : tie.Need-returns-4
-returns-4 c =
-    let b = c .before in
-    rw (le-ltb _ _ (b .before .before .if1 .left), le-ltb _ _ (b .before .if2 .left), lt-leb _ _ (b .if3 .left)) (c .time-refusal .ensures)
+returns-3 : tie.Need-returns-3
+returns-3 c = rw (le-ltb _ _ (c .before .before .if1 .left), lt-leb _ _ (c .before .if2 .left)) (c .time-refusal .ensures)
 
 pub event-refusal-spec : {M : Type 1} → statement M
-event-refusal-spec =
-    tie.close (tie.spec returns returns-2 returns-3 time-refusal-requires returns-4)
+event-refusal-spec = tie.close (tie.spec returns returns-2 time-refusal-requires returns-3)

@@ -1,57 +1,20 @@
--- Each call has its own questions.
+-- The close and the count are asked for first, then what is the call's own.
 use borrow.Author.Needs.{needs}
+use borrow.Author.Tests.{lt-ltb, le-ltb, le-leb, lt-leb}
 use Rattle.monitor.proofs.calls.refusal.Statement.{statement}
 use Rattle.monitor.proofs.calls.refusal.Tie as tie
 
-enum-known-call : tie.Need-enum-known-call
-enum-known-call c = search needs
-
-event-refusal-requires : tie.Need-event-refusal-requires
-event-refusal-requires c κs = search needs
-
-enum-known-call-2 : tie.Need-enum-known-call-2
-enum-known-call-2 c = search needs
-
-coloured-refusal-requires : tie.Need-coloured-refusal-requires
-coloured-refusal-requires c κs = search needs
-
-enum-known-call-3 : tie.Need-enum-known-call-3
-enum-known-call-3 c = search needs
-
-tick-refusal-requires : tie.Need-tick-refusal-requires
-tick-refusal-requires c κs = search needs
-
-enum-told : tie.Need-enum-told
-enum-told c = search needs
-
-close-refusal-requires : tie.Need-close-refusal-requires
-close-refusal-requires c κs = search needs
-
 returns : tie.Need-returns
-returns c = rw (c .before .before .call .given .1) (c .event-refusal .ensures)
+returns c = rw (lt-ltb _ _ (c .if1 .taken))
 
 returns-2 : tie.Need-returns-2
-returns-2 c = rw (c .before .before .call2 .given .1) (c .coloured-refusal .ensures)
+returns-2 c = rw (le-ltb _ _ (c .before .if1 .left), le-leb _ _ (c .if2 .taken))
+
+own-refusal-requires : tie.Need-own-refusal-requires
+own-refusal-requires c κs = search needs
 
 returns-3 : tie.Need-returns-3
-returns-3 c = rw (c .before .before .call3 .given .1) (c .tick-refusal .ensures (c .before .before .before .before .args .next))
-
-returns-4 : tie.Need-returns-4
-returns-4 c = rw (c .before .enum-told .given .1) (c .close-refusal .ensures (c .before .before .before .args .clock) (c .before .before .before .args .next))
+returns-3 c = rw (le-ltb _ _ (c .before .before .if1 .left), lt-leb _ _ (c .before .if2 .left)) (c .own-refusal .ensures)
 
 pub refusal-spec : {M : Type 1} → statement M
-refusal-spec =
-    tie.close
-    (tie.spec
-    enum-known-call
-    event-refusal-requires
-    enum-known-call-2
-    coloured-refusal-requires
-    enum-known-call-3
-    tick-refusal-requires
-    enum-told
-    close-refusal-requires
-    returns
-    returns-2
-    returns-3
-    returns-4)
+refusal-spec = tie.close (tie.spec returns returns-2 own-refusal-requires returns-3)

@@ -1,4 +1,4 @@
--- The number is that of the first "no"; where there is none the clock, the first free time and the mark are those after the call.
+-- The number is that of the first "no"; where there is none the clock, the count, the first free time and the mark are those after the call.
 use native.Mathlib.Omega.{arith}
 use borrow.Author.Needs.{needs}
 use Prim.Native.Nat.{ℕ}
@@ -42,17 +42,21 @@ mul-order c = let placed = c .before .before .before .before .before in omega (a
 element-write-order : tie.Need-element-write-order
 element-write-order c = let placed = c .before .before .before .before .before in omega (arith, placed .place .ensures, place-small (placed .before .args .call))
 
+plus-requires : tie.Need-plus-requires
+plus-requires c κs = search needs
+
 closed-requires : tie.Need-closed-requires
 closed-requires c κs = search needs
 
 returns-2 : tie.Need-returns-2
 returns-2 c =
-    let freed = c .before in
+    let added = c .before in
+    let freed = added .before in
     let seen = freed .before in
     let asked = seen .before .before in
     let args = asked .before .before .before .args in
     takes-taken (args .t1) (args .call) (asked .refusal .result) (number-is asked) (seen .before .if1 .left) _
-    (simp (c .closed .ensures, freed .free .ensures, seen .occurrence .ensures, asked .before .before .place .ensures))
+    (simp (c .closed .ensures, added .plus .ensures, freed .free .ensures, seen .occurrence .ensures, asked .before .before .place .ensures))
 
 pub take-spec : {M : Type 1} → statement M
 take-spec =
@@ -67,5 +71,6 @@ take-spec =
     free-requires
     mul-order
     element-write-order
+    plus-requires
     closed-requires
     returns-2)

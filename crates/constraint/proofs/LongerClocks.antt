@@ -1,0 +1,211 @@
+-- What longer clocks leave as they found it. The rows' fields have a wider range, so a table that was accepted is. With `nextFree` of a stream
+-- one more than its last time, each event raises the sum of all 176 by one at least, each tick raises the clock, and the close comes once: so up
+-- to the earlier last time the count fits by itself, and calls none of which was answered 10 have the answers that they had, over the same steps.
+use Prim.Native.Nat.{ℕ, zero, suc, _+_, _*_, _^_, _-_, _≤_, _<_}
+use native.Mathlib.Decide.{ℕ-discrete}
+use native.Mathlib.Omega.{arith}
+use mathlib.Core.Path.{_≡_, refl, ap, ap₂, _∙_, subst}
+use mathlib.Core.Bool.{Bool, true, false, cond}
+use mathlib.Core.List.{List, [], _∷_, _++_}
+use mathlib.Core.Logic.{_⊎_, inl, inr, ⊎-elim, by-cases}
+use lib.ListN.{length, length-append}
+use Rattle.constraint.specs.Limits.{lastKind, firstColoured, lastColour, lastTime, lastCount, noLimit, rowLimit}
+use Rattle.constraint.specs.Streams.{stream}
+use Rattle.constraint.specs.Steps.{Step, event, tick, close, times, clockFrom, clock, closed}
+use Rattle.constraint.specs.Continuation.{EventInOrder}
+use Rattle.constraint.specs.Types.{kind, coloured, count, span, plain, lower, upper, upper-or-none, Field, byte, time, fieldsOf}
+use Rattle.constraint.specs.Accepted.{kinds, KindsFit, KindsSuit, FieldsInRange, InRange, LowerFirst, rowsQuestions, Accepted}
+use Rattle.constraint.specs.Questions.{Question, Judged}
+use Rattle.constraint.specs.Run.{stepFor, Room, questions, recorded, Run, done, call}
+use Rattle.constraint.specs.declared.Answer.{Answer}
+use Rattle.constraint.specs.declared.Answer.the-variants.{Taken, Refused}
+use Rattle.constraint.specs.declared.Call.{Call}
+use Rattle.constraint.specs.declared.Constraint.{Constraint}
+use Rattle.constraint.proofs.Lists.{Each}
+use Rattle.constraint.proofs.Judged.{judged-none, judged-yes, judged-all, judged-parts, put-in, widened}
+use Rattle.constraint.proofs.Counting.{nextFree, next-least, next-snoc}
+use Rattle.constraint.proofs.History.{times-own, times-other, times-tick, times-close, clock-event, clock-tick, clock-close, closed-event, closed-tick, closed-close, Accepts, Valid, valid-none, valid-more, Past, past-of}
+use Rattle.constraint.proofs.Runs.{accepts-taken}
+
+-- the last time before clocks were longer
+abbrev pub lastTimeBefore : ℕ
+lastTimeBefore = 2 ^ 56 - 1
+
+earlier : (t : ℕ) → t ≤ lastTimeBefore → t ≤ lastTime
+earlier t h = omega arith
+
+-- ---- tables
+
+-- the ranges of a row's fields then
+abbrev pub FieldsInRangeBefore : List Field → Type 0
+FieldsInRangeBefore [] = Unit {0}
+FieldsInRangeBefore (byte kind x ∷ fields) = FieldsInRangeBefore fields
+FieldsInRangeBefore (byte coloured x ∷ fields) = FieldsInRangeBefore fields
+FieldsInRangeBefore (byte count x ∷ fields) = FieldsInRangeBefore fields
+FieldsInRangeBefore (byte (span limit) x ∷ fields) = (1 ≤ x) × (x ≤ limit) × FieldsInRangeBefore fields
+FieldsInRangeBefore (time plain x ∷ fields) = (x ≤ lastTimeBefore) × FieldsInRangeBefore fields
+FieldsInRangeBefore (time lower x ∷ fields) = (x ≤ lastTimeBefore) × FieldsInRangeBefore fields
+FieldsInRangeBefore (time upper x ∷ fields) = (x ≤ lastTimeBefore) × FieldsInRangeBefore fields
+FieldsInRangeBefore (time upper-or-none x ∷ fields) = ((x ≤ lastTimeBefore) ⊎ (x ≡ noLimit)) × FieldsInRangeBefore fields
+
+range-still : (fields : List Field) → FieldsInRangeBefore fields → FieldsInRange fields
+range-still [] h = tt
+range-still (byte kind x ∷ fields) h = range-still fields h
+range-still (byte coloured x ∷ fields) h = range-still fields h
+range-still (byte count x ∷ fields) h = range-still fields h
+range-still (byte (span limit) x ∷ fields) h = (h .0, h .1, range-still fields (h .2))
+range-still (time plain x ∷ fields) h = (omega (arith, h .0), range-still fields (h .1))
+range-still (time lower x ∷ fields) h = (omega (arith, h .0), range-still fields (h .1))
+range-still (time upper x ∷ fields) h = (omega (arith, h .0), range-still fields (h .1))
+range-still (time upper-or-none x ∷ fields) h = (⊎-elim (λ small. inl (omega arith)) inr (h .0), range-still fields (h .1))
+
+-- the questions of a table's rows then
+abbrev pub rowsQuestionsBefore : ℕ → List Constraint → List Question
+rowsQuestionsBefore i [] = []
+rowsQuestionsBefore i (c ∷ rows) =
+    (3, i < rowLimit) ∷ (5, KindsFit (kinds c)) ∷ (18, KindsSuit c) ∷ (6, FieldsInRangeBefore (fieldsOf c)) ∷ (7, LowerFirst c)
+    ∷ rowsQuestionsBefore (i + 1) rows
+
+rows-still : (i : ℕ) (rows : List Constraint) → Judged (rowsQuestionsBefore i rows) Taken → Judged (rowsQuestions i rows []) Taken
+unfolding rowsQuestions InRange
+rows-still i [] judged = judged
+rows-still i (c ∷ rows) judged =
+    let room = judged-all 3 _ _ judged in
+    let fit = judged-all 5 _ _ (room .1) in
+    let suit = judged-all 18 _ _ (fit .1) in
+    let range = judged-all 6 _ _ (suit .1) in
+    let first = judged-all 7 _ _ (range .1) in
+    judged-yes 3 _ _ Taken (room .0) (judged-yes 5 _ _ Taken (fit .0) (judged-yes 18 _ _ Taken (suit .0)
+    (judged-yes 6 _ _ Taken (range-still (fieldsOf c) (range .0)) (judged-yes 7 _ _ Taken (first .0) (rows-still (i + 1) rows (first .1))))))
+
+-- a table that was accepted is accepted; its bytes (§4.3) name no last time
+pub accepted-still : (rows : List Constraint) → Judged (rowsQuestionsBefore 0 rows) Taken → Accepted rows
+accepted-still rows judged = rows-still 0 rows judged
+
+-- ---- the sum over the first n streams
+
+total : ℕ → List Step → ℕ
+total zero steps = 0
+total (suc n) steps = total n steps + nextFree (times n steps)
+
+total-same : (n : ℕ) (a b : List Step) → ((k : ℕ) → k < n → times k a ≡ times k b) → total n a ≡ total n b
+unfolding total
+total-same zero a b same = refl
+total-same (suc n) a b same = ap₂ _+_ (total-same n a b (λ k h. same k (omega arith))) (ap nextFree (same n (omega arith)))
+
+total-event : (n k t : ℕ) (steps : List Step) → k < n → EventInOrder steps k t → total n steps < total n (steps ++ (event k t ∷ []))
+unfolding total
+total-event zero k t steps h order = absurd (omega arith)
+total-event (suc n) k t steps h order =
+    by-cases (ℕ-discrete k n)
+    (λ e. let others : total n (steps ++ (event k t ∷ [])) ≡ total n steps = total-same n (steps ++ (event k t ∷ [])) steps (λ j g. times-other j k t steps (λ f. omega arith)) in
+    let own : nextFree (times n (steps ++ (event k t ∷ []))) ≡ suc t = ap nextFree (subst (λ (j : ℕ). times j (steps ++ (event k t ∷ [])) ≡ times j steps ++ (t ∷ [])) e (times-own k t steps)) ∙ next-snoc (times n steps) t (subst (λ (j : ℕ). Each (λ s. s < t) (times j steps)) e (order .1)) in
+    let before : nextFree (times n steps) ≤ t = next-least (times n steps) t (subst (λ (j : ℕ). Each (λ s. s < t) (times j steps)) e (order .1)) in
+    omega arith)
+    (λ e. let other : nextFree (times n (steps ++ (event k t ∷ []))) ≡ nextFree (times n steps) = ap nextFree (times-other n k t steps e) in
+    let less : total n steps < total n (steps ++ (event k t ∷ [])) = total-event n k t steps (omega arith) order in
+    omega arith)
+
+total-small : (n : ℕ) (steps : List Step) → Past steps → clock steps ≤ lastTimeBefore → total n steps ≤ n * 2 ^ 56
+unfolding total
+total-small zero steps p small = omega arith
+total-small (suc n) steps p small =
+    omega (arith, total-small n steps p small, next-least (times n steps) (suc (clock steps)) (λ i h. omega (arith, p .past n i h)))
+
+-- ---- the count
+
+-- one for a close
+closings : List Step → ℕ
+closings steps = cond (closed steps) 1 0
+
+count-step : (s : Step) (steps : List Step) → Accepts steps s → length steps ≤ total 176 steps + clock steps + closings steps
+    → length steps + 1 ≤ total 176 (steps ++ (s ∷ [])) + clock (steps ++ (s ∷ [])) + closings (steps ++ (s ∷ []))
+unfolding closings
+count-step (event k t) steps a h =
+    rw (clock-event k t steps, closed-event k t steps) (omega (arith, total-event 176 k t steps (omega (arith, a .stream-small)) (a .in-order), a .in-order .0))
+count-step (tick t) steps a h =
+    rw (clock-tick t steps, closed-tick t steps, total-same 176 (steps ++ (tick t ∷ [])) steps (λ k g. times-tick k t steps)) (omega (arith, a .later))
+count-step close steps a h =
+    rw (clock-close steps, closed-close steps, total-same 176 (steps ++ (close ∷ [])) steps (λ k g. times-close k steps)) (omega (arith, rw (a .not-closed) at h))
+
+count-bound : {steps : List Step} → Valid steps → length steps ≤ total 176 steps + clock steps + closings steps
+count-bound valid-none = omega arith
+count-bound (valid-more {steps = steps} s v a) = omega (arith, length-append steps (s ∷ []), count-step s steps a (count-bound v))
+
+cond-small : (b : Bool) → cond b 1 0 ≤ 1
+cond-small true = omega arith
+cond-small false = omega arith
+
+-- up to the earlier last time the count fits by itself
+pub count-before : {steps : List Step} → Valid steps → clock steps ≤ lastTimeBefore → length steps < lastCount
+unfolding closings
+count-before {steps} v small = omega (arith, count-bound v, total-small 176 steps (past-of v) small, cond-small (closed steps))
+
+-- ---- calls
+
+-- the questions of an event of a stream then, after 8, 9 and 19; and those of a call
+abbrev pub eventQuestionsThen : List Constraint → List Step → ℕ → ℕ → List Question
+eventQuestionsThen rows steps s t = (10, t ≤ lastTimeBefore) ∷ (11, EventInOrder steps s t) ∷ (12, Room rows (steps ++ (event s t ∷ []))) ∷ []
+
+abbrev pub questionsBefore : List Constraint → List Step → Call → List Question
+questionsBefore rows steps (Call.Event k t) =
+    (8, closed steps ≡ false) ∷ (9, k ≤ lastKind) ∷ (19, k < firstColoured) ∷ eventQuestionsThen rows steps k t
+questionsBefore rows steps (Call.ColouredEvent k c t) =
+    (8, closed steps ≡ false) ∷ (9, k ≤ lastKind) ∷ (19, (firstColoured ≤ k) × (c ≤ lastColour)) ∷ eventQuestionsThen rows steps (stream k c) t
+questionsBefore rows steps (Call.Tick t) =
+    (8, closed steps ≡ false) ∷ (10, t ≤ lastTimeBefore) ∷ (11, clock steps < t) ∷ (12, Room rows (steps ++ (tick t ∷ []))) ∷ []
+questionsBefore rows steps Call.Close = (8, closed steps ≡ false) ∷ []
+
+-- the calls one after the other then
+pub data RunBefore (rows : List Constraint) : List Step → List Call → List Answer → List Step → Type 0 where
+  done-before : {steps : List Step} → RunBefore rows steps [] [] steps
+  call-before : {steps end : List Step} {calls : List Call} {answers : List Answer} (c : Call) (a : Answer)
+      → Judged (questionsBefore rows steps c) a → RunBefore rows (recorded steps c a) calls answers end
+      → RunBefore rows steps (c ∷ calls) (a ∷ answers) end
+
+-- none of the answers is 10
+abbrev pub NoneTooLate : List Answer → Type 0
+NoneTooLate [] = Unit {0}
+NoneTooLate (a ∷ answers) = ¬ (a ≡ Refused 10) × NoneTooLate answers
+
+module _ (rows : List Constraint) (steps : List Step) where
+  -- 10 asks less, and 24 is answered "yes"
+  same-answer : (a : Answer) → ¬ (a ≡ Refused 10) → length steps < lastCount → (s : Call) → Judged (questionsBefore rows steps s) a → Judged (questions rows steps s) a
+  unfolding questions
+  same-answer a other counted (Call.Event k t) judged =
+      put-in ((8, closed steps ≡ false) ∷ []) _ 24 _ counted a
+      (widened ((8, closed steps ≡ false) ∷ (9, k ≤ lastKind) ∷ (19, k < firstColoured) ∷ []) _ 10 _ _ (λ (h : t ≤ lastTimeBefore). earlier t h) a other judged)
+  same-answer a other counted (Call.ColouredEvent k c t) judged =
+      put-in ((8, closed steps ≡ false) ∷ []) _ 24 _ counted a
+      (widened ((8, closed steps ≡ false) ∷ (9, k ≤ lastKind) ∷ (19, (firstColoured ≤ k) × (c ≤ lastColour)) ∷ []) _ 10 _ _
+      (λ (h : t ≤ lastTimeBefore). earlier t h) a other judged)
+  same-answer a other counted (Call.Tick t) judged =
+      put-in ((8, closed steps ≡ false) ∷ []) _ 24 _ counted a
+      (widened ((8, closed steps ≡ false) ∷ []) _ 10 _ _ (λ (h : t ≤ lastTimeBefore). earlier t h) a other judged)
+  same-answer a other counted Call.Close judged = put-in ((8, closed steps ≡ false) ∷ []) [] 24 _ counted a judged
+
+  -- a call that was taken leaves the clock in the earlier range
+  event-small : (s t : ℕ) → Judged (eventQuestionsThen rows steps s t) Taken → clock (steps ++ (event s t ∷ [])) ≤ lastTimeBefore
+  event-small s t judged = rw (clock-event s t steps) (judged-all 10 _ _ judged .0)
+
+  clock-small : (s : Call) → Judged (questionsBefore rows steps s) Taken → clock steps ≤ lastTimeBefore → clock (steps ++ (stepFor s ∷ [])) ≤ lastTimeBefore
+  clock-small (Call.Event k t) judged h = event-small k t (judged-all 19 _ _ (judged-all 9 _ _ (judged-all 8 _ _ judged .1) .1) .1)
+  clock-small (Call.ColouredEvent k c t) judged h = event-small (stream k c) t (judged-all 19 _ _ (judged-all 9 _ _ (judged-all 8 _ _ judged .1) .1) .1)
+  clock-small (Call.Tick t) judged h = rw (clock-tick t steps) (judged-all 10 _ _ (judged-all 8 _ _ judged .1) .0)
+  clock-small Call.Close judged h = rw (clock-close steps) h
+
+-- calls none of which was answered 10 have the answers that they had, and leave the same steps, over which a row reads what it read (§2.4 to §2.6)
+run-from : {rows : List Constraint} {steps end : List Step} {calls : List Call} {answers : List Answer} → RunBefore rows steps calls answers end
+    → NoneTooLate answers → Valid steps → clock steps ≤ lastTimeBefore → Run rows steps calls answers end
+run-from done-before none v small = done
+run-from {rows = rows} (call-before {steps = steps} s Taken judged rest) none v small =
+    let now-taken = same-answer rows steps Taken (none .0) (count-before v small) s judged in
+    call s Taken now-taken
+    (run-from rest (none .1) (valid-more (stepFor s) v (accepts-taken rows steps s now-taken)) (clock-small rows steps s judged small))
+run-from {rows = rows} (call-before {steps = steps} s (Refused n) judged rest) none v small =
+    call s (Refused n) (same-answer rows steps (Refused n) (none .0) (count-before v small) s judged) (run-from rest (none .1) v small)
+
+pub run-still : {rows : List Constraint} {end : List Step} {calls : List Call} {answers : List Answer} → RunBefore rows [] calls answers end
+    → NoneTooLate answers → Run rows [] calls answers end
+unfolding clockFrom
+run-still before none = run-from before none valid-none (omega arith)

@@ -92,8 +92,8 @@
  *
  * What waits in a row: sources that have no target yet (Delay, StrongDelay),
  * groups begun and not complete (StrongSynchronization). In other rows nothing
- * waits. The stack that a call uses is measured, not proved: a verdict and a
- * page use no more than a step may, a table that is made no more than fresh.
+ * waits. The stack that a call uses is measured, not proved: a verdict uses no
+ * more than a step may, a table that is made no more than fresh.
  *
  *
  * THE TABLE
@@ -304,12 +304,12 @@ extern "C" {
 #define DELKUTHI_NO_LIMIT UINT64_C(18446744073709551615)
 
 /*
- * A monitor: 24,480 bytes, aligned as a uint64_t is. Put it on the stack, in
+ * A monitor: 22,944 bytes, aligned as a uint64_t is. Put it on the stack, in
  * static memory, on a heap or in a struct of your own, and give it to
  * delkuthi_fresh first. What its words mean is the library's own business.
  */
 typedef struct delkuthi_monitor {
-    uint64_t words[3060];
+    uint64_t words[2868];
 } delkuthi_monitor;
 
 /* Returns the version of the library, which is that of its own header. */

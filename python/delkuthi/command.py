@@ -19,7 +19,7 @@ from .logs import Log, LogError, Policy, Step
 from .monitor import report, stamps
 from .output import as_html, as_json, as_junit
 from .plot import PlotMissing, write_plot
-from .recording import Record, join, write_recording
+from .recording import Record, join, recording_bytes, write_recording
 from .shrink import shortest
 from .table import Table
 from .text import TextError, grammar
@@ -269,7 +269,7 @@ def _stamps(given: argparse.Namespace) -> int:
     row = _row_number(table, given.row)
     late = _time("LATE", given.late, table)
     steps = ((step.kind, step.time) for step in Log(given.log, table, _policy(given, table)).steps())
-    word = stamps(table, b"".join(recording_bytes(steps)), row, late)
+    word = stamps(table, recording_bytes(steps), row, late)
     _out(f"{given.log}: {table.row_name(row)} is {word} with stamps late by up to {given.late}\n")
     return KEPT if word == "kept" else BROKEN
 

@@ -7,6 +7,7 @@ import pytest
 
 from delkuthi import CanSource, Table
 from delkuthi.recording import records
+from delkuthi.signals import signal as signal_of
 
 from conftest import EXAMPLES, ROOT
 
@@ -27,12 +28,12 @@ def stored(name, text):
     assert without_version(text) == without_version((EXAMPLES / name).read_text(encoding="utf-8"))
 
 
-def frame(table, kind, number):
-    """A frame that the table takes for an event of this kind; for a tick one that it does not know."""
-    if kind is None:
+def frame(table, signal, number):
+    """A frame that the table takes for an event of this signal; for a tick one that it does not know."""
+    if signal is None:
         return "7FF#"
-    source = next(source for event in table.events if event.kind == kind for source in event.sources
-                  if isinstance(source, CanSource))
+    source = next(source for event in table.events for source in event.sources
+                  if isinstance(source, CanSource) and signal == signal_of(event.kind, source.colour))
     identifier = f"{source.identifier:08X}" if source.extended else f"{source.identifier:03X}"
     return f"{identifier}#{(source.data or f'{number % 256:02X}').replace('.', '0')}"
 
@@ -40,11 +41,11 @@ def frame(table, kind, number):
 def test_the_drive_as_csv_and_candump():
     """The two logs are the recording, with the names and identifiers of the text table."""
     table = Table.read(EXAMPLES / "drive.txt")
-    names = {event.kind: event.name for event in table.events} | {None: ""}
-    recorded = [(kind, time) for _, kind, time in records(io.BytesIO((EXAMPLES / "recording.bin").read_bytes()[1:]))]
-    stored("drive.csv", "time_us,event\n" + "".join(f"{time},{names[kind]}\n" for kind, time in recorded))
-    stored("drive.log", "".join(f"({time // 10**6}.{time % 10**6:06d}) can0 {frame(table, kind, number)}\n"
-                                for number, (kind, time) in enumerate(recorded)))
+    recorded = [(signal, time) for _, signal, time in records(io.BytesIO((EXAMPLES / "recording.bin").read_bytes()[1:]))]
+    named = (f"{time},{'' if signal is None else table.event_name(signal)}\n" for signal, time in recorded)
+    stored("drive.csv", "time_us,event\n" + "".join(named))
+    stored("drive.log", "".join(f"({time // 10**6}.{time % 10**6:06d}) can0 {frame(table, signal, number)}\n"
+                                for number, (signal, time) in enumerate(recorded)))
 
 
 def without_version(text):

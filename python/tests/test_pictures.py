@@ -9,6 +9,7 @@ from delkuthi.check import check
 from delkuthi.logs import Log
 from delkuthi.plot import PlotMissing, write_plot
 from delkuthi.recording import recording_bytes
+from delkuthi.signals import signal
 from delkuthi.timeline import scene, svg, ticks
 
 from conftest import EXAMPLES
@@ -23,7 +24,8 @@ def pictured(table, path, rows=None):
 def test_what_the_drives_picture_shows():
     table = Table.read(EXAMPLES / "drive.txt")
     picture, outcome = pictured(table, EXAMPLES / "drive.csv")
-    assert [name for name, _ in picture.lanes] == [event.name for event in table.events]
+    signals = sorted(signal(event.kind, source.colour) for event in table.events for source in event.sources)
+    assert [name for name, _ in picture.lanes] == [table.event_name(number) for number in signals]
     assert sum(len(times) for _, times in picture.lanes) == outcome.events
     marks = [(row.time, f"{row.name} broken") for row in sorted(outcome.broken, key=lambda row: row.step)]
     assert picture.marks == marks and (118300, "steering reply broken") in marks

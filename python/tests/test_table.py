@@ -38,7 +38,7 @@ def test_a_text_has_a_normal_form(table):
 def test_the_drive():
     table = Table.read(EXAMPLES / "drive.txt")
     assert table.bytes() == (EXAMPLES / "table.bin").read_bytes()
-    assert {row.type for row in table.rows} == set(TYPES) - {BY_NAME["Reaction"]}
+    assert {row.type for row in table.rows} == set(TYPES)
 
 
 UNIT = "unit us\nevent pedal = 0\nevent light = 1\n"

@@ -152,7 +152,7 @@ module _ (width : Width) (callee : Name) where
             ∷ local (tyInt w64) valueLocal ∷ local tyPtr valueLocal ∷ local tyPtr valueLocal ∷ local (tyInt w64) valueLocal ∷ [];
         body =
             seq (call #monitor·verdicts·place (copy (place 2 []) ∷ []) (place 3 []))
-            (seq (assign (place 5 []) (op2 (mul unsigned) (copy (place 3 [])) (int w64 720)))
+            (seq (assign (place 5 []) (op2 (mul unsigned) (copy (place 3 [])) (int w64 672)))
             (seq (assign (place 6 []) (addrOf (place 1 (deref T′.mir ∷ field 0 ∷ []))))
             (seq (assign (place 7 []) (op2 offset (copy (place 6 [])) (copy (place 5 []))))
             (seq (assign (place 4 []) (rvOpd (copy (place 7 (deref S′.mir ∷ field 2 ∷ field 5 ∷ [])))))

@@ -69,5 +69,5 @@ module _ (m : Monitor) (was : Is T.the-row m (val m ∷ [])) where
       (subst (λ (n : ℕ). i < n) (sym into-32) h))
 
 -- where row i lies fits a number
-pub at-fits : (i : ℕ) → i < 32 → i * 720 < 2 ^ 64
+pub at-fits : (i : ℕ) → i < 32 → i * 672 < 2 ^ 64
 at-fits i h = omega arith

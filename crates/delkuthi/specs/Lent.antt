@@ -26,7 +26,7 @@ version = 0 * 1000000 + 3 * 1000 + 0
 
 -- the bytes of a monitor (`monitor-size`: of its type on the machine)
 abbrev pub monitorSize : ℕ
-monitorSize = 24480
+monitorSize = 22944
 
 -- ---- fresh
 

@@ -15,7 +15,7 @@ ghost use Rattle.delkuthi.specs.Lent.{Begins, wordOf, WordOfVerdict, Ste
 // The version of the library: 0.3.0 as major * 1,000,000 + minor * 1,000 + patch.
 pub const VERSION: u32 = 3000;
 // The bytes of a monitor.
-pub const MONITOR_SIZE: u64 = 24480;
+pub const MONITOR_SIZE: u64 = 22944;
 
 // The version of the library, for a host to compare with that of its header.
 #[no_mangle]

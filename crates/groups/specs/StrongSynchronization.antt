@@ -22,20 +22,7 @@ countOf rule marks kind =
 
 -- the marks with these counts
 abbrev pub withCounts : ℕ → ℕ → ℕ → ℕ → Marks → Marks
-withCounts first second third fourth m =
-    record {
-      last = m .last;
-      early = m .early;
-      ahead = m .ahead;
-      low = m .low;
-      high = m .high;
-      first = first;
-      second = second;
-      third = third;
-      fourth = fourth;
-      phase = m .phase;
-      ran = m .ran;
-    }
+withCounts first second third fourth m = record { last = m .last; first = first; second = second; third = third; fourth = fourth }
 
 -- one more of the kind
 abbrev pub oneMore : ℕ → ℕ → ℕ → ℕ

@@ -60,7 +60,7 @@ abbrev pub with-words : Row → Val → Val
 with-words r u = vstruct (vcons (rule-type .val (r .rule)) (vcons u (vcons (state-type .val (r .now)) vnil)))
 
 -- where row i lies fits a usize
-pub at-fits : (i : ℕ) → i < 32 → i * 720 < 2 ^ 64
+pub at-fits : (i : ℕ) → i < 32 → i * 672 < 2 ^ 64
 at-fits i l = omega (arith, l)
 
 -- a word stands in an array as it is
@@ -126,7 +126,7 @@ due-known h was i l = LL.owed N.the-type N′.the-laws (getD (h .rows) i noRow .
 -- ---- where they lie
 
 abbrev pub row-at : Loan → ℕ → ℕ
-row-at L i = i * 720 + (L .offset + 0)
+row-at L i = i * 672 + (L .offset + 0)
 
 abbrev pub row-cell : Loan → ℕ → Val → Fml
 row-cell L i v = fat fullShare (row-type .ty) (L .block) (row-at L i) v

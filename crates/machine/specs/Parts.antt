@@ -37,31 +37,19 @@ abbrev pub dueOldest : ℕ → List ℕ → ℕ
 dueOldest upper times = dueOr noLimit upper times
 
 abbrev pub noMarks : Marks
-noMarks = record { last = 0; early = 0; ahead = 0; low = 0; high = 0; first = 0; second = 0; third = 0; fourth = 0; phase = 0; ran = 0 }
+noMarks = record { last = 0; first = 0; second = 0; third = 0; fourth = 0 }
 
--- marks with these numbers, and the counts and the phase of others
-abbrev pub marksOf : ℕ → ℕ → ℕ → ℕ → ℕ → Marks → Marks
-marksOf last early ahead low high m =
-    record {
-      last = last;
-      early = early;
-      ahead = ahead;
-      low = low;
-      high = high;
-      first = m .first;
-      second = m .second;
-      third = m .third;
-      fourth = m .fourth;
-      phase = m .phase;
-      ran = m .ran;
-    }
+-- marks with these numbers, and the last two of others
+abbrev pub marksOf : ℕ → ℕ → ℕ → Marks → Marks
+marksOf last first second m = record { last = last; first = first; second = second; third = m .third; fourth = m .fourth }
 
--- the marks with another last event, and with another target beyond the number of sources
+-- one more than the time of a target beyond the number of sources, where a type keeps that for the last time; 0 for none
+abbrev pub earlyOf : Marks → ℕ
+earlyOf m = m .last
+
+-- the marks with another last time
 abbrev pub withLast : Marks → ℕ → Marks
-withLast m last = marksOf last (m .early) (m .ahead) (m .low) (m .high) m
-
-abbrev pub withEarly : Marks → ℕ → Marks
-withEarly m early = marksOf (m .last) early (m .ahead) (m .low) (m .high) m
+withLast m last = marksOf last (m .first) (m .second) m
 
 -- the change of a row that goes on, and that of one that breaks
 abbrev pub goesOn : Edit → Marks → ℕ → Bool → Change

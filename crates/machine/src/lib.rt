@@ -27,27 +27,16 @@ pub struct Rule {
     pub minimum: u64,
 }
 
-// What a row keeps beside its times. A type uses some of these; the others stay 0.
+// Five numbers that a row keeps beside its times. A type uses some of these, and its module says for what; the others stay 0.
 #[repr(C)]
 pub struct Marks {
-    // one more than the time of the last event, or of the last target; 0: none
+    // one more than a time, or 0 for none: that of the last event, of the last target, or of a target beyond the number of sources
     pub last: u64,
-    // one more than the time of a target beyond the number of sources; 0: none
-    pub early: u64,
-    // how many sources are beyond the number of targets
-    pub ahead: u64,
-    // where the last hidden point can be: from low to high
-    pub low: u64,
-    pub high: u64,
-    // how many of the groups begun have an event of the first to the fourth kind
+    // counts, places of the last hidden point, or the phase of an execution and how long it has run
     pub first: u64,
     pub second: u64,
     pub third: u64,
     pub fourth: u64,
-    // the phase: 0 between two executions, 1 in a running one, 2 in a preempted one
-    pub phase: u64,
-    // how long the execution begun has run up to its last event
-    pub ran: u64,
 }
 
 // What a row keeps beside its rule and its times.

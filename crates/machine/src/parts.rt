@@ -13,7 +13,7 @@ ghost use lib.ListN.{drop};
 ghost use Rattle.constraint.specs.Streams.{kindOf};
 ghost use Rattle.queue.specs.Ring.{ring};
 ghost use Rattle.queue.specs.declared.Edit.the-variants.{Drop, Push};
-ghost use Rattle.machine.specs.Parts.{plus, farEnough, front, dueOr, noMarks, withLast, withEarly, goesOn, breaking, waits};
+ghost use Rattle.machine.specs.Parts.{plus, farEnough, front, dueOr, noMarks, withLast, goesOn, breaking, waits};
 
 // a + b, or the largest number where that is more.
 pub fn plus(a: u64, b: u64) -> u64
@@ -94,34 +94,19 @@ pub fn no_marks() -> Marks
 {
     Marks {
         last: 0,
-        early: 0,
-        ahead: 0,
-        low: 0,
-        high: 0,
         first: 0,
         second: 0,
         third: 0,
         fourth: 0,
-        phase: 0,
-        ran: 0,
     }
 }
 
-// The marks with another last event.
+// The marks with another last time, of which this is one more; 0 for none.
 pub fn with_last(marks: Marks, last: u64) -> Marks
     ensures { λ r. ⌜ r ≡ withLast marks last ⌝ }
 {
     let mut m = marks;
     m.last = last;
-    m
-}
-
-// The marks with another target beyond the number of sources.
-pub fn with_early(marks: Marks, early: u64) -> Marks
-    ensures { λ r. ⌜ r ≡ withEarly marks early ⌝ }
-{
-    let mut m = marks;
-    m.early = early;
     m
 }
 

@@ -1,23 +1,23 @@
--- StrongDelay: the times are the sources beyond the number of targets; `early` is one more than the time of a target beyond the number of
+-- StrongDelay: the times are the sources beyond the number of targets; `last` is one more than the time of a target beyond the number of
 -- sources.
 use Prim.Native.Nat.{ℕ, _+_}
 use mathlib.Core.Bool.{false, cond}
 use mathlib.Core.List.{List}
 use lib.Dec.{leb, eqb}
 use Rattle.queue.specs.declared.Edit.the-variants.{Drop, Push}
-use Rattle.machine.specs.Parts.{plus, withEarly, goesOn, breaking, waits, front, none-left}
+use Rattle.machine.specs.Parts.{plus, earlyOf, withLast, goesOn, breaking, waits, front, none-left}
 use Rattle.machine.specs.declared.Rule.{Rule}
 use Rattle.machine.specs.declared.Marks.{Marks}
 use Rattle.machine.specs.declared.Change.{Change}
 
 -- a source: one that waits, or the partner of the target beyond
 unfoldable pub sourceStrongDelay : Rule → Marks → List ℕ → ℕ → Change
-sourceStrongDelay rule marks times t = waits (rule .upper) times (cond (eqb (marks .early) 0) (Push 0 t) (Drop 0)) (withEarly marks 0)
+sourceStrongDelay rule marks times t = waits (rule .upper) times (cond (eqb (earlyOf marks) 0) (Push 0 t) (Drop 0)) (withLast marks 0)
 
 -- a target: the partner of the oldest source that waits, or one beyond, which needs its source at once
 unfoldable pub targetStrongDelay : Rule → Marks → List ℕ → ℕ → Change
 targetStrongDelay rule marks times t =
-    cond (none-left times) (cond (eqb (rule .lower) 0) (goesOn (Drop 0) (withEarly marks (plus t 1)) t false) breaking)
+    cond (none-left times) (cond (eqb (rule .lower) 0) (goesOn (Drop 0) (withLast marks (plus t 1)) t false) breaking)
     (cond (leb (front times + rule .lower) t) (waits (rule .upper) times (Drop 1) marks) breaking)
 
 unfoldable pub decideStrongDelay : Rule → Marks → List ℕ → ℕ → ℕ → Change

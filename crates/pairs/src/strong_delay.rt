@@ -1,4 +1,4 @@
-// StrongDelay: the times are the sources beyond the number of targets; early is one more than the time of a target beyond
+// StrongDelay: the times are the sources beyond the number of targets; last is one more than the time of a target beyond
 // the number of sources.
 use machine::Change;
 use machine::Marks;
@@ -32,8 +32,8 @@ pub fn decide(
 fn source(rule: Rule, marks: Marks, times: &[u64; SIZE], head: usize, len: usize, t: u64) -> Change
     ensures { λ r. ⌜ r ≡ sourceStrongDelay rule marks (ring (now (times .entry)) head len) t ⌝ }
 {
-    let none = parts::with_early(marks, 0);
-    if marks.early == 0 {
+    let none = parts::with_last(marks, 0);
+    if marks.last == 0 {
         return parts::one_more_waits(rule.upper, none, times, head, len, t);
     }
     parts::fewer_wait(rule.upper, none, times, head, len, 0)
@@ -45,7 +45,7 @@ fn target(rule: Rule, marks: Marks, times: &[u64; SIZE], head: usize, len: usize
 {
     if len == 0 {
         if rule.lower == 0 {
-            let beyond = parts::with_early(marks, parts::plus(t, 1));
+            let beyond = parts::with_last(marks, parts::plus(t, 1));
             return parts::goes_on(Edit::Drop { dropped: 0 }, beyond, t, false);
         }
         return parts::breaking();

@@ -1,36 +1,30 @@
--- ExecutionTime: no times are kept; `phase` is 0 between two executions, 1 in a running one and 2 in a preempted one, `last` one more than the
--- time of the row's last event, `ran` how long the execution begun has run up to that event.
+-- ExecutionTime: no times are kept; `first` is the phase, 0 between two executions, 1 in a running one and 2 in a preempted one, `last` one more than the
+-- time of the row's last event, `second` how long the execution begun has run up to that event.
 use Prim.Native.Nat.{ℕ, _-_}
 use mathlib.Core.Bool.{true, false, cond, _&&_}
 use mathlib.Core.List.{List}
 use lib.Dec.{leb, ltb, eqb}
 use Rattle.constraint.specs.Limits.{noLimit}
 use Rattle.queue.specs.declared.Edit.the-variants.{Drop}
-use Rattle.machine.specs.Parts.{plus, goesOn, breaking}
+use Rattle.machine.specs.Parts.{plus, marksOf, goesOn, breaking}
 use Rattle.machine.specs.declared.Rule.{Rule}
 use Rattle.machine.specs.declared.Marks.{Marks}
 use Rattle.machine.specs.declared.Change.{Change}
 
+-- the phase, and how long the execution begun has run up to the last event
+abbrev pub phaseOf : Marks → ℕ
+phaseOf m = m .first
+
+abbrev pub ranOf : Marks → ℕ
+ranOf m = m .second
+
 -- how long an execution that has run without a pause since its last event has run at t
 abbrev pub ranTo : Marks → ℕ → ℕ
-ranTo marks t = plus (marks .ran) (plus t 1 - marks .last)
+ranTo marks t = plus (ranOf marks) (plus t 1 - marks .last)
 
 -- the marks after an event at t: the phase, and how long the execution has run
 abbrev pub inPhase : Marks → ℕ → ℕ → ℕ → Marks
-inPhase m phase t ran =
-    record {
-      last = plus t 1;
-      early = m .early;
-      ahead = m .ahead;
-      low = m .low;
-      high = m .high;
-      first = m .first;
-      second = m .second;
-      third = m .third;
-      fourth = m .fourth;
-      phase = phase;
-      ran = ran;
-    }
+inPhase m phase t ran = marksOf (plus t 1) phase ran m
 
 -- the row goes on between two executions, with one that runs from t on, or with one that is preempted at t; only a running one has a due time
 abbrev pub idleFrom : Marks → ℕ → Change
@@ -55,12 +49,12 @@ whileRunning rule marks kind t =
 
 -- only a resume may come after a preempt
 unfoldable pub whilePreempted : Rule → Marks → ℕ → ℕ → Change
-whilePreempted rule marks kind t = cond (eqb kind (rule .fourth)) (runningFrom rule marks t (marks .ran)) breaking
+whilePreempted rule marks kind t = cond (eqb kind (rule .fourth)) (runningFrom rule marks t (ranOf marks)) breaking
 
 -- two events of the row never share a time
 unfoldable pub decideExecutionTime : Rule → Marks → List ℕ → ℕ → ℕ → Change
 decideExecutionTime rule marks times kind t =
     cond (ltb t (marks .last)) breaking
-    (cond (eqb (marks .phase) 0) (whileIdle rule marks kind t)
-    (cond (eqb (marks .phase) 1) (whileRunning rule marks kind t)
+    (cond (eqb (phaseOf marks) 0) (whileIdle rule marks kind t)
+    (cond (eqb (phaseOf marks) 1) (whileRunning rule marks kind t)
     (whilePreempted rule marks kind t)))

@@ -1,5 +1,5 @@
-// ExecutionTime: no times are kept; phase is 0 between two executions, 1 in a running one and 2 in a preempted one, last
-// one more than the time of the row's last event, ran how long the execution begun has run up to that event.
+// ExecutionTime: no times are kept; first is the phase: 0 between two executions, 1 in a running one and 2 in a preempted one;
+// last is one more than the time of the row's last event, second how long the execution begun has run up to that event.
 use constraint::NO_LIMIT;
 use machine::Change;
 use machine::Marks;
@@ -27,10 +27,10 @@ pub fn decide(rule: Rule, marks: Marks, kind: u64, t: u64) -> Change
     if t < marks.last {
         return parts::breaking();
     }
-    if marks.phase == IDLE {
+    if marks.first == IDLE {
         return while_idle(rule, marks, kind, t);
     }
-    if marks.phase == RUNNING {
+    if marks.first == RUNNING {
         return while_running(rule, marks, kind, t);
     }
     while_preempted(rule, marks, kind, t)
@@ -65,7 +65,7 @@ fn while_preempted(rule: Rule, marks: Marks, kind: u64, t: u64) -> Change
     ensures { λ r. ⌜ r ≡ whilePreempted rule marks kind t ⌝ }
 {
     if kind == rule.fourth {
-        return running_from(rule, marks, t, marks.ran);
+        return running_from(rule, marks, t, marks.second);
     }
     parts::breaking()
 }
@@ -74,7 +74,7 @@ fn while_preempted(rule: Rule, marks: Marks, kind: u64, t: u64) -> Change
 fn ran_to(marks: Marks, t: u64) -> u64
     ensures { λ r. ⌜ r ≡ ranTo marks t ⌝ }
 {
-    parts::plus(marks.ran, minus(parts::plus(t, 1), marks.last))
+    parts::plus(marks.second, minus(parts::plus(t, 1), marks.last))
 }
 
 // The marks after an event at t: the phase, and how long the execution has run.
@@ -82,8 +82,8 @@ fn in_phase(marks: Marks, phase: u64, t: u64, ran: u64) -> Marks
     ensures { λ r. ⌜ r ≡ inPhase marks phase t ran ⌝ }
 {
     let mut m = parts::with_last(marks, parts::plus(t, 1));
-    m.phase = phase;
-    m.ran = ran;
+    m.first = phase;
+    m.second = ran;
     m
 }
 

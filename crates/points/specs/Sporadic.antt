@@ -1,4 +1,4 @@
--- Sporadic: no times are kept; the last hidden point can be at each place from `low` to `high`, and `last` is one more than the last event's time.
+-- Sporadic: no times are kept; the last hidden point can be at each place from `first` to `second`, and `last` is one more than the last event's time.
 use Prim.Native.Nat.{ℕ, _-_, min, max}
 use mathlib.Core.Bool.{true, cond, _&&_}
 use mathlib.Core.List.{List}
@@ -10,14 +10,20 @@ use Rattle.machine.specs.declared.Rule.{Rule}
 use Rattle.machine.specs.declared.Marks.{Marks}
 use Rattle.machine.specs.declared.Change.{Change}
 
+-- where the last hidden point can be: from low to high
+abbrev pub lowOf : Marks → ℕ
+lowOf m = m .first
+
+abbrev pub highOf : Marks → ℕ
+highOf m = m .second
+
 -- the due time of a row whose last point can be as late as high: the next point comes by upper after it, and its event by jitter after that
 abbrev pub duePoint : Rule → ℕ → ℕ
 duePoint rule high = plus (plus high (rule .upper)) (rule .jitter)
 
 -- the row goes on with an event at t, whose point can be at each place from low to high
 abbrev pub pointAt : Rule → Marks → ℕ → ℕ → ℕ → Change
-pointAt rule marks t low high =
-    goesOn (Drop 0) (marksOf (plus t 1) (marks .early) (marks .ahead) low high marks) (duePoint rule high) true
+pointAt rule marks t low high = goesOn (Drop 0) (marksOf (plus t 1) low high marks) (duePoint rule high) true
 
 -- how far the next point is from the last at least: points rise strictly
 abbrev pub stride : ℕ → ℕ
@@ -25,10 +31,10 @@ stride lower = max lower 1
 
 -- where the point of an event at t can be, the point before it being from low to high
 abbrev pub lowest : Rule → Marks → ℕ → ℕ
-lowest rule marks t = max (plus (marks .low) (stride (rule .lower))) (t - rule .jitter)
+lowest rule marks t = max (plus (lowOf marks) (stride (rule .lower))) (t - rule .jitter)
 
 abbrev pub highest : Rule → Marks → ℕ → ℕ
-highest rule marks t = cond (eqb (rule .upper) noLimit) t (min (plus (marks .high) (rule .upper)) t)
+highest rule marks t = cond (eqb (rule .upper) noLimit) t (min (plus (highOf marks) (rule .upper)) t)
 
 unfoldable pub laterSporadic : Rule → Marks → ℕ → Change
 laterSporadic rule marks t =

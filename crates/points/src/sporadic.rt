@@ -1,5 +1,5 @@
-// Sporadic: no times are kept; the last hidden point can be at each place from low to high, and last is one more than
-// the last event's time.
+// Sporadic: no times are kept; the last hidden point can be at each place from first to second, and last is one more
+// than the last event's time.
 use constraint::NO_LIMIT;
 use machine::Change;
 use machine::Marks;
@@ -49,7 +49,7 @@ fn lowest(rule: Rule, marks: Marks, t: u64) -> u64
     ensures { λ r. ⌜ r ≡ lowest rule marks t ⌝ }
 {
     parts::larger(
-        parts::plus(marks.low, stride(rule.lower)),
+        parts::plus(marks.first, stride(rule.lower)),
         minus(t, rule.jitter),
     )
 }
@@ -61,7 +61,7 @@ fn highest(rule: Rule, marks: Marks, t: u64) -> u64
     if rule.upper == NO_LIMIT {
         return t;
     }
-    parts::smaller(parts::plus(marks.high, rule.upper), t)
+    parts::smaller(parts::plus(marks.second, rule.upper), t)
 }
 
 // The row goes on with an event at t, whose point can be at each place from low to high.
@@ -69,8 +69,8 @@ fn point_at(rule: Rule, marks: Marks, t: u64, low: u64, high: u64) -> Change
     ensures { λ r. ⌜ r ≡ pointAt rule marks t low high ⌝ }
 {
     let mut m = parts::with_last(marks, parts::plus(t, 1));
-    m.low = low;
-    m.high = high;
+    m.first = low;
+    m.second = high;
     parts::goes_on(Edit::Drop { dropped: 0 }, m, due_point(rule, high), true)
 }
 

@@ -126,7 +126,7 @@ module _ (a : Asked) where
   -- ---- a later stamp
 
   abbrev marksWith : ℕ → ℕ → Marks
-  marksWith low high = marksOf 0 0 0 low high noMarks
+  marksWith low high = marksOf 0 low high noMarks
 
   -- with no limit the next can be as late as its stamp
   all-high : (low high t : ℕ) → highest (anyRule (a .late)) (marksWith low high) t ≡ t

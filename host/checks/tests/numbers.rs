@@ -135,7 +135,7 @@ fn every_number_of_the_header_is_the_crates() {
 #[test]
 fn every_limit_of_the_manual_is_the_headers() {
     let header = Header::read();
-    assert_eq!(header.limits.len(), 14, "{:?}", header.limits);
+    assert_eq!(header.limits.len(), 15, "{:?}", header.limits);
     for (name, limit) in &header.limits {
         assert_eq!(header.defined.get(name), Some(limit), "{name}");
     }

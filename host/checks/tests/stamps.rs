@@ -21,19 +21,34 @@ fn library(table: &[u8], recording: &[u8], row: u64, late: u64) -> Result<Stampe
     delkuthi::stamped(table, recording, row, late).map(word).map_err(refusal)
 }
 
+/// What else a recording has beside the row's events.
+#[derive(Clone, Copy, Debug, PartialEq)]
+enum Others {
+    None,
+    /// A coloured event at each stamp, so that the recording is of version 2.
+    Coloured,
+}
+
 /// A table of one Repeat of span 1, and a recording of its stamps up to a clock.
-fn files(stamps: &Stamps) -> (Vec<u8>, Vec<u8>) {
+fn files(stamps: &Stamps, others: Others) -> (Vec<u8>, Vec<u8>) {
     let row = Constraint::Repeat { event: 0, span: 1, lower: stamps.lower, upper: stamps.upper };
-    let mut steps: Vec<Step> = stamps.stamps.iter().map(|&time| Step::Event { kind: 0, time }).collect();
+    let coloured = |time| (others == Others::Coloured).then_some(Step::Coloured { kind: 48, colour: 1, time });
+    let at = |&time: &u64| [Step::Event { kind: 0, time }].into_iter().chain(coloured(time));
+    let mut steps: Vec<Step> = stamps.stamps.iter().flat_map(at).collect();
     if stamps.clock > stamps.stamps.last().copied().unwrap_or(0) {
         steps.push(Step::Tick { time: stamps.clock });
     }
     (table_bytes(&[row]), recording_bytes(&steps))
 }
 
+/// The library's word, which events of other kinds do not change.
 fn word(stamps: &Stamps) -> Stamped {
-    let (table, recording) = files(stamps);
-    library(&table, &recording, 0, stamps.late).expect("a word")
+    let [word, beside_colours] = [Others::None, Others::Coloured].map(|others| {
+        let (table, recording) = files(stamps, others);
+        library(&table, &recording, 0, stamps.late).expect("a word")
+    });
+    assert_eq!(word, beside_colours, "{stamps:?}");
+    word
 }
 
 fn random_stamps(random: &mut Random, most: u64, gap: u64, late: u64) -> Stamps {
@@ -83,7 +98,7 @@ fn never_late_is_the_report() {
     let mut random = Random::new(1303);
     for _ in 0..3_000 {
         let stamps = Stamps { late: 0, ..random_stamps(&mut random, 8, 6, 0) };
-        let (table, recording) = files(&stamps);
+        let (table, recording) = files(&stamps, *random.pick(&[Others::None, Others::Coloured]));
         let report = report_in(&table, &recording, REPORT_LIMIT).expect("a report");
         let kept = report.ends_with(b"0 kept\n");
         assert_eq!(word(&stamps), if kept { Stamped::Kept } else { Stamped::Broken }, "{stamps:?}");
@@ -99,15 +114,22 @@ fn refusals_in_their_order() {
         Constraint::Delay { source: 0, target: 1, lower: 0, upper: NO_LIMIT },
         Constraint::Repeat { event: 0, span: 2, lower: 1, upper: 3 },
         Constraint::Repeat { event: 0, span: 1, lower: 1, upper: 3 },
+        Constraint::Reaction { stimulus: 48, response: 49, minimum: 1, maximum: 3 },
     ];
     // 70 sources wait in row 0: 12 for a monitor, and nothing here
     let steps: Vec<Step> = (1..=70).map(|time| Step::Event { kind: 0, time }).collect();
     let (table, recording) = (table_bytes(&rows), recording_bytes(&steps));
     assert_eq!(library(&table, &recording, 2, 0), Ok(Stamped::Kept));
     assert_eq!(library(&table, &recording, 2, LAST_TIME), Ok(Stamped::Kept));
-    for (row, late, number) in
-        [(3, u64::MAX, 15), (u64::MAX, 0, 15), (32, 0, 15), (0, u64::MAX, 25), (1, 0, 25), (2, LAST_TIME + 1, 10)]
-    {
+    for (row, late, number) in [
+        (4, u64::MAX, 15),
+        (u64::MAX, 0, 15),
+        (32, 0, 15),
+        (0, u64::MAX, 25),
+        (1, 0, 25),
+        (3, 0, 25),
+        (2, LAST_TIME + 1, 10),
+    ] {
         assert_eq!(library(&table, &recording, row, late), Err(Refusal { number, place: 0 }), "row {row}, e {late}");
     }
     for _ in 0..60_000 {
@@ -115,7 +137,11 @@ fn refusals_in_their_order() {
             .map(|_| match random.below(12) {
                 0 => Step::Event { kind: 64, time: 5 },
                 1 => Step::Tick { time: LAST_TIME + 1 },
-                2..5 => Step::Tick { time: random.below(20) },
+                2..4 => Step::Tick { time: random.below(20) },
+                4..6 => {
+                    let (kind, colour) = (random.from_to(46, 50) as u8, random.below(9) as u8);
+                    Step::Coloured { kind, colour, time: random.below(20) }
+                }
                 _ => Step::Event { kind: random.below(2) as u8, time: random.below(20) },
             })
             .collect();
@@ -126,13 +152,13 @@ fn refusals_in_their_order() {
         if random.chance(20) {
             damage(&mut random, &mut recording);
         }
-        let row = random.below(5);
+        let row = random.below(6);
         let late = *random.pick(&[0, 1, 3, LAST_TIME, LAST_TIME + 1]);
         let expected = stamped(&table, &recording, row, late);
         assert_eq!(library(&table, &recording, row, late), expected, "{table:?} {recording:?} {row} {late}");
         seen.insert(expected.map_or_else(|refusal| refusal.number, |word| 100 + word as u8));
     }
-    for number in [1, 2, 4, 5, 6, 7, 9, 10, 11, 13, 14, 15, 25, 100, 101, 102] {
+    for number in [1, 2, 4, 5, 6, 7, 9, 10, 11, 13, 14, 15, 18, 19, 25, 100, 101, 102] {
         assert!(seen.contains(&number), "{number} was not seen");
     }
     assert!(!seen.contains(&12) && !seen.contains(&8));

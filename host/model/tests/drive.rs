@@ -28,6 +28,8 @@ const TASK_START: u8 = 15;
 const TASK_STOP: u8 = 16;
 const TASK_PREEMPT: u8 = 17;
 const TASK_RESUME: u8 = 18;
+const GATEWAY_REQUEST: u8 = 48;
+const GATEWAY_REPLY: u8 = 49;
 
 /// The rows, in the order of `examples/README.md`.
 fn rows() -> Vec<Constraint> {
@@ -55,6 +57,7 @@ fn rows() -> Vec<Constraint> {
             upper: 6 * ms,
         },
         Constraint::Repetition { event: CAMERA_FRAME, span: 2, lower: 80 * ms, upper: 80 * ms, jitter: 3 * ms },
+        Constraint::Reaction { stimulus: GATEWAY_REQUEST, response: GATEWAY_REPLY, minimum: 3 * ms, maximum: 8 * ms },
     ]
 }
 
@@ -73,10 +76,30 @@ fn drive() -> Vec<Step> {
     events.push((70_100, DOOR_OPEN));
     events.extend((0..6).map(|i| (1_500 + 25 * i * MILLISECOND, TYRE_PRESSURE)));
     events.extend([(250_000, TASK_START), (254_500, TASK_PREEMPT), (262_100, TASK_RESUME), (263_600, TASK_STOP)]);
-    events.sort_by_key(|&(time, _)| time);
     let mut steps: Vec<Step> = events.into_iter().map(|(time, kind)| Step::Event { kind, time }).collect();
+    steps.extend(gateway());
     steps.push(Step::Tick { time: 300 * MILLISECOND });
+    steps.sort_by_key(time);
     steps
+}
+
+/// Requests to the gateway and its replies on two channels, which are the colours 1 and 2.
+fn gateway() -> [Step; 5] {
+    let on = |channel, time, kind| Step::Coloured { kind, colour: channel, time };
+    [
+        on(1, 241_000, GATEWAY_REQUEST),
+        on(2, 247_000, GATEWAY_REQUEST),
+        on(1, 249_000, GATEWAY_REPLY),
+        on(2, 251_400, GATEWAY_REPLY),
+        on(1, 266_300, GATEWAY_REPLY),
+    ]
+}
+
+fn time(step: &Step) -> u64 {
+    match step {
+        Step::Event { time, .. } | Step::Coloured { time, .. } | Step::Tick { time } => *time,
+        Step::Close => u64::MAX,
+    }
 }
 
 fn examples(name: &str) -> PathBuf {

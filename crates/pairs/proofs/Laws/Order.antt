@@ -16,30 +16,30 @@ use Rattle.constraint.specs.declared.Constraint.the-variants.{Order}
 use Rattle.constraint.proofs.Lists.{split, both, Each, each-right, Rising, rising-by}
 use Rattle.machine.specs.Rule.{ruleOf}
 use Rattle.queue.specs.declared.Edit.the-variants.{Drop}
-use Rattle.machine.specs.Parts.{noMarks, plus, withEarly, goesOn}
+use Rattle.machine.specs.Parts.{noMarks, plus, earlyOf, withLast, goesOn}
 use Rattle.machine.specs.declared.Rule.{Rule}
 use Rattle.machine.specs.declared.Marks.{Marks}
 use Rattle.machine.proofs.Exact.{Sound, GoesOn, ByOutcome, Exact}
 use Rattle.machine.proofs.TwoKinds.{UpTo, Further, Lost, TwoKinds, target-apart, exactTwoKinds}
-use Rattle.pairs.specs.Order.{withAhead, changesTo, decideOrder}
+use Rattle.pairs.specs.Order.{aheadOf, withAhead, changesTo, decideOrder}
 use Rattle.pairs.proofs.Laws.Answers.{firstFree}
 use Rattle.pairs.proofs.Laws.Paired.{Paired, Ahead, Pairing, dueEarly, due-ahead, due-beyond, pairing-start, beyond-each, source-waits}
 use Rattle.pairs.proofs.Laws.Paired.{source-partners, target-partners, target-beyond, beyond-late, beyond-open, ahead-open, ahead-count}
 use Rattle.pairs.proofs.Laws.Paired.{pairing-paired, paired-none-beyond}
 
--- no times are kept, and `ahead` counts the sources beyond the number of targets
+-- no times are kept, and `aheadOf` counts the sources beyond the number of targets
 record LiveOrder (sources targets : List ℕ) (marks : Marks) (times : List ℕ) : Type 0 where
   no-times : times ≡ []
   waiting : List ℕ
-  count : marks .ahead ≡ length waiting
-  pairing : Pairing _≤_ sources targets (marks .early) waiting
+  count : aheadOf marks ≡ length waiting
+  pairing : Pairing _≤_ sources targets (earlyOf marks) waiting
 
 -- its due time, and whether it is kept
 abbrev due : Marks → List ℕ → ℕ
-due marks times = dueEarly (marks .early) noLimit
+due marks times = dueEarly (earlyOf marks) noLimit
 
 abbrev kept : Marks → List ℕ → Bool
-kept marks times = eqb (marks .early) 0 && eqb (marks .ahead) 0
+kept marks times = eqb (earlyOf marks) 0 && eqb (aheadOf marks) 0
 
 -- times that rise up to a clock are not more than one more than it
 rising-count : (now : ℕ) (xs : List ℕ) → Rising xs → Each (λ x. x ≤ now) xs → length xs ≤ now + 1
@@ -62,32 +62,32 @@ module _ (source target : ℕ) (sound : Sound (Order source target)) where
       → ByOutcome (Lost t (Paired _≤_) sources targets) (GoesOn (LiveOrder sources targets) due kept times t) (changesTo marks)
   unfolding changesTo
   goes-to sources targets marks times t live in-time =
-      split (eqb (marks .early) 0)
-      (λ x. eqb (marks .early) 0 ≡ x → ByOutcome (Lost t (Paired _≤_) sources targets) (GoesOn (LiveOrder sources targets) due kept times t)
-      (cond x (goesOn (Drop 0) marks noLimit (eqb (marks .ahead) 0)) (goesOn (Drop 0) marks (marks .early - 1) false)))
+      split (eqb (earlyOf marks) 0)
+      (λ x. eqb (earlyOf marks) 0 ≡ x → ByOutcome (Lost t (Paired _≤_) sources targets) (GoesOn (LiveOrder sources targets) due kept times t)
+      (cond x (goesOn (Drop 0) marks noLimit (eqb (aheadOf marks) 0)) (goesOn (Drop 0) marks (earlyOf marks - 1) false)))
       (λ e f. record { live = live; due-is = rw f; kept-is = rw f; in-time = rw f at in-time })
       (λ e f. record { live = live; due-is = rw f; kept-is = rw f; in-time = rw f at in-time })
       refl
 
   module _ (sources targets : List ℕ) (marks : Marks) (times : List ℕ) (t : ℕ) (r : UpTo t sources targets) (no-times : times ≡ [])
-      (waiting : List ℕ) (count : marks .ahead ≡ length waiting) where
-    source-by : Pairing _≤_ sources targets (marks .early) waiting → t ≤ due marks times
+      (waiting : List ℕ) (count : aheadOf marks ≡ length waiting) where
+    source-by : Pairing _≤_ sources targets (earlyOf marks) waiting → t ≤ due marks times
         → ByOutcome (Lost t (Paired _≤_) (sources ++ t ∷ []) targets) (GoesOn (LiveOrder (sources ++ t ∷ []) targets) due kept times t)
         (decideOrder rule marks times source t)
     unfolding decideOrder
     source-by (inl (none, a)) in-time =
-        rw (eq-eqb source source refl, eq-eqb (marks .early) 0 none)
-        (goes-to (sources ++ t ∷ []) targets (withAhead marks (plus (marks .ahead) 1)) times t
+        rw (eq-eqb source source refl, eq-eqb (earlyOf marks) 0 none)
+        (goes-to (sources ++ t ∷ []) targets (withAhead marks (plus (aheadOf marks) 1)) times t
         (record { no-times = no-times; waiting = waiting ++ t ∷ []; count = one-more; pairing = inl (none, source-waits t a) })
-        (omega (arith, r .small, due-ahead (marks .early) noLimit none)))
+        (omega (arith, r .small, due-ahead (earlyOf marks) noLimit none)))
       where
-        one-more : plus (marks .ahead) 1 ≡ length (waiting ++ t ∷ [])
+        one-more : plus (aheadOf marks) 1 ≡ length (waiting ++ t ∷ [])
         one-more =
             rw (count, length-append waiting (t ∷ []))
             (omega (arith, r .small, ahead-count a, rising-count t sources (r .sources-rise) (r .sources-past)))
     source-by (inr (b, is, none, beyond)) in-time =
-        rw (eq-eqb source source refl, ne-eqb (marks .early) 0 (omega arith))
-        (goes-to (sources ++ t ∷ []) targets (withEarly marks 0) times t
+        rw (eq-eqb source source refl, ne-eqb (earlyOf marks) 0 (omega arith))
+        (goes-to (sources ++ t ∷ []) targets (withLast marks 0) times t
         (record {
           no-times = no-times;
           waiting = [];
@@ -97,7 +97,7 @@ module _ (source target : ℕ) (sound : Sound (Order source target)) where
         (omega (arith, r .small)))
       where
         now : b ≡ t
-        now = omega (arith, beyond-each (λ y. y ≤ t) beyond (r .targets-past), due-beyond (marks .early) noLimit b is)
+        now = omega (arith, beyond-each (λ y. y ≤ t) beyond (r .targets-past), due-beyond (earlyOf marks) noLimit b is)
 
   abbrev TargetDoes : List ℕ → List ℕ → Marks → List ℕ → ℕ → Type 0
   TargetDoes sources targets marks times t =
@@ -105,18 +105,18 @@ module _ (source target : ℕ) (sound : Sound (Order source target)) where
       (decideOrder rule marks times target t)
 
   target-change : (marks : Marks) (times : List ℕ) (t : ℕ) → decideOrder rule marks times target t
-      ≡ cond (eqb (marks .ahead) 0) (changesTo (withEarly marks (plus t 1))) (changesTo (withAhead marks (marks .ahead - 1)))
+      ≡ cond (eqb (aheadOf marks) 0) (changesTo (withLast marks (plus t 1))) (changesTo (withAhead marks (aheadOf marks - 1)))
   unfolding decideOrder
   target-change marks times t =
       rw (ne-eqb target source (target-apart (sound .kinds-fit)))
 
   module _ (sources targets : List ℕ) (marks : Marks) (times : List ℕ) (t : ℕ) (r : UpTo t sources targets) (before : Each (λ y. y < t) targets)
       (no-times : times ≡ []) where
-    target-by : (waiting : List ℕ) → marks .ahead ≡ length waiting → Pairing _≤_ sources targets (marks .early) waiting → t ≤ due marks times
+    target-by : (waiting : List ℕ) → aheadOf marks ≡ length waiting → Pairing _≤_ sources targets (earlyOf marks) waiting → t ≤ due marks times
         → TargetDoes sources targets marks times t
     target-by [] count (inl (none, a)) in-time =
-        rw (target-change marks times t, eq-eqb (marks .ahead) 0 count)
-        (goes-to sources (targets ++ t ∷ []) (withEarly marks (plus t 1)) times t
+        rw (target-change marks times t, eq-eqb (aheadOf marks) 0 count)
+        (goes-to sources (targets ++ t ∷ []) (withLast marks (plus t 1)) times t
         (record {
           no-times = no-times;
           waiting = [];
@@ -125,15 +125,15 @@ module _ (source target : ℕ) (sound : Sound (Order source target)) where
         })
         (omega (arith, due-beyond (plus t 1) noLimit t (omega (arith, r .small)))))
     target-by (s ∷ waiting) count (inl (none, a)) in-time =
-        rw (target-change marks times t, ne-eqb (marks .ahead) 0 (omega arith))
-        (goes-to sources (targets ++ t ∷ []) (withAhead marks (marks .ahead - 1)) times t
+        rw (target-change marks times t, ne-eqb (aheadOf marks) 0 (omega arith))
+        (goes-to sources (targets ++ t ∷ []) (withAhead marks (aheadOf marks - 1)) times t
         (record { no-times = no-times; waiting = waiting; count = omega arith; pairing = inl (none, target-partners t a earlier) })
-        (omega (arith, r .small, due-ahead (marks .early) noLimit none)))
+        (omega (arith, r .small, due-ahead (earlyOf marks) noLimit none)))
       where
         earlier : s ≤ t
         earlier = each-right (λ x. x ≤ t) (a .paired) (s ∷ waiting) (subst (Each (λ x. x ≤ t)) (a .rest) (r .sources-past)) 0 (omega arith)
     target-by waiting count (inr (b, is, none, beyond)) in-time =
-        absurd (omega (arith, beyond-each (λ y. y < t) beyond before, due-beyond (marks .early) noLimit b is))
+        absurd (omega (arith, beyond-each (λ y. y < t) beyond before, due-beyond (earlyOf marks) noLimit b is))
 
   -- ---- Ticks
 
@@ -158,15 +158,15 @@ module _ (source target : ℕ) (sound : Sound (Order source target)) where
   order-kept : (sources targets : List ℕ) (marks : Marks) (times : List ℕ) → LiveOrder sources targets marks times → kept marks times ≡ true
       → Paired _≤_ sources targets
   order-kept sources targets marks times live =
-      split (eqb (marks .early) 0) (λ x. x && eqb (marks .ahead) 0 ≡ true → Paired _≤_ sources targets)
-      (λ e f. pairing-paired (live .waiting) (live .pairing) (sym (live .count) ∙ eqb-true (marks .ahead) 0 f) (eqb-true (marks .early) 0 e))
+      split (eqb (earlyOf marks) 0) (λ x. x && eqb (aheadOf marks) 0 ≡ true → Paired _≤_ sources targets)
+      (λ e f. pairing-paired (live .waiting) (live .pairing) (sym (live .count) ∙ eqb-true (aheadOf marks) 0 f) (eqb-true (earlyOf marks) 0 e))
       (λ e f. absurd (false≢true f))
 
   order-not-kept : (sources targets : List ℕ) (marks : Marks) (times : List ℕ) → LiveOrder sources targets marks times → kept marks times ≡ false
       → ¬ Paired _≤_ sources targets
   order-not-kept sources targets marks times live e p =
       let (no-source, no-target) = paired-none-beyond (live .pairing) p in
-      both (rw (eq-eqb (marks .ahead) 0 (live .count ∙ no-source), eq-eqb (marks .early) 0 no-target) at e)
+      both (rw (eq-eqb (aheadOf marks) 0 (live .count ∙ no-source), eq-eqb (earlyOf marks) 0 no-target) at e)
 
   -- ---- Exact
 

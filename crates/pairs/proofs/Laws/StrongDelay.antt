@@ -19,7 +19,7 @@ use Rattle.constraint.proofs.Lists.{split, both, Each, Rising, rising-across}
 use Rattle.constraint.proofs.Counting.{next-least}
 use Rattle.queue.specs.declared.Edit.the-variants.{Drop, Push}
 use Rattle.machine.specs.Rule.{ruleOf}
-use Rattle.machine.specs.Parts.{noMarks, plus, withEarly, goesOn, breaking, waits, dueOldest, none-left}
+use Rattle.machine.specs.Parts.{noMarks, plus, earlyOf, withLast, goesOn, breaking, waits, dueOldest, none-left}
 use Rattle.machine.specs.declared.Rule.{Rule}
 use Rattle.machine.specs.declared.Marks.{Marks}
 use Rattle.machine.proofs.Exact.{Sound, GoesOn, ByOutcome, Exact}
@@ -33,14 +33,14 @@ use Rattle.pairs.proofs.Laws.Paired.{paired-none-beyond}
 
 -- the times are the sources beyond the number of targets
 record LiveStrongDelay (lower upper : ℕ) (sources targets : List ℕ) (marks : Marks) (times : List ℕ) : Type 0 where
-  pairing : Pairing (Between lower upper) sources targets (marks .early) times
+  pairing : Pairing (Between lower upper) sources targets (earlyOf marks) times
 
 -- its due time, and whether it is kept
 abbrev due : ℕ → Marks → List ℕ → ℕ
-due upper marks times = dueEarly (marks .early) (dueOldest upper times)
+due upper marks times = dueEarly (earlyOf marks) (dueOldest upper times)
 
 abbrev kept : Marks → List ℕ → Bool
-kept marks times = eqb (marks .early) 0 && none-left times
+kept marks times = eqb (earlyOf marks) 0 && none-left times
 
 between-not-later : (lower upper x y : ℕ) → Between lower upper x y → x ≤ y
 between-not-later lower upper x y f = omega (arith, f .0)
@@ -64,8 +64,8 @@ module _ (source target lower upper : ℕ) (sound : Sound (StrongDelay source ta
   -- ---- Events
 
   -- what the machine does in each state
-  source-change : (marks : Marks) (times : List ℕ) (t : ℕ) (b : Bool) → eqb (marks .early) 0 ≡ b
-      → decideStrongDelay rule marks times source t ≡ waits upper times (cond b (Push 0 t) (Drop 0)) (withEarly marks 0)
+  source-change : (marks : Marks) (times : List ℕ) (t : ℕ) (b : Bool) → eqb (earlyOf marks) 0 ≡ b
+      → decideStrongDelay rule marks times source t ≡ waits upper times (cond b (Push 0 t) (Drop 0)) (withLast marks 0)
   unfolding decideStrongDelay sourceStrongDelay
   source-change marks times t b e = rw (eq-eqb source source refl, e)
 
@@ -75,18 +75,18 @@ module _ (source target lower upper : ℕ) (sound : Sound (StrongDelay source ta
       rw (ne-eqb target source (target-apart (sound .kinds-fit)))
 
   module _ (sources targets : List ℕ) (marks : Marks) (t : ℕ) (r : UpTo t sources targets) where
-    source-by : (times : List ℕ) → Pairing (Between lower upper) sources targets (marks .early) times → t ≤ due upper marks times
+    source-by : (times : List ℕ) → Pairing (Between lower upper) sources targets (earlyOf marks) times → t ≤ due upper marks times
         → Does (sources ++ t ∷ []) targets marks times t source
     source-by times (inl (none, a)) in-time =
-        rw (source-change marks times t true (eq-eqb (marks .early) 0 none)) (record {
+        rw (source-change marks times t true (eq-eqb (earlyOf marks) 0 none)) (record {
           live = record { pairing = inl (refl, source-waits t a) };
           due-is = refl;
           kept-is = refl;
-          in-time = due-pushed upper t times (r .small) (rw (due-ahead (marks .early) (dueOldest upper times) none) at in-time);
+          in-time = due-pushed upper t times (r .small) (rw (due-ahead (earlyOf marks) (dueOldest upper times) none) at in-time);
         })
     source-by times (inr (b, is, none, beyond)) in-time =
-        let now : b ≡ t = omega (arith, beyond-each (λ y. y ≤ t) beyond (r .targets-past), due-beyond (marks .early) (dueOldest upper times) b is) in
-        rw (source-change marks times t false (ne-eqb (marks .early) 0 (omega arith)), none) (record {
+        let now : b ≡ t = omega (arith, beyond-each (λ y. y ≤ t) beyond (r .targets-past), due-beyond (earlyOf marks) (dueOldest upper times) b is) in
+        rw (source-change marks times t false (ne-eqb (earlyOf marks) 0 (omega arith)), none) (record {
           live = record {
             pairing = inl
                 (refl, subst (λ (x : ℕ). Ahead (Between lower upper) (sources ++ x ∷ []) targets []) now (source-partners beyond));
@@ -97,14 +97,14 @@ module _ (source target lower upper : ℕ) (sound : Sound (StrongDelay source ta
         })
 
     -- a target with no source that waits, and one that takes the oldest
-    target-alone : marks .early ≡ 0 → Ahead (Between lower upper) sources targets [] → Does sources (targets ++ t ∷ []) marks [] t target
+    target-alone : earlyOf marks ≡ 0 → Ahead (Between lower upper) sources targets [] → Does sources (targets ++ t ∷ []) marks [] t target
     unfolding targetStrongDelay
     target-alone none a =
         rw (target-change marks [] t)
         (split (eqb lower 0)
         (λ x. ByOutcome (Lost t (Paired (Between lower upper)) sources (targets ++ t ∷ []))
         (GoesOn (LiveStrongDelay lower upper sources (targets ++ t ∷ [])) (due upper) kept [] t)
-        (cond x (goesOn (Drop 0) (withEarly marks (plus t 1)) t false) breaking))
+        (cond x (goesOn (Drop 0) (withLast marks (plus t 1)) t false) breaking))
         (λ e. record {
           live = record { pairing = inr (t, omega (arith, r .small), refl, target-beyond t a (omega (arith, eqb-true lower 0 e), omega arith)) };
           due-is = omega (arith, due-beyond (plus t 1) (dueOldest upper []) t (omega (arith, r .small)));
@@ -113,7 +113,7 @@ module _ (source target lower upper : ℕ) (sound : Sound (StrongDelay source ta
         })
         (λ e. beyond-misfits (between-not-later lower upper) t a (λ f. eqb-false lower 0 e (omega (arith, f .0)))))
 
-    target-takes : (s : ℕ) (times : List ℕ) → marks .early ≡ 0 → Ahead (Between lower upper) sources targets (s ∷ times) → t ≤ plus s upper
+    target-takes : (s : ℕ) (times : List ℕ) → earlyOf marks ≡ 0 → Ahead (Between lower upper) sources targets (s ∷ times) → t ≤ plus s upper
         → Does sources (targets ++ t ∷ []) marks (s ∷ times) t target
     unfolding targetStrongDelay
     target-takes s times none a oldest =
@@ -124,20 +124,20 @@ module _ (source target lower upper : ℕ) (sound : Sound (StrongDelay source ta
         (cond x (waits upper (s ∷ times) (Drop 1) marks) breaking))
         (λ e. record {
           live = record { pairing = inl (none, target-partners t a (leb-true (s + lower) t e, omega arith)) };
-          due-is = rw (due-ahead (marks .early) (dueOldest upper times) none);
-          kept-is = rw (eq-eqb (marks .early) 0 none);
+          due-is = rw (due-ahead (earlyOf marks) (dueOldest upper times) none);
+          kept-is = rw (eq-eqb (earlyOf marks) 0 none);
           in-time = due-dropped upper t 1 (s ∷ times) (r .small) (ahead-rising a (r .sources-rise)) oldest;
         })
         (λ e. target-misfits t a (λ f. omega (arith, f .0, leb-false (s + lower) t e))))
 
     -- a second target beyond would be later than the due time
-    target-by : (times : List ℕ) → Each (λ y. y < t) targets → Pairing (Between lower upper) sources targets (marks .early) times
+    target-by : (times : List ℕ) → Each (λ y. y < t) targets → Pairing (Between lower upper) sources targets (earlyOf marks) times
         → t ≤ due upper marks times → Does sources (targets ++ t ∷ []) marks times t target
     target-by [] before (inl (none, a)) in-time = target-alone none a
     target-by (s ∷ times) before (inl (none, a)) in-time =
-        target-takes s times none a (rw (due-ahead (marks .early) (plus s upper) none) at in-time)
+        target-takes s times none a (rw (due-ahead (earlyOf marks) (plus s upper) none) at in-time)
     target-by times before (inr (b, is, none, beyond)) in-time =
-        absurd (omega (arith, beyond-each (λ y. y < t) beyond before, due-beyond (marks .early) (dueOldest upper times) b is))
+        absurd (omega (arith, beyond-each (λ y. y < t) beyond before, due-beyond (earlyOf marks) (dueOldest upper times) b is))
 
   -- ---- Ticks
 

@@ -28,7 +28,7 @@ use Rattle.machine.specs.declared.Change.{Change}
 use Rattle.machine.proofs.Exact.{Sound, GoesOn, ByOutcome, outcome-map, Exact}
 use Rattle.machine.proofs.Tests.{Tells, holds, fails, tells-leb, tells-same, tells-and}
 use Rattle.machine.proofs.SeveralKinds.{kinds-stream, kinds-apart, by-place}
-use Rattle.phases.specs.ExecutionTime.{ranTo, inPhase, idleFrom, runningFrom, preemptedFrom}
+use Rattle.phases.specs.ExecutionTime.{phaseOf, ranOf, ranTo, inPhase, idleFrom, runningFrom, preemptedFrom}
 use Rattle.phases.specs.ExecutionTime.{whileIdle, whileRunning, whilePreempted, decideExecutionTime}
 use Rattle.phases.proofs.Laws.Executions.{Phase, idle, runs, waits, ranBy, RisesFrom}
 use Rattle.phases.proofs.Laws.Executions as E
@@ -98,18 +98,18 @@ module _ (start stop preempt resume lower upper : ℕ) (sound : Sound (Execution
 
   record Keeps (past : List (ℕ × ℕ)) (marks : Marks) (times : List ℕ) : Type 0 where
     no-times : times ≡ []
-    stands : Stands past (phaseIn (marks .phase) (marks .ran)) (marks .last)
-    room : Room (phaseIn (marks .phase) (marks .ran))
+    stands : Stands past (phaseIn (phaseOf marks) (ranOf marks)) (marks .last)
+    room : Room (phaseIn (phaseOf marks) (ranOf marks))
 
   -- only a running execution has a due time
   abbrev dueBy : Bool → Marks → ℕ
-  dueBy is-running marks = cond is-running (plus (marks .last) (upper - (marks .ran + 1))) noLimit
+  dueBy is-running marks = cond is-running (plus (marks .last) (upper - (ranOf marks + 1))) noLimit
 
   abbrev due : Marks → List ℕ → ℕ
-  due marks times = dueBy (eqb (marks .phase) 1) marks
+  due marks times = dueBy (eqb (phaseOf marks) 1) marks
 
   abbrev kept : Marks → List ℕ → Bool
-  kept marks times = eqb (marks .phase) 0
+  kept marks times = eqb (phaseOf marks) 0
 
   -- ---- Events
 
@@ -164,24 +164,24 @@ module _ (start stop preempt resume lower upper : ℕ) (sound : Sound (Execution
             lost-now idle (marks .last) stands (λ further h. wrong (h .1, omega (arith, ends-room (runs 0) (t + 1) further (h .2))))
 
     -- a stop or a preempt may come in a running execution; the due time has seen to upper
-    module _ (from : marks .last ≤ t) (room : marks .ran + 1 ≤ upper) (soon : t ≤ plus (marks .last) (upper - (marks .ran + 1)))
-        (stands : Stands past (runs (marks .ran)) (marks .last)) where
-      ran-is : ranTo marks t ≡ ranBy (marks .ran) (marks .last) t
+    module _ (from : marks .last ≤ t) (room : ranOf marks + 1 ≤ upper) (soon : t ≤ plus (marks .last) (upper - (ranOf marks + 1)))
+        (stands : Stands past (runs (ranOf marks)) (marks .last)) where
+      ran-is : ranTo marks t ≡ ranBy (ranOf marks) (marks .last) t
       ran-is = omega (arith, small)
 
       stop-next : k ≡ stop → lower ≤ ranTo marks t → (further : List (ℕ × ℕ))
-          → Ends (runs (marks .ran)) (marks .last) ((k, t) ∷ further) ↔ Ends idle (t + 1) further
+          → Ends (runs (ranOf marks)) (marks .last) ((k, t) ∷ further) ↔ Ends idle (t + 1) further
       stop-next is long further = (to-idle, λ h. (from, inl (is, omega (arith, ran-is), omega (arith, small), h)))
         where
-          to-idle : Ends (runs (marks .ran)) (marks .last) ((k, t) ∷ further) → Ends idle (t + 1) further
+          to-idle : Ends (runs (ranOf marks)) (marks .last) ((k, t) ∷ further) → Ends idle (t + 1) further
           to-idle (late, inl (same, enough, short, later)) = later
           to-idle (late, inr (other, later)) = absurd (stop-apart (sym is ∙ other))
 
       preempt-next : k ≡ preempt → (further : List (ℕ × ℕ))
-          → Ends (runs (marks .ran)) (marks .last) ((k, t) ∷ further) ↔ Ends (waits (ranTo marks t)) (t + 1) further
+          → Ends (runs (ranOf marks)) (marks .last) ((k, t) ∷ further) ↔ Ends (waits (ranTo marks t)) (t + 1) further
       preempt-next is further = rw ran-is (to-waits, λ h. (from, inr (is, h)))
         where
-          to-waits : Ends (runs (marks .ran)) (marks .last) ((k, t) ∷ further) → Ends (waits (ranBy (marks .ran) (marks .last) t)) (t + 1) further
+          to-waits : Ends (runs (ranOf marks)) (marks .last) ((k, t) ∷ further) → Ends (waits (ranBy (ranOf marks) (marks .last) t)) (t + 1) further
           to-waits (late, inl (other, enough, short, later)) = absurd (stop-apart (sym other ∙ is))
           to-waits (late, inr (same, later)) = later
 
@@ -192,33 +192,33 @@ module _ (start stop preempt resume lower upper : ℕ) (sound : Sound (Execution
           (tells-and (tells-equal k preempt) (tells-same (tells-leb _ upper) (λ h. omega arith) (λ h. omega arith)))
         where
           wrong : ¬ ((k ≡ stop) × (lower ≤ ranTo marks t)) → ¬ ((k ≡ preempt) × (ranTo marks t < upper)) → (further : List (ℕ × ℕ))
-              → ¬ Ends (runs (marks .ran)) (marks .last) ((k, t) ∷ further)
+              → ¬ Ends (runs (ranOf marks)) (marks .last) ((k, t) ∷ further)
           wrong no-stop no-preempt further (late, inl (is, enough, short, later)) = no-stop (is, omega (arith, ran-is))
           wrong no-stop no-preempt further (late, inr (is, later)) =
-              no-preempt (is, omega (arith, ran-is, ends-room (waits (ranBy (marks .ran) (marks .last) t)) (t + 1) further later))
+              no-preempt (is, omega (arith, ran-is, ends-room (waits (ranBy (ranOf marks) (marks .last) t)) (t + 1) further later))
 
           turn : {stops preempts : Bool} → Tells ((k ≡ stop) × (lower ≤ ranTo marks t)) stops
               → Tells ((k ≡ preempt) × (ranTo marks t < upper)) preempts
               → Turns past times k t (cond stops (idleFrom marks t) (cond preempts (preemptedFrom marks t (ranTo marks t)) breaking))
-          turn (holds (is, long)) preempts = idle-next (stands-more (runs (marks .ran)) idle (marks .last) stands (stop-next is long))
+          turn (holds (is, long)) preempts = idle-next (stands-more (runs (ranOf marks)) idle (marks .last) stands (stop-next is long))
           turn (fails no-stop) (holds (is, less)) =
               preempted-next (ranTo marks t) (omega arith)
-              (stands-more (runs (marks .ran)) (waits (ranTo marks t)) (marks .last) stands (preempt-next is))
-          turn (fails no-stop) (fails no-preempt) = lost-now (runs (marks .ran)) (marks .last) stands (wrong no-stop no-preempt)
+              (stands-more (runs (ranOf marks)) (waits (ranTo marks t)) (marks .last) stands (preempt-next is))
+          turn (fails no-stop) (fails no-preempt) = lost-now (runs (ranOf marks)) (marks .last) stands (wrong no-stop no-preempt)
 
     -- only a resume may come in a preempted one
-    preempted-turns : marks .last ≤ t → marks .ran + 1 ≤ upper → Stands past (waits (marks .ran)) (marks .last)
+    preempted-turns : marks .last ≤ t → ranOf marks + 1 ≤ upper → Stands past (waits (ranOf marks)) (marks .last)
         → Turns past times k t (whilePreempted rule marks k t)
     unfolding whilePreempted
     preempted-turns from room stands = turn (tells-equal k resume)
       where
-        turn : {test : Bool} → Tells (k ≡ resume) test → Turns past times k t (cond test (runningFrom rule marks t (marks .ran)) breaking)
+        turn : {test : Bool} → Tells (k ≡ resume) test → Turns past times k t (cond test (runningFrom rule marks t (ranOf marks)) breaking)
         turn (holds is) =
-            running-next (marks .ran) room
-            (stands-more (waits (marks .ran)) (runs (marks .ran)) (marks .last) stands (λ further. (λ h. h .2, λ h. (from, is, h))))
-        turn (fails wrong) = lost-now (waits (marks .ran)) (marks .last) stands (λ further h. wrong (h .1))
+            running-next (ranOf marks) room
+            (stands-more (waits (ranOf marks)) (runs (ranOf marks)) (marks .last) stands (λ further. (λ h. h .2, λ h. (from, is, h))))
+        turn (fails wrong) = lost-now (waits (ranOf marks)) (marks .last) stands (λ further h. wrong (h .1))
 
-    event-turns : Stands past (phaseIn (marks .phase) (marks .ran)) (marks .last) → Room (phaseIn (marks .phase) (marks .ran)) → t ≤ due marks times
+    event-turns : Stands past (phaseIn (phaseOf marks) (ranOf marks)) (marks .last) → Room (phaseIn (phaseOf marks) (ranOf marks)) → t ≤ due marks times
         → Turns past times k t (decideExecutionTime rule marks times k t)
     unfolding decideExecutionTime
     event-turns stands room soon = turn (tells-below t (marks .last))
@@ -226,22 +226,22 @@ module _ (start stop preempt resume lower upper : ℕ) (sound : Sound (Execution
         -- the marks' last time has passed
         in-phase : marks .last ≤ t
             → Turns past times k t
-            (cond (eqb (marks .phase) 0) (whileIdle rule marks k t)
-            (cond (eqb (marks .phase) 1) (whileRunning rule marks k t) (whilePreempted rule marks k t)))
+            (cond (eqb (phaseOf marks) 0) (whileIdle rule marks k t)
+            (cond (eqb (phaseOf marks) 1) (whileRunning rule marks k t) (whilePreempted rule marks k t)))
         in-phase from =
-            by-phase (marks .phase)
-            (λ x y. Stands past (phaseBy x y (marks .ran)) (marks .last)
-            → Room (phaseBy x y (marks .ran)) → t ≤ dueBy y marks
+            by-phase (phaseOf marks)
+            (λ x y. Stands past (phaseBy x y (ranOf marks)) (marks .last)
+            → Room (phaseBy x y (ranOf marks)) → t ≤ dueBy y marks
             → Turns past times k t (cond x (whileIdle rule marks k t) (cond y (whileRunning rule marks k t) (whilePreempted rule marks k t))))
             (λ st ro so. idle-turns from st) (λ st ro so. running-turns from ro so st) (λ st ro so. preempted-turns from ro st) stands room soon
 
         turn : {test : Bool} → Tells (t < marks .last) test
             → Turns past times k t
             (cond test breaking
-            (cond (eqb (marks .phase) 0) (whileIdle rule marks k t)
-            (cond (eqb (marks .phase) 1) (whileRunning rule marks k t) (whilePreempted rule marks k t))))
+            (cond (eqb (phaseOf marks) 0) (whileIdle rule marks k t)
+            (cond (eqb (phaseOf marks) 1) (whileRunning rule marks k t) (whilePreempted rule marks k t))))
         turn (holds early) =
-            let phase : Phase = phaseIn (marks .phase) (marks .ran) in
+            let phase : Phase = phaseIn (phaseOf marks) (ranOf marks) in
             lost-now phase (marks .last) stands (λ further h. omega (arith, ends-rise phase (marks .last) ((k, t) ∷ further) h .0))
         turn (fails late) = in-phase (omega arith)
 
@@ -285,16 +285,16 @@ module _ (start stop preempt resume lower upper : ℕ) (sound : Sound (Execution
   too-late : (past : List (ℕ × ℕ)) (marks : Marks) (times : List ℕ) (t : ℕ) → Keeps past marks times → due marks times < t → t ≤ lastTime
       → (further : List (ℕ × ℕ)) → FirstFrom t further → ¬ Ends idle 0 (past ++ further)
   too-late past marks times t keeps passed recordable further first ends =
-      by-phase (marks .phase)
-      (λ x y. dueBy y marks < t → Room (phaseBy x y (marks .ran))
-      → Ends (phaseBy x y (marks .ran)) (marks .last) further → ⊥)
+      by-phase (phaseOf marks)
+      (λ x y. dueBy y marks < t → Room (phaseBy x y (ranOf marks))
+      → Ends (phaseBy x y (ranOf marks)) (marks .last) further → ⊥)
       (λ over room h. omega arith) (λ over room h. runs-out over room further first h) (λ over room h. omega arith)
       passed (keeps .room) (keeps .stands further .0 ends)
     where
-      runs-out : plus (marks .last) (upper - (marks .ran + 1)) < t → marks .ran + 1 ≤ upper → (es : List (ℕ × ℕ)) → FirstFrom t es
-          → ¬ Ends (runs (marks .ran)) (marks .last) es
+      runs-out : plus (marks .last) (upper - (ranOf marks + 1)) < t → ranOf marks + 1 ≤ upper → (es : List (ℕ × ℕ)) → FirstFrom t es
+          → ¬ Ends (runs (ranOf marks)) (marks .last) es
       runs-out over room [] first h = h
-      runs-out over room (e ∷ es) first h = omega (arith, h .0, E.ends-soon start stop preempt resume lower upper (marks .ran) (marks .last) e es h)
+      runs-out over room (e ∷ es) first h = omega (arith, h .0, E.ends-soon start stop preempt resume lower upper (ranOf marks) (marks .last) e es h)
 
   -- ---- Open
 
@@ -303,27 +303,27 @@ module _ (start stop preempt resume lower upper : ℕ) (sound : Sound (Execution
   WayOut now phase free = (es : List (ℕ × ℕ)) × OfKinds ks es × FirstFrom now es × Ends phase free es
 
   way-out : (now : ℕ) (past : List (ℕ × ℕ)) (marks : Marks) (times : List ℕ) → Keeps past marks times → now ≤ due marks times
-      → WayOut now (phaseIn (marks .phase) (marks .ran)) (marks .last)
+      → WayOut now (phaseIn (phaseOf marks) (ranOf marks)) (marks .last)
   way-out now past marks times keeps soon =
-      by-phase (marks .phase)
-      (λ x y. Room (phaseBy x y (marks .ran)) → now ≤ dueBy y marks
-      → WayOut now (phaseBy x y (marks .ran)) (marks .last))
+      by-phase (phaseOf marks)
+      (λ x y. Room (phaseBy x y (ranOf marks)) → now ≤ dueBy y marks
+      → WayOut now (phaseBy x y (ranOf marks)) (marks .last))
       (λ room in-time. ([], tt, tt, tt)) running-out preempted-out (keeps .room) soon
     where
       of-place : (i : ℕ) → i < 4 → (at ks i < streamCount) × (among (at ks i) ks ≡ true)
       of-place i h = (kinds-stream ks (sound .kinds-fit) i h, among-at ks i h)
 
-      running-out : marks .ran + 1 ≤ upper → now ≤ plus (marks .last) (upper - (marks .ran + 1)) → WayOut now (runs (marks .ran)) (marks .last)
+      running-out : ranOf marks + 1 ≤ upper → now ≤ plus (marks .last) (upper - (ranOf marks + 1)) → WayOut now (runs (ranOf marks)) (marks .last)
       running-out room in-time = (
-        (stop, max now (marks .last + (lower - (marks .ran + 1)))) ∷ [],
+        (stop, max now (marks .last + (lower - (ranOf marks + 1)))) ∷ [],
         (of-place 1 (omega arith), tt),
         omega arith,
         (omega arith, inl (refl, omega arith, omega (arith, ordered), tt)),
       )
 
-      preempted-out : marks .ran + 1 ≤ upper → now ≤ noLimit → WayOut now (waits (marks .ran)) (marks .last)
+      preempted-out : ranOf marks + 1 ≤ upper → now ≤ noLimit → WayOut now (waits (ranOf marks)) (marks .last)
       preempted-out room in-time = (
-        (resume, max now (marks .last)) ∷ (stop, max now (marks .last) + max 1 (lower - marks .ran)) ∷ [],
+        (resume, max now (marks .last)) ∷ (stop, max now (marks .last) + max 1 (lower - ranOf marks)) ∷ [],
         (of-place 3 (omega arith), (of-place 1 (omega arith), tt)),
         omega arith,
         (omega arith, refl, (omega arith, inl (refl, omega arith, omega (arith, ordered), tt))),
@@ -343,8 +343,8 @@ module _ (start stop preempt resume lower upper : ℕ) (sound : Sound (Execution
 
   at-close : (past : List (ℕ × ℕ)) (marks : Marks) (times : List ℕ) → Keeps past marks times → Tells (Ends idle 0 past) (kept marks times)
   at-close past marks times keeps =
-      by-phase (marks .phase)
-      (λ x y. (Ends idle 0 (past ++ []) ↔ Ends (phaseBy x y (marks .ran)) (marks .last) [])
+      by-phase (phaseOf marks)
+      (λ x y. (Ends idle 0 (past ++ []) ↔ Ends (phaseBy x y (ranOf marks)) (marks .last) [])
       → Tells (Ends idle 0 past) x)
       (λ stands. holds (rw (append-nil past) at (stands .1 tt)))
       (λ stands. fails (λ h. stands .0 (rw (append-nil past) h)))

@@ -23,7 +23,7 @@ use Rattle.constraint.proofs.History.{times-append}
 use Rattle.constraint.proofs.Continuations.{not-later-earlier, continues-late, continues-clock}
 use Rattle.machine.specs.Rule.{ruleOf}
 use Rattle.machine.specs.Parts.{noMarks, plus, breaking}
-use Rattle.points.specs.Sporadic.{duePoint, pointAt, stride, lowest, highest, laterSporadic, decideSporadic}
+use Rattle.points.specs.Sporadic.{lowOf, highOf, duePoint, pointAt, stride, lowest, highest, laterSporadic, decideSporadic}
 use Rattle.machine.specs.declared.Rule.{Rule}
 use Rattle.machine.specs.declared.Marks.{Marks}
 use Rattle.machine.specs.declared.Change.{Change}
@@ -47,11 +47,11 @@ record KeepsSporadic (rule : Rule) (events : List ℕ) (marks : Marks) (kept : L
   no-times : kept ≡ []
   apart : AtLeastApart (rule .minimum) events
   last-is : LastIs events (marks .last)
-  places : (n : ℕ) → n + 1 ≡ length events → Places rule events n (marks .low) (marks .high)
+  places : (n : ℕ) → n + 1 ≡ length events → Places rule events n (lowOf marks) (highOf marks)
 
 -- nothing is due before the first event; then the last point's latest place gives the due time
 abbrev dueSporadic : Rule → Marks → List ℕ → ℕ
-dueSporadic rule marks kept = cond (eqb (marks .last) 0) noLimit (duePoint rule (marks .high))
+dueSporadic rule marks kept = cond (eqb (marks .last) 0) noLimit (duePoint rule (highOf marks))
 
 -- what an event at t makes of the row
 abbrev TurnsSporadic : Rule → List ℕ → List ℕ → ℕ → Change → Type 0
@@ -76,32 +76,32 @@ abbrev pub IsPlace : Rule → Marks → ℕ → ℕ → Type 0
 IsPlace rule marks t q = (lowest rule marks t ≤ q) × (q ≤ highest rule marks t)
 
 module _ (rule : Rule) (marks : Marks) (t : ℕ) (small : t ≤ lastTime) where
-  below-highest : (q : ℕ) → q ≤ highest rule marks t → (q ≤ t) × ((rule .upper ≡ noLimit) ⊎ (q ≤ marks .high + rule .upper))
+  below-highest : (q : ℕ) → q ≤ highest rule marks t → (q ≤ t) × ((rule .upper ≡ noLimit) ⊎ (q ≤ highOf marks + rule .upper))
   below-highest q =
       split (eqb (rule .upper) noLimit)
-      (λ x. q ≤ cond x t (min (plus (marks .high) (rule .upper)) t) → (q ≤ t) × ((rule .upper ≡ noLimit) ⊎ (q ≤ marks .high + rule .upper)))
+      (λ x. q ≤ cond x t (min (plus (highOf marks) (rule .upper)) t) → (q ≤ t) × ((rule .upper ≡ noLimit) ⊎ (q ≤ highOf marks + rule .upper)))
       (λ e h. (h, inl (eqb-true (rule .upper) noLimit e)))
       (λ e h. (omega arith, inr (omega arith)))
 
-  upto-highest : (q : ℕ) → q ≤ t → (rule .upper ≡ noLimit) ⊎ (q ≤ marks .high + rule .upper) → q ≤ highest rule marks t
+  upto-highest : (q : ℕ) → q ≤ t → (rule .upper ≡ noLimit) ⊎ (q ≤ highOf marks + rule .upper) → q ≤ highest rule marks t
   upto-highest q soon reach =
-      split (eqb (rule .upper) noLimit) (λ x. q ≤ cond x t (min (plus (marks .high) (rule .upper)) t))
+      split (eqb (rule .upper) noLimit) (λ x. q ≤ cond x t (min (plus (highOf marks) (rule .upper)) t))
       (λ e. soon)
       (λ e. ⊎-elim (λ f. absurd (eqb-false (rule .upper) noLimit e f)) (λ h. omega arith) reach)
 
   -- each place of the next point has a place of the last one before it
-  place-before : marks .low ≤ marks .high → stride (rule .lower) ≤ rule .upper → (q : ℕ) → IsPlace rule marks t q
-      → (p : ℕ) × (marks .low ≤ p) × (p ≤ marks .high) × NextAt rule t p q
+  place-before : lowOf marks ≤ highOf marks → stride (rule .lower) ≤ rule .upper → (q : ℕ) → IsPlace rule marks t q
+      → (p : ℕ) × (lowOf marks ≤ p) × (p ≤ highOf marks) × NextAt rule t p q
   place-before ordered possible q place =
       let (soon, reach) = below-highest q (place .1) in (
-        min (marks .high) (q - stride (rule .lower)),
+        min (highOf marks) (q - stride (rule .lower)),
         omega arith,
         omega arith,
         ((omega arith, (omega arith, ⊎-elim inl (λ h. inr (omega arith)) reach)), (omega arith, omega arith)),
       )
 
   -- and behind a place of the last point there is no other place of the next one
-  place-behind : rule .lower ≤ lastTime → (p q : ℕ) → marks .low ≤ p → p ≤ marks .high → NextAt rule t p q
+  place-behind : rule .lower ≤ lastTime → (p q : ℕ) → lowOf marks ≤ p → p ≤ highOf marks → NextAt rule t p q
       → (stride (rule .lower) ≤ rule .upper) × IsPlace rule marks t q
   place-behind small-lower p q low high next = (
     ⊎-elim (λ e. omega arith) (λ h. omega arith) (next .0 .1 .1),
@@ -126,7 +126,7 @@ module _ (rule : Rule) (events : List ℕ) (t : ℕ) (small : t ≤ lastTime) wh
             (omega arith, omega arith);
       }
 
-  module _ (marks : Marks) (n : ℕ) (e : n + 1 ≡ length events) (places : Places rule events n (marks .low) (marks .high)) where
+  module _ (marks : Marks) (n : ℕ) (e : n + 1 ≡ length events) (places : Places rule events n (lowOf marks) (highOf marks)) where
     -- the point of a later event
     pub later-place : rule .lower ≤ lastTime → (points : List ℕ) → PointsOf rule (events ++ (t ∷ [])) points
         → (stride (rule .lower) ≤ rule .upper) × IsPlace rule marks t (at points (length events))
@@ -137,7 +137,7 @@ module _ (rule : Rule) (events : List ℕ) (t : ℕ) (small : t ≤ lastTime) wh
               (rule .jitter) events t points hidden,
         )
       where
-        before : (marks .low ≤ at points n) × (at points n ≤ marks .high)
+        before : (lowOf marks ≤ at points n) × (at points n ≤ highOf marks)
         before =
             rw (getD-take (length events) points n 0 (omega arith)) at
             (places .no-other (take (length events) points) (points-first 1 (rule .lower) (rule .upper) (rule .jitter) events (t ∷ []) points hidden))
@@ -267,22 +267,22 @@ module _ (rule : Rule) (events : List ℕ) (marks : Marks) (kept : List ℕ) (ke
   none-says e = (([], points-none (rule .lower) (rule .upper) (rule .jitter) events e, λ i f. absurd (omega arith)), keeps .apart)
 
   -- the point at its latest place allows each clock up to the due time, and no place allows a later one
-  some-says : (n : ℕ) → n + 1 ≡ length events → SaysNow ↔ (now ≤ duePoint rule (marks .high))
+  some-says : (n : ℕ) → n + 1 ≡ length events → SaysNow ↔ (now ≤ duePoint rule (highOf marks))
   unfolding MeetsSporadic
   some-says n e = (
     λ m. ⊎-elim (λ f. omega arith) (λ h. omega (arith, places .no-other (m .0 .0) (m .0 .1) .1)) (m .0 .2 n (omega (arith, m .0 .1 .one-each))),
-    λ soon. let (points, hidden, is) = places .each (marks .high) (places .ordered) (omega arith) in (
+    λ soon. let (points, hidden, is) = places .each (highOf marks) (places .ordered) (omega arith) in (
       (points, hidden, λ i f. let same : i ≡ n = omega (arith, hidden .one-each) in inr (omega (arith, ap (at points) same))),
       keeps .apart,
     ),
   )
     where
-      places : Places rule events n (marks .low) (marks .high)
+      places : Places rule events n (lowOf marks) (highOf marks)
       places = keeps .places n e
 
   sporadic-says : SaysNow ↔ (now ≤ dueSporadic rule marks kept)
   sporadic-says =
-      split (eqb (marks .last) 0) (λ x. SaysNow ↔ (now ≤ cond x noLimit (duePoint rule (marks .high))))
+      split (eqb (marks .last) 0) (λ x. SaysNow ↔ (now ≤ cond x noLimit (duePoint rule (highOf marks))))
       (λ none. (λ m. omega arith, λ soon. none-says (last-zero events (marks .last) (keeps .last-is) none)))
       (λ some. let (n, more, is) = last-some events (marks .last) (keeps .last-is) some in some-says n (omega arith))
 

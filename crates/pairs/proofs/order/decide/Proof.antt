@@ -22,7 +22,7 @@ returns-2 : tie.Need-returns-2
 unfolding decideOrder
 returns-2 c times =
     let b = c .before .before in
-    rw (c .changes-to2 .ensures, c .before .with-early .ensures, eq-eqb _ _ (b .before .before .if1 .taken), ne-eqb _ _ (b .if2 .left))
+    rw (c .changes-to2 .ensures, c .before .with-last .ensures, eq-eqb _ _ (b .before .before .if1 .taken), ne-eqb _ _ (b .if2 .left))
 
 returns-3 : tie.Need-returns-3
 unfolding decideOrder
@@ -30,7 +30,7 @@ returns-3 c times =
     let b = c .before .before .before in
     rw (
       c .changes-to3 .ensures,
-      c .before .with-early2 .ensures,
+      c .before .with-last2 .ensures,
       c .before .before .plus2 .ensures,
       ne-eqb _ _ (b .before .before .if1 .left),
       eq-eqb _ _ (b .if3 .taken),

@@ -12,7 +12,7 @@ returns c =
     let b = c .before .before .before in
     rw (
       c .goes-on .ensures,
-      c .before .with-early .ensures,
+      c .before .with-last .ensures,
       c .before .before .plus .ensures,
       none-left-ring,
       eq-eqb _ _ (b .before .before .if1 .taken),

@@ -14,5 +14,6 @@ pub mod Promises
 pub mod Within
 mod Following
 mod Listing
+mod Indexing
 mod Crowding
 mod Whole

@@ -4,7 +4,7 @@ use Prim.Native.Nat.{ℕ, zero, suc, _+_, _*_, _%_, _<_, _≤_, min}
 use mathlib.Core.Path.{_≡_}
 use mathlib.Core.Bool.{Bool, false, cond, _||_}
 use mathlib.Core.List.{List, [], _∷_, _++_}
-use lib.ListN.{getD}
+use lib.ListN.{getD, set, replicate}
 use lib.Dec.{ltb, eqb}
 use Rattle.constraint.specs.Limits.{rowLimit, noLimit}
 use Rattle.constraint.specs.declared.Call.{Call}
@@ -75,6 +75,27 @@ isIn m k i = inList (rowAt m i .rule) k
 pub record Indexes (h : Indexed) : Type 0 where
   pub listed : (k : ℕ) → k < listCount → listAt (h .lists) k ≡ numbers (isIn (h .monitor) k) (heldRows (h .monitor))
   pub no-sooner : (i : ℕ) → i < heldRows (h .monitor) → h .soonest ≤ rowAt (h .monitor) i .now .due
+
+-- ---- the lists made
+
+-- row i behind the rows of list k, where it is in it
+abbrev pub pushed : List ℕ → ℕ → ℕ → Bool → List ℕ
+pushed lists k i so =
+    cond so
+    (cond (ltb (getD lists (k * listPlaces) 0) rowLimit)
+    (set (set lists (k * listPlaces + 1 + getD lists (k * listPlaces) 0) i) (k * listPlaces) (getD lists (k * listPlaces) 0 + 1))
+    lists)
+    lists
+
+-- row i in each of the first n lists that it is in
+unfoldable pub enlisted : Rule → ℕ → List ℕ → ℕ → List ℕ
+enlisted rule i lists zero = lists
+enlisted rule i lists (suc n) = pushed (enlisted rule i lists n) n i (inList rule n)
+
+-- the first n rows of a monitor in the lists
+unfoldable pub listsOf : Monitor → ℕ → List ℕ
+listsOf m zero = replicate listSize 0
+listsOf m (suc n) = enlisted (rowAt m n .rule) n (listsOf m n) listCount
 
 -- ---- what a call asks
 

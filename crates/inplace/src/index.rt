@@ -16,7 +16,7 @@ use row::concerns;
 ghost use Prim.Native.Nat.{ℕ, _+_, _<_, _≤_, min};
 ghost use mathlib.Core.Path.{_≡_};
 ghost use Rattle.constraint.specs.Limits.{noLimit};
-ghost use Rattle.inplace.specs.Index.{listFor, inList, rowOf, Indexes, listedOf, listedBy, crowdedAt, listCrowded, heeded, stepAt, listStepped, lateStepped, lateAt, passed, begun, listSize, Takes};
+ghost use Rattle.inplace.specs.Index.{listCount, heldRows, pushed, enlisted, listsOf, listFor, inList, rowOf, Indexes, listedOf, listedBy, crowdedAt, listCrowded, heeded, stepAt, listStepped, lateStepped, lateAt, passed, begun, listSize, Takes};
 
 // The list of every row, and the one for no event. Those below are the kinds'.
 const EVERY_ROW: u64 = 64;
@@ -36,6 +36,68 @@ pub struct Indexed {
     pub soonest: u64,
     // list after list: its length, and the numbers of its rows
     pub lists: [u8; 2178],
+}
+
+// Whether a row is in list k.
+fn in_list(rule: Rule, k: u64) -> bool
+    ensures { λ r. ⌜ r ≡ inList rule k ⌝ }
+{
+    k == EVERY_ROW || concerns(rule, k)
+}
+
+// Row i, put behind the rows of list k, where it is in it.
+fn push(lists: &mut [u8; 2178], k: usize, i: u8, so: bool)
+    requires { ⌜ k < listCount ⌝ }
+    ensures { λ _. ⌜ now (lists .exit) ≡ pushed (now (lists .entry)) k i so ⌝ }
+{
+    if so {
+        let at = k * PLACES;
+        let len = lists[at];
+        if len < 32 {
+            lists[at + 1 + len as usize] = i;
+            lists[at] = len + 1;
+        }
+    }
+}
+
+// Row i, put into each list that it is in.
+fn enlist(rule: Rule, i: u8, lists: &mut [u8; 2178])
+    ensures { λ _. ⌜ now (lists .exit) ≡ enlisted rule i (now (lists .entry)) listCount ⌝ }
+{
+    let mut k = 0;
+    while k < LISTS {
+        let so = in_list(rule, k as u64);
+        push(lists, k, i, so);
+        k += 1;
+    }
+}
+
+// The lists of a monitor's rows.
+fn lists_of(monitor: Monitor) -> [u8; 2178]
+    ensures { λ r. ⌜ r ≡ listsOf monitor (heldRows monitor) ⌝ }
+{
+    let len = asked_rows(0, monitor.len);
+    let mut lists = [0u8; 2178];
+    let mut i = 0;
+    while i < len {
+        let row = monitor.rows[i];
+        let rule = row.rule;
+        enlist(rule, i as u8, &mut lists);
+        i += 1;
+    }
+    lists
+}
+
+// A monitor with its index.
+pub fn over(monitor: Monitor) -> Indexed
+    ensures { λ r. ⌜ (r .monitor ≡ monitor) × Indexes r ⌝ }
+{
+    let lists = lists_of(monitor);
+    Indexed {
+        monitor,
+        soonest: 0,
+        lists,
+    }
 }
 
 // Where the rows of a list stand, and to how many of them a call goes.

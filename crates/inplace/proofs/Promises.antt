@@ -9,7 +9,7 @@ use Rattle.row.specs.Machine.{rowFrom, rowStep}
 use Rattle.monitor.specs.Machine.{noRow, placeFor}
 use Rattle.monitor.specs.Contract.{Steps}
 use Rattle.inplace.specs.Store.{steppedFrom, askedOf, askedBy, answerOf, rowStepped, rowsStepped, rowsCrowded, withNumbers}
-use Rattle.inplace.specs.Index.{listSize, listFor, rowOf, listedOf, listedBy, crowdedAt, listCrowded, heeded, stepAt, listStepped, lateStepped, lateAt, passed, begun, Takes}
+use Rattle.inplace.specs.Index.{listSize, listFor, rowOf, listedOf, listedBy, crowdedAt, listCrowded, heeded, stepAt, listStepped, lateStepped, lateAt, passed, begun, Indexes, Takes}
 use Rattle.inplace.proofs.Plain.{truth, nothing}
 use Rattle.inplace.proofs.Types.{byte-type, word-type, call-type, rule-type, times-type, state-type, occurrence-type, monitor-type, asked-type, numbered-type, indexed-type, listed-type}
 use Rattle.inplace.proofs.Frame.{no-demand, demand, Promise}
@@ -64,6 +64,9 @@ list-from =
 
 abbrev pub sooner : Pure
 sooner = record { front = word-type ∷ word-type ∷ []; result = word-type; asks = λ a. no-demand; gives = λ a r. r ≡ min (a .0) (a .1 .0) }
+
+abbrev pub indexed-over : Pure
+indexed-over = record { front = monitor-type ∷ []; result = indexed-type; asks = λ a. no-demand; gives = λ a r. (r .monitor ≡ a .0) × Indexes r }
 
 abbrev pub no-limit : Pure
 no-limit = record { front = []; result = word-type; asks = λ a. no-demand; gives = λ a r. r ≡ noLimit }

@@ -87,6 +87,8 @@
  *   stack, report    at most 256 KiB      DELKUTHI_REPORT_STACK
  *   stack, page      at most 2 KiB        DELKUTHI_PAGE_STACK
  *   stack, stamps    at most 16 KiB       DELKUTHI_STAMPS_STACK
+ *   stack, join      at most 16 KiB       DELKUTHI_JOIN_STACK
+ *   stack, stretch   at most 32 KiB       DELKUTHI_STRETCH_STACK
  *   stack, fresh     at most 256 KiB      DELKUTHI_MONITOR_STACK
  *   stack, steps     at most 1 KiB        DELKUTHI_STEP_STACK
  *
@@ -297,6 +299,8 @@ extern "C" {
 #define DELKUTHI_REPORT_STACK  262144
 #define DELKUTHI_PAGE_STACK    2048
 #define DELKUTHI_STAMPS_STACK  16384
+#define DELKUTHI_JOIN_STACK    16384
+#define DELKUTHI_STRETCH_STACK 32768
 #define DELKUTHI_MONITOR_STACK 262144
 #define DELKUTHI_STEP_STACK    1024
 
@@ -304,12 +308,12 @@ extern "C" {
 #define DELKUTHI_NO_LIMIT UINT64_C(18446744073709551615)
 
 /*
- * A monitor: 22,944 bytes, aligned as a uint64_t is. Put it on the stack, in
+ * A monitor: 28,768 bytes, aligned as a uint64_t is. Put it on the stack, in
  * static memory, on a heap or in a struct of your own, and give it to
  * delkuthi_fresh first. What its words mean is the library's own business.
  */
 typedef struct delkuthi_monitor {
-    uint64_t words[2868];
+    uint64_t words[3596];
 } delkuthi_monitor;
 
 /* Returns the version of the library, which is that of its own header. */
@@ -374,10 +378,22 @@ enum delkuthi_refusal {
     /* A row's number (delkuthi_row_verdict). Rows are numbered from 0. */
     DELKUTHI_NO_ROW = 15, /* the table has no row of that number */
 
-    /* A buffer (delkuthi_make_table). Lend a longer one. */
-    DELKUTHI_TABLE_ROOM = 16, /* it is too short for the table */
+    /* A buffer (delkuthi_make_table, delkuthi_join). Lend a longer one. */
+    DELKUTHI_TABLE_ROOM = 16, /* it is too short for the table, or for the
+                                 joined recording */
+
+    /* Two recordings (delkuthi_join). Join others, or give the kinds of one
+       other numbers. */
+    DELKUTHI_COMMON_KIND = 20, /* a kind is found in both */
+
+    /* The shortest stretch (delkuthi_shortest_stretch). */
+    DELKUTHI_TOO_MANY_RECORDS = 22, /* the recording has more than 256: give a
+                                       part of it */
+    DELKUTHI_NO_STRETCH = 23, /* no stretch of it breaks the row */
 
     /* A row for late stamps (delkuthi_stamps). Ask for another row. */
+    DELKUTHI_NOTHING_TO_WITHDRAW = 21, /* no step was taken since the last
+                                          withdrawal: take a step first */
     DELKUTHI_NOT_REPEAT = 25 /* the row is not a Repeat of span 1 */
 
     /*
@@ -432,6 +448,14 @@ static inline const char *delkuthi_refusal_text(uint8_t number)
     case DELKUTHI_FORM:
         return "an event has no colour and a coloured kind, or a colour and a "
                "plain kind, or no such colour";
+    case DELKUTHI_COMMON_KIND:
+        return "a kind is found in both recordings";
+    case DELKUTHI_NOTHING_TO_WITHDRAW:
+        return "there is no step to withdraw";
+    case DELKUTHI_TOO_MANY_RECORDS:
+        return "the recording has more than 256 records";
+    case DELKUTHI_NO_STRETCH:
+        return "no stretch of the recording breaks the row";
     case DELKUTHI_COUNT_FULL:
         return "the count of steps is full";
     case DELKUTHI_NOT_REPEAT:
@@ -651,6 +675,17 @@ uint8_t delkuthi_tick(delkuthi_monitor *monitor, uint64_t time);
 uint8_t delkuthi_close(delkuthi_monitor *monitor);
 
 /*
+ * Withdraws the last step that was taken, be it an event, a tick or the close:
+ * rows, clock and count are as if it had never been taken. Only the last step
+ * can be withdrawn, and once: after that another step must be taken first. A
+ * call that is refused does not use it up. A withdrawal is no step itself.
+ *
+ * Returns DELKUTHI_TAKEN, or DELKUTHI_NOTHING_TO_WITHDRAW, which leaves the
+ * monitor as it was.
+ */
+uint8_t delkuthi_withdraw(delkuthi_monitor *monitor);
+
+/*
  * Says what the row of a number reads, the first row being 0. It changes
  * nothing and can be asked at any time.
  *
@@ -751,6 +786,64 @@ uint64_t delkuthi_stamps(const uint8_t *table, size_t table_length,
 #define DELKUTHI_STAMPS_KEPT   0
 #define DELKUTHI_STAMPS_BROKEN 1
 #define DELKUTHI_STAMPS_UNSURE 2
+
+/*
+ * Joins two recordings that have no kind in common, and writes the joined one
+ * to the front of a buffer. Records stand by time, at equal times those of the
+ * first before those of the second; a tick that is not later than the joined
+ * clock falls away. The version is the higher of the two. A buffer of as many
+ * bytes as both recordings have together is always long enough. Bytes behind
+ * the joined recording stay as they were.
+ *
+ * Returns the number of bytes, DELKUTHI_LENGTH of the answer; or, if
+ * DELKUTHI_JOIN_NUMBER of it is not DELKUTHI_TAKEN, a refusal with that number and
+ * DELKUTHI_PLACE: of a record of the first recording or its step (8 to 14 and 19,
+ * never DELKUTHI_CROWDED), then of the second; then DELKUTHI_COMMON_KIND, with
+ * the place of the second's first record of such a kind; then
+ * DELKUTHI_TABLE_ROOM, with the place 0. DELKUTHI_JOIN_SECOND tells whether it
+ * is the second recording that is refused. A place or a length above 2^56 - 1
+ * is given as that. On a refusal the buffer stays as it was.
+ */
+uint64_t delkuthi_join(const uint8_t *first, size_t first_length,
+                       const uint8_t *second, size_t second_length,
+                       uint8_t *joined, size_t joined_length);
+
+/* The number in an answer of delkuthi_join, and whether the second recording
+   is refused: 1, or 0. */
+#ifdef __cplusplus
+#define DELKUTHI_JOIN_NUMBER(answer) (static_cast<uint8_t>((answer) & 127))
+#else
+#define DELKUTHI_JOIN_NUMBER(answer) ((uint8_t)((answer) & 127))
+#endif
+#define DELKUTHI_JOIN_SECOND(answer) (((answer) >> 7) & 1)
+
+/*
+ * Finds the shortest stretch of consecutive records of a recording that breaks
+ * a row, before any close, when a fresh monitor over this row alone is given
+ * them; among equals the earliest. A stretch that meets DELKUTHI_CROWDED on the
+ * way does not break the row. The row's number counts from 0. For n records it
+ * takes at most n(n + 1)/2 steps of the row.
+ *
+ * Returns a stretch as below; or, if DELKUTHI_NUMBER of the answer is not
+ * DELKUTHI_TAKEN, a refusal with that number and DELKUTHI_PLACE: of the table
+ * (1 to 7, 18), of a record or its step (8 to 14 and 19, never
+ * DELKUTHI_CROWDED); then, with the place 0, DELKUTHI_TOO_MANY_RECORDS,
+ * DELKUTHI_NO_ROW, and DELKUTHI_NO_STRETCH if no stretch breaks the row. A place
+ * above 2^56 - 1 is given as that.
+ */
+uint64_t delkuthi_shortest_stretch(const uint8_t *table, size_t table_length,
+                                   const uint8_t *recording,
+                                   size_t recording_length, uint64_t row);
+
+/*
+ * In an answer of delkuthi_shortest_stretch that is no refusal: the number of
+ * the stretch's first record, from 0, how many records it has, and how many
+ * stretches were tried, by length and then by start, up to and with it, which
+ * is its place in that order.
+ */
+#define DELKUTHI_STRETCH_FIRST(answer)  ((answer) >> 8 & 255)
+#define DELKUTHI_STRETCH_LENGTH(answer) ((answer) >> 16 & 65535)
+#define DELKUTHI_STRETCH_TRIED(answer)  ((answer) >> 32)
 
 #ifdef __cplusplus
 }

@@ -16,8 +16,15 @@ static int macros(void)
     uint64_t answer = delkuthi_fresh(&monitor, table, 5);
     uint8_t number = DELKUTHI_NUMBER(answer);
     uint64_t place = DELKUTHI_PLACE(answer);
+    /* an Order of kinds 0 and 1; tick 1, 1@5, tick 6: the last two break it */
+    static const uint8_t recording[32] = {1, 0, 8, 0, 0, 0, 0, 0, 0, 0, 1,
+                                          0, 9, 1, 0, 0, 0, 0, 0, 0, 0, 5,
+                                          0, 8, 0, 0, 0, 0, 0, 0, 0, 6};
+    uint64_t stretch = delkuthi_shortest_stretch(table, sizeof table, recording, sizeof recording, 0);
 
-    return DELKUTHI_MATCHES() && number == DELKUTHI_ROW_CUT && place == 1
+    return DELKUTHI_NUMBER(stretch) == DELKUTHI_TAKEN && DELKUTHI_STRETCH_FIRST(stretch) == 1
+        && DELKUTHI_STRETCH_LENGTH(stretch) == 2 && DELKUTHI_STRETCH_TRIED(stretch) == 5
+        && DELKUTHI_MATCHES() && number == DELKUTHI_ROW_CUT && place == 1
         && delkuthi_fresh(&monitor, table, sizeof table) == DELKUTHI_TAKEN
         && delkuthi_event(&monitor, DELKUTHI_LAST_KIND + 1, 0) == DELKUTHI_KIND
         && delkuthi_event(&monitor, DELKUTHI_FIRST_COLOURED, 0) == DELKUTHI_FORM

@@ -20,6 +20,7 @@ static struct file table, recording;
 static delkuthi_monitor monitor;
 static uint8_t report[DELKUTHI_REPORT_LIMIT];
 static uint8_t page[DELKUTHI_PAGE_LIMIT];
+static uint8_t joined[65536];
 static delkuthi_row rows[DELKUTHI_ROW_LIMIT];
 static uint8_t *stack;
 
@@ -89,6 +90,20 @@ static void *late_stamps(void *unused)
     return unused;
 }
 
+static void *join(void *unused)
+{
+    const uint8_t none = 1;
+
+    (void)delkuthi_join(recording.bytes, recording.length, &none, 1, joined, sizeof joined);
+    return unused;
+}
+
+static void *short_stretch(void *unused)
+{
+    (void)delkuthi_shortest_stretch(table.bytes, table.length, recording.bytes, recording.length, 0);
+    return unused;
+}
+
 /* The bytes of the stack that a thread used which did this. */
 static size_t used_by(void *(*act)(void *))
 {
@@ -138,6 +153,8 @@ int main(int argc, char **argv)
     well &= within(DELKUTHI_PAGE_STACK, "page", printed);
     well &= within(DELKUTHI_REPORT_STACK, "report", whole_report);
     well &= within(DELKUTHI_STAMPS_STACK, "stamps", late_stamps);
+    well &= within(DELKUTHI_JOIN_STACK, "join", join);
+    well &= within(DELKUTHI_STRETCH_STACK, "stretch", short_stretch);
     free(stack);
     free_file(&table);
     free_file(&recording);

@@ -43,6 +43,8 @@ REFUSALS = {
     17: "a file is too large",
     18: "a row has a plain kind where its type takes coloured ones, or a coloured one where it takes plain ones",
     19: "an event has no colour and a coloured kind, or a colour and a plain kind, or no such colour",
+    22: "the recording has more than 256 records",
+    23: "no stretch of the recording breaks the row",
     24: "the count of steps is full",
     25: "the row is not a Repeat of span 1",
 }
@@ -80,11 +82,13 @@ def _calls() -> dict[str, tuple]:
         "delkuthi_coloured_event": (ctypes.c_uint8, [monitor, ctypes.c_uint8, ctypes.c_uint8, number]),
         "delkuthi_tick": (ctypes.c_uint8, [monitor, number]),
         "delkuthi_close": (ctypes.c_uint8, [monitor]),
+        "delkuthi_withdraw": (ctypes.c_uint8, [monitor]),
         "delkuthi_row_verdict": (ctypes.c_uint8, [monitor, number]),
         "delkuthi_row_step": (number, [monitor, number]),
         "delkuthi_rows": (number, [monitor]),
         "delkuthi_page": (length, [monitor, data, length]),
         "delkuthi_stamps": (number, [data, length, data, length, number, number]),
+        "delkuthi_shortest_stretch": (number, [data, length, data, length, number]),
         "delkuthi_report": (length, [data, length, data, length, data, length]),
     }
 

@@ -63,6 +63,10 @@ class Monitor:
         """Closes the recording."""
         self._taken(self._library.delkuthi_close(self._memory))
 
+    def withdraw(self) -> None:
+        """Withdraws the last step, once; 21 where nothing may be withdrawn."""
+        self._taken(self._library.delkuthi_withdraw(self._memory))
+
     def verdict(self, row: int) -> Verdict:
         """What the row of a number reads, the first being 0."""
         answer = self._library.delkuthi_row_verdict(self._memory, row) if row >= 0 else 15

@@ -53,14 +53,18 @@ def recording_bytes(steps: Iterable[Record]) -> bytes:
 
 
 def join(first: Iterable[Record], second: Iterable[Record]) -> Iterator[Record]:
-    """Two recordings with no signal in common as one: by time, at equal times the first's records first. A tick that is
-    not later than the clock falls away. :class:`Refused` with 20 if a signal is in both."""
+    """Two recordings with no kind in common, whatever its colours, as one: by time, at equal times the first's records first.
+    A tick that is not later than the clock falls away. :class:`Refused` with 20 if a kind is in both."""
     first, second = list(first), list(second)
-    if {kind for kind, _ in first if kind is not None} & {kind for kind, _ in second if kind is not None}:
+    if _kinds(first) & _kinds(second):
         raise Refused(20)
     clock = 0
-    for kind, time in sorted([*first, *second], key=lambda record: record[1]):
-        if kind is None and time <= clock:
+    for number, time in sorted([*first, *second], key=lambda record: record[1]):
+        if number is None and time <= clock:
             continue
-        yield kind, time
+        yield number, time
         clock = time
+
+
+def _kinds(steps: Iterable[Record]) -> set[int]:
+    return {parts(number)[0] for number, _ in steps if number is not None}

@@ -7,6 +7,7 @@ from delkuthi import Monitor, Refused, Table, report
 from delkuthi.logs import Step
 from delkuthi.recording import join, recording_bytes
 from delkuthi.shrink import Stretch, shortest
+from delkuthi.signals import signal
 
 from strategies import played
 
@@ -45,6 +46,13 @@ def test_a_stretch_that_is_refused_does_not_break():
         shortest(table, 1, steps)
 
 
+def test_more_steps_than_the_library_takes():
+    table = Table.from_text("Delay 0 -> 1, 0 .. 99")
+    steps = [Step(2, time, 0) for time in range(300)] + [Step(0, 300, 0), Step(None, 400, 0)]
+    assert shortest(table, 0, steps) == Stretch(300, 2, 302 + 301)
+    assert shortest(table, 0, steps[100:]) == Stretch(200, 2, 202 + 201)
+
+
 def one_of(kinds):
     """A recording of events of these kinds, and ticks."""
 
@@ -80,7 +88,9 @@ def test_joined_recordings(first, second):
     assert all(time in times or time == 0 for _, time in first + second)
 
 
-def test_a_kind_in_both():
+@pytest.mark.parametrize("first, second", [(0, 0), (signal(48, 1), signal(48, 2))])
+def test_a_kind_in_both(first, second):
+    """A kind is one kind, whatever its colours."""
     with pytest.raises(Refused) as refusal:
-        list(join([(0, 1)], [(0, 2)]))
+        list(join([(first, 1)], [(second, 2)]))
     assert refusal.value.number == 20

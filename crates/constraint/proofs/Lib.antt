@@ -14,6 +14,7 @@ pub mod Rows
 pub mod Records
 pub mod Accepted
 pub mod Runs
+pub mod Withdrawals
 pub mod AsBefore
 pub mod LongerClocks
 pub mod Sanity

@@ -1,10 +1,11 @@
 -- The record of some rows holds those rows, a row put in its next entry makes the record of one row more, and a row for which there is no entry makes a record that is refused.
-use Prim.Native.Nat.{ℕ, suc, _+_, _-_, _≤_, _<_, max}
+use Prim.Native.Nat.{ℕ, zero, suc, _+_, _-_, _≤_, _<_, max}
 use mathlib.Core.Path.{_≡_, refl, sym, ap, subst⁻¹, _∙_}
 use mathlib.Core.List.{List, [], _∷_, _++_, map, map-append, append-assoc}
+use mathlib.Core.Option.{some}
 use native.Mathlib.Numerals.{add-one}
 use native.Mathlib.Omega.{arith}
-use lib.ListN.{length, getD, set, take, replicate, length-append, length-map, length-take, length-replicate, replicate-append-replicate}
+use lib.ListN.{length, getD, getElem?, set, take, replicate, length-append, length-map, length-take, length-replicate, replicate-append-replicate}
 use lib.Seq.{set-at, take-suc, take-append-le, take-append-seam}
 use Rattle.constraint.specs.Limits.{rowLimit}
 use Rattle.constraint.specs.Questions.{Judged}
@@ -31,6 +32,17 @@ unused-first n h =
 pub record-count : (table : Table) (rows : List Constraint) → table ≡ tableOf rows → table .count ≡ length rows
 unfolding tableOf
 record-count table rows e = ap (λ (t : Table). t .count) e
+
+-- the row that stands in an entry
+entry-row : (rows rest : List Constraint) (i : ℕ) (d : Entry) → i < length rows → getElem? rows i ≡ some (getD (map entryOf (rows ++ rest)) i d .constraint)
+entry-row [] rest i d h = absurd (omega arith)
+entry-row (c ∷ rows) rest zero d h = refl
+entry-row (c ∷ rows) rest (suc i) d h = entry-row rows rest i d (omega arith)
+
+pub row-there : (table : Table) (rows : List Constraint) (i : ℕ) (d : Entry) → table ≡ tableOf rows → i < length rows
+    → getElem? rows i ≡ some (getD (table .rows) i d .constraint)
+unfolding tableOf
+row-there table rows i d e h = entry-row rows _ i d h ∙ ap (λ (t : Table). some (getD (t .rows) i d .constraint)) (sym e)
 
 pub record-more : (rows : List Constraint) (c : Constraint) → length rows < rowLimit → withRow (tableOf rows) c ≡ tableOf (rows ++ (c ∷ []))
 unfolding tableOf unused

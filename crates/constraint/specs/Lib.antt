@@ -21,12 +21,15 @@ pub mod Accepted
 pub mod Rows
 pub mod Run
 pub mod Promise
+pub mod Withdrawals
 pub mod Bytes
 pub mod Table
 pub mod Recording
 pub mod Stamps
+pub mod Stretches
 pub mod Report
 pub mod Page
 pub mod Examples
 -- What the code's records hold.
 pub mod Records
+pub mod Joined

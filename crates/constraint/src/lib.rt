@@ -154,6 +154,22 @@ pub enum StampedAnswer {
     Refused { number: u8, place: usize },
 }
 
+// The answer to a join: how many bytes it has; or refused, with the number of the first question answered "no" and the place, at the first
+// recording or at the second; or the buffer is too short.
+pub enum JoinAnswer {
+    Joined { length: usize },
+    FirstRefused { number: u8, place: usize },
+    SecondRefused { number: u8, place: usize },
+    TooShort,
+}
+
+// The answer about the shortest stretch that breaks a row: the number of its first record, from 0, its length, and how many stretches were
+// tried, with it; or refused with the number of the first question answered "no" and the place.
+pub enum StretchAnswer {
+    Found { first: u8, size: u16, tried: u32 },
+    Refused { number: u8, place: usize },
+}
+
 // An entry of a table: one row.
 pub struct Entry {
     pub constraint: Constraint,

@@ -8,5 +8,8 @@ mod Numbers
 mod Walk
 mod RowNumbers
 pub mod Printing
+pub mod RecordNumbers
 pub mod StampNumbers
+pub mod JoinNumbers
 pub mod StampWords
+pub mod StretchNumbers

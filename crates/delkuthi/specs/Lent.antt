@@ -27,7 +27,7 @@ version = 0 * 1000000 + 3 * 1000 + 0
 
 -- the bytes of a monitor with its index (`monitor-size`: of its type on the machine)
 abbrev pub monitorSize : ℕ
-monitorSize = 25136
+monitorSize = 28768
 
 -- ---- fresh
 

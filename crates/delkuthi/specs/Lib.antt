@@ -5,3 +5,5 @@ pub mod Lent
 pub mod Tables
 pub mod Printed
 pub mod Stamps
+pub mod Joining
+pub mod Stretches

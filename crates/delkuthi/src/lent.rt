@@ -11,13 +11,13 @@ ghost use mathlib.Core.Path.{_≡_};
 ghost use Rattle.constraint.specs.declared.Call.{Call};
 ghost use Rattle.monitor.specs.Contract.{verdictIn, stepIn};
 ghost use Rattle.monitor.specs.Parts.{verdictBy};
-ghost use Rattle.inplace.specs.Index.{Takes};
+ghost use Rattle.inplace.specs.Index.{Takes, TakesBack};
 ghost use Rattle.delkuthi.specs.Lent.{Begins, wordOf, WordOfVerdict, StepOfVerdict, NumberOfRows, version, monitorSize};
 
 // The version of the library: 0.3.0 as major * 1,000,000 + minor * 1,000 + patch.
 pub const VERSION: u32 = 3000;
 // The bytes of a monitor with its index.
-pub const MONITOR_SIZE: u64 = 25136;
+pub const MONITOR_SIZE: u64 = 28768;
 
 // The version of the library, for a host to compare with that of its header.
 #[no_mangle]
@@ -138,6 +138,14 @@ pub extern "C" fn delkuthi_close(m: &mut Indexed) -> u8
     ensures { λ r. ⌜ Takes (now (m .entry)) Call.Close r (now (m .exit)) ⌝ }
 {
     index::take(m, Call::Close)
+}
+
+// The last step is withdrawn: 0, or 21 where nothing may be withdrawn.
+#[no_mangle]
+pub extern "C" fn delkuthi_withdraw(m: &mut Indexed) -> u8
+    ensures { λ r. ⌜ TakesBack (now (m .entry)) r (now (m .exit)) ⌝ }
+{
+    index::withdraw(m)
 }
 
 // The word for what a row reads: OPEN, KEPT, BROKEN, or NO_ROW.

@@ -1,9 +1,11 @@
 // The report on a recording: what the rows of a table read after it. It is also offered to a host in C.
+pub mod joining;
 pub mod lent;
 pub mod printed;
 mod records;
 mod report;
 pub mod stamped;
+pub mod stretched;
 pub mod tables;
 
 use text::Text;

@@ -15,5 +15,6 @@ pub mod Within
 mod Following
 mod Listing
 mod Indexing
+mod Withdrawn
 mod Crowding
 mod Whole

@@ -15,21 +15,24 @@ use Rattle.constraint.proofs.Lists.{split, both, or-false}
 use Rattle.machine.specs.declared.Rule.{Rule}
 use Rattle.machine.specs.declared.Change.{Change}
 use Rattle.row.specs.Machine.{decide, concerns, noEvent, itemsOf, brokenRow, applied, stays, crowding, changedRow, rowStep}
+use Rattle.row.specs.Undo.{noBefore, movesBy, savedRow, savedBy}
+use Rattle.row.specs.declared.Before.{Before}
 use Rattle.row.specs.declared.Occurrence.{Occurrence}
 use Rattle.row.specs.declared.Row.{Row}
 use Rattle.row.specs.declared.RowStep.{RowStep}
-use Rattle.monitor.specs.Machine.{noRow, mapFirst, anyFirst}
+use Rattle.monitor.specs.Machine.{noRow, mapFirst, zipFirst, anyFirst}
 use Rattle.monitor.specs.Parts.{withRows}
+use Rattle.monitor.proofs.First.{zip-length}
 use Rattle.monitor.specs.Contract.{Steps}
 use Rattle.monitor.specs.declared.Monitor.{Monitor}
-use Rattle.inplace.specs.Store.{steppedFrom, askedRows, askedBy, answerOf, rowStepped, rowsStepped, rowsCrowded, withNumbers}
-use Rattle.inplace.specs.Index.{listCount, listPlaces, listSize, everyRow, inList, listFor, rowOf, entries, listAt, numbers, heldRows, rowAt, isIn, Indexes, listedBy, crowdedAt, listCrowded, withMonitor, withSoonest, steppedAt, stepAt, listStepped, lateStepped, lateAt, passed, begun, Takes}
+use Rattle.inplace.specs.Store.{steppedFrom, askedRows, askedBy, answerOf, withRow, rowStepped, rowsStepped, rowsCrowded, withNumbers}
+use Rattle.inplace.specs.Index.{listCount, listPlaces, listSize, everyRow, inList, listFor, rowOf, entries, listAt, numbers, heldRows, rowAt, keptAt, isIn, Indexes, listedBy, crowdedAt, listCrowded, withMonitor, withSoonest, steppedAt, stepAt, listStepped, lateStepped, lateAt, passed, begun, Takes}
 use Rattle.inplace.specs.declared.Asked.{Asked}
 use Rattle.inplace.specs.declared.index.Indexed.{Indexed}
 use Rattle.inplace.specs.declared.index.Listed.{Listed}
 use Rattle.inplace.proofs.Elem.{set-getD}
 use Rattle.inplace.proofs.Crowding.{crowds, step-crowds, rows-crowd, none-crowded}
-use Rattle.inplace.proofs.Following.{mapped, map-length, map-twice, visit, visits, visits-last, visits-lists, Visited, visited, anyIn, any-last, any-numbers}
+use Rattle.inplace.proofs.Following.{mapped, map-length, map-twice, zipped, zip-twice, visit, visits, visits-last, visits-lists, Visited, visited, anyIn, any-last, any-numbers}
 use Rattle.inplace.proofs.Whole.{asked-small, after, refused-steps, taken-steps}
 
 -- ---- a row that is not in the list
@@ -51,6 +54,24 @@ still-by false r = refl
 still : (r : Row) (o : Occurrence) (number : ℕ) → inList (r .rule) (listFor o) ≡ false → o .time ≤ r .now .due → rowStep r o number .row ≡ r
 unfolding rowStep
 still r o number e due = let so = unlisted (r .rule) o e in rw (le-ltb (r .now .due) (o .time) due, so .1, so .0) (still-by (ltb 0 (r .now .broken)) r)
+
+-- nothing is kept of it anew
+none-by : (a : Bool) → cond a false false ≡ false
+none-by true = refl
+none-by false = refl
+
+not-moved : (r : Row) (o : Occurrence) → inList (r .rule) (listFor o) ≡ false → o .time ≤ r .now .due → movesBy (r .rule) (r .now) o ≡ false
+unfolding movesBy
+not-moved r o e due = let so = unlisted (r .rule) o e in rw (le-ltb (r .now .due) (o .time) due, so .1, so .0) (none-by (ltb 0 (r .now .broken)))
+
+unsaved : (r : Row) (o : Occurrence) (number : ℕ) (b : Before) → inList (r .rule) (listFor o) ≡ false → o .time ≤ r .now .due → savedBy o number r b ≡ b
+unfolding savedBy
+unsaved r o number b e due = ap (λ (z : Bool). cond z (savedRow r o number) b) (not-moved r o e due)
+
+-- nor of a broken one
+broken-unsaved : (r : Row) (o : Occurrence) (number : ℕ) (b : Before) → ltb 0 (r .now .broken) ≡ true → savedBy o number r b ≡ b
+unfolding savedBy movesBy
+broken-unsaved r o number b e = rw e
 
 -- it is not crowded
 calm-by : (a b : Bool) → cond a false (cond b false false) ≡ false
@@ -105,11 +126,33 @@ module _ (o : Occurrence) (number : ℕ) where
   abbrev late : Row → Row
   late r = cond (ltb (r .now .due) (o .time)) (moved r) r
 
+  abbrev saves : Row → Before → Before
+  saves r b = savedBy o number r b
+
+  abbrev late-saves : Row → Before → Before
+  late-saves r b = cond (ltb (r .now .due) (o .time)) (saves r b) b
+
   once : (r : Row) → 0 < number → ltb (r .now .due) (o .time) ≡ true → moved (moved r) ≡ moved r
   once r h l =
       split (ltb 0 (r .now .broken)) (λ b. ltb 0 (r .now .broken) ≡ b → moved (moved r) ≡ moved r)
       (λ _ e. ap moved (broken-stays r o number e))
       (λ _ e. ap moved (breaks r o number e l) ∙ broken-stays (brokenRow r number) o number (is-broken r number h) ∙ sym (breaks r o number e l)) refl
+
+  now-broken : (r : Row) → 0 < number → ltb (r .now .due) (o .time) ≡ true → ltb 0 (moved r .now .broken) ≡ true
+  now-broken r h l =
+      split (ltb 0 (r .now .broken)) (λ b. ltb 0 (r .now .broken) ≡ b → ltb 0 (moved r .now .broken) ≡ true)
+      (λ _ e. subst (λ (x : Row). ltb 0 (x .now .broken) ≡ true) (sym (broken-stays r o number e)) e)
+      (λ _ e. subst (λ (x : Row). ltb 0 (x .now .broken) ≡ true) (sym (breaks r o number e l)) (is-broken r number h)) refl
+
+  late-saves-first : 0 < number → (r : Row) (b : Before) → saves (late r) (late-saves r b) ≡ saves r b
+  late-saves-first h r b =
+      split (ltb (r .now .due) (o .time)) (λ z. ltb (r .now .due) (o .time) ≡ z → saves (cond z (moved r) r) (cond z (saves r b) b) ≡ saves r b)
+      (λ _ e. broken-unsaved (moved r) o number (saves r b) (now-broken r h e)) (λ _ e. refl) refl
+
+  late-unsaved : 0 < number → (r : Row) (b : Before) → inList (r .rule) (listFor o) ≡ false → saves (late r) (late-saves r b) ≡ late-saves r b
+  late-unsaved h r b out =
+      split (ltb (r .now .due) (o .time)) (λ z. ltb (r .now .due) (o .time) ≡ z → saves (cond z (moved r) r) (cond z (saves r b) b) ≡ cond z (saves r b) b)
+      (λ _ e. broken-unsaved (moved r) o number (saves r b) (now-broken r h e)) (λ _ e. unsaved r o number b out (ltb-false (r .now .due) (o .time) e)) refl
 
   -- to break the overdue rows beforehand makes no difference
   late-first : 0 < number → (r : Row) → moved (late r) ≡ moved r
@@ -124,32 +167,32 @@ module _ (o : Occurrence) (number : ℕ) where
 
   -- ---- the parts of a call as visits
 
-  step-visit : (h : Indexed) (i : ℕ) → steppedAt h i o number ≡ visit moved h i
-  step-visit h i = refl
-
-  late-visit : (h : Indexed) (i : ℕ) → lateAt h i o number ≡ visit late h i
+  late-visit : (h : Indexed) (i : ℕ) → lateAt h i o number ≡ visit late late-saves h i
   late-visit h i = ap (λ (m : Monitor). visited-at m) (by-test (ltb (rowAt (h .monitor) i .now .due) (o .time)))
     where
       visited-at : Monitor → Indexed
       visited-at m = withSoonest (withMonitor h m) (min (h .soonest) (rowAt m i .now .due))
 
-      by-test : (b : Bool) → cond b (rowStepped (h .monitor) i o number) (h .monitor) ≡ withRows (h .monitor) (set (h .monitor .rows) i (cond b (moved (rowAt (h .monitor) i)) (rowAt (h .monitor) i)))
+      by-test : (b : Bool) → cond b (rowStepped (h .monitor) i o number) (h .monitor)
+          ≡ withRow (h .monitor) i (cond b (moved (rowAt (h .monitor) i)) (rowAt (h .monitor) i)) (cond b (saves (rowAt (h .monitor) i) (keptAt (h .monitor) i)) (keptAt (h .monitor) i))
       by-test true = refl
-      by-test false = sym (ap (withRows (h .monitor)) (set-getD (h .monitor .rows) i noRow))
+      by-test false =
+          sym (ap (λ (l : List Row). withRows (h .monitor) l (set (h .monitor .before) i (keptAt (h .monitor) i))) (set-getD (h .monitor .rows) i noRow)
+          ∙ ap (withRows (h .monitor) (h .monitor .rows)) (set-getD (h .monitor .before) i noBefore))
 
-  list-visits : (h : Indexed) (first n : ℕ) → listStepped h first n o number ≡ visits moved h (entries (h .lists) first n)
+  list-visits : (h : Indexed) (first n : ℕ) → listStepped h first n o number ≡ visits moved saves h (entries (h .lists) first n)
   list-visits h first zero = refl
   list-visits h first (suc n) =
       let so-far = list-visits h first n in
       ap (λ (x : Indexed). stepAt x (first + n) o number) so-far
-      ∙ ap (λ (l : List ℕ). visit moved (visits moved h (entries (h .lists) first n)) (rowOf (getD l (first + n) 0))) (visits-lists moved (entries (h .lists) first n) h)
-      ∙ sym (visits-last moved (entries (h .lists) first n) h (rowOf (getD (h .lists) (first + n) 0)))
+      ∙ ap (λ (l : List ℕ). visit moved saves (visits moved saves h (entries (h .lists) first n)) (rowOf (getD l (first + n) 0))) (visits-lists moved saves (entries (h .lists) first n) h)
+      ∙ sym (visits-last moved saves (entries (h .lists) first n) h (rowOf (getD (h .lists) (first + n) 0)))
 
-  pass-visits : (h : Indexed) (n : ℕ) → passed h n o number ≡ visits late (withSoonest h noLimit) (numbers (λ _. true) n)
+  pass-visits : (h : Indexed) (n : ℕ) → passed h n o number ≡ visits late late-saves (withSoonest h noLimit) (numbers (λ _. true) n)
   pass-visits h zero = refl
   pass-visits h (suc n) =
-      ap (λ (x : Indexed). lateAt x n o number) (pass-visits h n) ∙ late-visit (visits late (withSoonest h noLimit) (numbers (λ _. true) n)) n
-      ∙ sym (visits-last late (numbers (λ _. true) n) (withSoonest h noLimit) n)
+      ap (λ (x : Indexed). lateAt x n o number) (pass-visits h n) ∙ late-visit (visits late late-saves (withSoonest h noLimit) (numbers (λ _. true) n)) n
+      ∙ sym (visits-last late late-saves (numbers (λ _. true) n) (withSoonest h noLimit) n)
 
 -- ---- whether a row is crowded
 
@@ -160,10 +203,17 @@ crowd-is h first (suc n) o =
     ∙ ap (λ (b : Bool). anyIn (λ i. crowds o (rowAt (h .monitor) i)) (entries (h .lists) first n) || b) (step-crowds (rowAt (h .monitor) (rowOf (getD (h .lists) (first + n) 0))) o 0)
     ∙ sym (any-last (λ i. crowds o (rowAt (h .monitor) i)) (entries (h .lists) first n) (rowOf (getD (h .lists) (first + n) 0)))
 
-same-numbers : (p r : ℕ → Bool) (n : ℕ) → ((i : ℕ) → i < n → p i ≡ r i) → numbers p n ≡ numbers r n
+pub same-numbers : (p r : ℕ → Bool) (n : ℕ) → ((i : ℕ) → i < n → p i ≡ r i) → numbers p n ≡ numbers r n
 same-numbers p r zero same = refl
 same-numbers p r (suc n) same =
     ap (λ (l : List ℕ). l ++ cond (p n) (n ∷ []) []) (same-numbers p r n (λ i k. same i (omega (arith, k)))) ∙ ap (λ (b : Bool). numbers r n ++ cond b (n ∷ []) []) (same n (omega arith))
+
+zip-nothing : (n : ℕ) (rows : List Row) (kept : List Before) → zipFirst n (λ r b. b) rows kept ≡ kept
+unfolding zipFirst
+zip-nothing zero rows kept = refl
+zip-nothing (suc n) [] kept = refl
+zip-nothing (suc n) (r ∷ rows) [] = refl
+zip-nothing (suc n) (r ∷ rows) (b ∷ kept) = ap {B = List Before} (λ l. b ∷ l) (zip-nothing n rows kept)
 
 map-none : (n : ℕ) (rows : List Row) → mapFirst n (λ r. r) rows ≡ rows
 unfolding mapFirst
@@ -176,7 +226,7 @@ list-few o = split (o .closes || ltb noEvent (o .kind)) (λ b. cond b everyRow (
     (λ e. omega (arith, ltb-false noEvent (o .kind) (or-false (o .closes) (ltb noEvent (o .kind)) e .1)))
 
 -- ---- the whole call
-module _ (h : Indexed) (call : Call) (whole : length (h .monitor .rows) ≡ 32) where
+module _ (h : Indexed) (call : Call) (whole : length (h .monitor .rows) ≡ 32) (kept-whole : length (h .monitor .before) ≡ 32) where
   abbrev m : Monitor
   m = h .monitor
 
@@ -230,55 +280,73 @@ module _ (h : Indexed) (call : Call) (whole : length (h .monitor .rows) ≡ 32) 
     all-held : q .rows ≡ n
     all-held = ap (λ (number : ℕ). askedRows number (m .len)) answered
 
+    abbrev save : Row → Before → Before
+    save = saves o (q .step)
+
     -- the rows have taken the step, and their due times are heeded
     record Stepped (x : Indexed) : Type 0 where
-      pub monitor-is : x .monitor ≡ withRows (withNumbers m q) (mapFirst n step (m .rows))
+      pub monitor-is : x .monitor ≡ withRows (withNumbers m q) (mapFirst n step (m .rows)) (zipFirst n save (m .rows) (m .before))
       pub heeds : (i : ℕ) → i < n → x .soonest ≤ step (rowAt m i) .now .due
       pub lists-are : x .lists ≡ h .lists
 
     abbrev list-stepped : Indexed → Indexed
     list-stepped x = listStepped x (l .first) (l .rows) o (q .step)
 
-    list-visited : (x : Indexed) → x .lists ≡ h .lists → list-stepped x ≡ visits step x (numbers (isIn m (listFor o)) n)
+    list-visited : (x : Indexed) → x .lists ≡ h .lists → list-stepped x ≡ visits step save x (numbers (isIn m (listFor o)) n)
     list-visited x same =
         list-visits o (q .step) x (l .first) (l .rows)
-        ∙ ap (λ (lists : List ℕ). visits step x (entries lists (l .first) (l .rows))) same
-        ∙ ap (λ (number : ℕ). visits step x (entries (h .lists) (l .first) (askedRows number (getD (h .lists) (listFor o * listPlaces) 0)))) answered
-        ∙ ap (visits step x) (list-is ix)
+        ∙ ap (λ (lists : List ℕ). visits step save x (entries lists (l .first) (l .rows))) same
+        ∙ ap (λ (number : ℕ). visits step save x (entries (h .lists) (l .first) (askedRows number (getD (h .lists) (listFor o * listPlaces) 0)))) answered
+        ∙ ap (visits step save x) (list-is ix)
 
     -- the list of a monitor in which no row is overdue that is not in it
-    list-steps : (x : Indexed) (g : Row → Row) → x .lists ≡ h .lists → x .monitor ≡ withRows (withNumbers m q) (mapFirst n g (m .rows)) → ((r : Row) → step (g r) ≡ step r)
-        → ((i : ℕ) → i < n → isIn m (listFor o) i ≡ false → (step (g (rowAt m i)) ≡ g (rowAt m i)) × (x .soonest ≤ g (rowAt m i) .now .due)) → Stepped (list-stepped x)
-    list-steps x g same made no-matter others =
+    list-steps : (x : Indexed) (g : Row → Row) (t : Row → Before → Before) → x .lists ≡ h .lists
+        → x .monitor ≡ withRows (withNumbers m q) (mapFirst n g (m .rows)) (zipFirst n t (m .rows) (m .before))
+        → ((r : Row) → step (g r) ≡ step r) → ((r : Row) (b : Before) → save (g r) (t r b) ≡ save r b)
+        → ((i : ℕ) → i < n → isIn m (listFor o) i ≡ false
+        → (step (g (rowAt m i)) ≡ g (rowAt m i)) × ((save (g (rowAt m i)) (t (rowAt m i) (keptAt m i)) ≡ t (rowAt m i) (keptAt m i)) × (x .soonest ≤ g (rowAt m i) .now .due)))
+        → Stepped (list-stepped x)
+    list-steps x g t same made no-matter nor-kept others =
         let rows-are : x .monitor .rows ≡ mapFirst n g (m .rows) = ap (λ (y : Monitor). y .rows) made in
+        let kept-are : x .monitor .before ≡ zipFirst n t (m .rows) (m .before) = ap (λ (y : Monitor). y .before) made in
         let at : (i : ℕ) → i < n → rowAt (x .monitor) i ≡ g (rowAt m i) = λ i k. ap (λ (rows : List Row). getD rows i noRow) rows-are ∙ mapped g n i (m .rows) noRow k (omega (arith, whole, k)) in
+        let too : (i : ℕ) → i < n → keptAt (x .monitor) i ≡ t (rowAt m i) (keptAt m i) =
+            λ i k. ap (λ (kept : List Before). getD kept i noBefore) kept-are ∙ zipped t n i (m .rows) (m .before) k (omega (arith, whole, k)) (omega (arith, kept-whole, k)) in
         let wide : length (x .monitor .rows) ≡ 32 = ap length rows-are ∙ map-length g n (m .rows) ∙ whole in
+        let kept-wide : length (x .monitor .before) ≡ 32 = ap length kept-are ∙ zip-length t (m .rows) (m .before) n ∙ kept-whole in
         let there : n ≤ length (x .monitor .rows) = omega (arith, wide) in
-        let v = visited step (isIn m (listFor o)) x n there (λ i k out.
-                    subst (λ (r : Row). (step r ≡ r) × (x .soonest ≤ r .now .due)) (sym (at i k)) (others i k out)) in
+        let v = visited step save (isIn m (listFor o)) x (kept-wide ∙ sym wide) n there (λ i k out.
+                    subst (λ (r : Row). (step r ≡ r) × ((save r (keptAt (x .monitor) i) ≡ keptAt (x .monitor) i) × (x .soonest ≤ r .now .due))) (sym (at i k))
+                    (subst (λ (b : Before). (step (g (rowAt m i)) ≡ g (rowAt m i)) × ((save (g (rowAt m i)) b ≡ b) × (x .soonest ≤ g (rowAt m i) .now .due))) (sym (too i k)) (others i k out))) in
         let same-list = list-visited x same in
         record {
-          monitor-is = ap (λ (y : Indexed). y .monitor) same-list ∙ v .monitor-is ∙ ap (λ (y : Monitor). withRows y (mapFirst n step (y .rows))) made
-              ∙ ap (withRows (withNumbers m q)) (map-twice step g no-matter n (m .rows));
+          monitor-is = ap (λ (y : Indexed). y .monitor) same-list ∙ v .monitor-is ∙ ap (λ (y : Monitor). withRows y (mapFirst n step (y .rows)) (zipFirst n save (y .rows) (y .before))) made
+              ∙ ap (λ (rows : List Row). withRows (withNumbers m q) rows (zipFirst n save (mapFirst n g (m .rows)) (zipFirst n t (m .rows) (m .before)))) (map-twice step g no-matter n (m .rows))
+              ∙ ap (withRows (withNumbers m q) (mapFirst n step (m .rows))) (zip-twice save t g nor-kept n (m .rows) (m .before));
           heeds = λ i k. subst (λ (y : Indexed). y .soonest ≤ step (rowAt m i) .now .due) (sym same-list)
-              (subst (λ (r : Row). visits step x (numbers (isIn m (listFor o)) n) .soonest ≤ r .now .due) (ap step (at i k) ∙ no-matter (rowAt m i)) (v .heeds i k));
-          lists-are = ap (λ (y : Indexed). y .lists) same-list ∙ visits-lists step (numbers (isIn m (listFor o)) n) x ∙ same;
+              (subst (λ (r : Row). visits step save x (numbers (isIn m (listFor o)) n) .soonest ≤ r .now .due) (ap step (at i k) ∙ no-matter (rowAt m i)) (v .heeds i k));
+          lists-are = ap (λ (y : Indexed). y .lists) same-list ∙ visits-lists step save (numbers (isIn m (listFor o)) n) x ∙ same;
         }
 
     -- no row can be overdue
     not-late : ltb (h .soonest) (o .time) ≡ false → Stepped (list-stepped stored)
     not-late e =
-        list-steps stored (λ r. r) refl (ap (withRows (withNumbers m q)) (sym (map-none n (m .rows)))) (λ r. refl)
-        (λ i k out. (still (rowAt m i) o (q .step) out (omega (arith, ltb-false (h .soonest) (o .time) e, ix .no-sooner i k)), ix .no-sooner i k))
+        list-steps stored (λ r. r) (λ r b. b) refl
+        (sym (ap (λ (rows : List Row). withRows (withNumbers m q) rows (zipFirst n (λ r b. b) (m .rows) (m .before))) (map-none n (m .rows)) ∙ ap (withRows (withNumbers m q) (m .rows)) (zip-nothing n (m .rows) (m .before))))
+        (λ r. refl) (λ r b. refl)
+        (λ i k out.
+        let in-time : o .time ≤ rowAt m i .now .due = omega (arith, ltb-false (h .soonest) (o .time) e, ix .no-sooner i k) in
+        (still (rowAt m i) o (q .step) out in-time, (unsaved (rowAt m i) o (q .step) (keptAt m i) out in-time, ix .no-sooner i k)))
 
     -- the overdue rows are broken first
     some-late : Stepped (list-stepped (passed stored n o (q .step)))
     some-late =
-        let v = visited (late o (q .step)) (λ _. true) (withSoonest stored noLimit) n (omega (arith, whole)) (λ i k out. both out) in
+        let v = visited (late o (q .step)) (late-saves o (q .step)) (λ _. true) (withSoonest stored noLimit) (kept-whole ∙ sym whole) n (omega (arith, whole)) (λ i k out. both out) in
         let p = pass-visits o (q .step) stored n in
-        list-steps (passed stored n o (q .step)) (late o (q .step)) (ap (λ (y : Indexed). y .lists) p ∙ visits-lists (late o (q .step)) (numbers (λ _. true) n) (withSoonest stored noLimit))
-        (ap (λ (y : Indexed). y .monitor) p ∙ v .monitor-is) (late-first o (q .step) above)
-        (λ i k out. (late-still o (q .step) above (rowAt m i) out, subst (λ (y : Indexed). y .soonest ≤ late o (q .step) (rowAt m i) .now .due) (sym p) (v .heeds i k)))
+        list-steps (passed stored n o (q .step)) (late o (q .step)) (late-saves o (q .step))
+        (ap (λ (y : Indexed). y .lists) p ∙ visits-lists (late o (q .step)) (late-saves o (q .step)) (numbers (λ _. true) n) (withSoonest stored noLimit))
+        (ap (λ (y : Indexed). y .monitor) p ∙ v .monitor-is) (late-first o (q .step) above) (late-saves-first o (q .step) above)
+        (λ i k out. (late-still o (q .step) above (rowAt m i) out, (late-unsaved o (q .step) above (rowAt m i) (keptAt m i) out, subst (λ (y : Indexed). y .soonest ≤ late o (q .step) (rowAt m i) .now .due) (sym p) (v .heeds i k))))
 
     all-stepped : Stepped taken
     all-stepped =
@@ -295,7 +363,7 @@ module _ (h : Indexed) (call : Call) (whole : length (h .monitor .rows) ≡ 32) 
 
     -- the monitor is the one after the step of all rows
     pub taken-monitor : taken .monitor ≡ withNumbers (rowsStepped m (q .rows) o (q .step)) q
-    taken-monitor = all-stepped .monitor-is ∙ ap (λ (k : ℕ). withRows (withNumbers m q) (mapFirst k step (m .rows))) (sym all-held)
+    taken-monitor = all-stepped .monitor-is ∙ ap (λ (k : ℕ). withRows (withNumbers m q) (mapFirst k step (m .rows)) (zipFirst k save (m .rows) (m .before))) (sym all-held)
 
   -- ---- the call
   module _ (c : Bool) (c-is : c ≡ listCrowded h (l .first) (l .rows) o) where

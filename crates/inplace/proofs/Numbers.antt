@@ -5,7 +5,7 @@ use native.Mathlib.Omega.{arith}
 use mathlib.Core.List.{[], _∷_, List, map}
 use lib.ListN.{length, getD, set, length-map, List·getD-map}
 use mir.Syntax.{w64}
-use mir.Val.{Val, vint, vstruct, vcons, vnil}
+use mir.Val.{Val, vint}
 use denote.Laws.{Is}
 use denote.Array.{Array, arrayVal}
 use denote.Builtin.{u64}
@@ -20,16 +20,23 @@ use Rattle.constraint.proofs.Call.Laws as C′
 use Rattle.monitor.specs.declared.Monitor.{Monitor}
 use Rattle.monitor.proofs.Monitor as T
 use Rattle.monitor.proofs.Monitor.Laws as T′
-use Rattle.inplace.specs.Store.{withNumbers}
+use Rattle.monitor.specs.Machine.{noUndo}
+use Rattle.monitor.specs.declared.calls.Undo.{Undo}
+use Rattle.monitor.proofs.calls.Undo as U
+use Rattle.monitor.proofs.calls.Undo.Laws as U′
+use Rattle.inplace.specs.Store.{withNumbers, withUndo}
+use Rattle.inplace.specs.declared.Withdrawal.{Withdrawal}
 use Rattle.inplace.specs.declared.Asked.{Asked}
 use Rattle.inplace.proofs.Asked as Q
 use Rattle.inplace.proofs.Asked.Laws as Q′
+use Rattle.inplace.proofs.Withdrawal as X
+use Rattle.inplace.proofs.Withdrawal.Laws as X′
 use Rattle.row.proofs.Occurrence as O
 use Rattle.row.proofs.Occurrence.Laws as O′
 use Rattle.inplace.proofs.Plain.{Known}
-use Rattle.inplace.proofs.Types.{byte-type, word-type, call-type, occurrence-type, monitor-type, asked-type}
+use Rattle.inplace.proofs.Types.{byte-type, word-type, call-type, occurrence-type, undo-type, monitor-type, asked-type, withdrawal-type}
 use Rattle.inplace.proofs.Elem.{set-map, array-length, array-get, array-put}
-use Rattle.inplace.proofs.Rows.{row-vals, word-vals}
+use Rattle.inplace.proofs.Rows.{row-vals, word-vals, kept-vals, monitor-vals}
 
 -- where a first free time lies fits a usize
 pub place-fits : (j : ℕ) → j < streamCount → j * 8 < 2 ^ 64
@@ -37,8 +44,7 @@ place-fits j l = omega (arith, l)
 
 -- the monitor's value with these for the first free times
 abbrev pub with-next : Monitor → List Val → Val
-with-next h ws =
-    vstruct (vcons (arrayVal (row-vals (h .rows))) (vcons (arrayVal ws) (vcons (vint w64 (h .clock)) (vcons (vint w64 (h .count)) (vcons (vint w64 (h .closed)) (vcons (vint w64 (h .len)) vnil))))))
+with-next h ws = monitor-vals h (row-vals (h .rows)) ws (kept-vals (h .before))
 
 pub put-next : (ts : List ℕ) (j f : ℕ) → set (word-vals ts) j (vint w64 f) ≡ word-vals (set ts j f)
 put-next ts j f = set-map (vint w64) (map (u64-field .into) ts) j f ∙ ap (map (vint w64)) (set-map (u64-field .into) ts j f)
@@ -85,6 +91,36 @@ module _ (q : Asked) (is : Known asked-type q) where
   pub mark-known : Known word-type (q .closed)
   mark-known = LL.owed Q.the-type Q′.the-laws q _ is .1 .1 .1 .1 .1 .1 .0
 
+  pub undone-known : Known undo-type (q .undo)
+  undone-known = LL.owed Q.the-type Q′.the-laws q _ is .1 .1 .1 .1 .1 .1 .1 .0
+
+-- ---- the numbers that a withdrawal puts back
+module _ (w : Withdrawal) (is : Known withdrawal-type w) where
+  pub answer-known : Known byte-type (w .answer)
+  answer-known = LL.owed X.the-type X′.the-laws w _ is .0
+
+  pub back-rows-known : Known word-type (w .rows)
+  back-rows-known = LL.owed X.the-type X′.the-laws w _ is .1 .0
+
+  pub back-number-known : Known word-type (w .number)
+  back-number-known = LL.owed X.the-type X′.the-laws w _ is .1 .1 .0
+
+  pub back-undo-known : Known undo-type (w .undo)
+  back-undo-known = LL.owed X.the-type X′.the-laws w _ is .1 .1 .1 .0
+
+module _ (u : Undo) (is : Known undo-type u) where
+  pub undo-next-known : Known word-type (u .next)
+  undo-next-known = LL.owed U.the-type U′.the-laws u _ is .1 .1 .0
+
+  pub undo-clock-known : Known word-type (u .clock)
+  undo-clock-known = LL.owed U.the-type U′.the-laws u _ is .1 .1 .1 .0
+
+  pub undo-count-known : Known word-type (u .count)
+  undo-count-known = LL.owed U.the-type U′.the-laws u _ is .1 .1 .1 .1 .0
+
+  pub undo-closed-known : Known word-type (u .closed)
+  undo-closed-known = LL.owed U.the-type U′.the-laws u _ is .1 .1 .1 .1 .1 .0
+
 -- ---- the monitor's
 module _ (h : Monitor) (was : Known monitor-type h) where
   next-are : Is (Array u64 streamCount) (map (u64-field .into) (h .next)) (arrayVal (word-vals (h .next)) ∷ [])
@@ -116,16 +152,37 @@ module _ (h : Monitor) (was : Known monitor-type h) where
   pub len-known : Known word-type (h .len)
   len-known = LL.owed T.the-type T′.the-laws h _ was .1 .1 .1 .1 .1 .0
 
+  pub undo-known : Known undo-type (h .undo)
+  undo-known = LL.owed T.the-type T′.the-laws h _ was .1 .1 .1 .1 .1 .1 .1 .0
+
+  -- the first free times with another at a place
+  next-put : (place free : ℕ) → Known word-type free → Is (Array u64 streamCount) (map (u64-field .into) (set (h .next) place free)) (arrayVal (word-vals (set (h .next) place free)) ∷ [])
+  next-put place free is =
+      subst (λ (ds : List ℕ). Is (Array u64 streamCount) ds (arrayVal (map (vint w64) ds) ∷ [])) (set-map (u64-field .into) (h .next) place free)
+      (array-put u64 (vint w64) (uint-tells w64) streamCount (map (u64-field .into) (h .next)) (arrayVal (word-vals (h .next)) ∷ []) next-are place free is)
+
+  -- the monitor with the numbers that a withdrawal puts back
+  pub with-undo-known : (u : Undo) → Known undo-type u → Known undo-type noUndo → Known monitor-type (withUndo h u)
+  with-undo-known u is none-is = LL.owes T.the-type T′.the-laws (withUndo h u) (
+    LL.owed T.the-type T′.the-laws h _ was .0,
+    (
+      next-put (u .place) (u .next) (undo-next-known u is),
+      (
+        undo-clock-known u is,
+        (undo-count-known u is, (undo-closed-known u is, (len-known, (LL.owed T.the-type T′.the-laws h _ was .1 .1 .1 .1 .1 .1 .0, (none-is, tt))))),
+      ),
+    ),
+  )
+
   -- the monitor with the numbers of a call that is taken
   pub with-numbers-known : (q : Asked) → Known asked-type q → Known monitor-type (withNumbers h q)
   with-numbers-known q is = LL.owes T.the-type T′.the-laws (withNumbers h q) (
     LL.owed T.the-type T′.the-laws h _ was .0,
     (
-      subst (λ (ds : List ℕ). Is (Array u64 streamCount) ds (arrayVal (map (vint w64) ds) ∷ [])) (set-map (u64-field .into) (h .next) (q .place) (q .free))
-          (array-put u64 (vint w64) (uint-tells w64) streamCount (map (u64-field .into) (h .next)) (arrayVal (word-vals (h .next)) ∷ []) next-are (q .place) (q .free) (free-known q is)),
+      next-put (q .place) (q .free) (free-known q is),
       (
         time-known q is,
-        (step-known q is, (mark-known q is, (len-known, tt))),
+        (step-known q is, (mark-known q is, (len-known, (LL.owed T.the-type T′.the-laws h _ was .1 .1 .1 .1 .1 .1 .0, (undone-known q is, tt))))),
       ),
     ),
   )

@@ -1,17 +1,22 @@
 -- What each walk promises, and what the functions promise that it calls, as the frame has contracts.
 use Prim.Native.Nat.{ℕ, _+_, _<_, _≤_, min}
 use mathlib.Core.Path.{_≡_}
-use mathlib.Core.List.{List, [], _∷_}
-use mathlib.Core.Bool.{false, _||_}
+use mathlib.Core.List.{[], _∷_}
+use mathlib.Core.Bool.{_||_}
 use lib.ListN.{getD}
 use Rattle.constraint.specs.Limits.{streamCount, noLimit}
 use Rattle.row.specs.Machine.{rowFrom, rowStep}
-use Rattle.monitor.specs.Machine.{noRow, placeFor}
-use Rattle.monitor.specs.Contract.{Steps}
+use Rattle.row.specs.Undo.{noBefore, movesBy, Moves}
+use Rattle.queue.specs.Ring.{putBack}
+use Rattle.monitor.specs.Machine.{noRow, noUndo, placeFor}
+use Rattle.monitor.specs.Parts.{rowsWithout}
+use Rattle.monitor.specs.Contract.{Steps, Withdraws}
 use Rattle.inplace.specs.Store.{steppedFrom, askedOf, askedBy, answerOf, rowStepped, rowsStepped, rowsCrowded, withNumbers}
-use Rattle.inplace.specs.Index.{listSize, listFor, rowOf, listedOf, listedBy, crowdedAt, listCrowded, heeded, stepAt, listStepped, lateStepped, lateAt, passed, begun, Indexes, Takes}
+use Rattle.inplace.specs.Store.{withdrawalOf, withdrawalBy, rowBack, withUndo}
+use Rattle.inplace.specs.Index.{listSize, listFor, rowOf, listedOf, listedBy, crowdedAt, listCrowded, heeded, stepAt, listStepped, lateStepped, lateAt, passed, begun, Indexes, Takes, soonestAfter, TakesBack}
 use Rattle.inplace.proofs.Plain.{truth, nothing}
-use Rattle.inplace.proofs.Types.{byte-type, word-type, call-type, rule-type, times-type, state-type, occurrence-type, monitor-type, asked-type, numbered-type, indexed-type, listed-type}
+use Rattle.inplace.proofs.Types.{byte-type, word-type, call-type, rule-type, times-type, state-type, occurrence-type, before-type, moved-type, undo-type, monitor-type}
+use Rattle.inplace.proofs.Types.{asked-type, numbered-type, withdrawal-type, indexed-type, listed-type}
 use Rattle.inplace.proofs.Frame.{no-demand, demand, Promise}
 use Rattle.inplace.proofs.Calls.{Callee, Pure, mut-of, shr-of}
 
@@ -41,8 +46,18 @@ moves =
       front = rule-type ∷ state-type ∷ occurrence-type ∷ [];
       result = truth;
       asks = λ a. no-demand;
-      gives = λ a r. r ≡ false → (times : List ℕ) (number : ℕ) → rowStep (rowFrom (a .0) times (a .1 .0)) (a .1 .1 .0) number .row ≡ rowFrom (a .0) times (a .1 .0);
+      gives = λ a r. r ≡ movesBy (a .0) (a .1 .0) (a .1 .1 .0);
     }
+
+abbrev pub none : Pure
+none = record { front = []; result = before-type; asks = λ a. no-demand; gives = λ a r. r ≡ noBefore }
+
+abbrev pub no-undo : Pure
+no-undo = record { front = []; result = undo-type; asks = λ a. no-demand; gives = λ a r. r ≡ noUndo }
+
+abbrev pub withdrawal-of : Pure
+withdrawal-of =
+    record { front = undo-type ∷ word-type ∷ word-type ∷ []; result = withdrawal-type; asks = λ a. no-demand; gives = λ a r. r ≡ withdrawalOf (a .0) (a .1 .0) (a .1 .1 .0) }
 
 abbrev pub by-value : Pure
 by-value = record { front = monitor-type ∷ call-type ∷ []; result = numbered-type; asks = λ a. no-demand; gives = λ a r. Steps (a .0) (a .1 .0) (steppedFrom (r .number) (r .monitor)) }
@@ -68,19 +83,32 @@ sooner = record { front = word-type ∷ word-type ∷ []; result = word-type; as
 abbrev pub indexed-over : Pure
 indexed-over = record { front = monitor-type ∷ []; result = indexed-type; asks = λ a. no-demand; gives = λ a r. (r .monitor ≡ a .0) × Indexes r }
 
+abbrev pub soonest-after : Pure
+soonest-after = record { front = byte-type ∷ word-type ∷ []; result = word-type; asks = λ a. no-demand; gives = λ a r. r ≡ soonestAfter (a .0) (a .1 .0) }
+
 abbrev pub no-limit : Pure
 no-limit = record { front = []; result = word-type; asks = λ a. no-demand; gives = λ a r. r ≡ noLimit }
 
 -- ---- functions that are lent a row's times
 
-abbrev pub step : Callee (mut-of times-type)
-step =
+abbrev pub advance : Callee (mut-of times-type)
+advance =
     record {
       front = rule-type ∷ state-type ∷ [];
       back = occurrence-type ∷ word-type ∷ [];
-      result = state-type;
+      result = moved-type;
       asks = λ κs a. no-demand;
-      gives = λ κs a r e. rowFrom (a .0) (e .1 .1 .0 .now) r ≡ rowStep (rowFrom (a .0) (a .1 .1 .0 .now) (a .1 .0)) (a .1 .1 .1 .0) (a .1 .1 .1 .1 .0) .row;
+      gives = λ κs a r e. Moves (a .0) (a .1 .0) (a .1 .1 .0 .now) (a .1 .1 .1 .0) (a .1 .1 .1 .1 .0) (e .1 .1 .0 .now) r;
+    }
+
+abbrev pub put-back : Callee (mut-of times-type)
+put-back =
+    record {
+      front = [];
+      back = word-type ∷ word-type ∷ word-type ∷ [];
+      result = nothing;
+      asks = λ κs a. no-demand;
+      gives = λ κs a r e. e .0 .now ≡ putBack (a .1 .0) (a .1 .1 .0) (a .1 .1 .1 .0) (a .0 .now);
     }
 
 abbrev pub crowded : Callee (shr-of times-type)
@@ -119,6 +147,21 @@ put-numbers = record { asks = λ κs h a. demand (a .0 .place < streamCount); gi
 
 abbrev pub take : Promise monitor-type (call-type ∷ []) byte-type
 take = record { asks = λ κs h a. no-demand; gives = λ κs h a r h′. Steps h (a .0) (steppedFrom r h′) }
+
+abbrev pub ask-back : Promise monitor-type [] withdrawal-type
+ask-back = record { asks = λ κs h a. no-demand; gives = λ κs h a r h′. (r ≡ withdrawalBy h) × (h′ ≡ h) }
+
+abbrev pub row-back : Promise monitor-type (word-type ∷ word-type ∷ []) nothing
+row-back = record { asks = λ κs h a. demand (a .0 < 32); gives = λ κs h a r h′. h′ ≡ rowBack h (a .0) (a .1 .0) }
+
+abbrev pub rows-back : Promise monitor-type (word-type ∷ word-type ∷ []) nothing
+rows-back = record { asks = λ κs h a. demand (a .0 ≤ 32); gives = λ κs h a r h′. h′ ≡ rowsWithout h (a .0) (a .1 .0) }
+
+abbrev pub put-undo : Promise monitor-type (undo-type ∷ []) nothing
+put-undo = record { asks = λ κs h a. demand (a .0 .place < streamCount); gives = λ κs h a r h′. h′ ≡ withUndo h (a .0) }
+
+abbrev pub withdraw : Promise monitor-type [] byte-type
+withdraw = record { asks = λ κs h a. no-demand; gives = λ κs h a r h′. Withdraws h (steppedFrom r h′) }
 
 abbrev pub late-row : Promise monitor-type (word-type ∷ occurrence-type ∷ word-type ∷ []) nothing
 late-row = record { asks = λ κs h a. demand (a .0 < 32); gives = λ κs h a r h′. h′ ≡ lateStepped h (a .0) (a .1 .0) (a .1 .1 .0) }
@@ -162,3 +205,6 @@ begin = record { asks = λ κs h a. demand (a .0 ≤ 32); gives = λ κs h a r h
 
 abbrev pub take-indexed : Promise indexed-type (call-type ∷ []) byte-type
 take-indexed = record { asks = λ κs h a. no-demand; gives = λ κs h a r h′. Takes h (a .0) r h′ }
+
+abbrev pub withdraw-indexed : Promise indexed-type [] byte-type
+withdraw-indexed = record { asks = λ κs h a. no-demand; gives = λ κs h a r h′. TakesBack h r h′ }

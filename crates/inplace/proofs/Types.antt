@@ -10,6 +10,12 @@ use Rattle.row.proofs.Occurrence as Occurrence
 use Rattle.row.proofs.Occurrence.Laws as OccurrenceLaws
 use Rattle.row.proofs.Row as Row
 use Rattle.row.proofs.Row.Laws as RowLaws
+use Rattle.row.proofs.Before as Before
+use Rattle.row.proofs.Before.Laws as BeforeLaws
+use Rattle.row.proofs.Moved as Moved
+use Rattle.row.proofs.Moved.Laws as MovedLaws
+use Rattle.monitor.proofs.calls.Undo as Undo
+use Rattle.monitor.proofs.calls.Undo.Laws as UndoLaws
 use Rattle.monitor.proofs.Monitor as Monitor
 use Rattle.monitor.proofs.Monitor.Laws as MonitorLaws
 use Rattle.inplace.proofs.Asked as Asked
@@ -20,6 +26,8 @@ use Rattle.inplace.proofs.index.Indexed as Indexed
 use Rattle.inplace.proofs.index.Indexed.Laws as IndexedLaws
 use Rattle.inplace.proofs.index.Listed as Listed
 use Rattle.inplace.proofs.index.Listed.Laws as ListedLaws
+use Rattle.inplace.proofs.Withdrawal as Withdrawal
+use Rattle.inplace.proofs.Withdrawal.Laws as WithdrawalLaws
 use Rattle.inplace.proofs.Plain.{Plain, number, struct, enum, words}
 
 abbrev pub byte-type : Plain
@@ -46,6 +54,15 @@ occurrence-type = struct Occurrence.the-type OccurrenceLaws.the-laws OccurrenceL
 abbrev pub row-type : Plain
 row-type = struct Row.the-type RowLaws.the-laws RowLaws.the-plain RowLaws.the-copy
 
+abbrev pub before-type : Plain
+before-type = struct Before.the-type BeforeLaws.the-laws BeforeLaws.the-plain BeforeLaws.the-copy
+
+abbrev pub moved-type : Plain
+moved-type = struct Moved.the-type MovedLaws.the-laws MovedLaws.the-plain MovedLaws.the-copy
+
+abbrev pub undo-type : Plain
+undo-type = struct Undo.the-type UndoLaws.the-laws UndoLaws.the-plain UndoLaws.the-copy
+
 abbrev pub monitor-type : Plain
 monitor-type = struct Monitor.the-type MonitorLaws.the-laws MonitorLaws.the-plain MonitorLaws.the-copy
 
@@ -60,3 +77,6 @@ indexed-type = struct Indexed.the-type IndexedLaws.the-laws IndexedLaws.the-plai
 
 abbrev pub listed-type : Plain
 listed-type = struct Listed.the-type ListedLaws.the-laws ListedLaws.the-plain ListedLaws.the-copy
+
+abbrev pub withdrawal-type : Plain
+withdrawal-type = struct Withdrawal.the-type WithdrawalLaws.the-laws WithdrawalLaws.the-plain WithdrawalLaws.the-copy

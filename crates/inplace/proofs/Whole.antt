@@ -1,25 +1,29 @@
 -- The parts of a call in place, put together, are the machine's step. Assumes that the monitor has 32 places for rows, as every record of the type has.
-use Prim.Native.Nat.{ℕ, zero, suc, _≤_, _<_, min}
+use Prim.Native.Nat.{ℕ, zero, suc, _+_, _≤_, _<_, min}
 use native.Mathlib.Omega.{arith}
-use mathlib.Core.Path.{_≡_, refl, sym, _∙_, ap, subst}
+use mathlib.Core.Path.{_≡_, refl, sym, _∙_, ap, ap₂, subst}
 use mathlib.Core.Bool.{Bool, true, false, cond}
 use mathlib.Core.List.{List}
-use lib.ListN.{length}
+use lib.ListN.{length, getD, set}
 use lib.Dec.{ltb}
 use Rattle.constraint.specs.Limits.{rowLimit}
 use Rattle.constraint.specs.declared.Call.{Call}
 use Rattle.constraint.proofs.Lists.{split}
 use Rattle.row.specs.Machine.{rowStep}
+use Rattle.row.specs.Undo.{noBefore, savedBy}
+use Rattle.row.specs.declared.Before.{Before}
+use Rattle.row.specs.declared.Occurrence.{Occurrence}
 use Rattle.row.specs.declared.Row.{Row}
-use Rattle.monitor.specs.Machine.{mapFirst, anyFirst, refuses, takes, crowds, nextFor, nextStep, refusalBy, takenCall, steppedBy, stepOf}
-use Rattle.monitor.specs.Parts.{withRows}
-use Rattle.monitor.specs.Contract.{Steps}
+use Rattle.monitor.specs.Machine.{noRow, mapFirst, zipFirst, withdrawn, withdrawOf}
+use Rattle.monitor.specs.Machine.{refuses, takes, crowds, nextFor, nextStep, refusalBy, takenCall, steppedBy, stepOf}
+use Rattle.monitor.specs.Parts.{withRows, steppedRows, rowsWithout}
+use Rattle.monitor.specs.Contract.{Steps, Withdraws}
 use Rattle.monitor.specs.declared.Monitor.{Monitor}
 use Rattle.monitor.specs.declared.Stepped.{Stepped}
 use Rattle.monitor.proofs.Answers.{refused-by}
-use Rattle.monitor.proofs.First.{map-all, any-all}
-use Rattle.monitor.proofs.Theorem.{step-kept}
-use Rattle.inplace.specs.Store.{answerFrom, numberOf, steppedFrom, askedRows, askedBy, answerOf, rowsStepped, rowsCrowded, withNumbers}
+use Rattle.monitor.proofs.First.{map-behind, map-next, map-all, any-all, zip-next, zip-all, without-all}
+use Rattle.monitor.proofs.Theorem.{step-kept, withdraw-kept}
+use Rattle.inplace.specs.Store.{answerFrom, numberOf, steppedFrom, askedRows, askedBy, answerOf, rowStepped, rowsStepped, rowsCrowded, withNumbers, mayAnswer, withdrawalBy, withUndo}
 use Rattle.inplace.specs.declared.Numbered.{Numbered}
 
 -- ---- a step's answer as a number
@@ -46,6 +50,56 @@ numbered-kept m call s n steps e =
     step-kept m call
     (ap (λ (k : ℕ). steppedFrom k (s .monitor)) e ∙ ap (λ (x : Stepped). steppedFrom (numberOf (x .answer)) (x .monitor)) (steps .equals)
     ∙ ap (λ a. record { answer = a; monitor = stepOf m call .monitor }) (step-told m call))
+
+-- ---- the rows in place
+
+module _ (h : Monitor) (o : Occurrence) (number : ℕ) where
+  pub stepped-none : h ≡ steppedRows h 0 o number
+  unfolding mapFirst zipFirst
+  stepped-none = refl
+
+  -- the first rows have taken the step, and the next takes it
+  pub stepped-next : length (h .rows) ≡ 32 → length (h .before) ≡ 32 → (i : ℕ) → i < 32 → rowStepped (steppedRows h i o number) i o number ≡ steppedRows h (i + 1) o number
+  stepped-next whole wide i small =
+      let move : Row → Row = λ r. rowStep r o number .row in
+      ap₂ (withRows h) (map-next move (h .rows) i noRow (omega (arith, small, whole)))
+      (ap (λ (r : Row). set (zipFirst i (savedBy o number) (h .rows) (h .before)) i (savedBy o number r (getD (zipFirst i (savedBy o number) (h .rows) (h .before)) i noBefore)))
+      (map-behind move (h .rows) i noRow)
+      ∙ zip-next (savedBy o number) (h .rows) (h .before) i noRow noBefore (omega (arith, small, whole)) (omega (arith, small, wide)))
+
+-- ---- a withdrawal in place
+
+module _ (h : Monitor) (whole : length (h .rows) ≡ 32) (wide : length (h .before) ≡ 32) where
+  -- the monitor after the stores
+  abbrev pub back : Monitor
+  back = withUndo (rowsWithout h (withdrawalBy h .rows) (withdrawalBy h .number)) (withdrawalBy h .undo)
+
+  back-is : back ≡ withdrawn h
+  unfolding withdrawn
+  back-is = ap (λ (m : Monitor). withUndo m (withdrawalBy h .undo)) (without-all (h .count) h whole wide (withdrawalBy h .rows) refl)
+
+  abbrev By : Bool → Stepped
+  By b = cond b (takes (withdrawn h)) (refuses 21 h)
+
+  by-may : By (ltb 0 (h .undo .may)) ≡ withdrawOf h
+  unfolding withdrawOf
+  by-may = refl
+
+  -- nothing may be withdrawn, and nothing was changed
+  pub refused-back : (mayAnswer (h .undo .may) ≡ 0 → ⊥) → Withdraws h (steppedFrom (mayAnswer (h .undo .may)) h)
+  refused-back some-number = withdraw-kept h (by-test (ltb 0 (h .undo .may)) some-number ∙ by-may)
+    where
+      by-test : (b : Bool) → (_≡_ {A = ℕ} (cond b 0 21) 0 → ⊥) → steppedFrom (cond b 0 21) h ≡ By b
+      by-test true n = absurd (n refl)
+      by-test false n = refl
+
+  -- all was put back
+  pub taken-back : mayAnswer (h .undo .may) ≡ 0 → Withdraws h (steppedFrom (mayAnswer (h .undo .may)) back)
+  taken-back zero-answer = withdraw-kept h (by-test (ltb 0 (h .undo .may)) zero-answer ∙ by-may)
+    where
+      by-test : (b : Bool) → _≡_ {A = ℕ} (cond b 0 21) 0 → steppedFrom (cond b 0 21) back ≡ By b
+      by-test true e = ap takes back-is
+      by-test false e = absurd (omega (arith, e))
 
 -- ---- a step in place
 
@@ -82,7 +136,9 @@ module _ (h : Monitor) (call : Call) (whole : length (h .rows) ≡ 32) (c : Bool
   after-is : number ≡ 0 → after ≡ takenCall h call
   unfolding takenCall
   after-is e =
-      ap (λ (rows : List Row). withNumbers (withRows h rows) (askedBy h call)) (map-all (λ r. rowStep r (askedBy h call .occurrence) (nextStep h) .row) (h .rows) (askedBy h call .rows) (h .len) (all-rows e))
+      ap₂ (λ (rows : List Row) (before : List Before). withNumbers (withRows h rows before) (askedBy h call))
+      (map-all (λ r. rowStep r (askedBy h call .occurrence) (nextStep h) .row) (h .rows) (askedBy h call .rows) (h .len) (all-rows e))
+      (zip-all (savedBy (askedBy h call .occurrence) (nextStep h)) (h .rows) (h .before) (askedBy h call .rows) (h .len) (all-rows e))
 
   step-is : steppedBy h call number ≡ stepOf h call
   unfolding stepOf

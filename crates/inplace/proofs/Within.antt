@@ -48,7 +48,7 @@ use Rattle.inplace.proofs.Types.{byte-type, word-type, monitor-type, in
 use Rattle.inplace.proofs.Frame.{Holds, Loan, own-at, token, Promise}
 use Rattle.inplace.proofs.Loans.{cell, open-at, opened, closed}
 use Rattle.inplace.proofs.Elem.{array-length, array-get, Way, takes-out, puts-back}
-use Rattle.inplace.proofs.Rows.{rows-length}
+use Rattle.inplace.proofs.Rows.{rows-length, kept-length}
 use Rattle.inplace.proofs.Calls.{triple, passed, ref-to, calls-mut, lent-callee}
 
 abbrev pub byte-vals : List ℕ → List Val
@@ -93,6 +93,9 @@ module _ (h : Indexed) (was : Known indexed-type h) where
 
   pub whole-rows : length (h .monitor .rows) ≡ 32
   whole-rows = rows-length (h .monitor) monitor-in
+
+  pub whole-kept : length (h .monitor .before) ≡ 32
+  whole-kept = kept-length (h .monitor) monitor-in
 
 -- ---- rows and lists
 

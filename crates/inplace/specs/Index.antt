@@ -10,10 +10,12 @@ use Rattle.constraint.specs.Limits.{rowLimit, noLimit}
 use Rattle.constraint.specs.declared.Call.{Call}
 use Rattle.machine.specs.declared.Rule.{Rule}
 use Rattle.row.specs.Machine.{concerns, noEvent, rowStep}
+use Rattle.row.specs.Undo.{noBefore}
+use Rattle.row.specs.declared.Before.{Before}
 use Rattle.row.specs.declared.Occurrence.{Occurrence}
 use Rattle.row.specs.declared.Row.{Row}
 use Rattle.monitor.specs.Machine.{noRow}
-use Rattle.monitor.specs.Contract.{Steps}
+use Rattle.monitor.specs.Contract.{Steps, Withdraws}
 use Rattle.monitor.specs.declared.Monitor.{Monitor}
 use Rattle.inplace.specs.Store.{steppedFrom, askedRows, rowStepped}
 use Rattle.inplace.specs.declared.index.Indexed.{Indexed}
@@ -66,6 +68,9 @@ heldRows m = min (m .len) rowLimit
 
 abbrev pub rowAt : Monitor → ℕ → Row
 rowAt m i = getD (m .rows) i noRow
+
+abbrev pub keptAt : Monitor → ℕ → Before
+keptAt m i = getD (m .before) i noBefore
 
 -- row i of a monitor is in list k
 abbrev pub isIn : Monitor → ℕ → ℕ → Bool
@@ -160,3 +165,16 @@ begun h n o number = cond (ltb (h .soonest) (o .time)) (passed h n o number) h
 pub record Takes (h : Indexed) (call : Call) (number : ℕ) (after : Indexed) : Type 0 where
   pub untouched : ¬ (number ≡ 0) → after ≡ h
   pub steps : Indexes h → Steps (h .monitor) call (steppedFrom number (after .monitor)) × Indexes after
+
+-- ---- a withdrawal
+
+-- the soonest time after a withdrawal with that answer: where a step was withdrawn, a row may be due at any time
+abbrev pub soonestAfter : ℕ → ℕ → ℕ
+soonestAfter zero soonest = 0
+soonestAfter (suc answer) soonest = soonest
+
+-- a refusal changes nothing; the step is withdrawn from the monitor; and an index that is the monitor's stays so
+pub record TakesBack (h : Indexed) (number : ℕ) (after : Indexed) : Type 0 where
+  pub untouched : ¬ (number ≡ 0) → after ≡ h
+  pub withdraws : Withdraws (h .monitor) (steppedFrom number (after .monitor))
+  pub indexes : Indexes h → Indexes after

@@ -9,13 +9,17 @@ use Rattle.constraint.specs.declared.Answer.the-variants.{Taken, Refused}
 use Rattle.constraint.specs.declared.Call.{Call}
 use Rattle.machine.specs.Parts.{plus}
 use Rattle.row.specs.Machine.{rowStep}
+use Rattle.row.specs.Undo.{noBefore, savedBy, rowWithout, keptWithout}
+use Rattle.row.specs.declared.Before.{Before}
 use Rattle.row.specs.declared.Occurrence.{Occurrence}
 use Rattle.row.specs.declared.Row.{Row}
-use Rattle.monitor.specs.Machine.{noRow, mapFirst, anyFirst, placeFor, refusalBy, occurrenceBy, freeAfter, closedAfter}
-use Rattle.monitor.specs.Parts.{withRows}
+use Rattle.monitor.specs.Machine.{noRow, mapFirst, anyFirst, placeFor, refusalBy, occurrenceBy, freeAfter, closedAfter, undoBy, placeIn, noUndo}
+use Rattle.monitor.specs.Parts.{withRows, steppedRows}
+use Rattle.monitor.specs.declared.calls.Undo.{Undo}
 use Rattle.monitor.specs.declared.Monitor.{Monitor}
 use Rattle.monitor.specs.declared.Stepped.{Stepped}
 use Rattle.inplace.specs.declared.Asked.{Asked}
+use Rattle.inplace.specs.declared.Withdrawal.{Withdrawal}
 
 -- ---- answers
 
@@ -49,6 +53,7 @@ askedOf call closed clock next count len =
       place = placeFor call;
       free = freeAfter call next;
       closed = closedAfter call closed;
+      undo = undoBy call closed clock next count;
     }
 
 abbrev pub askedBy : Monitor → Call → Asked
@@ -61,17 +66,18 @@ answerOf (suc n) crowded = suc n
 
 -- ---- the rows
 
--- the monitor with another row i
-abbrev pub withRow : Monitor → ℕ → Row → Monitor
-withRow m i r = withRows m (set (m .rows) i r)
+-- the monitor with another row i, and what is kept of it
+abbrev pub withRow : Monitor → ℕ → Row → Before → Monitor
+withRow m i r b = withRows m (set (m .rows) i r) (set (m .before) i b)
 
 -- the monitor with row i after what occurs
 abbrev pub rowStepped : Monitor → ℕ → Occurrence → ℕ → Monitor
-rowStepped m i o number = withRow m i (rowStep (getD (m .rows) i noRow) o number .row)
+rowStepped m i o number =
+    withRow m i (rowStep (getD (m .rows) i noRow) o number .row) (savedBy o number (getD (m .rows) i noRow) (getD (m .before) i noBefore))
 
 -- the monitor with each of the first n rows after what occurs
 abbrev pub rowsStepped : Monitor → ℕ → Occurrence → ℕ → Monitor
-rowsStepped m n o number = withRows m (mapFirst n (λ r. rowStep r o number .row) (m .rows))
+rowsStepped m n o number = steppedRows m n o number
 
 -- what occurs crowds one of the first n rows
 abbrev pub rowsCrowded : Monitor → ℕ → Occurrence → ℕ → Bool
@@ -89,4 +95,44 @@ withNumbers m q =
       count = q .step;
       closed = q .closed;
       len = m .len;
+      before = m .before;
+      undo = q .undo;
+    }
+
+-- ---- a withdrawal
+
+-- 21 where nothing may be withdrawn
+abbrev pub mayAnswer : ℕ → ℕ
+mayAnswer may = cond (ltb 0 may) 0 21
+
+-- what a withdrawal is to do, on numbers
+abbrev pub withdrawalOf : Undo → ℕ → ℕ → Withdrawal
+withdrawalOf u count len =
+    record {
+      answer = mayAnswer (u .may);
+      rows = askedRows 0 len;
+      number = count;
+      undo = record { may = u .may; place = placeIn (u .place); next = u .next; clock = u .clock; count = u .count; closed = u .closed };
+    }
+
+abbrev pub withdrawalBy : Monitor → Withdrawal
+withdrawalBy m = withdrawalOf (m .undo) (m .count) (m .len)
+
+-- the monitor with row i without the step of that number
+abbrev pub rowBack : Monitor → ℕ → ℕ → Monitor
+rowBack m i number =
+    withRow m i (rowWithout number (getD (m .rows) i noRow) (getD (m .before) i noBefore)) (keptWithout number (getD (m .before) i noBefore))
+
+-- the monitor with the numbers that were kept, beside its rows
+abbrev pub withUndo : Monitor → Undo → Monitor
+withUndo m u =
+    record {
+      rows = m .rows;
+      next = set (m .next) (u .place) (u .next);
+      clock = u .clock;
+      count = u .count;
+      closed = u .closed;
+      len = m .len;
+      before = m .before;
+      undo = noUndo;
     }

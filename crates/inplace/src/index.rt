@@ -16,7 +16,7 @@ use row::concerns;
 ghost use Prim.Native.Nat.{ℕ, _+_, _<_, _≤_, min};
 ghost use mathlib.Core.Path.{_≡_};
 ghost use Rattle.constraint.specs.Limits.{noLimit};
-ghost use Rattle.inplace.specs.Index.{listCount, heldRows, pushed, enlisted, listsOf, listFor, inList, rowOf, Indexes, listedOf, listedBy, crowdedAt, listCrowded, heeded, stepAt, listStepped, lateStepped, lateAt, passed, begun, listSize, Takes};
+ghost use Rattle.inplace.specs.Index.{listCount, heldRows, pushed, enlisted, listsOf, listFor, inList, rowOf, Indexes, listedOf, listedBy, crowdedAt, listCrowded, heeded, stepAt, listStepped, lateStepped, lateAt, passed, begun, listSize, soonestAfter, Takes, TakesBack};
 
 // The list of every row, and the one for no event. Those below are the kinds'.
 const EVERY_ROW: u64 = 64;
@@ -274,5 +274,21 @@ pub fn take(m: &mut Indexed, call: Call) -> u8
         begin(m, q.rows, q.occurrence, q.step);
         list_step(m, l.first, l.rows, q.occurrence, q.step);
     }
+    answer
+}
+
+// The soonest due time after a withdrawal with an answer: where a step was withdrawn, a row may be due at any time.
+fn soonest_after(answer: u8, soonest: u64) -> u64
+    ensures { λ r. ⌜ r ≡ soonestAfter answer soonest ⌝ }
+{
+    if answer == 0 { 0 } else { soonest }
+}
+
+// The last step of an indexed monitor that is lent is withdrawn, in place: 0, or 21 where nothing may be withdrawn.
+pub fn withdraw(m: &mut Indexed) -> u8
+    ensures { λ r. ⌜ TakesBack (now (m .entry)) r (now (m .exit)) ⌝ }
+{
+    let answer = crate::withdraw(&mut m.monitor);
+    m.soonest = soonest_after(answer, m.soonest);
     answer
 }

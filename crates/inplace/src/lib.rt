@@ -6,9 +6,11 @@ use machine::Rule;
 use machine::State;
 use machine::parts::plus;
 use monitor::Monitor;
+use monitor::Undo;
 use monitor::calls;
+use row::Before;
 use row::Occurrence;
-use row::concerns;
+use row::moves;
 ghost use Prim.Native.Nat.{ℕ, _<_, _≤_};
 ghost use mathlib.Core.Bool.{false, _||_};
 ghost use mathlib.Core.List.{List};
@@ -17,8 +19,9 @@ ghost use lib.ListN.{getD};
 ghost use Rattle.constraint.specs.Limits.{streamCount};
 ghost use Rattle.row.specs.Machine.{rowFrom, rowStep};
 ghost use Rattle.monitor.specs.Machine.{noRow};
-ghost use Rattle.monitor.specs.Contract.{Steps};
-ghost use Rattle.inplace.specs.Store.{steppedFrom, askedRows, askedOf, askedBy, answerOf, rowStepped, rowsStepped, rowsCrowded, withNumbers};
+ghost use Rattle.monitor.specs.Parts.{rowsWithout};
+ghost use Rattle.monitor.specs.Contract.{Steps, Withdraws};
+ghost use Rattle.inplace.specs.Store.{steppedFrom, askedRows, askedOf, askedBy, answerOf, rowStepped, rowsStepped, rowsCrowded, withNumbers, mayAnswer, withdrawalOf, withdrawalBy, rowBack, withUndo};
 
 pub mod index;
 
@@ -26,7 +29,7 @@ pub mod index;
 const ROOMY: usize = WAITING_LIMIT - 1;
 
 // What a call is to do: the number of its refusal by all questions but 12, or 0; to how many rows it goes, what they see of it, and as which step;
-// the place of its stream, and the first free time of that stream and the mark of the close after it.
+// the place of its stream, and the first free time of that stream and the mark of the close after it; and what it changes of these, as it was.
 pub struct Asked {
     pub number: u8,
     pub rows: usize,
@@ -35,6 +38,7 @@ pub struct Asked {
     pub place: usize,
     pub free: u64,
     pub closed: u64,
+    pub undo: Undo,
 }
 
 // How many rows a call goes to, by its refusal and the number of rows: none where it is refused, and no more than a monitor holds.
@@ -64,6 +68,7 @@ fn questions(call: Call, closed: u64, clock: u64, next: u64, count: u64, len: us
         place: calls::place(call),
         free: calls::free(call, next),
         closed: calls::closed(call, closed),
+        undo: calls::undo_of(call, closed, clock, next, count),
     }
 }
 
@@ -94,22 +99,6 @@ fn crowded(rule: Rule, old: State, times: &[u64; 64], o: Occurrence) -> bool
     row::crowded(rule, old, times, o)
 }
 
-// Whether what occurs may change a row: an open one that is overdue, that the event concerns, or that the close finds.
-fn moves(rule: Rule, now: State, o: Occurrence) -> bool
-    ensures { λ r. ⌜ (r ≡ false → (times : List ℕ) (number : ℕ) → rowStep (rowFrom rule times now) o number .row ≡ rowFrom rule times now) ⌝ }
-{
-    if 0 < now.broken {
-        return false;
-    }
-    if now.due < o.time {
-        return true;
-    }
-    if o.closes {
-        return true;
-    }
-    concerns(rule, o.kind)
-}
-
 // Row i of a monitor that is lent, after what occurs, where the row lies.
 fn row_step(m: &mut Monitor, i: usize, o: Occurrence, number: u64)
     requires { ⌜ i < 32 ⌝ }
@@ -119,8 +108,9 @@ fn row_step(m: &mut Monitor, i: usize, o: Occurrence, number: u64)
     if moves(r.rule, r.now, o) {
         let rule = r.rule;
         let old = r.now;
-        let new = row::step(rule, old, &mut r.times, o, number);
-        r.now = new;
+        let new = row::advance(rule, old, &mut r.times, o, number);
+        r.now = new.now;
+        m.before[i] = new.before;
     }
 }
 
@@ -180,6 +170,7 @@ fn put_numbers(m: &mut Monitor, q: Asked)
     m.clock = q.occurrence.time;
     m.count = q.step;
     m.closed = q.closed;
+    m.undo = q.undo;
 }
 
 // A call on a monitor that is lent, in place: 0 if it is taken, else the number of its refusal.
@@ -192,6 +183,102 @@ pub fn take(m: &mut Monitor, call: Call) -> u8
     if answer == 0 {
         rows_step(m, q.rows, q.occurrence, q.step);
         put_numbers(m, q);
+    }
+    answer
+}
+
+// What a withdrawal is to do: its answer, 0 or 21; from how many rows it takes the last step, and its number; and the numbers to put back.
+pub struct Withdrawal {
+    pub answer: u8,
+    pub rows: usize,
+    pub number: u64,
+    pub undo: Undo,
+}
+
+// Question 21: 0 where a step may be withdrawn.
+fn may_answer(may: u64) -> u8
+    ensures { λ r. ⌜ r ≡ mayAnswer may ⌝ }
+{
+    if 0 < may { 0 } else { 21 }
+}
+
+// What a withdrawal is to do, on numbers.
+fn withdrawal_of(u: Undo, count: u64, len: usize) -> Withdrawal
+    ensures { λ r. ⌜ r ≡ withdrawalOf u count len ⌝ }
+{
+    let undo = Undo {
+        may: u.may,
+        place: calls::place_in(u.place),
+        next: u.next,
+        clock: u.clock,
+        count: u.count,
+        closed: u.closed,
+    };
+    Withdrawal {
+        answer: may_answer(u.may),
+        rows: asked_rows(0, len),
+        number: count,
+        undo,
+    }
+}
+
+// The same, of a monitor that is lent.
+fn ask_back(m: &mut Monitor) -> Withdrawal
+    ensures { λ r. ⌜ (r ≡ withdrawalBy (now (m .entry))) × (now (m .exit) ≡ now (m .entry)) ⌝ }
+{
+    let u = m.undo;
+    withdrawal_of(u, m.count, m.len)
+}
+
+// Row i of a monitor that is lent, without the step of that number, where the row lies.
+fn row_back(m: &mut Monitor, i: usize, number: u64)
+    requires { ⌜ i < 32 ⌝ }
+    ensures { λ _. ⌜ now (m .exit) ≡ rowBack (now (m .entry)) i number ⌝ }
+{
+    let b = m.before[i];
+    if b.stamp == number {
+        let none = Before::none();
+        let r = &mut m.rows[i];
+        queue::put_back(&mut r.times, b.place, b.first, b.second);
+        r.now = b.state;
+        m.before[i] = none;
+    }
+}
+
+// Each of the first n rows of a monitor that is lent, without the step of that number.
+fn rows_back(m: &mut Monitor, n: usize, number: u64)
+    requires { ⌜ n ≤ 32 ⌝ }
+    ensures { λ _. ⌜ now (m .exit) ≡ rowsWithout (now (m .entry)) n number ⌝ }
+{
+    let mut i = 0;
+    while i < n {
+        row_back(m, i, number);
+        i += 1;
+    }
+}
+
+// The numbers of a monitor that is lent, beside its rows, as they were before the step; nothing may be withdrawn then.
+fn put_undo(m: &mut Monitor, u: Undo)
+    requires { ⌜ u .place < streamCount ⌝ }
+    ensures { λ _. ⌜ now (m .exit) ≡ withUndo (now (m .entry)) u ⌝ }
+{
+    let none = calls::no_undo();
+    m.next[u.place] = u.next;
+    m.clock = u.clock;
+    m.count = u.count;
+    m.closed = u.closed;
+    m.undo = none;
+}
+
+// The last step of a monitor that is lent is withdrawn, in place: 0, or 21 where nothing may be withdrawn.
+pub fn withdraw(m: &mut Monitor) -> u8
+    ensures { λ r. ⌜ Withdraws (now (m .entry)) (steppedFrom r (now (m .exit))) ⌝ }
+{
+    let w = ask_back(m);
+    let answer = w.answer;
+    if answer == 0 {
+        rows_back(m, w.rows, w.number);
+        put_undo(m, w.undo);
     }
     answer
 }

@@ -8,7 +8,7 @@ use borrow.Author.Tests.{ltb-true, lt-ltb, le-ltb}
 use Rattle.constraint.specs.Limits.{streamCount}
 use Rattle.constraint.specs.declared.Call.{Call}
 use Rattle.constraint.proofs.Lists.{split}
-use Rattle.monitor.specs.Machine.{refuses, takes, streamFor, placeFor, crowds, takenCall, steppedBy}
+use Rattle.monitor.specs.Machine.{refuses, takes, streamFor, placeFor, crowds, takenCall, steppedBy, placeIn}
 use Rattle.monitor.specs.declared.Monitor.{Monitor}
 
 -- a stream is its own place
@@ -18,6 +18,10 @@ stream-place call small = rw (lt-ltb (streamFor call) streamCount small)
 pub place-small : (call : Call) → placeFor call < streamCount
 place-small call =
     split (ltb (streamFor call) streamCount) (λ x. cond x (streamFor call) 0 < streamCount) (λ e. ltb-true (streamFor call) streamCount e) (λ e. omega arith)
+
+pub place-in-small : (place : ℕ) → placeIn place < streamCount
+place-in-small place =
+    split (ltb place streamCount) (λ x. cond x place 0 < streamCount) (λ e. ltb-true place streamCount e) (λ e. omega arith)
 
 module _ (m : Monitor) (call : Call) (number : ℕ) where
   pub refused-by : 0 < number → refuses number m ≡ steppedBy m call number

@@ -38,8 +38,8 @@ use Rattle.monitor.proofs.Following.{Follows, step-answered}
 -- ---- a refusal leaves the monitor as it was
 
 -- a result that refuses only with the monitor as it was
-record Untouched (m : Monitor) (result : Stepped) : Type 0 where
-  same : (n : ℕ) → result .answer ≡ Refused n → result .monitor ≡ m
+pub record Untouched (m : Monitor) (result : Stepped) : Type 0 where
+  pub same : (n : ℕ) → result .answer ≡ Refused n → result .monitor ≡ m
 
 -- a test that refuses, or what is asked later
 untouched-or : (m : Monitor) (n : ℕ) (test : Bool) {later : Stepped} → Untouched m later → Untouched m (cond test (refuses n m) later)
@@ -49,7 +49,7 @@ untouched-or m n false u = u
 untouched-taken : (m after : Monitor) → Untouched m (takes after)
 untouched-taken m after = record { same = λ n e. never (cc) }
 
-step-untouched : (m : Monitor) (s : Call) → Untouched m (stepOf m s)
+pub step-untouched : (m : Monitor) (s : Call) → Untouched m (stepOf m s)
 unfolding stepOf
 step-untouched m s =
     let number = refusalBy s (m .closed) (m .count) (m .clock) (nextFor m s) in
@@ -99,7 +99,7 @@ pub broken-row : (rows : List Constraint) (steps : List Step) (i n : ℕ) → Re
 broken-row rows steps i n (row c v e (reads-broken k b)) = (c, e, b)
 
 -- a row that was broken reads so
-reads-still : (rows : List Constraint) (steps : List Step) (i n : ℕ) (c : Constraint) → Valid steps → getElem? rows i ≡ some c → BrokenAt c steps n
+pub reads-still : (rows : List Constraint) (steps : List Step) (i n : ℕ) (c : Constraint) → Valid steps → getElem? rows i ≡ some c → BrokenAt c steps n
     → (o : Option Verdict) → ReadsRow rows steps i o → o ≡ some (Verdict.Broken n)
 reads-still rows steps i n c valid e b o (row d v f r) =
     let same : d ≡ c = cc in

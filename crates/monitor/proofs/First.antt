@@ -2,18 +2,20 @@
 use Prim.Native.Nat.{ℕ, zero, suc, _+_, _<_, min}
 use native.Mathlib.Numerals.{add-one}
 use native.Mathlib.Omega.{arith}
-use mathlib.Core.Path.{_≡_, refl, sym, ap, _∙_}
+use mathlib.Core.Path.{_≡_, refl, sym, ap, ap₂, _∙_}
 use mathlib.Core.Bool.{Bool, true, false, _||_}
 use mathlib.Core.List.{List, [], _∷_}
 use lib.ListN.{length, getD, set}
 use Rattle.constraint.proofs.Lists.{both, or-false}
 use Rattle.constraint.specs.Limits.{rowLimit}
 use Rattle.row.specs.Machine.{rowStep}
+use Rattle.row.specs.Undo.{savedBy, rowWithout, keptWithout}
+use Rattle.row.specs.declared.Before.{Before}
 use Rattle.row.specs.declared.Occurrence.{Occurrence}
 use Rattle.row.specs.declared.Row.{Row}
 use Rattle.row.specs.declared.RowStep.{RowStep}
-use Rattle.monitor.specs.Machine.{mapFirst, anyFirst}
-use Rattle.monitor.specs.Parts.{withRows, RowsAfter}
+use Rattle.monitor.specs.Machine.{mapFirst, zipFirst, anyFirst}
+use Rattle.monitor.specs.Parts.{withRows, steppedRows, rowsWithout, RowsAfter}
 use Rattle.monitor.specs.declared.Monitor.{Monitor}
 
 -- ---- each of them changed
@@ -81,21 +83,51 @@ module _ (f : Row → Bool) where
   any-all (r ∷ rows) (suc n) zero e = absurd (omega arith)
   any-all (r ∷ rows) (suc n) (suc m) e = ap (λ (later : Bool). f r || later) (any-all rows n m (omega arith))
 
--- ---- the first n rows of a monitor changed
+-- ---- each changed by its neighbour in another list
 
-module _ (f : Row → Row) (m : Monitor) (whole : length (m .rows) ≡ rowLimit) (now : Monitor) (n : ℕ) (changed : now ≡ withRows m (mapFirst n f (m .rows))) where
-  -- the row behind those is as it was
-  not-changed : (other : Row) → getD (now .rows) n other ≡ getD (m .rows) n other
-  not-changed other = ap (λ (x : Monitor). getD (x .rows) n other) changed ∙ map-behind f (m .rows) n other
+module _ {A B : Type 0} (f : A → B → B) where
+  pub zip-none : (others : List A) (list : List B) → zipFirst 0 f others list ≡ list
+  unfolding zipFirst
+  zip-none others list = refl
 
-  -- the next row changed too
-  pub changed-next : (other after : Row) → n < rowLimit → after ≡ f (getD (now .rows) n other) → withRows now (set (now .rows) n after) ≡ withRows m (mapFirst (n + 1) f (m .rows))
-  changed-next other after h e =
-      rw e (ap (λ (x : Monitor). withRows x (set (x .rows) n (f (getD (x .rows) n other)))) changed ∙ ap (withRows m) (map-next f (m .rows) n other (omega arith)))
+  pub zip-behind : (others : List A) (list : List B) (n : ℕ) (other : B) → getD (zipFirst n f others list) n other ≡ getD list n other
+  unfolding zipFirst
+  zip-behind others list zero other = refl
+  zip-behind [] list (suc n) other = refl
+  zip-behind (a ∷ others) [] (suc n) other = refl
+  zip-behind (a ∷ others) (b ∷ list) (suc n) other = zip-behind others list n other
 
-  -- all of them
-  pub changed-all : n ≡ min (m .len) rowLimit → now ≡ withRows m (mapFirst (m .len) f (m .rows))
-  changed-all e = changed ∙ ap (withRows m) (map-all f (m .rows) n (m .len) (omega arith))
+  zip-suc : (others : List A) (list : List B) (n : ℕ) (x : A) (other : B) → n < length others → n < length list
+      → set (zipFirst n f others list) n (f (getD others n x) (getD list n other)) ≡ zipFirst (suc n) f others list
+  unfolding zipFirst
+  zip-suc [] list n x other h l = absurd (omega arith)
+  zip-suc (a ∷ others) [] n x other h l = absurd (omega arith)
+  zip-suc (a ∷ others) (b ∷ list) zero x other h l = refl
+  zip-suc (a ∷ others) (b ∷ list) (suc n) x other h l =
+      ap (λ (later : List B). f a b ∷ later) (zip-suc others list n x other (omega arith) (omega arith))
+
+  -- the one behind the first n, changed too
+  pub zip-next : (others : List A) (list : List B) (n : ℕ) (x : A) (other : B) → n < length others → n < length list
+      → set (zipFirst n f others list) n (f (getD others n x) (getD (zipFirst n f others list) n other)) ≡ zipFirst (n + 1) f others list
+  zip-next others list n x other h l = rw (zip-behind others list n other, add-one n) (zip-suc others list n x other h l)
+
+  pub zip-all : (others : List A) (list : List B) (n m : ℕ) → n ≡ min m (length others) → zipFirst n f others list ≡ zipFirst m f others list
+  unfolding zipFirst
+  zip-all [] list zero zero e = refl
+  zip-all [] list zero (suc m) e = refl
+  zip-all [] list (suc n) m e = absurd (omega arith)
+  zip-all (a ∷ others) list zero zero e = refl
+  zip-all (a ∷ others) list zero (suc m) e = absurd (omega arith)
+  zip-all (a ∷ others) list (suc n) zero e = absurd (omega arith)
+  zip-all (a ∷ others) [] (suc n) (suc m) e = refl
+  zip-all (a ∷ others) (b ∷ list) (suc n) (suc m) e = ap (λ (later : List B). f a b ∷ later) (zip-all others list n m (omega arith))
+
+  pub zip-length : (others : List A) (list : List B) (n : ℕ) → length (zipFirst n f others list) ≡ length list
+  unfolding zipFirst
+  zip-length others list zero = refl
+  zip-length [] list (suc n) = refl
+  zip-length (a ∷ others) [] (suc n) = refl
+  zip-length (a ∷ others) (b ∷ list) (suc n) = ap suc (zip-length others list n)
 
 -- ---- a step given to the first n rows of a monitor
 
@@ -109,17 +141,21 @@ module _ (o : Occurrence) (number : ℕ) where
 
   -- it crowds none of them
   pub record Moved (m now : Monitor) (n : ℕ) : Type 0 where
-    pub changed : now ≡ withRows m (mapFirst n moved (m .rows))
+    pub changed : now ≡ steppedRows m n o number
     pub none-full : anyFirst n full (m .rows) ≡ false
 
   pub moved-none : (m : Monitor) → Moved m m 0
-  unfolding mapFirst anyFirst
+  unfolding mapFirst anyFirst zipFirst
   moved-none m = record { changed = refl; none-full = refl }
 
   module _ (m : Monitor) (whole : length (m .rows) ≡ rowLimit) (now : Monitor) (n : ℕ) (so-far : Moved m now n) where
-    -- the next row's mark
+    -- the next row is as it was
+    not-changed : (other : Row) → getD (now .rows) n other ≡ getD (m .rows) n other
+    not-changed other = ap (λ (x : Monitor). getD (x .rows) n other) (so-far .changed) ∙ map-behind moved (m .rows) n other
+
+    -- its mark
     mark : (other : Row) (s : RowStep) → s ≡ rowStep (getD (now .rows) n other) o number → full (getD (m .rows) n other) ≡ s .crowded
-    mark other s e = sym (ap (λ (x : RowStep). x .crowded) e ∙ ap full (not-changed moved m whole now n (so-far .changed) other))
+    mark other s e = sym (ap (λ (x : RowStep). x .crowded) e ∙ ap full (not-changed other))
 
     -- it crowds the next row
     pub moved-full : (other : Row) (s : RowStep) → n < min (m .len) rowLimit → s ≡ rowStep (getD (now .rows) n other) o number → s .crowded ≡ true
@@ -132,11 +168,18 @@ module _ (o : Occurrence) (number : ℕ) where
         }
 
     -- nor does it crowd the next row
-    pub moved-next : (other : Row) (s : RowStep) → n < min (m .len) rowLimit → s ≡ rowStep (getD (now .rows) n other) o number → s .crowded ≡ false
-        → Moved m (withRows now (set (now .rows) n (s .row))) (n + 1)
-    moved-next other s h e free =
+    pub moved-next : length (m .before) ≡ rowLimit → (other : Row) (none : Before) (s : RowStep) (saved : Before) → n < min (m .len) rowLimit
+        → s ≡ rowStep (getD (now .rows) n other) o number → saved ≡ savedBy o number (getD (now .rows) n other) (getD (now .before) n none) → s .crowded ≡ false
+        → Moved m (withRows now (set (now .rows) n (s .row)) (set (now .before) n saved)) (n + 1)
+    moved-next wide other none s saved h e k free =
         record {
-          changed = changed-next moved m whole now n (so-far .changed) other (s .row) (omega arith) (ap (λ (x : RowStep). x .row) e);
+          changed =
+              ap₂ (λ (r : Row) (b : Before). withRows now (set (now .rows) n r) (set (now .before) n b)) (ap (λ (x : RowStep). x .row) e)
+              (k ∙ ap (λ (r : Row). savedBy o number r (getD (now .before) n none)) (not-changed other))
+              ∙ ap (λ (x : Monitor). withRows x (set (x .rows) n (moved (getD (x .rows) n other)))
+              (set (x .before) n (savedBy o number (getD (m .rows) n other) (getD (x .before) n none)))) (so-far .changed)
+              ∙ ap₂ (withRows m) (map-next moved (m .rows) n other (omega arith))
+              (zip-next (savedBy o number) (m .rows) (m .before) n other none (omega arith) (omega arith));
           none-full = any-next full (m .rows) n other (omega arith) (so-far .none-full) (mark other s e ∙ free);
         }
 
@@ -145,6 +188,37 @@ module _ (o : Occurrence) (number : ℕ) where
     moved-all e =
         record {
           crowded-is = sym (sym (any-all full (m .rows) n (m .len) (omega arith)) ∙ so-far .none-full);
-          stepped = λ f. changed-all moved m whole now n (so-far .changed) e;
+          stepped = λ f. so-far .changed
+              ∙ ap₂ (withRows m) (map-all moved (m .rows) n (m .len) (omega arith)) (zip-all (savedBy o number) (m .rows) (m .before) n (m .len) (omega arith));
           as-it-was = λ f. both (sym f);
         }
+
+-- ---- the first n rows of a monitor without a step
+
+module _ (number : ℕ) (m : Monitor) (whole : length (m .rows) ≡ rowLimit) (wide : length (m .before) ≡ rowLimit) where
+  abbrev back : Before → Row → Row
+  back b r = rowWithout number r b
+
+  abbrev kept : Row → Before → Before
+  kept r b = keptWithout number b
+
+  pub without-none : rowsWithout m 0 number ≡ m
+  unfolding zipFirst
+  without-none = refl
+
+  pub without-next : (now : Monitor) (n : ℕ) → now ≡ rowsWithout m n number → n < rowLimit → (other : Row) (none : Before) (r : Row) (b : Before)
+      → r ≡ rowWithout number (getD (now .rows) n other) (getD (now .before) n none) → b ≡ keptWithout number (getD (now .before) n none)
+      → withRows now (set (now .rows) n r) (set (now .before) n b) ≡ rowsWithout m (n + 1) number
+  without-next now n e h other none r b r-is b-is =
+      let same : getD (now .before) n none ≡ getD (m .before) n none
+      = ap (λ (x : Monitor). getD (x .before) n none) e ∙ zip-behind kept (m .rows) (m .before) n none in
+      ap₂ (λ (x : Row) (y : Before). withRows now (set (now .rows) n x) (set (now .before) n y))
+      (r-is ∙ ap (rowWithout number (getD (now .rows) n other)) same) b-is
+      ∙ ap (λ (x : Monitor). withRows x (set (x .rows) n (rowWithout number (getD (x .rows) n other) (getD (m .before) n none)))
+      (set (x .before) n (keptWithout number (getD (x .before) n none)))) e
+      ∙ ap₂ (withRows m) (zip-next back (m .before) (m .rows) n none other (omega arith) (omega arith))
+      (zip-next kept (m .rows) (m .before) n other none (omega arith) (omega arith))
+
+  pub without-all : (n : ℕ) → n ≡ min (m .len) rowLimit → rowsWithout m n number ≡ rowsWithout m (m .len) number
+  without-all n e =
+      ap₂ (withRows m) (zip-all back (m .before) (m .rows) n (m .len) (omega arith)) (zip-all kept (m .rows) (m .before) n (m .len) (omega arith))

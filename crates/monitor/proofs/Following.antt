@@ -49,7 +49,7 @@ module _ (engine : (c : Constraint) → Sound c → Exact c) where
 
   module _ (rows : List Constraint) (steps : List Step) (m : Monitor) (f : Follows rows steps m) where
     -- where there is room, the number of the next step is the count of the steps with it
-    step-is : length steps < lastCount → nextStep m ≡ length steps + 1
+    pub step-is : length steps < lastCount → nextStep m ≡ length steps + 1
     step-is counted = omega (arith, f .count-is)
 
     count-after : (s : Step) → length steps < lastCount → nextStep m ≡ length (steps ++ (s ∷ []))

@@ -2,6 +2,7 @@
 pub mod FittingRows
 pub mod Following
 pub mod Demand
+pub mod Withdrawing
 pub mod Theorem
 pub mod Beside
 pub mod Unheard

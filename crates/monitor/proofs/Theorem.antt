@@ -2,7 +2,7 @@
 use Prim.Native.Nat.{ℕ, _+_, _≤_, _<_}
 use mathlib.Core.Path.{_≡_, refl, sym, subst}
 use mathlib.Core.Bool.{true, false}
-use mathlib.Core.List.{List}
+use mathlib.Core.List.{List, []}
 use mathlib.Core.Logic.{_↔_, Iff·trans}
 use mathlib.Core.Option.{Option, some}
 use lib.ListN.{length, getElem?}
@@ -11,7 +11,9 @@ use Rattle.constraint.specs.Steps.{Step, at, times, clock, closed}
 use Rattle.constraint.specs.Meets.{Meets}
 use Rattle.constraint.specs.Continuation.{Open, Reads}
 use Rattle.constraint.specs.Accepted.{Accepted}
+use Rattle.constraint.specs.Run.{Run}
 use Rattle.constraint.specs.Promise.{Promise, ReadsRow, row, no-row}
+use Rattle.constraint.specs.Withdrawals.{Request, Left, Withdrawing}
 use Rattle.constraint.specs.declared.Call.{Call}
 use Rattle.constraint.specs.declared.Constraint.{Constraint}
 use Rattle.constraint.specs.declared.Constraint.the-variants.{Delay, Repeat, Sporadic}
@@ -25,16 +27,31 @@ use Rattle.spans.proofs.Laws.Repeat.{silent-repeat-shut}
 use Rattle.points.proofs.Laws.Sporadic.{silent-sporadic-shut}
 use Rattle.row.proofs.Exact.{Sound}
 use Rattle.row.proofs.Engine.{engine}
-use Rattle.monitor.specs.Machine.{monitorOf, stepOf, verdictOf}
-use Rattle.monitor.specs.Contract.{step, after, Recorded, Steps, Reading}
+use Rattle.monitor.specs.Machine.{monitorOf, stepOf, withdrawOf, Same, verdictOf}
+use Rattle.monitor.specs.Beside.{allTaken}
+use Rattle.monitor.specs.Contract.{step, after, take, afterRequests, Remains, Recorded, Steps, Withdraws, Reading}
 use Rattle.monitor.specs.declared.Monitor.{Monitor}
 use Rattle.monitor.specs.declared.Stepped.{Stepped}
 use Rattle.monitor.proofs.Demand.{promise, accepted-sound, steps-keep, reading-keeps}
 use Rattle.monitor.proofs.FittingRows.{sound-at}
+use Rattle.monitor.proofs.Withdrawing.{promise-requests, struck, withdraws-keep}
 
 -- over every table, every list of calls from a fresh monitor, and every row
 pub monitor-is-exact : Promise monitorOf step verdictOf
 monitor-is-exact = promise engine
+
+-- the same with withdrawals, over the steps that are left
+pub withdrawing-is-exact : Withdrawing monitorOf take verdictOf
+withdrawing-is-exact = promise-requests engine
+
+-- §3.14: after any requests over an accepted table the monitor is, but for what may be withdrawn, the one after the calls that are left
+pub struck-out : (rows : List Constraint) → Accepted rows → (requests : List Request)
+    → (left : Left) × Remains rows requests left × (calls : List Call) × Run rows [] calls (allTaken calls) (left .steps) × Same (afterRequests rows requests) (after rows calls)
+struck-out = struck engine
+
+-- what equals a withdrawal of the machine keeps the contract of a withdrawal
+pub withdraw-kept : (m : Monitor) {result : Stepped} → result ≡ withdrawOf m → Withdraws m result
+withdraw-kept m e = subst (Withdraws m) (sym e) (withdraws-keep engine m)
 
 -- what equals a step of the machine keeps the contract of a step
 pub step-kept : (m : Monitor) (s : Call) {result : Stepped} → result ≡ stepOf m s → Steps m s result

@@ -11,13 +11,14 @@ use Rattle.constraint.specs.Accepted.{rowsQuestions, Accepted}
 use Rattle.constraint.specs.Rows.{rowsOf}
 use Rattle.constraint.specs.Run.{questions, Run}
 use Rattle.constraint.specs.Promise.{ReadsRow, play}
+use Rattle.constraint.specs.Withdrawals.{Request, asks, withdraws, Left, noneLeft, requestQuestions, RunRequests, playRequests}
 use Rattle.constraint.specs.declared.Answer.{Answer}
 use Rattle.constraint.specs.declared.Answer.the-variants.{Taken, Refused}
 use Rattle.constraint.specs.declared.Call.{Call}
 use Rattle.constraint.specs.declared.Constraint.{Constraint}
 use Rattle.constraint.specs.declared.Table.{Table}
 use Rattle.constraint.specs.declared.Verdict.{Verdict}
-use Rattle.monitor.specs.Machine.{monitorOf, stepOf, verdictOf}
+use Rattle.monitor.specs.Machine.{monitorOf, stepOf, withdrawOf, verdictOf}
 use Rattle.monitor.specs.declared.Monitor.{Monitor}
 use Rattle.monitor.specs.declared.RowVerdict.{RowVerdict}
 use Rattle.monitor.specs.declared.Stepped.{Stepped}
@@ -34,6 +35,23 @@ after rows calls = play step (monitorOf rows) calls .monitor
 abbrev pub Recorded : List Constraint → List Call → List Step → Type 0
 Recorded rows calls steps = (answers : List Answer) × Run rows [] calls answers steps
 
+-- ---- with withdrawals
+
+-- a request as demand 3 takes it
+abbrev pub take : Monitor → Request → Rattle.constraint.specs.Promise.Stepped Monitor
+take m (asks s) = step m s
+take m withdraws = record { answer = withdrawOf m .answer; monitor = withdrawOf m .monitor }
+
+-- §3.13: the monitor after a list of requests, from a fresh one over the rows
+unfoldable pub afterRequests : List Constraint → List Request → Monitor
+afterRequests rows requests = playRequests take (monitorOf rows) requests .monitor
+
+-- the list of requests has left these steps
+abbrev pub Remains : List Constraint → List Request → Left → Type 0
+Remains rows requests left = (answers : List Answer) × RunRequests rows noneLeft requests answers left
+
+-- ---- the contracts
+
 -- §9.7: a fresh monitor, its rows asked 3 to 7; over an accepted table the monitor before any call, and on a refusal the one over no rows
 pub record Freshly (table : Table) (answer : Answer) (m : Monitor) : Type 0 where
   pub judged : Judged (rowsQuestions 0 (rowsOf table) []) answer
@@ -45,6 +63,12 @@ pub record Steps (m : Monitor) (s : Call) (result : Stepped) : Type 0 where
   pub equals : result ≡ stepOf m s
   pub means : (rows : List Constraint) (calls : List Call) → Accepted rows → m ≡ after rows calls
       → ((steps : List Step) × Recorded rows calls steps × Judged (questions rows steps s) (result .answer)) × (result .monitor ≡ after rows (calls ++ (s ∷ [])))
+
+-- §3.12, §8.21: a withdrawal: the answer that its question gives over what the requests have left, and the monitor after the longer list of requests
+pub record Withdraws (m : Monitor) (result : Stepped) : Type 0 where
+  pub equals : result ≡ withdrawOf m
+  pub means : (rows : List Constraint) (requests : List Request) → Accepted rows → m ≡ afterRequests rows requests
+      → ((left : Left) × Remains rows requests left × Judged (requestQuestions rows left withdraws) (result .answer)) × (result .monitor ≡ afterRequests rows (requests ++ (withdraws ∷ [])))
 
 -- §3.6: the verdict of a row number: what the row reads after what the calls have recorded, or none where there is no such row
 pub record Reading (m : Monitor) (i : ℕ) (verdict : Option Verdict) : Type 0 where

@@ -1,5 +1,6 @@
 -- The monitor's machine: total functions on the records, which the contracts equal.
 use Prim.Native.Nat.{ℕ, zero, suc, _+_, _-_}
+use mathlib.Core.Path.{_≡_}
 use mathlib.Core.Bool.{Bool, false, cond, _&&_, _||_}
 use mathlib.Core.List.{List, [], _∷_, _++_, map}
 use mathlib.Core.Option.{Option, none, some}
@@ -14,14 +15,21 @@ use Rattle.constraint.specs.declared.Constraint.{Constraint}
 use Rattle.constraint.specs.declared.Verdict.{Verdict}
 use Rattle.machine.specs.Parts.{plus}
 use Rattle.row.specs.Machine.{rowOf, eventAt, tickAt, closeAt, rowStep, rowVerdict}
+use Rattle.row.specs.Undo.{noBefore, savedBy, rowWithout, keptWithout}
+use Rattle.row.specs.declared.Before.{Before}
 use Rattle.row.specs.declared.Occurrence.{Occurrence}
 use Rattle.row.specs.declared.Row.{Row}
 use Rattle.monitor.specs.declared.Monitor.{Monitor}
 use Rattle.monitor.specs.declared.Stepped.{Stepped}
+use Rattle.monitor.specs.declared.calls.Undo.{Undo}
 
 -- a place for a row that no row was put in
 abbrev pub noRow : Row
 noRow = rowOf filler
+
+-- nothing to withdraw
+abbrev pub noUndo : Undo
+noUndo = record { may = 0; place = 0; next = 0; clock = 0; count = 0; closed = 0 }
 
 -- §1.6: over the rows, the clock at 0, no events, count 0, not closed
 unfoldable pub monitorOf : List Constraint → Monitor
@@ -33,6 +41,8 @@ monitorOf rows =
       count = 0;
       closed = 0;
       len = length rows;
+      before = replicate rowLimit noBefore;
+      undo = noUndo;
     }
 
 -- each of the first n rows changed, the others as they are
@@ -40,6 +50,13 @@ unfoldable pub mapFirst : ℕ → (Row → Row) → List Row → List Row
 mapFirst zero f rows = rows
 mapFirst (suc n) f [] = []
 mapFirst (suc n) f (r ∷ rows) = f r ∷ mapFirst n f rows
+
+-- each of the first n of the one list changed by its neighbour in the other, the rest as they are
+unfoldable pub zipFirst : {A B : Type 0} → ℕ → (A → B → B) → List A → List B → List B
+zipFirst zero f others list = list
+zipFirst (suc n) f [] list = list
+zipFirst (suc n) f (a ∷ others) [] = []
+zipFirst (suc n) f (a ∷ others) (b ∷ list) = f a b ∷ zipFirst n f others list
 
 -- one of the first n rows has the mark
 unfoldable pub anyFirst : ℕ → (Row → Bool) → List Row → Bool
@@ -106,6 +123,11 @@ closedAfter (Call.ColouredEvent kind colour t) closed = closed
 closedAfter (Call.Tick t) closed = closed
 closedAfter Call.Close closed = 1
 
+-- what a call changes beside the rows, as it was: its step may be withdrawn
+abbrev pub undoBy : Call → ℕ → ℕ → ℕ → ℕ → Undo
+undoBy call closed clock next count =
+    record { may = 1; place = placeFor call; next = next; clock = clock; count = count; closed = closed }
+
 -- ---- a call
 
 abbrev pub nextFor : Monitor → Call → ℕ
@@ -124,6 +146,8 @@ takenCall m call =
       count = nextStep m;
       closed = closedAfter call (m .closed);
       len = m .len;
+      before = zipFirst (m .len) (savedBy (occurrenceOf m call) (nextStep m)) (m .rows) (m .before);
+      undo = undoBy call (m .closed) (m .clock) (nextFor m call) (m .count);
     }
 
 -- the call crowds one of the rows
@@ -140,3 +164,45 @@ stepOf m call = steppedBy m call (refusalBy call (m .closed) (m .count) (m .cloc
 -- the verdict of a row number, or none where there is no row of that number
 unfoldable pub verdictOf : Monitor → ℕ → Option Verdict
 verdictOf m i = cond (ltb i (m .len) && ltb i rowLimit) (some (rowVerdict (getD (m .rows) i noRow) (ltb 0 (m .closed)))) none
+
+-- ---- withdrawing the last step
+
+-- a place among the first free times, whatever the record says
+abbrev pub placeIn : ℕ → ℕ
+placeIn place = cond (ltb place streamCount) place 0
+
+-- the rows, what is kept of them, and the other numbers, as they were before the last step (§3.12); nothing may be withdrawn then
+unfoldable pub withdrawn : Monitor → Monitor
+withdrawn m =
+    record {
+      rows = zipFirst (m .len) (λ b r. rowWithout (m .count) r b) (m .before) (m .rows);
+      next = set (m .next) (placeIn (m .undo .place)) (m .undo .next);
+      clock = m .undo .clock;
+      count = m .undo .count;
+      closed = m .undo .closed;
+      len = m .len;
+      before = zipFirst (m .len) (λ r b. keptWithout (m .count) b) (m .rows) (m .before);
+      undo = noUndo;
+    }
+
+-- §8.21: 21 where nothing may be withdrawn
+unfoldable pub withdrawOf : Monitor → Stepped
+withdrawOf m = cond (ltb 0 (m .undo .may)) (takes (withdrawn m)) (refuses 21 m)
+
+-- the monitor but for what may be withdrawn: its rows, first free times, clock, count, close and number of rows
+unfoldable pub bare : Monitor → Monitor
+bare m =
+    record {
+      rows = m .rows;
+      next = m .next;
+      clock = m .clock;
+      count = m .count;
+      closed = m .closed;
+      len = m .len;
+      before = [];
+      undo = noUndo;
+    }
+
+-- §3.14: two monitors that are the same in every word but what may be withdrawn
+abbrev pub Same : Monitor → Monitor → Type 0
+Same a b = bare a ≡ bare b

@@ -15,12 +15,59 @@ ghost use Prim.Native.Nat.{ℕ};
 ghost use Rattle.constraint.specs.Streams.{stream};
 ghost use Rattle.constraint.specs.declared.Call.{Call};
 ghost use Rattle.row.specs.Machine.{eventAt};
-ghost use Rattle.monitor.specs.Machine.{streamFor, placeFor, timeRefusal, ownRefusal, refusalBy, occurrenceBy, freeAfter, closedAfter};
+ghost use Rattle.monitor.specs.Machine.{streamFor, placeFor, timeRefusal, ownRefusal, refusalBy, occurrenceBy, freeAfter, closedAfter, noUndo, undoBy, placeIn};
 
 // No event: a kind that no row has, and no stream.
 const NO_EVENT: u64 = 65;
 
 const NO_STREAM: u64 = STREAM_COUNT as u64;
+
+// What the last step changed beside the rows, as it was: the place of its stream and the first free time there, the clock, the count and the mark
+// of the close; and whether it may be withdrawn (0: no).
+#[repr(C)]
+pub struct Undo {
+    pub may: u64,
+    pub place: usize,
+    pub next: u64,
+    pub clock: u64,
+    pub count: u64,
+    pub closed: u64,
+}
+
+// Nothing to withdraw.
+pub fn no_undo() -> Undo
+    ensures { λ r. ⌜ r ≡ noUndo ⌝ }
+{
+    Undo {
+        may: 0,
+        place: 0,
+        next: 0,
+        clock: 0,
+        count: 0,
+        closed: 0,
+    }
+}
+
+// What a call changes beside the rows, as it is before it.
+pub fn undo_of(call: Call, closed: u64, clock: u64, next: u64, count: u64) -> Undo
+    ensures { λ r. ⌜ r ≡ undoBy call closed clock next count ⌝ }
+{
+    Undo {
+        may: 1,
+        place: place(call),
+        next,
+        clock,
+        count,
+        closed,
+    }
+}
+
+// A place among the first free times, whatever a record says.
+pub fn place_in(place: usize) -> usize
+    ensures { λ r. ⌜ r ≡ placeIn place ⌝ }
+{
+    if place < STREAM_COUNT { place } else { 0 }
+}
 
 // The stream of a coloured kind and a colour.
 fn stream_of(kind: u8, colour: u8) -> u64

@@ -1,14 +1,16 @@
 // The monitor: a table's rows, stepped by events, ticks and the close.
+pub use calls::Undo;
 use constraint::Answer;
 use constraint::Call;
 use constraint::Table;
 use constraint::Verdict;
 use machine::parts::plus;
+use row::Before;
 use row::Row;
 ghost use mathlib.Core.Path.{_≡_};
 ghost use Rattle.constraint.specs.declared.Call.{Call};
 ghost use Rattle.monitor.specs.Machine.{refuses, takes};
-ghost use Rattle.monitor.specs.Contract.{Freshly, Steps, VerdictOf, BrokenSteps};
+ghost use Rattle.monitor.specs.Contract.{Freshly, Steps, Withdraws, VerdictOf, BrokenSteps};
 
 pub mod calls;
 mod rows;
@@ -26,6 +28,10 @@ pub struct Monitor {
     pub closed: u64,
     // the number of rows
     pub len: usize,
+    // for each row what it was before the step that last changed it
+    pub before: [Before; 32],
+    // what the last step changed beside the rows
+    pub undo: Undo,
 }
 
 // The answer to a table and the monitor over it, on a refusal the one over no rows; or the answer to a call and the monitor after
@@ -88,6 +94,25 @@ impl Monitor {
         after.clock = o.time;
         after.count = step;
         after.closed = calls::closed(call, self.closed);
+        after.undo = calls::undo_of(call, self.closed, self.clock, next, self.count);
+        after.taken()
+    }
+
+    // The monitor without its last step, or the refusal: question 21.
+    pub fn withdraw(self) -> Stepped
+        ensures { λ r. ⌜ Withdraws self r ⌝ }
+    {
+        let undo = self.undo;
+        if undo.may == 0 {
+            return self.refused(21);
+        }
+        let at = calls::place_in(undo.place);
+        let mut after = rows::back(self, self.count);
+        after.next[at] = undo.next;
+        after.clock = undo.clock;
+        after.count = undo.count;
+        after.closed = undo.closed;
+        after.undo = calls::no_undo();
         after.taken()
     }
 

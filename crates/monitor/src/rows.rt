@@ -1,7 +1,9 @@
 // The rows of a monitor, one after the other: made from a table, and after a step.
 use crate::Monitor;
+use crate::calls;
 use constraint::Constraint;
 use constraint::Table;
+use row::Before;
 use row::Occurrence;
 use row::Row;
 ghost use mathlib.Core.Path.{_≡_};
@@ -10,7 +12,7 @@ ghost use lib.ListN.{take};
 ghost use Rattle.constraint.specs.Limits.{rowLimit};
 ghost use Rattle.constraint.specs.Rows.{rowsOf};
 ghost use Rattle.monitor.specs.Machine.{monitorOf};
-ghost use Rattle.monitor.specs.Parts.{RowsAfter};
+ghost use Rattle.monitor.specs.Parts.{RowsAfter, rowsWithout};
 
 // A monitor whose rows have taken a step, and whether it crowds one of them.
 pub struct RowsStepped {
@@ -52,6 +54,8 @@ pub(crate) fn over(table: Table, len: usize) -> Monitor
         count: 0,
         closed: 0,
         len,
+        before: [Before::none(); 32],
+        undo: calls::no_undo(),
     }
 }
 
@@ -72,11 +76,32 @@ pub fn step(m: Monitor, o: Occurrence, number: u64) -> RowsStepped
             };
         }
         let next = stepped.row;
+        let kept = after.before[i];
+        let saved = row.saved(kept, o, number);
         after.rows[i] = next;
+        after.before[i] = saved;
         i += 1;
     }
     RowsStepped {
         crowded: false,
         monitor: after,
     }
+}
+
+// The monitor with each row without the step of that number.
+pub fn back(m: Monitor, number: u64) -> Monitor
+    ensures { λ r. ⌜ r ≡ rowsWithout m (m .len) number ⌝ }
+{
+    let len = held(m.len);
+    let mut after = m;
+    let mut i = 0;
+    while i < len {
+        let row = after.rows[i];
+        let kept = after.before[i];
+        let before = row.without(kept, number);
+        after.rows[i] = before;
+        after.before[i] = kept.without(number);
+        i += 1;
+    }
+    after
 }

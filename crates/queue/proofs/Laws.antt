@@ -1,19 +1,20 @@
 -- Laws of `ring`, the times of a list of 64 from a place on, and of what an edit makes of a ring.
-use mathlib.Core.Path.{_≡_, refl, ap, _∙_}
+use mathlib.Core.Path.{_≡_, refl, sym, ap, _∙_, subst}
 use mathlib.Core.Bool.{Bool, true, false, cond}
-use mathlib.Core.Logic.{_≢_}
+use mathlib.Core.Logic.{_≢_, _⊎_, inl, inr, ⊎-elim, by-cases}
 use mathlib.Core.List.{List, [], _∷_, _++_, append-assoc}
 use Prim.Native.Nat.{ℕ, zero, suc, _+_, _-_, _%_, _≤_, _<_}
-use native.Mathlib.Nat.{add-zero, suc-add, add-suc}
+use native.Mathlib.Nat.{add-zero, suc-add, add-suc, add-assoc}
 use native.Mathlib.Numerals.{add-one}
 use native.Mathlib.Omega.{arith}
 use borrow.Author.Tests.{ltb-true, ltb-false, lt-ltb}
 use lib.Dec.{ltb}
 use lib.ListN.{length, getD, set, drop, replicate, length-append, length-drop, length-set, drop-of-length-le}
-use lib.Seq.{drop-cons, getD-set-same, getD-set-other, set-out}
+use lib.Seq.{drop-cons, getD-set-same, getD-set-other, set-out, ext-getD}
+use native.Mathlib.Decide.{ℕ-discrete}
 use Rattle.queue.specs.declared.Edit.{Edit}
 use Rattle.queue.specs.declared.Edit.the-variants.{Drop, Push, PushTwo, Store}
-use Rattle.queue.specs.Ring.{Ring, ringOf, ring, ringPlace, timeAt, items, changed, dropRing, pushRing, putRing, edited}
+use Rattle.queue.specs.Ring.{Ring, ringOf, ring, ringPlace, timeAt, items, changed, dropRing, pushRing, putRing, edited, editPlace, putBack}
 
 -- ---- Rings
 
@@ -197,3 +198,98 @@ times-edited q (Drop d) = refl
 times-edited q (Push d word) = pushed-times (dropRing d q) word
 times-edited q (PushTwo d first second) = pushed-times (pushRing first (dropRing d q)) second ∙ pushed-times (dropRing d q) first
 times-edited q (Store place first second) = put-times (putRing place first q) (place + 1) second ∙ put-times q place first
+
+-- ---- what an edit overwrites is put back
+
+-- two lists of words that agree but at a place and the next
+pub record Near (p : ℕ) (a b : List ℕ) : Type 0 where
+  pub size : length a ≡ length b
+  pub rest : (j : ℕ) → j ≢ ringPlace p 0 → j ≢ ringPlace p 1 → getD a j 0 ≡ getD b j 0
+
+pub near-same : (p : ℕ) (a : List ℕ) → Near p a a
+near-same p a = record { size = refl; rest = λ j h k. refl }
+
+-- a store at one of the two places
+near-set : (p : ℕ) (a b : List ℕ) (i word : ℕ) → (i ≡ ringPlace p 0) ⊎ (i ≡ ringPlace p 1) → Near p a b → Near p (set a i word) b
+near-set p a b i word at n =
+    record {
+      size = length-set a i word ∙ n .size;
+      rest = λ j h k. getD-set-other a i j word 0 (λ e. ⊎-elim (λ f. h (e ∙ f)) (λ f. k (e ∙ f)) at) ∙ n .rest j h k;
+    }
+
+-- with the words of the one put back into the other they are the same
+pub near-back : (p : ℕ) (a b : List ℕ) → length b ≡ 64 → Near p a b → putBack p (timeAt b p 0) (timeAt b p 1) a ≡ b
+unfolding putBack
+near-back p a b size n =
+    ext-getD 0 _ b (length-set once (ringPlace p 1) (timeAt b p 1) ∙ length-set a (ringPlace p 0) (timeAt b p 0) ∙ n .size) (λ j small. by-place j)
+  where
+    once : List ℕ
+    once = set a (ringPlace p 0) (timeAt b p 0)
+
+    by-place : (j : ℕ) → getD (set once (ringPlace p 1) (timeAt b p 1)) j 0 ≡ getD b j 0
+    by-place j =
+        by-cases (ℕ-discrete j (ringPlace p 1))
+        (λ e. subst (λ (i : ℕ). getD (set once (ringPlace p 1) (timeAt b p 1)) i 0 ≡ getD b i 0) (sym e)
+        (getD-set-same once (ringPlace p 1) (timeAt b p 1) 0 (omega (arith, length-set a (ringPlace p 0) (timeAt b p 0), n .size, size))))
+        (λ far. getD-set-other once (ringPlace p 1) j (timeAt b p 1) 0 far
+        ∙ by-cases (ℕ-discrete j (ringPlace p 0))
+        (λ e. subst (λ (i : ℕ). getD once i 0 ≡ getD b i 0) (sym e) (getD-set-same a (ringPlace p 0) (timeAt b p 0) 0 (omega (arith, n .size, size))))
+        (λ off. getD-set-other a (ringPlace p 0) j (timeAt b p 0) 0 off ∙ n .rest j off far))
+
+near-either : (p : ℕ) (b : Bool) (x y : Ring) (l : List ℕ) → Near p (x .times) l → Near p (y .times) l → Near p (cond b x y .times) l
+near-either p true x y l n k = n
+near-either p false x y l n k = k
+
+near-push : (p : ℕ) (q : Ring) (word : ℕ) (l : List ℕ) → (ringPlace (q .head) (q .len) ≡ ringPlace p 0) ⊎ (ringPlace (q .head) (q .len) ≡ ringPlace p 1)
+    → Near p (q .times) l → Near p (pushRing word q .times) l
+unfolding pushRing
+near-push p q word l at n = near-either p (ltb (q .len) 64) _ q l (near-set p (q .times) l _ word at n) n
+
+near-put : (p : ℕ) (q : Ring) (i word : ℕ) (l : List ℕ) → (ringPlace (q .head) i ≡ ringPlace p 0) ⊎ (ringPlace (q .head) i ≡ ringPlace p 1)
+    → Near p (q .times) l → Near p (putRing i word q .times) l
+unfolding putRing
+near-put p q i word l at n = near-either p (ltb i (q .len)) _ q l (near-set p (q .times) l _ word at n) n
+
+-- the place behind a place
+next-place : (head i : ℕ) → ringPlace head (i + 1) ≡ ringPlace (ringPlace head i) 1
+next-place head i =
+    let behind : (head + (i + 1)) % 64 ≡ ((head + i) % 64 + 1) % 64 = ap (λ (k : ℕ). k % 64) (sym (add-assoc head i 1)) ∙ next (head + i) in
+    place-is head (i + 1) ∙ behind ∙ sym (place-is (ringPlace head i) 1 ∙ ap (λ (p : ℕ). (p + 1) % 64) (place-is head i))
+  where
+    next : (k : ℕ) → (k + 1) % 64 ≡ (k % 64 + 1) % 64
+    next k = omega arith
+
+-- a ring with one word more is full, or its next place is the next
+pushed-place : (q : Ring) (word : ℕ) → let p = ringPlace (q .head) (q .len) in let r = pushRing word q in
+    (ringPlace (r .head) (r .len) ≡ ringPlace p 0) ⊎ (ringPlace (r .head) (r .len) ≡ ringPlace p 1)
+unfolding pushRing
+pushed-place q word = by-room (ltb (q .len) 64)
+  where
+    by-room : (b : Bool)
+        → let p = ringPlace (q .head) (q .len) in let r = cond b (ringOf (set (q .times) p word) (q .head) (q .len + 1)) q in
+        (ringPlace (r .head) (r .len) ≡ ringPlace p 0) ⊎ (ringPlace (r .head) (r .len) ≡ ringPlace p 1)
+    by-room true = inr (next-place (q .head) (q .len))
+    by-room false = inl (omega arith)
+
+put-head : (q : Ring) (i word : ℕ) → putRing i word q .head ≡ q .head
+unfolding putRing
+put-head q i word = either-head (ltb i (q .len)) _ q refl
+  where
+    either-head : (b : Bool) (x y : Ring) → x .head ≡ y .head → cond b x y .head ≡ y .head
+    either-head true x y e = e
+    either-head false x y e = refl
+
+-- an edit writes at its place and the next alone
+near-edited : (q : Ring) (e : Edit) → Near (editPlace e q) (edited e q .times) (q .times)
+near-edited q (Drop d) = near-same 0 (q .times)
+near-edited q (Push d word) = near-push _ (dropRing d q) word (q .times) (inl (omega arith)) (near-same _ (q .times))
+near-edited q (PushTwo d first second) =
+    near-push _ (pushRing first (dropRing d q)) second (q .times) (pushed-place (dropRing d q) first)
+    (near-push _ (dropRing d q) first (q .times) (inl (omega arith)) (near-same _ (q .times)))
+near-edited q (Store place first second) =
+    near-put _ (putRing place first q) (place + 1) second (q .times) (inr (ap (λ (h : ℕ). ringPlace h (place + 1)) (put-head q place first) ∙ next-place (q .head) place))
+    (near-put _ q place first (q .times) (inl (omega arith)) (near-same _ (q .times)))
+
+pub edit-back : (q : Ring) (e : Edit) → length (q .times) ≡ 64
+    → putBack (editPlace e q) (timeAt (q .times) (editPlace e q) 0) (timeAt (q .times) (editPlace e q) 1) (edited e q .times) ≡ q .times
+edit-back q e size = near-back (editPlace e q) (edited e q .times) (q .times) size (near-edited q e)

@@ -58,3 +58,16 @@ edited (Drop dropped) q = dropRing dropped q
 edited (Push dropped word) q = pushRing word (dropRing dropped q)
 edited (PushTwo dropped first second) q = pushRing second (pushRing first (dropRing dropped q))
 edited (Store place first second) q = putRing (place + 1) second (putRing place first q)
+
+-- ---- what an edit overwrites
+
+-- where an edit writes first; it writes nowhere else but at the next place (§3.13)
+abbrev pub editPlace : Edit → Ring → ℕ
+editPlace (Drop dropped) q = 0
+editPlace (Push dropped word) q = ringPlace (ringPlace (q .head) dropped) (q .len - dropped)
+editPlace (PushTwo dropped first second) q = ringPlace (ringPlace (q .head) dropped) (q .len - dropped)
+editPlace (Store place first second) q = ringPlace (q .head) place
+
+-- the words with two put back from a place on
+unfoldable pub putBack : ℕ → ℕ → ℕ → List ℕ → List ℕ
+putBack place first second times = set (set times (ringPlace place 0) first) (ringPlace place 1) second

@@ -1,7 +1,8 @@
 // The ring of at most 64 times that every row keeps: functions on the 64 words where they lie.
 ghost use mathlib.Core.Path.{_≡_};
-ghost use Prim.Native.Nat.{_-_};
-ghost use Rattle.queue.specs.Ring.{ringPlace, timeAt, ringOf, pushRing, putRing, edited};
+ghost use mathlib.Core.List.{List};
+ghost use Prim.Native.Nat.{ℕ, _-_};
+ghost use Rattle.queue.specs.Ring.{ringPlace, timeAt, ringOf, pushRing, putRing, edited, editPlace, putBack};
 
 // How many times a ring holds at most.
 pub const SIZE: usize = 64;
@@ -137,4 +138,42 @@ fn dropped_ends(head: usize, len: usize, dropped: usize) -> Ends
         head: place_of(head, dropped),
         len: left(len, dropped),
     }
+}
+
+// The place of the first word that is pushed, once the oldest have left.
+fn push_place(head: usize, len: usize, dropped: usize) -> usize
+    ensures { λ r. ⌜ r ≡ ringPlace (ringPlace head dropped) (len - dropped) ⌝ }
+{
+    let ends = dropped_ends(head, len, dropped);
+    place_of(ends.head, ends.len)
+}
+
+// Where an edit writes first; what it writes lies there and at the next place.
+pub fn edit_place(head: usize, len: usize, e: Edit) -> usize
+    ensures { λ r. ⌜ ((times : List ℕ) → r ≡ editPlace e (ringOf times head len)) ⌝ }
+{
+    match e {
+        Edit::Drop { dropped } => 0,
+        Edit::Push { dropped, word } => push_place(head, len, dropped),
+        Edit::PushTwo {
+            dropped,
+            first,
+            second,
+        } => push_place(head, len, dropped),
+        Edit::Store {
+            place,
+            first,
+            second,
+        } => place_of(head, place),
+    }
+}
+
+// Two words put back from a place on.
+pub fn put_back(times: &mut [u64; SIZE], place: usize, first: u64, second: u64)
+    ensures { λ r. ⌜ now (times .exit) ≡ putBack place first second (now (times .entry)) ⌝ }
+{
+    let at = place_of(place, 0);
+    times[at] = first;
+    let after = place_of(place, 1);
+    times[after] = second;
 }

@@ -4,4 +4,5 @@ pub mod Engine
 pub mod OwnKinds
 pub mod Steps
 pub mod Unheard
+pub mod Undo
 mod Dispatch

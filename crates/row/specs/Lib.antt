@@ -1,2 +1,3 @@
 -- The machine of a row: what the code computes, as functions on numbers and lists.
 pub mod Machine
+pub mod Undo

@@ -26,6 +26,7 @@ ghost use lib.Dec.{ltb, eqb};
 ghost use lib.ListN.{length};
 ghost use Rattle.constraint.specs.Limits.{waitingLimit};
 ghost use Rattle.queue.specs.Ring.{ring, changed};
+ghost use Rattle.row.specs.Undo.{savedFrom, movesBy, savedBy, backRow, rowWithout, keptWithout, noBefore, Edited, Moves};
 ghost use Rattle.row.specs.Machine.{decide, concerns, mark, rowFrom, rowOf, brokenState, applied, changedRow, rowStep};
 
 #[repr(C)]
@@ -48,6 +49,23 @@ pub struct Occurrence {
 pub struct RowStep {
     pub crowded: bool,
     pub row: Row,
+}
+
+// What a row was before the step that last changed it: what it kept, the two words of its ring from a place on, and the number of that step;
+// 0 where there is none.
+#[repr(C)]
+pub struct Before {
+    pub state: State,
+    pub place: usize,
+    pub first: u64,
+    pub second: u64,
+    pub stamp: u64,
+}
+
+// What a row keeps after a step, and what it was before.
+pub struct Moved {
+    pub now: State,
+    pub before: Before,
 }
 
 // What an event of one of the row's streams makes of it, the clock not being past its due time.
@@ -162,24 +180,81 @@ fn ends_unkept(closes: bool, kept: u64) -> bool
     closes && kept == 0
 }
 
+// What a row is before the step of that number, which writes from a place on.
+fn saved(old: State, times: &[u64; SIZE], place: usize, number: u64) -> Before
+    ensures { λ r. ⌜ r ≡ savedFrom old (now (times .entry)) place number ⌝ }
+{
+    Before {
+        state: old,
+        place,
+        first: queue::time_at(times, place, 0),
+        second: queue::time_at(times, place, 1),
+        stamp: number,
+    }
+}
+
+// What the row keeps after a change, and what it was before.
+fn edited(rule: Rule, old: State, times: &mut [u64; SIZE], change: Change, number: u64) -> Moved
+    ensures { λ r. ⌜ Edited rule old (now (times .entry)) change number (now (times .exit)) r ⌝ }
+{
+    let edit = change.edit;
+    let place = queue::edit_place(old.head, old.len, edit);
+    let before = saved(old, times, place, number);
+    let now = changed(rule, old, times, change, number);
+    Moved { now, before }
+}
+
+// What the row keeps after what occurs, which is the step of that number, and what it was before; its times are changed where they lie.
+pub fn advance(rule: Rule, old: State, times: &mut [u64; SIZE], o: Occurrence, number: u64) -> Moved
+    ensures { λ r. ⌜ Moves rule old (now (times .entry)) o number (now (times .exit)) r ⌝ }
+{
+    if 0 < old.broken {
+        let before = saved(old, times, 0, number);
+        return Moved { now: old, before };
+    }
+    if old.due < o.time {
+        let before = saved(old, times, 0, number);
+        return Moved {
+            now: broken_at(number),
+            before,
+        };
+    }
+    if concerns(rule, o.kind) {
+        let new = decide(rule, old.marks, times, old.head, old.len, o.stream, o.time);
+        return edited(rule, old, times, new, number);
+    }
+    let before = saved(old, times, 0, number);
+    if ends_unkept(o.closes, old.kept) {
+        return Moved {
+            now: broken_at(number),
+            before,
+        };
+    }
+    Moved { now: old, before }
+}
+
 // What the row keeps after what occurs, which is the step of that number; its times are changed where they lie.
 pub fn step(rule: Rule, old: State, times: &mut [u64; SIZE], o: Occurrence, number: u64) -> State
     ensures { λ r. ⌜ rowFrom rule (now (times .exit)) r ≡ rowStep (rowFrom rule (now (times .entry)) old) o number .row ⌝ }
 {
-    if 0 < old.broken {
-        return old;
+    let moved = advance(rule, old, times, o, number);
+    moved.now
+}
+
+// Whether what occurs may change a row: an open one that is overdue, that the event concerns, or that the close finds.
+pub fn moves(rule: Rule, now: State, o: Occurrence) -> bool
+    ensures { λ r. ⌜ r ≡ movesBy rule now o ⌝ }
+{
+    if 0 < now.broken {
+        return false;
     }
-    if old.due < o.time {
-        return broken_at(number);
+    if now.due < o.time {
+        return true;
     }
-    if concerns(rule, o.kind) {
-        let new = decide(rule, old.marks, times, old.head, old.len, o.stream, o.time);
-        return changed(rule, old, times, new, number);
+    if o.closes {
+        return true;
     }
-    if ends_unkept(o.closes, old.kept) {
-        return broken_at(number);
-    }
-    old
+    concerns(rule, o.kind)
 }
 
 // Whether what occurs would leave the row open with more than 64 waiting.
@@ -242,5 +317,71 @@ impl Row {
             crowded: false,
             row: Row { rule, times, now },
         }
+    }
+
+    // What is kept of the row beside it after what occurs, which is the step of that number; as it was where the row stays as it is.
+    pub fn saved(self, before: Before, o: Occurrence, number: u64) -> Before
+        ensures { λ r. ⌜ r ≡ savedBy o number self before ⌝ }
+    {
+        let mut times = self.times;
+        if !moves(self.rule, self.now, o) {
+            return before;
+        }
+        let moved = advance(self.rule, self.now, &mut times, o, number);
+        moved.before
+    }
+
+    // The row as it was before the step of which that is kept.
+    pub fn back(self, before: Before) -> Self
+        ensures { λ r. ⌜ r ≡ backRow self before ⌝ }
+    {
+        let rule = self.rule;
+        let now = before.state;
+        let mut times = self.times;
+        queue::put_back(&mut times, before.place, before.first, before.second);
+        Row { rule, times, now }
+    }
+
+    // The row without the step of that number, by what is kept of it.
+    pub fn without(self, before: Before, number: u64) -> Self
+        ensures { λ r. ⌜ r ≡ rowWithout number self before ⌝ }
+    {
+        if before.stamp == number {
+            return self.back(before);
+        }
+        self
+    }
+}
+
+impl Before {
+    // Nothing is kept.
+    pub fn none() -> Self
+        ensures { λ r. ⌜ r ≡ noBefore ⌝ }
+    {
+        let state = State {
+            marks: parts::no_marks(),
+            head: 0,
+            len: 0,
+            due: 0,
+            kept: 0,
+            broken: 0,
+        };
+        Before {
+            state,
+            place: 0,
+            first: 0,
+            second: 0,
+            stamp: 0,
+        }
+    }
+
+    // What is kept without the step of that number.
+    pub fn without(self, number: u64) -> Self
+        ensures { λ r. ⌜ r ≡ keptWithout number self ⌝ }
+    {
+        if self.stamp == number {
+            return Before::none();
+        }
+        self
     }
 }

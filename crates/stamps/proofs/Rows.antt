@@ -1,14 +1,14 @@
 -- A row's numbers are those of its fields, so the type's number and the span tell a Repeat of span 1.
-use Prim.Native.Nat.{ℕ, zero, suc, _≤_, _<_}
+use Prim.Native.Nat.{ℕ, _≤_, _<_}
 use native.Mathlib.Omega.{arith}
 use mathlib.Core.Path.{_≡_, refl, sym, ap, subst, _∙_}
-use mathlib.Core.List.{List, [], _∷_, _++_, map}
+use mathlib.Core.List.{List, [], _∷_}
 use mathlib.Core.Option.{some}
 use lib.ListN.{length, getD, getElem?, take}
 use lib.Seq.{getD-take}
 use Rattle.constraint.specs.Steps.{at}
 use Rattle.constraint.specs.Rows.{tableOf}
-use Rattle.constraint.specs.Records.{Holds, entryOf}
+use Rattle.constraint.specs.Records.{Holds}
 use Rattle.constraint.specs.Stamps.{RepeatRow, stampsQuestions}
 use Rattle.constraint.specs.Questions.{Judged}
 use Rattle.constraint.specs.declared.Answer.the-variants.{Refused}
@@ -19,20 +19,9 @@ use Rattle.constraint.specs.declared.Entry.{Entry}
 use Rattle.constraint.specs.declared.Table.{Table}
 use Rattle.constraint.specs.declared.fields.Fields.{Fields}
 use Rattle.constraint.proofs.Judged.{never, judged-yes, judged-no}
-use Rattle.constraint.proofs.Records.{record-count}
+use Rattle.constraint.proofs.Records.{record-count, row-there}
 use Rattle.stamps.specs.Machine.{Finds}
 use Rattle.stamps.specs.declared.RowAsked.{RowAsked}
-
--- the row that stands in an entry
-entry-row : (rows rest : List Constraint) (i : ℕ) (d : Entry) → i < length rows → getElem? rows i ≡ some (getD (map entryOf (rows ++ rest)) i d .constraint)
-entry-row [] rest i d h = absurd (omega arith)
-entry-row (c ∷ rows) rest zero d h = refl
-entry-row (c ∷ rows) rest (suc i) d h = entry-row rows rest i d (omega arith)
-
-row-there : (table : Table) (rows : List Constraint) (i : ℕ) (d : Entry) → table ≡ tableOf rows → i < length rows
-    → getElem? rows i ≡ some (getD (table .rows) i d .constraint)
-unfolding tableOf
-row-there table rows i d e h = entry-row rows _ i d h ∙ ap (λ (t : Table). some (getD (t .rows) i d .constraint)) (sym e)
 
 -- ---- a row's numbers
 

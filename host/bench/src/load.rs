@@ -1,14 +1,18 @@
-//! Tables of 32 rows of types 1 to 8 and 10, and drives over which every row stays open until the close.
+//! Tables of 32 rows of all types, and drives over which every row stays open until the close.
 
-use model::{Constraint, NO_LIMIT, Step, recording_bytes, table_bytes};
+use model::constraint::stream;
+use model::{Constraint, FIRST_COLOURED, LAST_KIND, LAST_TIME, NO_LIMIT, Step, recording_bytes, table_bytes};
 
-/// Every signal comes once in a round of this length.
+/// A signal comes once in a round of this length.
 const PERIOD: u64 = 1_000;
 /// How far the signals of one round are apart, and how late at most each can be.
 const APART: u64 = 15;
 const WOBBLE: u64 = 10;
+/// In how many rounds a rare signal comes once.
+const RARELY: u64 = 64;
 
 /// A table and a drive over it.
+#[derive(Clone)]
 pub struct Load {
     pub name: &'static str,
     pub rows: Vec<Constraint>,
@@ -16,36 +20,58 @@ pub struct Load {
     pub steps: Vec<Step>,
 }
 
-/// The events of one kind: one in each round, from the round `lag` on.
+/// The events of one stream: one in each round, or in each so many rounds, from the round `lag` on.
 #[derive(Clone, Copy)]
 struct Signal {
-    kind: u8,
+    stream: u8,
+    /// Its place among the signals of a round.
+    place: u64,
     lag: u64,
+    every: u64,
 }
 
 impl Signal {
-    fn time(self, round: u64) -> u64 {
-        let late = (7 * round + 3 * u64::from(self.kind)) % WOBBLE;
-        round * PERIOD + u64::from(self.kind) * APART + late
+    fn event(self, round: u64) -> Step {
+        let late = (7 * round + 3 * self.place) % WOBBLE;
+        Step::of_stream(self.stream, round * PERIOD + self.place * APART + late)
+    }
+
+    fn comes_in(self, round: u64) -> bool {
+        self.lag <= round && round.is_multiple_of(self.every)
     }
 
     /// How long the first event is after another signal's first, give or take a wobble.
     fn after(self, other: Signal) -> u64 {
-        (self.lag - other.lag) * PERIOD + u64::from(self.kind - other.kind) * APART
+        (self.lag - other.lag) * PERIOD + (self.place - other.place) * APART
     }
 }
 
-/// The signals so far; each new one has the next kind.
+/// The signals so far, in the order of a round.
 #[derive(Default)]
 struct Signals {
     list: Vec<Signal>,
+    /// In how many rounds each new signal comes once, if not in every one.
+    every: Option<u64>,
 }
 
 impl Signals {
-    fn next(&mut self, lag: u64) -> Signal {
-        let signal = Signal { kind: self.list.len() as u8, lag };
+    fn of_stream(&mut self, stream: u8, lag: u64) -> Signal {
+        let signal = Signal { stream, place: self.list.len() as u64, lag, every: self.every.unwrap_or(1) };
         self.list.push(signal);
         signal
+    }
+
+    /// The signal of the next plain kind.
+    fn next(&mut self, lag: u64) -> Signal {
+        self.of_stream(self.list.iter().filter(|signal| signal.stream < FIRST_COLOURED).count() as u8, lag)
+    }
+
+    /// The runs of a chain: stimuli of some colours, and responses of as many others.
+    fn chain(&mut self, colours: u8) -> Constraint {
+        let (stimulus, response) = (FIRST_COLOURED, FIRST_COLOURED + 1);
+        (0..colours).for_each(|colour| _ = self.of_stream(stream(stimulus, colour), 0));
+        (0..colours).for_each(|colour| _ = self.of_stream(stream(response, 7 - colour), 0));
+        Constraint::Reaction { stimulus, response, minimum: APART, maximum: LAST_TIME / 2 }
     }
 
     /// A source, and a target that is so many rounds behind it.
@@ -55,70 +81,73 @@ impl Signals {
 
     /// So many events, round by round.
     fn drive(&self, events: usize) -> Vec<Step> {
-        let started = |round| self.list.iter().filter(move |signal| signal.lag <= round);
-        let event = |round, signal: &Signal| Step::Event { kind: signal.kind, time: signal.time(round) };
-        (0..).flat_map(|round| started(round).map(move |signal| event(round, signal))).take(events).collect()
+        let coming = |round| self.list.iter().filter(move |signal| signal.comes_in(round));
+        (0..).flat_map(|round| coming(round).map(move |signal| signal.event(round))).take(events).collect()
     }
 }
 
 fn delay((source, target): (Signal, Signal)) -> Constraint {
     let (lower, upper) = (target.after(source) - WOBBLE, target.after(source) + WOBBLE);
-    Constraint::Delay { source: source.kind, target: target.kind, lower, upper }
+    Constraint::Delay { source: source.stream, target: target.stream, lower, upper }
 }
 
 fn strong_delay((source, target): (Signal, Signal)) -> Constraint {
     let (lower, upper) = (target.after(source) - WOBBLE, target.after(source) + WOBBLE);
-    Constraint::StrongDelay { source: source.kind, target: target.kind, lower, upper }
+    Constraint::StrongDelay { source: source.stream, target: target.stream, lower, upper }
 }
 
 fn order((source, target): (Signal, Signal)) -> Constraint {
-    Constraint::Order { source: source.kind, target: target.kind }
+    Constraint::Order { source: source.stream, target: target.stream }
 }
 
 fn synchronization(signals: &[Signal]) -> Constraint {
     let tolerance = signals[signals.len() - 1].after(signals[0]) + WOBBLE;
-    Constraint::StrongSynchronization { kinds: signals.iter().map(|signal| signal.kind).collect(), tolerance }
+    Constraint::StrongSynchronization { kinds: signals.iter().map(|signal| signal.stream).collect(), tolerance }
 }
 
-/// An execution in each round, from a start to a stop, with a pause where two signals stand between them.
-fn execution_time(start: Signal, pause: Option<(Signal, Signal)>, stop: Signal) -> Constraint {
-    let paused = pause.map_or(0, |(preempt, resume)| resume.after(preempt));
-    let (preempt, resume) = pause.map_or((46, 47), |(preempt, resume)| (preempt.kind, resume.kind));
-    let running = stop.after(start) - paused;
-    let (lower, upper) = (running.saturating_sub(2 * WOBBLE), running + 2 * WOBBLE);
-    Constraint::ExecutionTime { start: start.kind, stop: stop.kind, preempt, resume, lower, upper }
+/// An execution from a start to a stop, with a pause.
+fn execution_time(start: Signal, (preempt, resume): (Signal, Signal), stop: Signal) -> Constraint {
+    let running = stop.after(start) - resume.after(preempt);
+    Constraint::ExecutionTime {
+        start: start.stream,
+        stop: stop.stream,
+        preempt: preempt.stream,
+        resume: resume.stream,
+        lower: running.saturating_sub(2 * WOBBLE),
+        upper: running + 2 * WOBBLE,
+    }
 }
 
 fn repeat(event: Signal, span: u8) -> Constraint {
     let length = u64::from(span) * PERIOD;
-    Constraint::Repeat { event: event.kind, span, lower: length - WOBBLE, upper: length + WOBBLE }
+    Constraint::Repeat { event: event.stream, span, lower: length - WOBBLE, upper: length + WOBBLE }
 }
 
 fn burst(event: Signal, maximum: u8) -> Constraint {
     let length = u64::from(maximum) * PERIOD - WOBBLE;
-    Constraint::Burst { event: event.kind, maximum, length, minimum: PERIOD - WOBBLE }
+    Constraint::Burst { event: event.stream, maximum, length, minimum: PERIOD - WOBBLE }
 }
 
 /// Points in a rhythm, or with room for a few times more or less, or with no limit above.
 fn sporadic(event: Signal, upper: u64) -> Constraint {
     let lower = if upper == PERIOD { PERIOD } else { PERIOD - 3 };
-    Constraint::Sporadic { event: event.kind, lower, upper, jitter: WOBBLE, minimum: PERIOD - WOBBLE }
+    Constraint::Sporadic { event: event.stream, lower, upper, jitter: WOBBLE, minimum: PERIOD - WOBBLE }
 }
 
 /// Points in a rhythm, so many places apart.
 fn repetition(event: Signal, span: u8) -> Constraint {
     let length = u64::from(span) * PERIOD;
-    Constraint::Repetition { event: event.kind, span, lower: length, upper: length, jitter: WOBBLE }
+    Constraint::Repetition { event: event.stream, span, lower: length, upper: length, jitter: WOBBLE }
 }
 
 /// The lags, spans, maxima and uppers of the rows of one type.
 const LAGS: [u64; 5] = [0, 4, 16, 40, 60];
 const SPANS: [u8; 5] = [1, 2, 8, 32, 64];
-const MAXIMA: [u8; 4] = [1, 4, 16, 64];
+const MAXIMA: [u8; 3] = [1, 16, 64];
 const UPPERS: [u64; 4] = [PERIOD, PERIOD + 3, 2 * PERIOD, NO_LIMIT];
 
 /// Each row has kinds of its own, but that a Burst or a Sporadic shares a Repeat's, and the ExecutionTime's start is a
-/// Sporadic's event: an event concerns one row, or two. All plain kinds are used.
+/// Sporadic's event: an event concerns one row, or two. All plain kinds are used, and all colours of the Reaction's.
 pub fn sparse(events: usize) -> Load {
     let mut signals = Signals::default();
     let mut rows: Vec<Constraint> = LAGS.iter().map(|lag| delay(signals.pair(*lag))).collect();
@@ -134,25 +163,30 @@ pub fn sparse(events: usize) -> Load {
         rows.push(synchronization(&group));
     }
     let [preempt, resume, stop] = [0; 3].map(|lag| signals.next(lag));
-    rows.push(execution_time(rhythms[3], Some((preempt, resume)), stop));
+    rows.push(execution_time(rhythms[3], (preempt, resume), stop));
     rows.push(repetition(signals.next(0), 8));
+    rows.push(signals.chain(4));
     Load { name: "sparse", rows, steps: signals.drive(events) }
 }
 
-/// All rows share three kinds: an event concerns 15 to 22 rows.
+/// Nearly all rows share two kinds, of which an event concerns 24 rows or 25. An execution and a run through a chain, which
+/// need kinds of their own, come once in so many rounds.
 pub fn dense(events: usize) -> Load {
     let mut signals = Signals::default();
     let pair = signals.pair(40);
-    let third = signals.next(0);
+    let either = |place: usize| if place.is_multiple_of(2) { pair.0 } else { pair.1 };
     let mut rows = vec![delay(pair); 5];
     rows.extend(vec![strong_delay(pair); 5]);
-    rows.extend(vec![order((pair.0, third)); 2]);
-    rows.extend(SPANS.map(|span| repeat(third, span)));
-    rows.extend(MAXIMA.map(|maximum| burst(third, maximum)));
-    rows.extend(UPPERS.map(|upper| sporadic(third, upper)));
-    rows.extend(vec![synchronization(&[pair.0, third, pair.1]); 5]);
-    rows.push(execution_time(pair.0, None, third));
-    rows.push(repetition(third, 8));
+    rows.extend(vec![order(pair); 4]);
+    rows.extend(vec![synchronization(&[pair.0, pair.1]); 5]);
+    rows.extend(SPANS[1..].iter().enumerate().map(|(place, span)| repeat(either(place), *span)));
+    rows.extend(MAXIMA.iter().enumerate().map(|(place, maximum)| burst(either(place), *maximum)));
+    rows.extend(UPPERS[..3].iter().enumerate().map(|(place, upper)| sporadic(either(place + 1), *upper)));
+    rows.push(repetition(pair.0, 8));
+    signals.every = Some(RARELY);
+    let [start, preempt, resume, stop] = [0; 4].map(|lag| signals.next(lag));
+    rows.push(execution_time(start, (preempt, resume), stop));
+    rows.push(signals.chain(1));
     Load { name: "dense", rows, steps: signals.drive(events) }
 }
 
@@ -162,24 +196,23 @@ impl Load {
         table_bytes(&self.rows)
     }
 
-    /// The largest recording that the program takes, 61,440 bytes: 5,579 events of the drive, and 7 ticks.
-    pub fn largest_recording(&self) -> Vec<u8> {
-        let mut steps = self.steps[..5_579].to_vec();
-        if let Some(Step::Event { time, .. }) = steps.last().copied() {
-            steps.extend((1..=7).map(|later| Step::Tick { time: time + later }));
-        }
-        recording_bytes(&steps)
+    /// The drive's bytes.
+    pub fn recording(&self) -> Vec<u8> {
+        recording_bytes(&self.steps)
     }
 
-    /// How many rows the events of the drive concern, from the fewest to the most.
-    pub fn concerned(&self) -> (usize, usize) {
-        let rows = |step: &Step| match step {
-            Step::Event { kind, .. } => Some(self.rows.iter().filter(|row| row.kinds().contains(kind)).count()),
-            _ => None,
-        };
-        self.steps
-            .iter()
-            .filter_map(rows)
-            .fold((usize::MAX, 0), |(fewest, most), rows| (fewest.min(rows), most.max(rows)))
+    /// The same drive over so many of the rows, from all over the table.
+    pub fn with_rows(&self, number: usize) -> Load {
+        let each = self.rows.len() / number;
+        Load { rows: self.rows.iter().step_by(each).cloned().collect(), ..self.clone() }
+    }
+
+    /// How many rows an event of the drive concerns, in the mean.
+    pub fn concerned(&self) -> f64 {
+        let named: Vec<Vec<u8>> = self.rows.iter().map(Constraint::kinds).collect();
+        let rows = |kind| named.iter().filter(|kinds| kinds.contains(&kind)).count();
+        let by_kind: Vec<usize> = (0..=LAST_KIND).map(rows).collect();
+        let all: usize = self.steps.iter().filter_map(|step| step.kind()).map(|kind| by_kind[usize::from(kind)]).sum();
+        all as f64 / self.steps.len() as f64
     }
 }

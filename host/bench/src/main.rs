@@ -1,11 +1,12 @@
 //! Prints how fast the proved library is, beside plain Rust: `make bench`.
 
 use bench::load::{Load, dense, sparse};
-use bench::measure::{Measured, agree, reports, steps};
+use bench::measure::{Measured, agree, reports, steps, with_rows};
 
 /// "A million events".
 const EVENTS: usize = 1_000_000;
-const RUNS: usize = 3;
+const RUNS: usize = 5;
+const NUMBERS_OF_ROWS: [usize; 6] = [1, 2, 4, 8, 16, 32];
 
 /// A number with a comma before each three digits.
 fn commas(number: f64) -> String {
@@ -25,17 +26,34 @@ fn print_line(measured: &Measured) {
     );
 }
 
+/// How long a step takes over more and more rows.
+fn print_growth(loads: &[Load]) {
+    let heading = |load: &Load| format!(" {0}: library, ns | {0}: plain, ns |", load.name);
+    println!("| rows |{}", loads.iter().map(heading).collect::<String>());
+    println!("|-----:|{}", "---:|---:|".repeat(loads.len()));
+    for number in NUMBERS_OF_ROWS {
+        let cells: String = loads.iter().map(|load| growth_cells(&with_rows(load, number, RUNS))).collect();
+        println!("| {number:>4} |{cells}");
+    }
+}
+
+fn growth_cells(measured: &Measured) -> String {
+    let (library, plain) = measured.nanoseconds();
+    format!(" {library:>5.1} | {plain:>5.1} |")
+}
+
 fn main() {
     let loads: [Load; 2] = [sparse(EVENTS), dense(EVENTS)];
     for load in &loads {
         agree(load);
-        let (fewest, most) = load.concerned();
-        println!("{}: 32 rows of all types; an event concerns {fewest} to {most} of them", load.name);
+        println!("{}: 32 rows of all types; an event concerns {:.1} of them in the mean", load.name, load.concerned());
     }
     println!("the verdicts of both monitors agree; every row is open until the close");
     println!("processor time, the best of {RUNS} runs in turn\n");
     println!("| what             |    number | library, in 1 s | plain, in 1 s | times |");
     println!("|------------------|----------:|----------------:|--------------:|------:|");
     loads.iter().for_each(|load| print_line(&steps(load, RUNS)));
-    loads.iter().for_each(|load| print_line(&reports(load, RUNS, 20)));
+    loads.iter().for_each(|load| print_line(&reports(load, RUNS)));
+    println!();
+    print_growth(&loads);
 }

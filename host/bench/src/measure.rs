@@ -27,6 +27,11 @@ impl Measured {
         self.number as f64 / self.plain.as_secs_f64()
     }
 
+    /// Nanoseconds of a step or record of the library, and of plain Rust.
+    pub fn nanoseconds(&self) -> (f64, f64) {
+        (1e9 / self.library_rate(), 1e9 / self.plain_rate())
+    }
+
     /// How many times as long the library takes.
     pub fn ratio(&self) -> f64 {
         self.library.as_secs_f64() / self.plain.as_secs_f64()
@@ -121,19 +126,26 @@ pub fn steps(load: &Load, runs: usize) -> Measured {
     Measured { what: format!("steps, {}", load.name), number: load.steps.len(), library, plain }
 }
 
-/// Times reports on the load's largest recording, so many reports in a run.
+/// Times a report on the load's recording.
 ///
 /// # Panics
 /// If the reports differ.
-pub fn reports(load: &Load, runs: usize, each: usize) -> Measured {
-    let (table, recording) = (load.table(), load.largest_recording());
+pub fn reports(load: &Load, runs: usize) -> Measured {
+    let (table, recording) = (load.table(), load.recording());
     let mut buffers = [[0; delkuthi::REPORT_LIMIT]; 2];
     let [one, other] = &mut buffers;
     let (library, plain) = in_turn(
         runs,
-        || (0..each).for_each(|_| assert!(delkuthi::report(black_box(&table), &recording, one).is_some())),
-        || (0..each).for_each(|_| assert!(plain::report::report(black_box(&table), &recording, other).is_some())),
+        || _ = black_box(delkuthi::report(&table, &recording, one)),
+        || _ = black_box(plain::report::report(&table, &recording, other)),
     );
-    assert!(buffers[0].starts_with(b"closed 5587\n") && buffers[0] == buffers[1], "the reports agree");
-    Measured { what: format!("records, {}", load.name), number: each * 5_586, library, plain }
+    assert!(buffers[0] == buffers[1] && buffers[0].starts_with(b"closed "), "{}: the reports", load.name);
+    Measured { what: format!("records, {}", load.name), number: load.steps.len(), library, plain }
+}
+
+/// Times the steps of the load's drive over so many of its rows, on which both monitors agree too.
+pub fn with_rows(load: &Load, number: usize, runs: usize) -> Measured {
+    let some = load.with_rows(number);
+    agree(&some);
+    steps(&some, runs)
 }

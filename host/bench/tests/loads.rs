@@ -6,26 +6,40 @@ use bench::plain::report::report;
 use model::random::Random;
 use model::random::recordings::{damaged_recording, recording};
 use model::random::tables::{any_table, damaged_table};
-use model::{TYPES, Verdict, report_text, table_bytes};
+use model::{Constraint, TYPES, Verdict, report_text, table_bytes};
+use std::collections::BTreeSet;
 
 fn loads(events: usize) -> [Load; 2] {
     [sparse(events), dense(events)]
 }
 
 #[test]
-fn thirty_two_rows_of_all_types_but_9() {
+fn thirty_two_rows_of_all_types() {
     for load in loads(10) {
-        let types = |row: &model::Constraint| row.type_byte();
-        assert_eq!(load.rows.len(), 32);
-        let plain = TYPES.iter().filter(|type_byte| **type_byte != 9);
-        assert!(plain.copied().all(|type_byte| load.rows.iter().map(types).any(|one| one == type_byte)));
+        let types: BTreeSet<u8> = load.rows.iter().map(Constraint::type_byte).collect();
+        assert_eq!((load.rows.len(), types), (32, BTreeSet::from(TYPES)));
     }
-    assert_eq!((sparse(1_000).concerned(), dense(1_000).concerned()), ((1, 2), (15, 22)));
+}
+
+#[test]
+fn an_event_concerns_one_row_or_two_or_most_of_them() {
+    let [sparse, dense] = loads(10_000).map(|load| load.concerned());
+    assert!((1.0..2.0).contains(&sparse) && dense > 23.0, "{sparse}, {dense}");
+}
+
+#[test]
+fn every_row_hears_events() {
+    for load in loads(5_000) {
+        let heard: BTreeSet<u8> = load.steps.iter().filter_map(|step| step.kind()).collect();
+        assert!(load.rows.iter().all(|row| row.kinds().iter().all(|kind| heard.contains(kind))), "{}", load.name);
+    }
 }
 
 #[test]
 fn both_monitors_agree_and_rows_stay_open() {
-    loads(30_000).iter().for_each(agree);
+    for load in loads(30_000) {
+        [1, 8, 32].map(|number| load.with_rows(number)).iter().for_each(agree);
+    }
 }
 
 #[test]
@@ -49,14 +63,13 @@ fn many_wait() {
 }
 
 #[test]
-fn the_largest_recording() {
+fn the_reports_agree() {
     for load in loads(6_000) {
-        let (table, recording) = (load.table(), load.largest_recording());
+        let (table, recording) = (load.table(), load.recording());
         let mut buffers = [[0; delkuthi::REPORT_LIMIT]; 2];
-        assert_eq!(recording.len(), 61_440);
         let written = report(&table, &recording, &mut buffers[0]);
         assert_eq!(written, delkuthi::report(&table, &recording, &mut buffers[1]));
-        assert!(buffers[0] == buffers[1] && buffers[0].starts_with(b"closed 5587\n"));
+        assert!(buffers[0] == buffers[1] && buffers[0].starts_with(b"closed 6001\n"));
     }
 }
 

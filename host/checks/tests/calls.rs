@@ -33,7 +33,7 @@ fn lists_at_the_end_of_the_count() {
         let count = LAST_COUNT - random.below(60);
         Beside::counting_from(&mut random, &rows, 80, count).play(&mut seen);
     }
-    seen.demand_refusals((8..=12).chain([19, 24]));
+    seen.demand_refusals((8..=11).chain([19, 24]));
     seen.demand_verdicts();
 }
 

@@ -14,6 +14,7 @@ unsafe extern "C" {
     pub safe fn delkuthi_coloured_event(monitor: &mut Monitor, kind: u8, colour: u8, time: u64) -> u8;
     pub safe fn delkuthi_tick(monitor: &mut Monitor, time: u64) -> u8;
     pub safe fn delkuthi_close(monitor: &mut Monitor) -> u8;
+    pub safe fn delkuthi_withdraw(monitor: &mut Monitor) -> u8;
     pub safe fn delkuthi_row_verdict(monitor: &Monitor, row: u64) -> u8;
     pub safe fn delkuthi_row_step(monitor: &Monitor, row: u64) -> u64;
     pub safe fn delkuthi_rows(monitor: &Monitor) -> u64;
@@ -33,5 +34,20 @@ unsafe extern "C" {
         recording_length: usize,
         row: u64,
         late: u64,
+    ) -> u64;
+    pub fn delkuthi_join(
+        first: *const u8,
+        first_length: usize,
+        second: *const u8,
+        second_length: usize,
+        joined: *mut u8,
+        joined_length: usize,
+    ) -> u64;
+    pub fn delkuthi_shortest_stretch(
+        table: *const u8,
+        table_length: usize,
+        recording: *const u8,
+        recording_length: usize,
+        row: u64,
     ) -> u64;
 }

@@ -25,7 +25,7 @@
 //!
 //! As compiled for x86-64 the library's calls behind [`Monitor::event`], [`Monitor::tick`], [`Monitor::close`] and
 //! [`Monitor::verdict`] use at most 1 KiB of stack each, that of a page at most 2 KiB, that of [`stamped`] at most 16 KiB,
-//! and those of [`Monitor::fresh`] and [`report`] at most 256 KiB. These are the limits of `include/delkuthi.h`
+//! that of [`shortest_stretch`] at most 32 KiB, and those of [`Monitor::fresh`] and [`report`] at most 256 KiB. These are the limits of `include/delkuthi.h`
 //! (`DELKUTHI_STEP_STACK` and its like), to which a test holds what is measured.
 //!
 //! # Where the archive comes from
@@ -39,19 +39,23 @@
 #![warn(missing_docs)]
 
 mod ffi;
+mod join;
 mod monitor;
 mod page;
 mod refusal;
 mod report;
 mod stamps;
+mod stretches;
 mod table;
 mod version;
 
+pub use join::{Input, JoinRefusal, join};
 pub use monitor::{Monitor, Verdict, WORDS};
 pub use page::PAGE_LIMIT;
 pub use refusal::{Refusal, refusal_text};
 pub use report::{REPORT_LIMIT, report};
 pub use stamps::{Stamped, stamped};
+pub use stretches::{RECORD_LIMIT, Stretch, shortest_stretch};
 pub use table::{NO_LIMIT, Row, TABLE_LIMIT, write_table};
 pub use version::{VERSION, library_version, matches};
 

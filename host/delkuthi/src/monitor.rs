@@ -5,14 +5,14 @@ use crate::refusal::Refusal;
 use core::fmt;
 
 /// How many words of 64 bits a monitor takes.
-pub const WORDS: usize = 2868;
+pub const WORDS: usize = 3596;
 
 /// The word for each verdict, as the library answers it; any other says that there is no such row.
 const OPEN: u8 = 0;
 const KEPT: u8 = 1;
 const BROKEN: u8 = 2;
 
-/// A monitor over a table: 22,944 bytes, with no pointer in them. A copy is a monitor of its own.
+/// A monitor over a table: 28,768 bytes, with no pointer in them. A copy is a monitor of its own.
 #[derive(Clone, PartialEq, Eq)]
 #[repr(transparent)]
 pub struct Monitor {
@@ -97,6 +97,15 @@ impl Monitor {
     /// 8 closed already.
     pub fn close(&mut self) -> Result<(), Refusal> {
         Refusal::of_step(ffi::delkuthi_close(self))
+    }
+
+    /// Withdraws the last step that was taken, the close too: rows, clock and count are as if it had never been taken. It
+    /// can be withdrawn once; then another must be taken first. On a refusal the monitor stays as it was.
+    ///
+    /// # Errors
+    /// 21 nothing to withdraw.
+    pub fn withdraw(&mut self) -> Result<(), Refusal> {
+        Refusal::of_step(ffi::delkuthi_withdraw(self))
     }
 
     /// What the row of this number reads, the first row being 0.

@@ -36,6 +36,8 @@ pub struct Monitor {
     /// For each row the count after the first step which left it not open. Broken is for ever, since a continuation
     /// after more steps is, put behind those, one from before them, which closes no later.
     broken: Vec<Option<u64>>,
+    /// Whether the last step may be withdrawn (§3.12).
+    may: bool,
 }
 
 impl Monitor {
@@ -43,7 +45,7 @@ impl Monitor {
     pub fn fresh(rows: &[Constraint]) -> Result<Monitor, u8> {
         rows_questions(rows)?;
         let (rows, broken) = (rows.to_vec(), vec![None; rows.len()]);
-        Ok(Monitor { rows, steps: Vec::new(), recorded: History::default(), broken })
+        Ok(Monitor { rows, steps: Vec::new(), recorded: History::default(), broken, may: false })
     }
 
     /// The same, with the count as after so many steps (§1.7).
@@ -77,6 +79,20 @@ impl Monitor {
         }
         self.steps.push(step);
         self.recorded = after;
+        self.may = true;
+        Ok(())
+    }
+
+    /// Strikes the last step out and takes those before it anew, or 21 where it may not be withdrawn (§3.12, §8.21).
+    pub fn withdraw(&mut self) -> Answer {
+        ask(21, self.may)?;
+        let from = self.recorded.count() - self.steps.len() as u64;
+        let mut left = Monitor::counting_from(&self.rows, from)?;
+        for step in &self.steps[..self.steps.len() - 1] {
+            left.step(*step)?;
+        }
+        left.may = false;
+        *self = left;
         Ok(())
     }
 

@@ -43,7 +43,8 @@ pub fn recording_bytes(steps: &[Step]) -> Vec<u8> {
     std::iter::once(if coloured { 2 } else { 1 }).chain(steps.iter().flat_map(record_bytes)).collect()
 }
 
-fn record_bytes(step: &Step) -> Vec<u8> {
+/// The bytes of one record (§7.2). A close has none.
+pub fn record_bytes(step: &Step) -> Vec<u8> {
     match step {
         Step::Event { kind, time } => with_length(&[&[*kind], &time.to_be_bytes()[..]].concat()),
         Step::Coloured { kind, colour, time } => with_length(&[&[*kind, *colour], &time.to_be_bytes()[..]].concat()),

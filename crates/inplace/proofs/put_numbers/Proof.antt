@@ -1,4 +1,4 @@
--- Four words of the monitor that is lent are stored where they lie.
+-- Four words of the monitor that is lent, and what they were, are stored where they lie.
 use mathlib.Core.Path.{_≡_, refl}
 use Prim.Native.Nat.{ℕ}
 use mathlib.Core.List.{List}
@@ -14,13 +14,13 @@ use types.Part.{whole, sub, look-in, store-in}
 use Rattle.inplace.specs.Store.{withNumbers}
 use Rattle.inplace.specs.declared.Asked.{Asked}
 use Rattle.inplace.proofs.Plain.{typed}
-use Rattle.inplace.proofs.Types.{word-type, monitor-type}
+use Rattle.inplace.proofs.Types.{word-type, undo-type, monitor-type}
 use Rattle.inplace.proofs.Frame.{Walk, enters, fitting}
 use Rattle.inplace.proofs.Locals.{leaves, copies, sets}
 use Rattle.inplace.proofs.Loans.{cell, opened, closed}
 use Rattle.inplace.proofs.Elem.{elem}
 use Rattle.inplace.proofs.Rows.{word-vals}
-use Rattle.inplace.proofs.Numbers.{place-fits, with-next, put-next, next-whole, within-next, time-known, step-known, free-known, mark-known, with-numbers-known}
+use Rattle.inplace.proofs.Numbers.{place-fits, with-next, put-next, next-whole, within-next, time-known, step-known, free-known, mark-known, undone-known, with-numbers-known}
 use Rattle.inplace.proofs.Promises.{put-numbers}
 use Rattle.inplace.proofs.put_numbers.Key.{name as #inplace·put-numbers}
 use Rattle.inplace.proofs.put_numbers.Statement as stated
@@ -44,6 +44,8 @@ module _ {M : Type 1} (𝓤 : URA M) (H : Heap 𝓤) (A : Atoms 𝓤) (W : Given
       (store-in ! 0 (sub ! 3 refl (whole !)) (typed 𝓤 H A W word-type (q .step) (step-known q (a-is .0)))) $
       assigns ! (of-opd ! (load ! (from ! (fld ! refl (stop !))) (look-in ! 4 (sub ! 6 refl (whole !))))) (from ! (hop ! (look ! 3 refl) (fld ! refl (stop !))))
       (store-in ! 0 (sub ! 4 refl (whole !)) (typed 𝓤 H A W word-type (q .closed) (mark-known q (a-is .0)))) $
+      assigns ! (of-opd ! (load ! (from ! (fld ! refl (stop !))) (look-in ! 4 (sub ! 7 refl (whole !))))) (from ! (hop ! (look ! 3 refl) (fld ! refl (stop !))))
+      (store-in ! 0 (sub ! 7 refl (whole !)) (typed 𝓤 H A W undo-type (q .undo) (undone-known q (a-is .0)))) $
       sets ! (of-opd ! (unit-lit !)) 2 refl (tt, tt) $
       closed ! tt monitor-type L (withNumbers h q) (with-numbers-known h was q (a-is .0)) $
       leaves ! (code.function .locals) tt bs vunit refl (ends tt (withNumbers h q) refl refl))

@@ -9,14 +9,15 @@ free c κs = tt
 returns : tie.Need-returns
 returns c =
     rw (
-      c .closed .ensures,
-      c .before .free .ensures,
-      c .before .before .place .ensures,
-      c .before .before .before .plus .ensures,
-      c .before .before .before .before .occurrence .ensures,
-      c .before .before .before .before .before .asked-rows .ensures,
-      c .before .before .before .before .before .before .refusal .ensures,
+      c .undo-of .ensures,
+      c .before .closed .ensures,
+      c .before .before .free .ensures,
+      c .before .before .before .place .ensures,
+      c .before .before .before .before .plus .ensures,
+      c .before .before .before .before .before .occurrence .ensures,
+      c .before .before .before .before .before .before .asked-rows .ensures,
+      c .before .before .before .before .before .before .before .refusal .ensures,
     )
 
 pub questions-spec : {M : Type 1} → statement M
-questions-spec = tie.close (tie.spec free free free free free free free returns)
+questions-spec = tie.close (tie.spec free free free free free free free free returns)

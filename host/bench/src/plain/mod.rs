@@ -1,5 +1,6 @@
 //! A monitor in plain Rust, written for speed: everything changed in place, and only the rows looked at that a step
-//! concerns. It keeps the same waiting sources and gives the same answers and verdicts as the proved one.
+//! concerns. It keeps the same waiting sources and gives the same answers and verdicts as the proved one; it can withdraw the last
+//! step, for which each row keeps the few numbers that an event changes.
 
 pub mod report;
 mod ring;
@@ -7,7 +8,7 @@ mod rule;
 
 use model::constraint::stream;
 use model::{Answer, Constraint, FIRST_COLOURED, LAST_COLOUR, LAST_KIND, LAST_TIME, Step, Verdict};
-use rule::Rule;
+use rule::{Before, Rule};
 
 /// A row: its rule, the last clock at which it is open without an event of its own, and the step that broke it (or 0).
 #[derive(Clone, Debug)]
@@ -15,6 +16,22 @@ struct Row {
     rule: Rule,
     due: u64,
     broken: u64,
+    /// Before the last event that it took.
+    before: Before,
+    due_before: u64,
+}
+
+/// What the last step changed beside the rows, as it was before, and the rows that took it as their event.
+#[derive(Clone, Copy, Debug, Default)]
+struct Undo {
+    may: bool,
+    stream: Option<u8>,
+    free: u64,
+    took: u32,
+    open: u32,
+    full: u32,
+    soonest: u64,
+    clock: u64,
 }
 
 /// The plain monitor. Sets of rows are bits of a number.
@@ -33,6 +50,7 @@ pub struct Plain {
     clock: u64,
     count: u64,
     closed: bool,
+    undo: Undo,
 }
 
 impl Plain {
@@ -43,8 +61,18 @@ impl Plain {
             row.streams().iter().for_each(|stream| concerned[usize::from(*stream)] |= 1 << place);
         }
         let open = ((1u64 << rows.len()) - 1) as u32;
-        let rows = rows.iter().map(|row| Row { rule: Rule::new(row), due: u64::MAX, broken: 0 }).collect();
-        Plain { rows, concerned, open, full: 0, soonest: u64::MAX, free: [0; 176], clock: 0, count: 0, closed: false }
+        Plain {
+            rows: rows.iter().map(Row::new).collect(),
+            concerned,
+            open,
+            full: 0,
+            soonest: u64::MAX,
+            free: [0; 176],
+            clock: 0,
+            count: 0,
+            closed: false,
+            undo: Undo::default(),
+        }
     }
 
     /// Takes a step, or refuses it with the number of its refusal.
@@ -96,11 +124,12 @@ impl Plain {
         if concerned & self.full != 0 && self.crowded(concerned & self.full, stream, time) {
             return Err(12);
         }
-        self.count += 1;
+        self.begin(Some(stream), self.free[place]);
         self.clock = time;
         self.free[place] = time + 1;
         self.pass(time);
-        each(concerned & self.open, |row| self.row_event(row, stream, time));
+        self.undo.took = concerned & self.open;
+        each(self.undo.took, |row| self.row_event(row, stream, time));
         Ok(())
     }
 
@@ -114,7 +143,7 @@ impl Plain {
         if time <= self.clock {
             return Err(11);
         }
-        self.count += 1;
+        self.begin(None, 0);
         self.clock = time;
         self.pass(time);
         Ok(())
@@ -124,13 +153,31 @@ impl Plain {
         if self.closed {
             return Err(8);
         }
-        self.count += 1;
+        self.begin(None, 0);
         self.closed = true;
         each(self.open, |row| {
             if !self.rows[row].rule.kept() {
                 self.break_row(row);
             }
         });
+        Ok(())
+    }
+
+    /// Withdraws the last step, once; 21 if there is none to withdraw.
+    pub fn withdraw(&mut self) -> Answer {
+        let undo = self.undo;
+        if !undo.may {
+            return Err(21);
+        }
+        if let Some(stream) = undo.stream {
+            self.free[usize::from(stream)] = undo.free;
+            each(undo.took, |row| self.rows[row].withdraw(stream));
+        }
+        each(undo.open & !self.open, |row| self.rows[row].broken = 0);
+        (self.open, self.full, self.soonest, self.clock) = (undo.open, undo.full, undo.soonest, undo.clock);
+        self.count -= 1;
+        self.closed = false;
+        self.undo.may = false;
         Ok(())
     }
 
@@ -152,6 +199,13 @@ impl Plain {
     /// How many steps were taken.
     pub fn count(&self) -> u64 {
         self.count
+    }
+
+    /// A step is taken and counted: what it may change beside the rows is kept.
+    fn begin(&mut self, stream: Option<u8>, free: u64) {
+        let Plain { open, full, soonest, clock, .. } = *self;
+        self.undo = Undo { may: true, stream, free, took: 0, open, full, soonest, clock };
+        self.count += 1;
     }
 
     /// Would more than 64 wait in one of these rows that the event leaves open?
@@ -179,7 +233,8 @@ impl Plain {
     /// A row takes an event of one of its kinds.
     fn row_event(&mut self, place: usize, kind: u8, time: u64) {
         let row = &mut self.rows[place];
-        if !row.rule.event(kind, time) {
+        row.due_before = row.due;
+        if !row.rule.event(kind, time, &mut row.before) {
             return self.break_row(place);
         }
         row.due = row.rule.due();
@@ -193,6 +248,18 @@ impl Plain {
         self.rows[place].broken = self.count;
         self.open &= !(1 << place);
         self.full &= !(1 << place);
+    }
+}
+
+impl Row {
+    fn new(row: &Constraint) -> Row {
+        Row { rule: Rule::new(row), due: u64::MAX, broken: 0, before: Before::default(), due_before: u64::MAX }
+    }
+
+    /// Goes back to before the event of a stream that it took.
+    fn withdraw(&mut self, stream: u8) {
+        self.rule.withdraw(stream, &self.before);
+        self.due = self.due_before;
     }
 }
 

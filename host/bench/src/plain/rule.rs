@@ -1,6 +1,6 @@
 //! A row's constraint with what it keeps of the events so far, changed in place.
 
-use super::ring::Ring;
+use super::ring::{Ends, Ring};
 use model::constraint::stream;
 use model::{Constraint, NO_LIMIT};
 
@@ -21,7 +21,7 @@ pub enum Rule {
     /// How many sources are beyond the targets, or the one target beyond the sources.
     Order { source: u8, ahead: u64, early: u64 },
     /// The first times of the groups begun, and how many of these groups have an event of each kind.
-    StrongSynchronization { kinds: [u8; 4], n: usize, tolerance: u64, begun: Ring, counts: [usize; 4] },
+    StrongSynchronization { kinds: [u8; 4], n: usize, tolerance: u64, begun: Ring, counts: [u8; 4] },
     /// The phase of the execution, its last event, and how long it has run up to that event.
     ExecutionTime { kinds: [u8; 4], lower: u64, upper: u64, phase: Phase, last: u64, ran: u64 },
     /// For each colour where its first response has to come, or when it came.
@@ -30,17 +30,29 @@ pub enum Rule {
     Repetition { span: u64, lower: u64, upper: u64, jitter: u64, places: Ring },
 }
 
+/// What an event changes of a rule, as it was before: of each type only its own part counts.
+#[derive(Clone, Copy, Debug, Default)]
+pub struct Before {
+    ends: Ends,
+    marks: [u64; 3],
+    counts: [u8; 4],
+    phase: Phase,
+    colour: Colour,
+}
+
 /// Between two executions, in a running one, or in a preempted one.
-#[derive(Clone, Copy, Debug, PartialEq, Eq)]
+#[derive(Clone, Copy, Debug, Default, PartialEq, Eq)]
 pub enum Phase {
+    #[default]
     Idle,
     Running,
     Preempted,
 }
 
 /// A colour of a Reaction.
-#[derive(Clone, Copy, Debug)]
+#[derive(Clone, Copy, Debug, Default)]
 pub enum Colour {
+    #[default]
     Quiet,
     /// The first response has to come from here to there.
     Waits {
@@ -91,35 +103,35 @@ impl Rule {
             }
             Rule::StrongDelay { source, waiting, .. } => kind == *source && waiting.is_full(),
             Rule::StrongSynchronization { kinds, begun, counts, .. } => {
-                begun.is_full() && counts[place(kinds, kind)] == begun.length()
+                begun.is_full() && usize::from(counts[place(kinds, kind)]) == begun.length()
             }
-            Rule::Repeat { .. }
-            | Rule::Sporadic { .. }
-            | Rule::Order { .. }
-            | Rule::ExecutionTime { .. }
-            | Rule::Reaction { .. }
-            | Rule::Repetition { .. } => false,
+            _ => false,
         }
     }
 
-    /// Takes an event of one of its streams, before which it was not overdue. Is it still open?
-    pub fn event(&mut self, kind: u8, time: u64) -> bool {
+    /// Takes an event of one of its streams, before which it was not overdue, and keeps what that changes. Is it still open?
+    pub fn event(&mut self, kind: u8, time: u64, before: &mut Before) -> bool {
         match self {
             Rule::Delay { source, lower, waiting, target, .. } => {
+                (before.ends, before.marks[0]) = (waiting.ends(), *target);
                 delay_event(kind == *source, *lower, waiting, target, time)
             }
             Rule::StrongDelay { source, lower, waiting, early, .. } => {
+                (before.ends, before.marks[0]) = (waiting.ends(), *early);
                 strong_delay_event(kind == *source, *lower, waiting, early, time)
             }
             Rule::Repeat { span, lower, minimum, events, last, .. } => {
+                before.ends = events.ends();
+                (before.marks[0], before.marks[1]) = (*last, events.at_head());
                 let far_enough = *last == NEVER || time - *last >= *minimum;
                 *last = time;
                 let gap = if events.length() == *span { events.pop().map(|first| time - first) } else { None };
                 events.push(time);
                 far_enough && gap.is_none_or(|gap| *lower <= gap)
             }
-            Rule::Sporadic { .. } => self.sporadic_event(time),
+            Rule::Sporadic { .. } => self.sporadic_event(time, before),
             Rule::Order { source, ahead, early } => {
+                (before.marks[0], before.marks[1]) = (*ahead, *early);
                 match (kind == *source, *early == NEVER) {
                     (true, true) => *ahead += 1,
                     (true, false) => *early = NEVER,
@@ -129,25 +141,52 @@ impl Rule {
                 true
             }
             Rule::StrongSynchronization { kinds, n, begun, counts, .. } => {
+                (before.ends, before.counts) = (begun.ends(), *counts);
                 group_event(place(kinds, kind), &mut counts[..*n], begun, time);
                 true
             }
-            Rule::ExecutionTime { .. } => self.execution_event(kind, time),
+            Rule::ExecutionTime { .. } => self.execution_event(kind, time, before),
             Rule::Reaction { stimuli, minimum, maximum, colours } => {
                 let colour = &mut colours[usize::from(kind % 8)];
+                before.colour = *colour;
                 if kind - kind % 8 == *stimuli {
                     stimulus(colour, *minimum, *maximum, time)
                 } else {
                     response(colour, time)
                 }
             }
-            Rule::Repetition { .. } => self.repetition_event(time),
+            Rule::Repetition { .. } => self.repetition_event(time, before),
+        }
+    }
+
+    /// Goes back to before an event of a stream, the last that it took.
+    pub fn withdraw(&mut self, stream: u8, before: &Before) {
+        let [first, second, third] = before.marks;
+        match self {
+            Rule::Delay { waiting: ring, target: mark, .. } | Rule::StrongDelay { waiting: ring, early: mark, .. } => {
+                ring.restore(before.ends);
+                *mark = first;
+            }
+            Rule::Repeat { events, last, .. } => {
+                events.restore_all(before.ends, second);
+                *last = first;
+            }
+            Rule::Sporadic { low, high, last, .. } => [*low, *high, *last] = [first, second, third],
+            Rule::Order { ahead, early, .. } => [*ahead, *early] = [first, second],
+            Rule::StrongSynchronization { begun, counts, .. } => {
+                begun.restore(before.ends);
+                *counts = before.counts;
+            }
+            Rule::ExecutionTime { phase, last, ran, .. } => (*phase, *last, *ran) = (before.phase, first, second),
+            Rule::Reaction { colours, .. } => colours[usize::from(stream % 8)] = before.colour,
+            Rule::Repetition { places, .. } => places.restore(before.ends),
         }
     }
 
     /// A Sporadic's event: the places for the next point are those a stride to an upper behind the places for the last.
-    fn sporadic_event(&mut self, time: u64) -> bool {
+    fn sporadic_event(&mut self, time: u64, before: &mut Before) -> bool {
         let Rule::Sporadic { stride, upper, jitter, minimum, low, high, last } = self else { return true };
+        before.marks = [*low, *high, *last];
         let first = *last == NEVER;
         let fits = first || (time - *last >= *minimum && *stride <= *upper);
         let near = time.saturating_sub(*jitter);
@@ -158,8 +197,9 @@ impl Rule {
     }
 
     /// An ExecutionTime's event: the next phase, if the event is one that may come.
-    fn execution_event(&mut self, kind: u8, time: u64) -> bool {
+    fn execution_event(&mut self, kind: u8, time: u64, before: &mut Before) -> bool {
         let Rule::ExecutionTime { kinds, lower, upper, phase, last, ran } = self else { return true };
+        (before.phase, before.marks[0], before.marks[1]) = (*phase, *last, *ran);
         let [start, stop, preempt, resume] = *kinds;
         let run = if *phase == Phase::Running { *ran + (time - *last) } else { *ran };
         let (next, fits) = match *phase {
@@ -177,11 +217,12 @@ impl Rule {
 
     /// A Repetition's event: a point is lower to upper behind the one span places before; while there is none, it leaves
     /// a place for each that is still to come before the first one's upper.
-    fn repetition_event(&mut self, time: u64) -> bool {
+    fn repetition_event(&mut self, time: u64, before: &mut Before) -> bool {
         let Rule::Repetition { span, lower, upper, jitter, places } = self else { return true };
+        before.ends = places.ends();
         let number = places.length() as u64 / 2;
         let near = time.saturating_sub(*jitter);
-        let first = (number > 0).then(|| places.two()).unwrap_or((0, time));
+        let first = if number > 0 { places.two() } else { (0, time) };
         let low = if number < *span { near } else { near.max(first.0.saturating_add(*lower)) };
         let high = time.min(first.1.saturating_add(upper.saturating_sub(*span)).saturating_add(number));
         if number == *span {
@@ -317,8 +358,8 @@ fn strong_delay_event(source: bool, lower: u64, waiting: &mut Ring, early: &mut 
 }
 
 /// An event of a group: the next group of its kind has it, and may be complete by it; or it begins a group.
-fn group_event(place: usize, counts: &mut [usize], begun: &mut Ring, time: u64) {
-    if counts[place] == begun.length() {
+fn group_event(place: usize, counts: &mut [u8], begun: &mut Ring, time: u64) {
+    if usize::from(counts[place]) == begun.length() {
         begun.push(time);
     }
     counts[place] += 1;

@@ -46,7 +46,7 @@ add-t13 c = omega (arith, small (c .before) .1)
 
 returns : tie.Need-returns
 returns c =
-    let at-fresh = c .before .before in
+    let at-fresh = c .before in
     let told = at-fresh .before in
     let at-read = told .before .before in
     let bytes = now (at-read .before .before .args .table) in

@@ -1,6 +1,6 @@
 -- The monitor lies in a local of its own and is lent to the call of each turn; what holds of the turn and of the monitor before a call holds of the next turn and of the monitor after it, and
 -- each turn leaves fewer.
-use mathlib.Core.Path.{refl}
+use mathlib.Core.Path.{refl, sym, subst}
 use Prim.Native.Nat.{ℕ}
 use mathlib.Core.Bool.{Bool}
 use mathlib.Core.List.{[], _∷_, List}

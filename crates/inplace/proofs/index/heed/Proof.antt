@@ -43,7 +43,7 @@ module _
       sets ! (bin ! (copies ! 4 refl) (lit ! tt) (record { fits = at-fits i small })) 6 refl (tt, record { fits = at-fits i small }) $
       sets ! (addr ! (from ! (hop ! (look ! 3 refl) (fld ! refl (fld ! refl (stop !)))))) 7 refl (tt, tt) $
       sets ! (bin ! (copies ! 7 refl) (copies ! 6 refl) tt) 8 refl (tt, tt) $
-      sets ! (of-opd ! (load ! (from ! (hop ! (look ! 8 refl) (fld ! refl (fld ! refl (stop !))))) (look-in ! 0 (sub ! 3 refl (sub ! 2 refl (as-val ! (got (h .monitor) (monitor-in h was) i)
+      sets ! (of-opd ! (load ! (from ! (hop ! (look ! 8 refl) (fld ! refl (fld ! refl (stop !))))) (look-in ! 0 (sub ! 3 refl (sub ! 2 refl (as-val ! (got (h .monitor) i)
       (elem ! (row-vals (h .monitor .rows)) i (row-type .val noRow) (within (h .monitor) (monitor-in h was) i small) (vals-32 (h .monitor) (monitor-in h was)) (sub ! 0 refl (sub ! 0 refl (whole !)))))))))) 5 refl
       (typed 𝓤 H A W word-type due (due-known (h .monitor) (monitor-in h was) i small)) $
       sets ! (of-opd ! (load ! (from ! (hop ! (look ! 3 refl) (fld ! refl (stop !)))) (look-in ! 0 (sub ! 1 refl (whole !))))) 10 refl (typed 𝓤 H A W word-type (h .soonest) (soonest-in h was)) $

@@ -48,7 +48,7 @@ module _
       sets ! (bin ! (copies ! 4 refl) (lit ! tt) (record { fits = at-fits i small })) 8 refl (tt, record { fits = at-fits i small }) $
       sets ! (addr ! (from ! (hop ! (look ! 3 refl) (fld ! refl (stop !))))) 9 refl (tt, tt) $
       sets ! (bin ! (copies ! 9 refl) (copies ! 8 refl) tt) 10 refl (tt, tt) $
-      sets ! (of-opd ! (load ! (from ! (hop ! (look ! 10 refl) (fld ! refl (fld ! refl (stop !))))) (look-in ! 0 (sub ! 3 refl (sub ! 2 refl (as-val ! (got h was i)
+      sets ! (of-opd ! (load ! (from ! (hop ! (look ! 10 refl) (fld ! refl (fld ! refl (stop !))))) (look-in ! 0 (sub ! 3 refl (sub ! 2 refl (as-val ! (got h i)
       (elem ! (row-vals (h .rows)) i (row-type .val noRow) (within h was i small) (vals-32 h was) (sub ! 0 refl (whole !))))))))) 7 refl
       (typed 𝓤 H A W word-type due (due-known h was i small)) $
       closed ! tt monitor-type L h was $

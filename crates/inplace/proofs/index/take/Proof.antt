@@ -32,7 +32,7 @@ use Rattle.inplace.proofs.Locals.{env, leaves, copies, sets, lands-in, 
 use Rattle.inplace.proofs.Loans.{knows}
 use Rattle.inplace.proofs.Calls.{lent-triple, calls-lent, calls-lent-last, pure-triple, calls-plain}
 use Rattle.inplace.proofs.Numbers.{number-known, rows-known, occurrence-known, step-known}
-use Rattle.inplace.proofs.Within.{calls-monitor, first-known, listed-known, whole-rows}
+use Rattle.inplace.proofs.Within.{calls-monitor, first-known, listed-known, whole-rows, whole-kept}
 use Rattle.inplace.proofs.Whole.{asked-small}
 use Rattle.inplace.proofs.Listing.{refused-takes, taken-takes, list-room, taken}
 use Rattle.inplace.proofs.Promises.{answer-of, ask-at, begin, list-asks, list-at, list-step, put-numbers, take-indexed}
@@ -96,7 +96,7 @@ module _
       rewrite ! 0 (λ (x : Indexed). ‵ (own-at indexed-type L x)) (listed .1) refl $
       -- every row of it is asked before one is changed
       sets ! (addr ! (from ! (hop ! (look ! 3 refl) (stop !)))) 11 refl (tt, tt) $
-      calls-lent ! (fmOf 𝓤 H (W .laws) 𝓣) list-asks cites-list-asks L h (λ _. (l .first, (l .rows, (q .occurrence, tt)))) (λ _. (first-known l l-is, (listed-known l l-is, (occurrence-known q q-is, tt)))) (λ _. list-room h (a .0) (whole-rows h was))
+      calls-lent ! (fmOf 𝓤 H (W .laws) 𝓣) list-asks cites-list-asks L h (λ _. (l .first, (l .rows, (q .occurrence, tt)))) (λ _. (first-known l l-is, (listed-known l l-is, (occurrence-known q q-is, tt)))) (λ _. list-room h (a .0) (whole-rows h was) (whole-kept h was))
       (λ α δ. and-then ! (copies ! 11 refl) (and-then ! (load ! (from ! (fld ! refl (stop !))) (look-in ! 6 (sub ! 0 refl (whole !)))) (and-then ! (load ! (from ! (fld ! refl (stop !))) (look-in ! 6 (sub ! 1 refl (whole !))))
       (and-then ! (load ! (from ! (fld ! refl (stop !))) (look-in ! 5 (sub ! 2 refl (whole !)))) (no-more !)))))
       (λ κs₂ c h₄ c-is crowded.
@@ -121,7 +121,7 @@ module _
       land ! (from ! (stop !)) (store ! 13 refl (tt, tt)) $
       rewrite ! 0 (λ (x : Indexed). ‵ (own-at indexed-type L x)) begins refl $
       sets ! (addr ! (from ! (hop ! (look ! 3 refl) (stop !)))) 16 refl (tt, tt) $
-      calls-lent-last ! (fmOf 𝓤 H (W .laws) 𝓣) list-step cites-list-step L h₂ (λ _. (l .first, (l .rows, (q .occurrence, (q .step, tt))))) (λ _. (first-known l l-is, (listed-known l l-is, (occurrence-known q q-is, (step-known q q-is, tt))))) (λ _. list-room h (a .0) (whole-rows h was))
+      calls-lent-last ! (fmOf 𝓤 H (W .laws) 𝓣) list-step cites-list-step L h₂ (λ _. (l .first, (l .rows, (q .occurrence, (q .step, tt))))) (λ _. (first-known l l-is, (listed-known l l-is, (occurrence-known q q-is, (step-known q q-is, tt))))) (λ _. list-room h (a .0) (whole-rows h was) (whole-kept h was))
       (λ α δ. and-then ! (copies ! 16 refl) (and-then ! (load ! (from ! (fld ! refl (stop !))) (look-in ! 6 (sub ! 0 refl (whole !)))) (and-then ! (load ! (from ! (fld ! refl (stop !))) (look-in ! 6 (sub ! 1 refl (whole !))))
       (and-then ! (load ! (from ! (fld ! refl (stop !))) (look-in ! 5 (sub ! 2 refl (whole !)))) (and-then ! (load ! (from ! (fld ! refl (stop !))) (look-in ! 5 (sub ! 3 refl (whole !)))) (no-more !)))))) (λ κs₅ r₂ h₆ r₂-is steps.
       land-last ! (from ! (stop !)) (store ! 13 refl (tt, tt)) $
@@ -129,15 +129,15 @@ module _
       exec ! (𝓣 .C) (𝓣 .Λ) (env 𝓤 H (code.function .locals) bs) code-mir.t-10 (atRet (env 𝓤 H (code.function .locals) bs) Kf) $
       sets ! (of-opd ! (copies ! 8 refl)) 2 refl (typed 𝓤 H A W byte-type n n-is) $
       leaves ! (code.function .locals) tt bs (vint w8 n) refl
-      (ends n (taken h (a .0) (whole-rows h was)) n-is (subst (λ (k : ℕ). Takes h (a .0) k (taken h (a .0) (whole-rows h was))) (sym answered)
-      (taken-takes h (a .0) (whole-rows h was) c (crowded .0) (sym answered ∙ eqb-true n 0 (holds (eqb n 0) yes-zero)))))))))
+      (ends n (taken h (a .0) (whole-rows h was) (whole-kept h was)) n-is (subst (λ (k : ℕ). Takes h (a .0) k (taken h (a .0) (whole-rows h was) (whole-kept h was))) (sym answered)
+      (taken-takes h (a .0) (whole-rows h was) (whole-kept h was) c (crowded .0) (sym answered ∙ eqb-true n 0 (holds (eqb n 0) yes-zero)))))))))
       -- refused: nothing was changed
       (λ no-zero. skips ! $
       exec ! (𝓣 .C) (𝓣 .Λ) (env 𝓤 H (code.function .locals) bs) code-mir.t-10 (atRet (env 𝓤 H (code.function .locals) bs) Kf) $
       sets ! (of-opd ! (copies ! 8 refl)) 2 refl (typed 𝓤 H A W byte-type n n-is) $
       leaves ! (code.function .locals) tt bs (vint w8 n) refl
       (ends n h n-is (subst (λ (k : ℕ). Takes h (a .0) k h) (sym answered)
-      (refused-takes h (a .0) (whole-rows h was) c (crowded .0) (λ none. eqb-false n 0 (fails (eqb n 0) no-zero) (answered ∙ none)))))))))))
+      (refused-takes h (a .0) (whole-rows h was) (whole-kept h was) c (crowded .0) (λ none. eqb-false n 0 (fails (eqb n 0) no-zero) (answered ∙ none)))))))))))
 
 pub take-spec : {M : Type 1} → stated.statement M
 unfolding code.routine tablesOf

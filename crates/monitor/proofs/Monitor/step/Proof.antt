@@ -81,24 +81,28 @@ element-write-after c =
 closed-requires : tie.Need-closed-requires
 closed-requires c κs = search needs
 
+undo-of-requires : tie.Need-undo-of-requires
+undo-of-requires c κs = search needs
+
 taken-requires : tie.Need-taken-requires
 taken-requires c κs = search needs
 
 returns-3 : tie.Need-returns-3
 unfolding takenCall
 returns-3 c =
-    let stepped = c .before .before .before .before .before in
+    let stepped = c .before .before .before .before .before .before in
     let args = start (asked stepped) .args in
     let number = asked stepped .refusal .result in
-    let calm = c .before .before .before .before .if2 .left in
+    let calm = c .before .before .before .before .before .if2 .left in
     let none-full : crowds (args .t1) (args .call) ≡ false = crowds-is stepped ∙ calm in
     step-kept (args .t1) (args .call)
     (simp (
       c .taken .ensures,
       ← by-number (asked stepped),
       ← taken-by (args .t1) (args .call) number (stepped .before .before .before .if1 .left) none-full,
-      c .before .closed .ensures,
-      c .before .before .free .ensures,
+      c .before .undo-of .ensures,
+      c .before .before .closed .ensures,
+      c .before .before .before .free .ensures,
       stepped .step .ensures .stepped calm,
       stepped .before .plus .ensures,
       stepped .before .before .occurrence .ensures,
@@ -124,5 +128,6 @@ step-spec =
     mul-after
     element-write-after
     closed-requires
+    undo-of-requires
     taken-requires
     returns-3)

@@ -65,12 +65,19 @@ loop-again c =
     let counted : i < table .count = omega arith in
     (omega arith, rw (at-loop .loop .inv .1, c .begin2 .ensures, ← row-at table i _ counted (omega (arith, size start))) (filled-next rowOf noRow (rowsOf table) 32 i filler (omega (arith, rows-length table)) (omega arith)))
 
+none-requires : tie.Need-none-requires Inv-loop μ-loop
+none-requires c κs = search needs
+
+no-undo-requires : tie.Need-no-undo-requires Inv-loop μ-loop
+no-undo-requires c κs = search needs
+
 returns : tie.Need-returns Inv-loop μ-loop
 unfolding monitorOf
 returns c =
-    let args = c .before .before .before .args in
-    let all : c .before .loop .i ≡ args .len = omega arith in
-    rw (c .before .loop .inv .1, all, length-take-le (args .len) (rowsOf (args .t1)) (omega (arith, rows-length (args .t1))))
+    let at-loop = c .before .before .before in
+    let args = at-loop .before .before .args in
+    let all : at-loop .loop .i ≡ args .len = omega arith in
+    rw (at-loop .loop .inv .1, all, length-take-le (args .len) (rowsOf (args .t1)) (omega (arith, rows-length (args .t1))), c .no-undo .ensures, c .before .none .ensures)
 
 pub over-spec : {M : Type 1} → statement M
 over-spec =
@@ -88,4 +95,6 @@ over-spec =
     add-i
     loop-less
     loop-again
+    none-requires
+    no-undo-requires
     returns)

@@ -18,6 +18,10 @@ abbrev μ-loop : tie.MeasureT-loop
 size : (c : tie.Start Inv-loop μ-loop) → length (c .args .m .rows) ≡ 32
 size c = sym (length-map (c .args .m .rows) _) ∙ c .good .0 .1 .1 .0 .1 .0 .1
 
+-- and keeps 32 beside them
+wide : (c : tie.Start Inv-loop μ-loop) → length (c .args .m .before) ≡ 32
+wide c = sym (length-map (c .args .m .before) _) ∙ c .good .0 .1 .1 .1 .1 .1 .1 .1 .1 .0 .1 .0 .1
+
 held-requires : tie.Need-held-requires Inv-loop μ-loop
 held-requires c κs = search needs
 
@@ -41,11 +45,26 @@ returns c =
     moved-full (args .o) (args .number) (args .m) (size start) (at-loop .loop .after) (at-loop .loop .i) (at-loop .loop .inv .1) _ _
     (omega (arith, at-loop .before .held .ensures)) (c .before .step .ensures) (c .if1 .taken)
 
+mul-kept : tie.Need-mul-kept Inv-loop μ-loop
+mul-kept c = omega arith
+
+element-copy-out-kept : tie.Need-element-copy-out-kept Inv-loop μ-loop
+element-copy-out-kept c = omega arith
+
+saved-requires : tie.Need-saved-requires Inv-loop μ-loop
+saved-requires c κs = search needs
+
 mul-next : tie.Need-mul-next Inv-loop μ-loop
 mul-next c = omega arith
 
 element-set-from-next : tie.Need-element-set-from-next Inv-loop μ-loop
 element-set-from-next c = omega arith
+
+mul-saved : tie.Need-mul-saved Inv-loop μ-loop
+mul-saved c = omega arith
+
+element-set-from-saved : tie.Need-element-set-from-saved Inv-loop μ-loop
+element-set-from-saved c = omega arith
 
 add-i : tie.Need-add-i Inv-loop μ-loop
 add-i c = omega arith
@@ -55,12 +74,13 @@ loop-less c = omega arith
 
 loop-again : tie.Need-loop-again Inv-loop μ-loop
 loop-again c =
-    let at-loop = c .before .before .before .before .before in
+    let stepped = c .before .before .before .before in
+    let at-loop = stepped .before .before .before in
     let start = at-loop .before .before in
     let args = start .args in (
       omega arith,
-      moved-next (args .o) (args .number) (args .m) (size start) (at-loop .loop .after) (at-loop .loop .i) (at-loop .loop .inv .1) _ _
-          (omega (arith, at-loop .before .held .ensures)) (c .before .before .step .ensures) (c .before .if1 .left),
+      moved-next (args .o) (args .number) (args .m) (size start) (at-loop .loop .after) (at-loop .loop .i) (at-loop .loop .inv .1) (wide start) _ _ _ _
+          (omega (arith, at-loop .before .held .ensures)) (stepped .step .ensures) (c .saved .ensures) (c .before .before .before .if1 .left),
     )
 
 returns-2 : tie.Need-returns-2 Inv-loop μ-loop
@@ -82,8 +102,13 @@ step-spec =
     element-copy-out-row
     step-requires
     returns
+    mul-kept
+    element-copy-out-kept
+    saved-requires
     mul-next
     element-set-from-next
+    mul-saved
+    element-set-from-saved
     add-i
     loop-less
     loop-again

@@ -1,0 +1,126 @@
+-- Two recordings joined: what the joined one holds, its bytes, and the answer (§13.1 to §13.8).
+use Prim.Native.Nat.{ℕ, _+_, _-_, _%_, _≤_, _<_, max}
+use mathlib.Core.Path.{_≡_}
+use mathlib.Core.Bool.{Bool, true, false, cond}
+use mathlib.Core.List.{List, [], _∷_, _++_}
+use lib.ListN.{length, drop}
+use lib.Dec.{leb, ltb}
+use Rattle.constraint.specs.Limits.{firstColoured}
+use Rattle.constraint.specs.Streams.{kindOf}
+use Rattle.constraint.specs.Steps.{Step, event, tick, close, at, among}
+use Rattle.constraint.specs.Bytes.{bytesOf}
+use Rattle.constraint.specs.Run.{stepFor}
+use Rattle.constraint.specs.Table.{lengthAt}
+use Rattle.constraint.specs.Recording.{callAt, ReadsInOrder, recording-of, recording-refused}
+use Rattle.constraint.specs.declared.JoinAnswer.{JoinAnswer}
+
+-- the time of a record's step; no record is a close
+abbrev pub timeOf : Step → ℕ
+timeOf (event s t) = t
+timeOf (tick t) = t
+timeOf close = 0
+
+-- §13.1: records stand by time; at equal times those of the first come first
+unfoldable pub merged : List Step → List Step → List Step
+merged [] second = second
+merged (a ∷ first) [] = a ∷ first
+merged (a ∷ first) (b ∷ second) = cond (leb (timeOf a) (timeOf b)) (a ∷ merged first (b ∷ second)) (b ∷ merged (a ∷ first) second)
+
+-- §13.2: a tick that is not later than the clock falls away
+abbrev pub fallsAway : ℕ → Step → Bool
+fallsAway now (event s t) = false
+fallsAway now (tick t) = leb t now
+fallsAway now close = false
+
+-- §13.2: what is left of the records, from a clock on
+unfoldable pub left : ℕ → List Step → List Step
+left now [] = []
+left now (s ∷ steps) = cond (fallsAway now s) (left now steps) (s ∷ left (timeOf s) steps)
+
+-- §13.1, §13.2: what the joined recording holds
+abbrev pub joined : List Step → List Step → List Step
+joined first second = left 0 (merged first second)
+
+-- §13.4: the records of both, those of each in their order, every one, and no other
+pub data Interleaves : List Step → List Step → List Step → Type 0 where
+  no-record : Interleaves [] [] []
+  of-first : {first second all : List Step} (s : Step) → Interleaves first second all → Interleaves (s ∷ first) second (s ∷ all)
+  of-second : {first second all : List Step} (s : Step) → Interleaves first second all → Interleaves first (s ∷ second) (s ∷ all)
+
+-- §13.4: the steps without the ticks at these times
+abbrev pub timesOf : List Step → List ℕ
+timesOf [] = []
+timesOf (s ∷ steps) = timeOf s ∷ timesOf steps
+
+abbrev pub tickAt : List ℕ → Step → Bool
+tickAt moments (event s t) = false
+tickAt moments (tick t) = among t moments
+tickAt moments close = false
+
+unfoldable pub without : List ℕ → List Step → List Step
+without moments [] = []
+without moments (s ∷ steps) = cond (tickAt moments s) (without moments steps) (s ∷ without moments steps)
+
+-- §7.2: a record's bytes: a plain event, one with a colour, a tick
+abbrev pub eventBytes : ℕ → ℕ → List ℕ
+eventBytes kind t = 0 ∷ 9 ∷ kind ∷ bytesOf 8 t
+
+abbrev pub colouredBytes : ℕ → ℕ → ℕ → List ℕ
+colouredBytes kind colour t = 0 ∷ 10 ∷ kind ∷ colour ∷ bytesOf 8 t
+
+abbrev pub tickBytes : ℕ → List ℕ
+tickBytes t = 0 ∷ 8 ∷ bytesOf 8 t
+
+unfoldable pub stepBytes : Step → List ℕ
+stepBytes (event s t) = cond (ltb s firstColoured) (eventBytes s t) (colouredBytes (kindOf s) ((s - firstColoured) % 8) t)
+stepBytes (tick t) = tickBytes t
+stepBytes close = []
+
+unfoldable pub stepsBytes : List Step → List ℕ
+stepsBytes [] = []
+stepsBytes (s ∷ steps) = stepBytes s ++ stepsBytes steps
+
+-- §7.1: the version byte, then the records
+abbrev pub recordingBytes : ℕ → List Step → List ℕ
+recordingBytes version steps = version ∷ stepsBytes steps
+
+-- §13.3: the version is the higher one
+abbrev pub joinedBytes : List ℕ → List ℕ → List Step → List Step → List ℕ
+joinedBytes one two first second = recordingBytes (max (at one 0) (at two 0)) (joined first second)
+
+-- the kinds of a recording's events
+abbrev pub kindsOf : List Step → List ℕ
+kindsOf [] = []
+kindsOf (event s t ∷ steps) = kindOf s ∷ kindsOf steps
+kindsOf (tick t ∷ steps) = kindsOf steps
+kindsOf (close ∷ steps) = kindsOf steps
+
+-- a step is an event of one of these kinds
+abbrev pub ofKinds : List ℕ → Step → Bool
+ofKinds kinds (event s t) = among (kindOf s) kinds
+ofKinds kinds (tick t) = false
+ofKinds kinds close = false
+
+-- §8.20: no kind is found in both, whatever the colours
+unfoldable pub NoneInCommon : List Step → List Step → Type 0
+NoneInCommon first second = (k : ℕ) → among k (kindsOf first) ≡ true → among k (kindsOf second) ≡ false
+
+-- §8.20: the place of the first record, from a place on, that is of one of these kinds
+pub data FirstOf (kinds : List ℕ) (bytes : List ℕ) : ℕ → ℕ → Type 0 where
+  here : {place : ℕ} → place < length bytes → ofKinds kinds (stepFor (callAt bytes place)) ≡ true → FirstOf kinds bytes place place
+  later : {place found : ℕ} → place < length bytes → ofKinds kinds (stepFor (callAt bytes place)) ≡ false
+      → FirstOf kinds bytes (place + 2 + lengthAt bytes place) found → FirstOf kinds bytes place found
+
+-- §13.4 to §13.8: the answer to a join, and what is then in the buffer
+pub data AnswersJoin (one two before : List ℕ) : JoinAnswer → List ℕ → Type 0 where
+  no-first : (n place : ℕ) → ReadsInOrder one (recording-refused n place) → AnswersJoin one two before (JoinAnswer.FirstRefused n place) before
+  no-second : (first : List Step) (n place : ℕ) → ReadsInOrder one (recording-of first) → ReadsInOrder two (recording-refused n place)
+      → AnswersJoin one two before (JoinAnswer.SecondRefused n place) before
+  in-common : (first second : List Step) (place : ℕ) → ReadsInOrder one (recording-of first) → ReadsInOrder two (recording-of second)
+      → ¬ NoneInCommon first second → FirstOf (kindsOf first) two 1 place → AnswersJoin one two before (JoinAnswer.SecondRefused 20 place) before
+  too-short : (first second : List Step) → ReadsInOrder one (recording-of first) → ReadsInOrder two (recording-of second)
+      → NoneInCommon first second → length before < length (joinedBytes one two first second) → AnswersJoin one two before JoinAnswer.TooShort before
+  written : (first second : List Step) → ReadsInOrder one (recording-of first) → ReadsInOrder two (recording-of second)
+      → NoneInCommon first second → length (joinedBytes one two first second) ≤ length before
+      → AnswersJoin one two before (JoinAnswer.Joined (length (joinedBytes one two first second)))
+      (joinedBytes one two first second ++ drop (length (joinedBytes one two first second)) before)

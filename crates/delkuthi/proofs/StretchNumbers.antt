@@ -1,0 +1,15 @@
+-- Each question about a stretch has a number above 0, and so has each refusal.
+use Prim.Native.Nat.{ℕ, _<_}
+use native.Mathlib.Omega.{arith}
+use mathlib.Core.List.{List}
+use Rattle.constraint.specs.Stretches.{stretchQuestions, AnswersRow, no-stretch, AnswersStretch, no-table, no-recording, answers}
+use Rattle.constraint.specs.declared.StretchAnswer.{StretchAnswer}
+use Rattle.delkuthi.proofs.Refusals.{AllAbove, number-above, refused-small}
+use Rattle.delkuthi.proofs.RecordNumbers.{refusal-short}
+
+pub stretch-above : (table recording : List ℕ) (i n place : ℕ) → AnswersStretch table recording i (StretchAnswer.Refused n place) → 0 < n
+unfolding AllAbove
+stretch-above table recording i n place (no-table m at read) = refused-small table m at read .0
+stretch-above table recording i n place (no-recording rows m at read refused) = refusal-short recording m at refused .0
+stretch-above table recording i n place (answers rows steps read taken (no-stretch m judged)) =
+    number-above (stretchQuestions rows steps i) m (omega arith, (omega arith, (omega arith, tt))) judged

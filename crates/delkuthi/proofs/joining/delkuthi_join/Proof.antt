@@ -1,0 +1,89 @@
+-- The number is that of the length, or that of the refusal, which is from 1 to 127, and its place.
+use native.Mathlib.Omega.{arith}
+use borrow.Author.Needs.{needs}
+use mathlib.Core.Path.{_≡_, refl}
+use denote.Ref.{now}
+use Rattle.constraint.specs.Joined.{AnswersJoin}
+use Rattle.constraint.specs.declared.JoinAnswer.{JoinAnswer}
+use Rattle.queue.proofs.Shared.{free}
+use Rattle.delkuthi.proofs.JoinNumbers.{join-told}
+use Rattle.delkuthi.proofs.joining.delkuthi_join.Statement.{statement}
+use Rattle.delkuthi.proofs.joining.delkuthi_join.Tie as tie
+
+-- what the join answered
+answered : (c : tie.After-join) (answer : JoinAnswer) → c .join .result ≡ answer
+    → AnswersJoin (now (c .before .before .before .before .before .args .first)) (now (c .before .before .before .before .before .args .second))
+    (now (c .before .before .before .before .before .args .joined)) answer (c .join .last .1 .1 .0)
+answered c answer e = rw e at (c .join .ensures)
+
+enum-known-answer : tie.Need-enum-known-answer
+enum-known-answer c = search needs
+
+enum-known-answer-2 : tie.Need-enum-known-answer-2
+enum-known-answer-2 c = search needs
+
+cast-result : tie.Need-cast-result
+cast-result c = search needs
+
+add-result : tie.Need-add-result
+add-result c = search needs
+
+enum-known-answer-3 : tie.Need-enum-known-answer-3
+enum-known-answer-3 c = search needs
+
+cast-result-2 : tie.Need-cast-result-2
+cast-result-2 c = search needs
+
+add-result-2 : tie.Need-add-result-2
+add-result-2 c = search needs
+
+add-result-3 : tie.Need-add-result-3
+add-result-3 c =
+    let at-answer = c .before .before in
+    let says = answered (at-answer .before .before .before .before) _ (at-answer .answer3 .given .1) in
+    omega (arith, join-told _ _ _ says (at-answer .answer3 .given .0 .0) refl .1, c .place-number3 .ensures)
+
+enum-told : tie.Need-enum-told
+enum-told c = search needs
+
+same-length : tie.Need-same-length
+same-length c = search needs
+
+returns : tie.Need-returns
+returns c =
+    let at-answer = c .before .before in
+    let says = answered (at-answer .before .before .before .before) _ (at-answer .answer .given .1) in
+    record { answer = _; answers = says; equals = c .place-number .ensures; told = join-told _ _ _ says }
+
+same-length-2 : tie.Need-same-length-2
+same-length-2 c = search needs
+
+returns-2 : tie.Need-returns-2
+returns-2 c =
+    let at-answer = c .before .before in
+    let says = answered (at-answer .before .before .before .before) _ (at-answer .answer2 .given .1) in
+    record { answer = _; answers = says; equals = omega (arith, c .place-number2 .ensures); told = join-told _ _ _ says }
+
+same-length-3 : tie.Need-same-length-3
+same-length-3 c = search needs
+
+returns-3 : tie.Need-returns-3
+returns-3 c =
+    let at-answer = c .before .before in
+    let says = answered (at-answer .before .before .before .before) _ (at-answer .answer3 .given .1) in
+    record { answer = _; answers = says; equals = omega (arith, c .place-number3 .ensures); told = join-told _ _ _ says }
+
+same-length-4 : tie.Need-same-length-4
+same-length-4 c = search needs
+
+returns-4 : tie.Need-returns-4
+returns-4 c =
+    let says = answered (c .before .before .before .before) _ (c .enum-told .given .1) in
+    record { answer = _; answers = says; equals = refl; told = join-told _ _ _ says }
+
+pub delkuthi-join-spec : {M : Type 1} → statement M
+delkuthi-join-spec =
+    tie.close
+    (tie.spec
+    free enum-known-answer free enum-known-answer-2 free cast-result add-result enum-known-answer-3 free cast-result-2 add-result-2 add-result-3 enum-told
+    same-length returns same-length-2 returns-2 same-length-3 returns-3 same-length-4 returns-4)

@@ -1,0 +1,95 @@
+-- The number is that of the stretch, or that of the refusal, which is above 0, and its place.
+use native.Mathlib.Omega.{arith}
+use borrow.Author.Needs.{needs}
+use Prim.Native.Nat.{ℕ, _<_}
+use mathlib.Core.Path.{_≡_, refl}
+use denote.Ref.{now}
+use Rattle.constraint.proofs.Judged.{never}
+use Rattle.queue.proofs.Shared.{free}
+use Rattle.constraint.specs.Stretches.{AnswersStretch}
+use Rattle.constraint.specs.declared.StretchAnswer.{StretchAnswer}
+use Rattle.delkuthi.proofs.StretchNumbers.{stretch-above}
+use Rattle.delkuthi.proofs.stretched.delkuthi_shortest_stretch.Statement.{statement}
+use Rattle.delkuthi.proofs.stretched.delkuthi_shortest_stretch.Tie as tie
+
+-- what is told of a refusal
+refusal-told : (n place m at : ℕ) → 0 < n → n < 256 → StretchAnswer.Refused n place ≡ StretchAnswer.Refused m at → (0 < m) × (m < 256)
+refusal-told n place m at above below e = let same : n ≡ m = cc in (omega (arith, same, above), omega (arith, same, below))
+
+-- and of a stretch
+stretch-told : (first size tried a b c : ℕ) → first < 256 → size < 65536 → tried < 4294967296 → StretchAnswer.Found first size tried ≡ StretchAnswer.Found a b c
+    → (a < 256) × (b < 65536) × (c < 4294967296)
+stretch-told first size tried a b c one two three e =
+    let first-is : first ≡ a = cc in
+    let size-is : size ≡ b = cc in
+    let tried-is : tried ≡ c = cc in
+    (omega (arith, one, first-is), omega (arith, two, size-is), omega (arith, three, tried-is))
+
+enum-known-answer : tie.Need-enum-known-answer
+enum-known-answer c = search needs
+
+cast-result : tie.Need-cast-result
+cast-result c = search needs
+
+mul-result : tie.Need-mul-result
+mul-result c = search needs
+
+cast-result-2 : tie.Need-cast-result-2
+cast-result-2 c = search needs
+
+mul-result-2 : tie.Need-mul-result-2
+mul-result-2 c = search needs
+
+add-result : tie.Need-add-result
+add-result c = search needs
+
+cast-result-3 : tie.Need-cast-result-3
+cast-result-3 c = search needs
+
+mul-result-3 : tie.Need-mul-result-3
+mul-result-3 c = search needs
+
+add-result-2 : tie.Need-add-result-2
+add-result-2 c = search needs
+
+enum-known-answer-2 : tie.Need-enum-known-answer-2
+enum-known-answer-2 c = search needs
+
+cast-result-4 : tie.Need-cast-result-4
+cast-result-4 c = search needs
+
+add-result-3 : tie.Need-add-result-3
+add-result-3 c = search needs
+
+returns : tie.Need-returns
+returns c =
+    let at-answer = c .before in
+    let given = at-answer .answer .given in
+    record {
+      answer = StretchAnswer.Found (given .0 .0) (given .0 .1 .0) (given .0 .1 .1 .0);
+      answers = rw (given .1) at (at-answer .before .before .shortest .ensures);
+      equals = refl;
+      told = λ n place e. never (cc);
+      parts = λ first size tried e. stretch-told (given .0 .0) (given .0 .1 .0) (given .0 .1 .1 .0) first size tried (omega arith) (omega arith) (omega arith) e;
+    }
+
+returns-2 : tie.Need-returns-2
+returns-2 c =
+    let at-answer = c .before .before in
+    let args = at-answer .before .before .before .before .before .args in
+    let given = at-answer .answer2 .given in
+    let says : AnswersStretch (now (args .table)) (now (args .recording)) (args .row) (StretchAnswer.Refused (given .0 .0) (given .0 .1 .0)) =
+    rw (given .1) at (at-answer .before .before .shortest .ensures) in
+    record {
+      answer = StretchAnswer.Refused (given .0 .0) (given .0 .1 .0);
+      answers = says;
+      equals = omega (arith, c .place-number .ensures);
+      told = λ n place e. refusal-told (given .0 .0) (given .0 .1 .0) n place (stretch-above _ _ _ _ _ says) (omega arith) e;
+      parts = λ first size tried e. never (cc);
+    }
+
+pub delkuthi-shortest-stretch-spec : {M : Type 1} → statement M
+delkuthi-shortest-stretch-spec =
+    tie.close
+    (tie.spec free enum-known-answer cast-result mul-result cast-result-2 mul-result-2 add-result cast-result-3 mul-result-3 add-result-2
+    enum-known-answer-2 free cast-result-4 add-result-3 returns returns-2)

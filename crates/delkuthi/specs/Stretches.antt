@@ -1,0 +1,21 @@
+-- The number that answers for the shortest stretch to a host, and its promise.
+use Prim.Native.Nat.{ℕ, _+_, _*_, _^_, _<_}
+use mathlib.Core.Path.{_≡_}
+use mathlib.Core.List.{List}
+use Rattle.constraint.specs.Stretches.{AnswersStretch}
+use Rattle.constraint.specs.declared.StretchAnswer.{StretchAnswer}
+use Rattle.delkuthi.specs.Stamps.{placeNumber}
+
+-- §14.6: the first record's number times 2 ^ 8, the length times 2 ^ 16 and the number tried times 2 ^ 32; or 256 times the place and the
+-- refusal's number
+abbrev pub stretchNumber : StretchAnswer → ℕ
+stretchNumber (StretchAnswer.Found first size tried) = first * 256 + size * 65536 + tried * 4294967296
+stretchNumber (StretchAnswer.Refused n place) = placeNumber place + n
+
+-- the number of the answer; it tells a refusal, whose number is from 1 to 255, from a stretch, and what is told of a stretch
+pub record NumbersStretch (table recording : List ℕ) (i number : ℕ) : Type 0 where
+  pub answer : StretchAnswer
+  pub answers : AnswersStretch table recording i answer
+  pub equals : number ≡ stretchNumber answer
+  pub told : (n place : ℕ) → answer ≡ StretchAnswer.Refused n place → (0 < n) × (n < 256)
+  pub parts : (first size tried : ℕ) → answer ≡ StretchAnswer.Found first size tried → (first < 2 ^ 8) × (size < 2 ^ 16) × (tried < 2 ^ 32)

@@ -1,0 +1,20 @@
+// The shortest stretch that breaks a row, for a host in C: the answer as one number.
+use super::stamped::place_number;
+use constraint::StretchAnswer;
+ghost use Rattle.delkuthi.specs.Stretches.{NumbersStretch};
+
+// The shortest stretch of a recording that breaks a row of a table: its first record's number in bits 8 to 15, its length from bit 16, and
+// from bit 32 how many stretches were tried, with it; on a refusal 256 times its place and its number. For n records it takes at most
+// n(n + 1)/2 steps of the row.
+#[no_mangle]
+pub extern "C" fn delkuthi_shortest_stretch(table: &[u8], recording: &[u8], row: u64) -> u64
+    ensures { λ r. ⌜ NumbersStretch (now (table .entry)) (now (recording .entry)) row r ⌝ }
+{
+    let answer = stretch::shortest(table, recording, row);
+    match answer {
+        StretchAnswer::Found { first, size, tried } => {
+            first as u64 * 256 + size as u64 * 65536 + tried as u64 * 4294967296
+        }
+        StretchAnswer::Refused { number, place } => place_number(place) + number as u64,
+    }
+}

@@ -1,0 +1,13 @@
+-- The test is that of `mayAnswer`.
+use borrow.Author.Tests.{lt-ltb, le-ltb}
+use Rattle.inplace.proofs.may_answer.Statement.{statement}
+use Rattle.inplace.proofs.may_answer.Tie as tie
+
+returns : tie.Need-returns
+returns c = rw (lt-ltb _ _ (c .if1 .taken))
+
+returns-2 : tie.Need-returns-2
+returns-2 c = rw (le-ltb _ _ (c .if1 .left))
+
+pub may-answer-spec : {M : Type 1} → statement M
+may-answer-spec = tie.close (tie.spec returns returns-2)

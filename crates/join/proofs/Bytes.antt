@@ -1,0 +1,177 @@
+-- The bytes of a record read as its step, wherever they stand; so the bytes of steps each of which could be taken read as these steps.
+use Prim.Native.Nat.{ℕ, _+_, _-_, _/_, _%_, _≤_, _<_}
+use native.Mathlib.Omega.{arith}
+use mathlib.Core.Path.{_≡_, refl, sym, ap, subst, _∙_}
+use mathlib.Core.Bool.{Bool, true, false, cond}
+use mathlib.Core.List.{List, [], _∷_, _++_, append-nil, append-assoc}
+use lib.ListN.{length, take, drop, getElem?, length-append, length-drop}
+use mathlib.Core.Option.{some}
+use lib.Seq.{append-snoc, take-all, drop-at}
+use lib.Dec.{eqb, ltb}
+use borrow.Author.Tests.{lt-ltb, le-ltb, ltb-true, ltb-false, ne-eqb}
+use Rattle.constraint.specs.Limits.{firstColoured, streamCount, lastTime}
+use Rattle.constraint.specs.Streams.{kindOf, stream}
+use Rattle.constraint.specs.Steps.{Step, event, tick, close, at, clock, closed}
+use Rattle.constraint.specs.Bytes.{bytesOf, numberBehind, number}
+use Rattle.constraint.specs.Questions.{Judged}
+use Rattle.constraint.specs.Run.{stepFor, Room, questions}
+use Rattle.constraint.specs.Table.{lengthAt}
+use Rattle.constraint.specs.Recording.{colourIn, callAt, recordQuestions, RecordingRead, recording-of, VersionKnown, ReadsRecords, no-more, record-taken, ReadsInOrder, version-taken}
+use Rattle.constraint.specs.declared.Answer.the-variants.{Taken}
+use Rattle.constraint.specs.declared.Call.{Call}
+use Rattle.constraint.specs.declared.Constraint.{Constraint}
+use Rattle.constraint.proofs.Lists.{split}
+use Rattle.constraint.proofs.Streams.{plain-kind, coloured-kind, kind-small}
+use Rattle.constraint.proofs.Judged.{never, judged-none, judged-yes}
+use Rattle.constraint.proofs.History.{Accepts, Valid, valid-none, valid-more}
+use Rattle.number.proofs.Numbers.{bytes-length, number-of-bytes}
+use Rattle.recording.specs.Record.{CallAt, ReadsRecord}
+use Rattle.recording.specs.declared.Record.{Record}
+use Rattle.recording.proofs.Records.{event-read, coloured-read, tick-read, read-of-stretch, record-judged}
+use Rattle.constraint.specs.Joined.{timeOf, eventBytes, colouredBytes, tickBytes, stepBytes, stepsBytes, recordingBytes}
+use Rattle.join.proofs.Merging.{Fits, Line}
+
+-- the call that a step was
+abbrev pub callFor : Step → Call
+callFor (event s t) = cond (ltb s firstColoured) (Call.Event s t) (Call.ColouredEvent (kindOf s) ((s - firstColoured) % 8) t)
+callFor (tick t) = Call.Tick t
+callFor close = Call.Close
+
+-- ---- one record, where its bytes stand
+
+module _ (version : ℕ) (bytes : List ℕ) (place : ℕ) (after : List ℕ) where
+  -- read from its own stretch
+  from-stretch : (r : Record) → ReadsRecord version (drop place bytes) 0 r → ReadsRecord version bytes place r
+  from-stretch r read =
+      read-of-stretch version bytes place r (rw (take-all (length bytes - place) (drop place bytes) (omega (arith, length-drop place bytes))) read)
+
+  small-number : (t : ℕ) → t ≤ lastTime → number (bytesOf 8 t) ≡ t
+  small-number t h = number-of-bytes 8 t (omega arith)
+
+  read-plain : (k t : ℕ) → t ≤ lastTime → drop place bytes ≡ eventBytes k t ++ after → CallAt version bytes place (Call.Event k t) 11
+  unfolding bytesOf numberBehind
+  read-plain k t small e =
+      from-stretch (Record.Event k t 11)
+      (subst (λ (x : List ℕ). CallAt version x 0 (Call.Event k t) 11) (sym e)
+      (subst (λ (n : ℕ). CallAt version (eventBytes k t ++ after) 0 (Call.Event k n) 11) (small-number t small)
+      (event-read version (eventBytes k t ++ after) refl (omega arith))))
+
+  read-tick : (t : ℕ) → t ≤ lastTime → drop place bytes ≡ tickBytes t ++ after → CallAt version bytes place (Call.Tick t) 10
+  unfolding bytesOf numberBehind
+  read-tick t small e =
+      from-stretch (Record.Tick t 10)
+      (subst (λ (x : List ℕ). CallAt version x 0 (Call.Tick t) 10) (sym e)
+      (subst (λ (n : ℕ). CallAt version (tickBytes t ++ after) 0 (Call.Tick n) 10) (small-number t small)
+      (tick-read version (tickBytes t ++ after) refl (omega arith))))
+
+  read-coloured : (k c t : ℕ) → t ≤ lastTime → ¬ (version ≡ 1) → drop place bytes ≡ colouredBytes k c t ++ after
+      → CallAt version bytes place (Call.ColouredEvent k c t) 12
+  unfolding bytesOf numberBehind
+  read-coloured k c t small two e =
+      from-stretch (Record.ColouredEvent k c t 12)
+      (subst (λ (x : List ℕ). CallAt version x 0 (Call.ColouredEvent k c t) 12) (sym e)
+      (subst (λ (n : ℕ). CallAt version (colouredBytes k c t ++ after) 0 (Call.ColouredEvent k c n) 12) (small-number t small)
+      (subst (λ (x : ℕ). CallAt version (colouredBytes k c t ++ after) 0 (Call.ColouredEvent k x (number (bytesOf 8 t))) 12) (rw (ne-eqb version 1 two))
+      (coloured-read version (colouredBytes k c t ++ after) refl (omega arith)))))
+
+  pub read-step : (s : Step) → Fits version s → drop place bytes ≡ stepBytes s ++ after → CallAt version bytes place (callFor s) (length (stepBytes s))
+  unfolding stepBytes bytesOf
+  read-step (event s t) fits stands =
+      split (ltb s firstColoured)
+      (λ x. drop place bytes ≡ cond x (eventBytes s t) (colouredBytes (kindOf s) ((s - firstColoured) % 8) t) ++ after
+      → CallAt version bytes place (cond x (Call.Event s t) (Call.ColouredEvent (kindOf s) ((s - firstColoured) % 8) t))
+      (length (cond x (eventBytes s t) (colouredBytes (kindOf s) ((s - firstColoured) % 8) t))))
+      (λ plain e. read-plain s t (fits .1) e)
+      (λ coloured e. read-coloured (kindOf s) ((s - firstColoured) % 8) t (fits .1) (λ one. omega (arith, fits .2 one, ltb-false s firstColoured coloured)) e)
+      stands
+  read-step (tick t) fits e = read-tick t fits e
+  read-step close fits e = absurd fits
+
+-- ---- its questions
+
+room-none : (steps : List Step) → Room [] steps
+unfolding Room
+room-none steps i c e open-still = never (cc)
+
+taken-plain : (steps : List Step) (s t : ℕ) → Accepts steps (event s t) → s < firstColoured → Judged (questions [] steps (Call.Event s t)) Taken
+unfolding questions
+taken-plain steps s t a plain =
+    judged-yes 8 _ _ Taken (a .not-closed)
+    (judged-yes 9 _ _ Taken (omega arith)
+    (judged-yes 19 _ _ Taken plain
+    (judged-yes 10 _ _ Taken (a .time-small) (judged-yes 11 _ _ Taken (a .in-order) (judged-yes 12 _ _ Taken (room-none _) judged-none)))))
+
+pub same-stream : (s : ℕ) → firstColoured ≤ s → stream (kindOf s) ((s - firstColoured) % 8) ≡ s
+same-stream s h = rw (coloured-kind s h) (omega arith)
+
+taken-coloured : (steps : List Step) (s t : ℕ) → Accepts steps (event s t) → firstColoured ≤ s
+    → Judged (questions [] steps (Call.ColouredEvent (kindOf s) ((s - firstColoured) % 8) t)) Taken
+unfolding questions
+taken-coloured steps s t a h =
+    judged-yes 8 _ _ Taken (a .not-closed)
+    (judged-yes 9 _ _ Taken (kind-small s (a .stream-small))
+    (judged-yes 19 _ _ Taken (rw (coloured-kind s h) (omega arith), omega arith)
+    (judged-yes 10 _ _ Taken (a .time-small)
+    (judged-yes 11 _ _ Taken (rw (same-stream s h) (a .in-order)) (judged-yes 12 _ _ Taken (room-none _) judged-none)))))
+
+taken-tick : (steps : List Step) (t : ℕ) → Accepts steps (tick t) → Judged (questions [] steps (Call.Tick t)) Taken
+unfolding questions
+taken-tick steps t a =
+    judged-yes 8 _ _ Taken (a .not-closed)
+    (judged-yes 10 _ _ Taken (a .time-small) (judged-yes 11 _ _ Taken (a .later) (judged-yes 12 _ _ Taken (room-none _) judged-none)))
+
+-- the call that a step was, is taken where the step is accepted, and is that step
+taken-for : (version : ℕ) (steps : List Step) (s : Step) → Fits version s → Accepts steps s → Judged (questions [] steps (callFor s)) Taken × (stepFor (callFor s) ≡ s)
+taken-for version steps (event s t) fits a =
+    split (ltb s firstColoured)
+    (λ x. Judged (questions [] steps (cond x (Call.Event s t) (Call.ColouredEvent (kindOf s) ((s - firstColoured) % 8) t))) Taken
+    × (stepFor (cond x (Call.Event s t) (Call.ColouredEvent (kindOf s) ((s - firstColoured) % 8) t)) ≡ event s t))
+    (λ plain. (taken-plain steps s t a (ltb-true s firstColoured plain), refl))
+    (λ coloured. let h : firstColoured ≤ s = ltb-false s firstColoured coloured in
+    (taken-coloured steps s t a h, ap (λ (x : ℕ). event x t) (same-stream s h)))
+taken-for version steps (tick t) fits a = (taken-tick steps t a, refl)
+taken-for version steps close fits a = absurd fits
+
+-- ---- the records one after the other
+
+pub bytes-append : (a b : List Step) → stepsBytes (a ++ b) ≡ stepsBytes a ++ stepsBytes b
+unfolding stepsBytes
+bytes-append [] b = refl
+bytes-append (s ∷ a) b = ap (λ (x : List ℕ). stepBytes s ++ x) (bytes-append a b) ∙ sym (append-assoc (stepBytes s) (stepsBytes a) (stepsBytes b))
+
+line-each : (version now : ℕ) (a : List Step) (s : Step) (b : List Step) → Line version now (a ++ s ∷ b) → Fits version s
+line-each version now [] s b l = l .1
+line-each version now (x ∷ a) s b l = line-each version (timeOf x) a s b (l .2)
+
+module _ (version : ℕ) (known : (1 ≤ version) × (version ≤ 2)) where
+  -- what is read behind some steps is read from the start
+  reads-behind : {steps : List Step} → Valid steps → (rest : List Step) → Line version 0 (steps ++ rest) → (read : RecordingRead)
+      → ReadsRecords [] (recordingBytes version (steps ++ rest)) steps (length (recordingBytes version steps)) read → ReadsInOrder (recordingBytes version (steps ++ rest)) read
+  unfolding stepsBytes
+  reads-behind valid-none rest l read reads = version-taken (omega arith, known .0, known .1) reads
+  reads-behind (valid-more {steps = steps} s v a) rest l read reads =
+      let again : (steps ++ (s ∷ [])) ++ rest ≡ steps ++ s ∷ rest = append-snoc steps s rest in
+      let bytes = recordingBytes version (steps ++ s ∷ rest) in
+      let place = length (recordingBytes version steps) in
+      let line : Line version 0 (steps ++ s ∷ rest) = subst (Line version 0) again l in
+      let fits : Fits version s = line-each version 0 steps s rest line in
+      let stands : drop place bytes ≡ stepBytes s ++ stepsBytes rest = ap (drop (length (stepsBytes steps))) (bytes-append steps (s ∷ rest)) ∙ drop-at (stepsBytes steps) (stepBytes s ++ stepsBytes rest) (length (stepsBytes steps)) refl in
+      let here : CallAt version bytes place (callFor s) (length (stepBytes s)) = read-step version bytes place (stepsBytes rest) s fits stands in
+      let taken = taken-for version steps s fits a in
+      let size : length (stepsBytes (steps ++ (s ∷ []))) ≡ length (stepsBytes steps) + length (stepBytes s) =
+      ap length (bytes-append steps (s ∷ [])) ∙ length-append (stepsBytes steps) (stepBytes s ++ []) ∙ ap (λ (x : List ℕ). length (stepsBytes steps) + length x) (append-nil (stepBytes s)) in
+      let next : length (recordingBytes version (steps ++ (s ∷ []))) ≡ place + 2 + lengthAt bytes place = omega (arith, size, here .size-read) in
+      let is : s ≡ stepFor (callAt bytes place) = sym (ap stepFor (here .call-read) ∙ taken .1) in
+      subst (λ (x : List Step). ReadsInOrder (recordingBytes version x) read) (sym again)
+      (reads-behind v (s ∷ rest) line read
+      (record-taken (omega (arith, here .there .0 .1, here .there .0 .0)) (record-judged [] steps bytes place (callFor s) (length (stepBytes s)) Taken here (taken .0))
+      (subst (λ (x : Step). ReadsRecords [] bytes (steps ++ (x ∷ [])) (place + 2 + lengthAt bytes place) read) is
+      (subst (λ (n : ℕ). ReadsRecords [] bytes (steps ++ (s ∷ [])) n read) next
+      (subst (λ (x : List Step). ReadsRecords [] (recordingBytes version x) (steps ++ (s ∷ [])) (length (recordingBytes version (steps ++ (s ∷ [])))) read) again reads)))))
+
+  -- valid steps that fit a version read back from their bytes
+  pub reads-back : (steps : List Step) → Valid steps → Line version 0 steps → ReadsInOrder (recordingBytes version steps) (recording-of steps)
+  reads-back steps v l =
+      subst (λ (x : List Step). ReadsInOrder (recordingBytes version x) (recording-of steps)) (append-nil steps)
+      (reads-behind v [] (subst (Line version 0) (sym (append-nil steps)) l) (recording-of steps)
+      (no-more (omega (arith, ap (λ (x : List Step). length (stepsBytes x)) (append-nil steps)))))

@@ -1,0 +1,9 @@
+-- Why the joined recording is valid and is what the walk writes.
+pub mod Merging
+pub mod Bytes
+pub mod Records
+pub mod Walking
+pub mod Passing
+pub mod Answers
+pub mod Holding
+pub mod Theorem

@@ -1,0 +1,78 @@
+-- The loop reads record after record: the kinds of those read are marked, and the first one to avoid is kept.
+use native.Mathlib.Omega.{arith}
+use Prim.Native.Nat.{_-_}
+use mathlib.Core.Path.{_≡_, refl}
+use lib.ListN.{length}
+use denote.Ref.{now}
+use Rattle.constraint.specs.Recording.{version-refused}
+use Rattle.constraint.proofs.Judged.{passed, failed}
+use Rattle.queue.proofs.Shared.{free}
+use Rattle.join.proofs.Passing.{PassedTo, pass-start, pass-more, pass-refused, pass-end}
+use Rattle.join.proofs.pass.Statement.{statement}
+use Rattle.join.proofs.pass.Tie as tie
+
+abbrev Inv-loop : tie.InvT-loop
+Inv-loop bytes avoid order₀ kinds₀ common₀ place₀ order kinds common place = PassedTo bytes avoid order kinds common place
+
+abbrev μ-loop : tie.MeasureT-loop
+μ-loop bytes avoid order₀ kinds₀ common₀ place₀ order kinds common place = length bytes - place
+
+returns : tie.Need-returns Inv-loop μ-loop
+returns c =
+    let asked = c .before in
+    record {
+      refused = λ more. version-refused (failed (asked .version-known .result) (asked .version-known .ensures) (c .if1 .taken));
+      taken = λ e. absurd (omega (arith, e));
+    }
+
+loop-holds : tie.Need-loop-holds Inv-loop μ-loop
+loop-holds c =
+    let checked = c .before in
+    let asked = checked .before in
+    let args = asked .before .before .args in
+    pass-start (now (args .bytes)) (args .avoid) (passed (asked .version-known .result) (asked .version-known .ensures) (checked .if1 .left)) (c .start .result) (c .start .ensures)
+
+returns-2 : tie.Need-returns-2 Inv-loop μ-loop
+returns-2 c =
+    let at-read = c .before .before in
+    let at-loop = at-read .before .before in
+    let args = at-loop .before .before .before .before .before .args in
+    record {
+      refused = λ more. pass-refused (now (args .bytes)) (args .avoid) (at-loop .loop .order) (at-loop .loop .kinds) (at-loop .loop .common) (at-loop .loop .place) (at-loop .loop .inv)
+          (at-read .before .loop-test .taken) (at-read .read .result) (at-read .read .ensures) (c .if2 .taken);
+      taken = λ e. absurd (omega (arith, e, c .if2 .taken));
+    }
+
+loop-less : tie.Need-loop-less Inv-loop μ-loop
+loop-less c =
+    let left = c .before .before .before .before .before in
+    let at-read = left .before .before in
+    let next = at-read .read .ensures .next-is (omega (arith, left .if2 .left)) in
+    omega (arith, next .0, next .1)
+
+loop-again : tie.Need-loop-again Inv-loop μ-loop
+loop-again c =
+    let marked = c .before in
+    let common = marked .before in
+    let avoided = common .before in
+    let kind = avoided .before in
+    let left = kind .before in
+    let at-read = left .before .before in
+    let at-loop = at-read .before .before in
+    let args = at-loop .before .before .before .before .before .args in
+    pass-more (now (args .bytes)) (args .avoid) (at-loop .loop .order) (at-loop .loop .kinds) (at-loop .loop .common) (at-loop .loop .place) (at-loop .loop .inv)
+    (at-read .before .loop-test .taken) (at-read .read .result) (at-read .read .ensures) (omega (arith, left .if2 .left)) (kind .kind-of .result) (avoided .marked .result)
+    (marked .mark .result) (common .first-common .result) (kind .kind-of .ensures) (avoided .marked .ensures) (marked .mark .ensures) (common .first-common .ensures)
+
+returns-3 : tie.Need-returns-3 Inv-loop μ-loop
+returns-3 c =
+    let at-loop = c .before in
+    let args = at-loop .before .before .before .before .before .args in
+    record {
+      refused = λ more. absurd (omega (arith, more));
+      taken = λ e. pass-end (now (args .bytes)) (args .avoid) (at-loop .loop .order) (at-loop .loop .kinds) (at-loop .loop .common) (at-loop .loop .place) (at-loop .loop .inv)
+          (c .loop-test .left);
+    }
+
+pub pass-spec : {M : Type 1} → statement M
+pass-spec = tie.close (tie.spec Inv-loop μ-loop free returns free loop-holds free returns-2 free free free free loop-less loop-again returns-3)

@@ -1,0 +1,27 @@
+-- A record that falls away is not stored.
+use native.Mathlib.Omega.{arith}
+use borrow.Author.Needs.{needs}
+use mathlib.Core.Path.{_≡_, sym, _∙_}
+use Rattle.queue.proofs.Shared.{free}
+use Rattle.join.proofs.put_left.Statement.{statement}
+use Rattle.join.proofs.put_left.Tie as tie
+
+returns : tie.Need-returns
+returns c = rw (sym (c .before .falls-away .ensures) ∙ c .if1 .taken)
+
+put-call-requires : tie.Need-put-call-requires
+put-call-requires c κs =
+    let tested = c .before .before in
+    rw (sym (tested .falls-away .ensures) ∙ c .before .if1 .left) at (tested .before .before .pre)
+
+same-length : tie.Need-same-length
+same-length c = search needs
+
+returns-2 : tie.Need-returns-2
+returns-2 c =
+    let put = c .before .before in
+    let kept = put .before .before in
+    rw (sym (kept .before .falls-away .ensures) ∙ kept .if1 .left) (put .put-call .ensures)
+
+pub put-left-spec : {M : Type 1} → statement M
+put-left-spec = tie.close (tie.spec free returns put-call-requires same-length returns-2)

@@ -1,0 +1,2 @@
+-- What the walk over two recordings promises.
+pub mod Walk

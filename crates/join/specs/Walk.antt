@@ -1,0 +1,104 @@
+-- The pass over one recording, and the walk over both.
+use Prim.Native.Nat.{ℕ, _+_, _-_, _≤_, _<_}
+use mathlib.Core.Path.{_≡_}
+use mathlib.Core.Bool.{Bool, true, false, cond}
+use mathlib.Core.List.{List, [], _∷_}
+use mathlib.Core.Logic.{_⊎_}
+use lib.ListN.{length}
+use lib.Seq.{sets}
+use lib.Dec.{ltb}
+use Rattle.constraint.specs.Steps.{Step, at, among}
+use Rattle.constraint.specs.Run.{stepFor}
+use Rattle.constraint.specs.Table.{lengthAt}
+use Rattle.constraint.specs.Recording.{callAt, RecordAt, ReadsInOrder, recording-of, recording-refused}
+use Rattle.constraint.specs.declared.Call.{Call}
+use Rattle.constraint.specs.Joined.{timeOf, merged, fallsAway, eventBytes, colouredBytes, tickBytes, stepBytes, joinedBytes, kindsOf, FirstOf}
+use Rattle.join.specs.declared.Head.{Head}
+use Rattle.join.specs.declared.Next.{Next}
+use Rattle.join.specs.declared.Walked.{Walked}
+use Rattle.join.specs.declared.Passed.{Passed}
+
+-- ---- a call as a record
+
+-- its bytes
+abbrev pub callBytes : Call → List ℕ
+callBytes (Call.Event k t) = eventBytes k t
+callBytes (Call.ColouredEvent k c t) = colouredBytes k c t
+callBytes (Call.Tick t) = tickBytes t
+callBytes Call.Close = []
+
+-- its kind; 64 is none
+abbrev pub callKind : Call → ℕ
+callKind (Call.Event k t) = k
+callKind (Call.ColouredEvent k c t) = k
+callKind (Call.Tick t) = 64
+callKind Call.Close = 64
+
+-- what is left of it at a clock, and the clock then
+abbrev pub leftBytes : ℕ → Call → List ℕ
+leftBytes now call = cond (fallsAway now (stepFor call)) [] (callBytes call)
+
+abbrev pub leftClock : ℕ → Call → ℕ
+leftClock now call = cond (fallsAway now (stepFor call)) now (timeOf (stepFor call))
+
+-- ---- the walk
+
+-- the records from a place on, each with the bytes of its step
+pub data Records (bytes : List ℕ) : ℕ → List Step → Type 0 where
+  none : {place : ℕ} → length bytes ≤ place → Records bytes place []
+  more : {place : ℕ} {rest : List Step} → place < length bytes → RecordAt bytes place
+      → callBytes (callAt bytes place) ≡ stepBytes (stepFor (callAt bytes place))
+      → Records bytes (place + 2 + lengthAt bytes place) rest → Records bytes place (stepFor (callAt bytes place) ∷ rest)
+
+-- the record at a place, or that there is none
+pub record Heads (bytes : List ℕ) (place : ℕ) (r : Head) : Type 0 where
+  pub within : r .there ≡ true → place < length bytes
+  pub whole : r .there ≡ true → RecordAt bytes place
+  pub call-is : r .there ≡ true → callAt bytes place ≡ r .call
+  pub next-is : r .there ≡ true → r .next ≡ place + 2 + lengthAt bytes place
+  pub not-there : r .there ≡ false → place < length bytes → ¬ RecordAt bytes place
+
+-- what is left behind the record that comes next
+pub record Behind (one two : List ℕ) (first second : List Step) (r : Next) : Type 0 where
+  pub rest : List Step
+  pub other : List Step
+  pub is : merged first second ≡ stepFor (r .call) ∷ merged rest other
+  pub records : Records one (r .first) rest
+  pub others : Records two (r .second) other
+  pub bytes : callBytes (r .call) ≡ stepBytes (stepFor (r .call))
+
+-- the record that comes next, from a place in each recording on, or that there is none
+pub record Nexts (one two : List ℕ) (place other : ℕ) (r : Next) : Type 0 where
+  pub there : r .there ≡ true → (first second : List Step) → Records one place first → Records two other second → Behind one two first second r
+  pub ends : r .there ≡ false → (first second : List Step) → Records one place first → Records two other second → merged first second ≡ []
+  pub less : r .there ≡ true → (length one - r .first) + (length two - r .second) < (length one - place) + (length two - other)
+
+-- the walk over both: the joined recording is stored in front as far as there is room, and is so long; or it is longer than the limit
+pub record Walks (one two before : List ℕ) (limit : ℕ) (r : Walked) (after : List ℕ) : Type 0 where
+  pub fits : r .fits ≡ true → (first second : List Step) → Records one 1 first → Records two 1 second
+      → (r .size ≡ length (joinedBytes one two first second)) × (r .size ≤ limit) × (after ≡ sets before 0 (joinedBytes one two first second))
+  pub short : r .fits ≡ false → (first second : List Step) → Records one 1 first → Records two 1 second
+      → limit < length (joinedBytes one two first second)
+
+-- ---- the pass
+
+-- a mark for each kind: 1 where it is among some
+pub record Marks (marks : List ℕ) (kinds : List ℕ) : Type 0 where
+  pub each : (k : ℕ) → k < 64 → at marks k ≡ cond (among k kinds) 1 0
+  pub size : length marks ≡ 64
+
+-- the search for the first record of some kinds: none so far, or found
+abbrev pub Found : List ℕ → List ℕ → List Step → ℕ → Type 0
+Found kinds bytes steps found =
+    ((found ≡ 0) × ((k : ℕ) → among k kinds ≡ true → among k (kindsOf steps) ≡ false))
+    ⊎ ((0 < found) × FirstOf kinds bytes 1 found × ((k : ℕ) × (among k kinds ≡ true) × (among k (kindsOf steps) ≡ true)))
+
+-- the place that is found, with the record at one place more
+abbrev pub firstCommon : ℕ → Bool → ℕ → ℕ
+firstCommon common avoided place = cond (ltb 0 common) common (cond avoided place 0)
+
+-- the pass over a recording: refused; or its steps, their kinds, and the first record of the kinds to avoid
+pub record Passes (bytes avoid : List ℕ) (r : Passed) : Type 0 where
+  pub refused : 0 < r .number → ReadsInOrder bytes (recording-refused (r .number) (r .place))
+  pub taken : r .number ≡ 0 → (steps : List Step) × ReadsInOrder bytes (recording-of steps) × Marks (r .kinds) (kindsOf steps)
+      × ((kinds : List ℕ) → Marks avoid kinds → Found kinds bytes steps (r .common))

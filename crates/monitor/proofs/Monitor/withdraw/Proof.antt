@@ -1,0 +1,64 @@
+-- The test is that of `withdrawOf`; past it each row and each number is put back.
+use native.Mathlib.Omega.{arith}
+use borrow.Author.Needs.{needs}
+use mathlib.Core.Path.{_≡_, sym, ap, _∙_}
+use mathlib.Core.Bool.{true, false, cond}
+use lib.Dec.{ltb}
+use borrow.Author.Tests.{lt-ltb, le-ltb}
+use Rattle.queue.proofs.Shared.{cond-true, cond-false}
+use Rattle.monitor.specs.Machine.{takes, refuses, withdrawn, withdrawOf}
+use Rattle.monitor.proofs.Answers.{place-in-small}
+use Rattle.monitor.proofs.Theorem.{withdraw-kept}
+use Rattle.monitor.proofs.Monitor.withdraw.Statement.{statement}
+use Rattle.monitor.proofs.Monitor.withdraw.Tie as tie
+
+refused-requires : tie.Need-refused-requires
+refused-requires c κs = search needs
+
+returns : tie.Need-returns
+unfolding withdrawOf
+returns c =
+    let m = c .before .before .before .before .args .self in
+    withdraw-kept m (c .refused .ensures ∙ sym (cond-false (ltb 0 (m .undo .may)) (takes (withdrawn m)) (refuses 21 m) (le-ltb 0 (m .undo .may) (omega (arith, c .before .if1 .taken)))))
+
+place-in-requires : tie.Need-place-in-requires
+place-in-requires c κs = search needs
+
+back-requires : tie.Need-back-requires
+back-requires c κs = search needs
+
+mul-after : tie.Need-mul-after
+mul-after c = omega (arith, c .before .place-in .ensures, place-in-small (c .before .before .before .before .before .args .self .undo .place))
+
+element-write-after : tie.Need-element-write-after
+element-write-after c = omega (arith, c .before .place-in .ensures, place-in-small (c .before .before .before .before .before .args .self .undo .place))
+
+no-undo-requires : tie.Need-no-undo-requires
+no-undo-requires c κs = search needs
+
+taken-requires : tie.Need-taken-requires
+taken-requires c κs = search needs
+
+returns-2 : tie.Need-returns-2
+unfolding withdrawOf withdrawn
+returns-2 c =
+    let backed = c .before .before in
+    let placed = backed .before in
+    let m = placed .before .before .before .before .args .self in
+    withdraw-kept m
+    (simp (c .taken .ensures, c .before .no-undo .ensures, backed .back .ensures, placed .place-in .ensures)
+    (sym (cond-true (ltb 0 (m .undo .may)) (takes (withdrawn m)) (refuses 21 m) (lt-ltb 0 (m .undo .may) (omega (arith, placed .before .if1 .left))))))
+
+pub withdraw-spec : {M : Type 1} → statement M
+withdraw-spec =
+    tie.close
+    (tie.spec
+    refused-requires
+    returns
+    place-in-requires
+    back-requires
+    mul-after
+    element-write-after
+    no-undo-requires
+    taken-requires
+    returns-2)

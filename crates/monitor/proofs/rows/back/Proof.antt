@@ -1,0 +1,104 @@
+-- The loop takes the step from one row after the other, as many as the monitor holds.
+use Prim.Native.Nat.{_≤_, _-_}
+use native.Mathlib.Omega.{arith}
+use borrow.Author.Needs.{needs}
+use mathlib.Core.Path.{_≡_, sym, _∙_}
+use lib.ListN.{length, length-map}
+use Rattle.monitor.specs.Parts.{rowsWithout}
+use Rattle.monitor.proofs.First.{without-none, without-next, without-all}
+use Rattle.monitor.proofs.rows.back.Statement.{statement}
+use Rattle.monitor.proofs.rows.back.Tie as tie
+
+abbrev Inv-loop : tie.InvT-loop
+Inv-loop number len after₀ i₀ after i = (i ≤ len) × (after ≡ rowsWithout after₀ i number)
+
+abbrev μ-loop : tie.MeasureT-loop
+μ-loop number len after₀ i₀ after i = len - i
+
+-- a monitor has 32 rows, and keeps 32 beside them
+size : (c : tie.Start Inv-loop μ-loop) → length (c .args .m .rows) ≡ 32
+size c = sym (length-map (c .args .m .rows) _) ∙ c .good .0 .1 .1 .0 .1 .0 .1
+
+wide : (c : tie.Start Inv-loop μ-loop) → length (c .args .m .before) ≡ 32
+wide c = sym (length-map (c .args .m .before) _) ∙ c .good .0 .1 .1 .1 .1 .1 .1 .1 .1 .0 .1 .0 .1
+
+held-requires : tie.Need-held-requires Inv-loop μ-loop
+held-requires c κs = search needs
+
+loop-holds : tie.Need-loop-holds Inv-loop μ-loop
+loop-holds c = let start = c .before in (omega arith, sym (without-none (start .args .number) (start .args .m) (size start) (wide start)))
+
+mul-row : tie.Need-mul-row Inv-loop μ-loop
+mul-row c = omega arith
+
+element-copy-out-row : tie.Need-element-copy-out-row Inv-loop μ-loop
+element-copy-out-row c = omega arith
+
+mul-kept : tie.Need-mul-kept Inv-loop μ-loop
+mul-kept c = omega arith
+
+element-copy-out-kept : tie.Need-element-copy-out-kept Inv-loop μ-loop
+element-copy-out-kept c = omega arith
+
+without-requires : tie.Need-without-requires Inv-loop μ-loop
+without-requires c κs = search needs
+
+mul-before : tie.Need-mul-before Inv-loop μ-loop
+mul-before c = omega arith
+
+element-set-from-before : tie.Need-element-set-from-before Inv-loop μ-loop
+element-set-from-before c = omega arith
+
+without-requires-2 : tie.Need-without-requires-2 Inv-loop μ-loop
+without-requires-2 c κs = search needs
+
+mul-t10 : tie.Need-mul-t10 Inv-loop μ-loop
+mul-t10 c = omega arith
+
+element-set-from-after : tie.Need-element-set-from-after Inv-loop μ-loop
+element-set-from-after c = omega arith
+
+add-i : tie.Need-add-i Inv-loop μ-loop
+add-i c = omega arith
+
+loop-less : tie.Need-loop-less Inv-loop μ-loop
+loop-less c = omega arith
+
+loop-again : tie.Need-loop-again Inv-loop μ-loop
+loop-again c =
+    let at-loop = c .before .before .before .before .before in
+    let start = at-loop .before .before in
+    let args = start .args in (
+      omega arith,
+      without-next (args .number) (args .m) (size start) (wide start) (at-loop .loop .after) (at-loop .loop .i) (at-loop .loop .inv .1) (omega (arith, at-loop .before .held .ensures)) _ _ _ _
+          (c .before .without .ensures) (c .without2 .ensures),
+    )
+
+returns : tie.Need-returns Inv-loop μ-loop
+returns c =
+    let start = c .before .before .before in
+    c .before .loop .inv .1
+    ∙ without-all (start .args .number) (start .args .m) (size start) (wide start) (c .before .loop .i) (omega (arith, c .before .before .held .ensures))
+
+pub back-spec : {M : Type 1} → statement M
+back-spec =
+    tie.close
+    (tie.spec
+    Inv-loop
+    μ-loop
+    held-requires
+    loop-holds
+    mul-row
+    element-copy-out-row
+    mul-kept
+    element-copy-out-kept
+    without-requires
+    mul-before
+    element-set-from-before
+    without-requires-2
+    mul-t10
+    element-set-from-after
+    add-i
+    loop-less
+    loop-again
+    returns)

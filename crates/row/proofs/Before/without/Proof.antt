@@ -1,0 +1,17 @@
+-- The test is that of `keptWithout`.
+use borrow.Author.Tests.{eq-eqb, ne-eqb}
+use Rattle.queue.proofs.Shared.{free}
+use Rattle.row.specs.Undo.{keptWithout}
+use Rattle.row.proofs.Before.without.Statement.{statement}
+use Rattle.row.proofs.Before.without.Tie as tie
+
+returns : tie.Need-returns
+unfolding keptWithout
+returns c = rw (eq-eqb _ _ (c .before .if1 .taken)) (c .none .ensures)
+
+returns-2 : tie.Need-returns-2
+unfolding keptWithout
+returns-2 c = rw (ne-eqb _ _ (c .if1 .left))
+
+pub without-spec : {M : Type 1} → statement M
+without-spec = tie.close (tie.spec free returns returns-2)

@@ -1,0 +1,110 @@
+-- A row that a step may change is put back word for word: an edit writes at its own place and the next, and a break writes no word. A row that it
+-- may not change stays as it is.
+use Prim.Native.Nat.{ℕ}
+use mathlib.Core.Path.{_≡_, refl, sym, ap, _∙_}
+use mathlib.Core.Bool.{Bool, true, false, cond, _&&_}
+use mathlib.Core.List.{List}
+use lib.ListN.{length}
+use lib.Dec.{ltb, eqb}
+use borrow.Author.Tests.{eq-eqb, ne-eqb}
+use Rattle.constraint.specs.Limits.{waitingLimit}
+use Rattle.constraint.proofs.Lists.{split, both}
+use Rattle.queue.specs.Ring.{ringOf, timeAt, changed, editPlace, putBack}
+use Rattle.queue.proofs.Laws.{near-same, near-back, edit-back}
+use Rattle.machine.specs.declared.Change.{Change}
+use Rattle.row.specs.Machine.{decide, concerns, rowFrom, itemsOf, brokenRow, applied, stays, crowding, changedRow, rowStep}
+use Rattle.row.specs.Undo.{movesBy, stepPlace, savedAt, savedRow, savedBy, backRow, rowWithout, keptWithout, noBefore}
+use Rattle.row.specs.declared.Before.{Before}
+use Rattle.row.specs.declared.Occurrence.{Occurrence}
+use Rattle.row.specs.declared.Row.{Row}
+use Rattle.row.specs.declared.RowStep.{RowStep}
+
+module _ (r : Row) (whole : length (r .times) ≡ 64) where
+  -- a row is put back from what was kept of it at a place
+  abbrev Back : ℕ → Row → Type 0
+  Back place now = (number : ℕ) → backRow now (savedAt r place number) ≡ r
+
+  -- one with the same words
+  back-words : (place : ℕ) → putBack place (timeAt (r .times) place 0) (timeAt (r .times) place 1) (r .times) ≡ r .times
+  back-words place = near-back place (r .times) (r .times) whole (near-same place (r .times))
+
+  back-same : (place : ℕ) → Back place r
+  unfolding backRow
+  back-same place number = ap (λ (words : List ℕ). rowFrom (r .rule) words (r .now)) (back-words place)
+
+  back-broken : (place n : ℕ) → Back place (brokenRow r n)
+  unfolding backRow brokenRow
+  back-broken place n number = ap (λ (words : List ℕ). rowFrom (r .rule) words (r .now)) (back-words place)
+
+  -- one with a change
+  abbrev at : Change → ℕ
+  at change = editPlace (change .edit) (ringOf (r .times) (r .now .head) (r .now .len))
+
+  back-applied : (change : Change) → Back (at change) (applied r change)
+  unfolding backRow applied
+  back-applied change number =
+      ap (λ (words : List ℕ). rowFrom (r .rule) words (r .now)) (edit-back (ringOf (r .times) (r .now .head) (r .now .len)) (change .edit) whole)
+
+  back-changed : (change : Change) (n : ℕ) → Back (at change) (changedRow r change n .row)
+  unfolding changedRow
+  back-changed change n =
+      split (change .breaks) (λ x. Back (at change) (cond x (stays (brokenRow r n)) (cond full (crowding r) (stays (applied r change))) .row))
+      (λ e. back-broken (at change) n)
+      (λ e. split full (λ x. Back (at change) (cond x (crowding r) (stays (applied r change)) .row)) (λ f. back-same (at change)) (λ f. back-applied change))
+    where
+      full : Bool
+      full = ltb waitingLimit (length (changed (change .edit) (itemsOf r)))
+
+  -- what a step makes of the row is put back
+  pub step-back : (o : Occurrence) (n : ℕ) → Back (stepPlace r o) (rowStep r o n .row)
+  unfolding rowStep stepPlace
+  step-back o n =
+      split (ltb 0 (r .now .broken)) (λ x. Back (cond x 0 late-place) (cond x (stays r) late .row)) (λ e. back-same 0) (λ e.
+      split (ltb (r .now .due) (o .time)) (λ x. Back (cond x 0 own-place) (cond x (stays (brokenRow r n)) own .row)) (λ f. back-broken 0 n) (λ f.
+      split (concerns (r .rule) (o .kind)) (λ x. Back (cond x (at change) 0) (cond x (changedRow r change n) end .row)) (λ g. back-changed change n) (λ g.
+      split unkept (λ x. Back 0 (cond x (stays (brokenRow r n)) (stays r) .row)) (λ h. back-broken 0 n) (λ h. back-same 0))))
+    where
+      change : Change
+      change = decide (r .rule) (r .now .marks) (itemsOf r) (o .stream) (o .time)
+
+      unkept : Bool
+      unkept = o .closes && eqb (r .now .kept) 0
+
+      end : RowStep
+      end = cond unkept (stays (brokenRow r n)) (stays r)
+
+      own : RowStep
+      own = cond (concerns (r .rule) (o .kind)) (changedRow r change n) end
+
+      own-place : ℕ
+      own-place = cond (concerns (r .rule) (o .kind)) (at change) 0
+
+      late : RowStep
+      late = cond (ltb (r .now .due) (o .time)) (stays (brokenRow r n)) own
+
+      late-place : ℕ
+      late-place = cond (ltb (r .now .due) (o .time)) 0 own-place
+
+-- a row that what occurs may not change stays as it is
+pub still : (r : Row) (o : Occurrence) (n : ℕ) → movesBy (r .rule) (r .now) o ≡ false → rowStep r o n .row ≡ r
+unfolding movesBy rowStep
+still r o n e = by-tests (ltb 0 (r .now .broken)) (ltb (r .now .due) (o .time)) (o .closes) (concerns (r .rule) (o .kind)) e
+  where
+    by-tests : (broken late closes own : Bool) → cond broken false (cond late true (cond closes true own)) ≡ false
+        → cond broken (stays r) (cond late (stays (brokenRow r n)) (cond own (changedRow r (decide (r .rule) (r .now .marks) (itemsOf r) (o .stream) (o .time)) n)
+        (cond (closes && eqb (r .now .kept) 0) (stays (brokenRow r n)) (stays r)))) .row ≡ r
+    by-tests true late closes own e = refl
+    by-tests false true closes own e = both e
+    by-tests false false true own e = both e
+    by-tests false false false true e = both e
+    by-tests false false false false e = refl
+
+-- a row without the step that it has just taken is the row as it was, where nothing of that number was kept before
+pub row-without : (r : Row) (b : Before) (o : Occurrence) (number : ℕ) → length (r .times) ≡ 64 → ¬ (b .stamp ≡ number)
+    → rowWithout number (rowStep r o number .row) (savedBy o number r b) ≡ r
+unfolding rowWithout savedBy
+row-without r b o number whole other =
+    split (movesBy (r .rule) (r .now) o)
+    (λ x. let kept = cond x (savedRow r o number) b in cond (eqb (kept .stamp) number) (backRow (rowStep r o number .row) kept) (rowStep r o number .row) ≡ r)
+    (λ e. rw (eq-eqb number number refl) (step-back r whole o number number))
+    (λ e. rw (ne-eqb (b .stamp) number other) (still r o number e))

@@ -1,0 +1,29 @@
+-- The tests are those of `movesBy`, in its order.
+use borrow.Author.Tests.{lt-ltb, le-ltb}
+use Rattle.queue.proofs.Shared.{free}
+use Rattle.row.specs.Undo.{movesBy}
+use Rattle.row.proofs.moves.Statement.{statement}
+use Rattle.row.proofs.moves.Tie as tie
+
+returns : tie.Need-returns
+unfolding movesBy
+returns c = rw (lt-ltb _ _ (c .if1 .taken))
+
+returns-2 : tie.Need-returns-2
+unfolding movesBy
+returns-2 c = rw (le-ltb _ _ (c .before .before .before .if1 .left), lt-ltb _ _ (c .if2 .taken))
+
+returns-3 : tie.Need-returns-3
+unfolding movesBy
+returns-3 c =
+    let b = c .before in
+    rw (le-ltb _ _ (b .before .before .before .if1 .left), le-ltb _ _ (b .if2 .left), c .if3 .taken)
+
+returns-4 : tie.Need-returns-4
+unfolding movesBy
+returns-4 c =
+    let b = c .before .before in
+    rw (le-ltb _ _ (b .before .before .before .if1 .left), le-ltb _ _ (b .if2 .left), c .before .if3 .left) (c .concerns .ensures)
+
+pub moves-spec : {M : Type 1} → statement M
+moves-spec = tie.close (tie.spec returns returns-2 returns-3 free returns-4)

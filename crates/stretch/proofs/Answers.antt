@@ -1,0 +1,136 @@
+-- The numbers of the starts say which stretches break the row, so the first that is as long as its start needs is the first that breaks it;
+-- and the answer is put together in the order of the questions.
+use Prim.Native.Nat.{ℕ, _+_, _≤_, _<_, min}
+use native.Mathlib.Omega.{arith}
+use mathlib.Core.Path.{_≡_, refl, sym, ap, subst, _∙_}
+use mathlib.Core.Bool.{Bool, true, false}
+use mathlib.Core.List.{List, [], _∷_, _++_}
+use mathlib.Core.Logic.{inl}
+use mathlib.Core.Option.{some}
+use lib.ListN.{length, take, drop, getD, getElem?, length-drop}
+use lib.Dec.{leb}
+use borrow.Author.Tests.{le-leb, lt-leb, leb-true, leb-false}
+use Rattle.constraint.specs.Steps.{Step, at}
+use Rattle.constraint.specs.Questions.{Judged, Decides}
+use Rattle.constraint.specs.Accepted.{rowsQuestions, Accepted}
+use Rattle.constraint.specs.Rows.{tableOf}
+use Rattle.constraint.specs.Recording.{ReadsInOrder, recording-of}
+use Rattle.constraint.specs.declared.Answer.{Answer}
+use Rattle.constraint.specs.declared.Answer.the-variants.{Taken, Refused}
+use Rattle.constraint.specs.declared.Constraint.{Constraint}
+use Rattle.constraint.specs.declared.Entry.{Entry}
+use Rattle.constraint.specs.declared.Table.{Table}
+use Rattle.constraint.proofs.Judged.{never, judged-none, judged-yes, judged-no}
+use Rattle.constraint.proofs.Records.{record-count, row-there}
+use Rattle.row.proofs.Exact.{Sound}
+use Rattle.monitor.proofs.Demand.{accepted-sound}
+use Rattle.monitor.proofs.FittingRows.{sound-at}
+use Rattle.constraint.specs.Stretches.{Stretch, stretchOf, stretches, Some, FirstAt, Breaks, Breaking, stretchQuestions, AnswersRow, no-stretch, found}
+use Rattle.stretch.specs.Machine.{Kept, Run, Needs, NeedsFrom, Enough, Searches, Tries, TriesAll, Asks}
+use Rattle.stretch.specs.declared.Found.{Found}
+use Rattle.constraint.specs.declared.StretchAnswer.{StretchAnswer}
+use Rattle.stretch.proofs.Taking.{recording-taken}
+use Rattle.stretch.proofs.Places.{Inside, some-as, first-as, stretches-inside, some-right}
+
+-- ---- one row
+
+-- a test and what it decides
+decided : {asked : Type 0} (need m : ℕ) → Decides asked (leb need m) → need ≤ m → asked
+decided {asked = asked} need m d h = subst (Decides asked) (le-leb need m h) d
+
+undecided : {asked : Type 0} (need m : ℕ) → Decides asked (leb need m) → m < need → ¬ asked
+undecided {asked = asked} need m d h = subst (Decides asked) (lt-leb need m h) d
+
+module _ (c : Constraint) (streams times : List ℕ) (count : ℕ) (need : List ℕ)
+    (each : (start : ℕ) → start < count → NeedsFrom c streams times count start (at need start))
+    (steps : List Step) (run : Run steps streams times count) (accepted : Accepted (c ∷ [])) where
+  decides : (s : Stretch) → Inside (length steps) s → Decides (Breaking c steps s) (leb (at need (s .first)) (s .size))
+  decides s inside =
+      let start : s .first < count = omega (arith, inside .0, inside .1, run .counted) in
+      each (s .first) start steps run accepted start (s .size) (inside .0) (omega (arith, inside .1, length-drop (s .first) steps))
+
+  breaking : (s : Stretch) → Inside (length steps) s → Enough need s → Breaking c steps s
+  breaking s inside h = decided (at need (s .first)) (s .size) (decides s inside) h
+
+  enough : (s : Stretch) → Inside (length steps) s → Breaking c steps s → Enough need s
+  enough s inside breaks = go (leb (at need (s .first)) (s .size)) refl
+    where
+      go : (b : Bool) → leb (at need (s .first)) (s .size) ≡ b → Enough need s
+      go true e = leb-true (at need (s .first)) (s .size) e
+      go false e = absurd (undecided (at need (s .first)) (s .size) (decides s inside) (leb-false (at need (s .first)) (s .size) e) breaks)
+
+  module _ (r : Found) (searches : Searches need count r) where
+    as-steps : stretches count ≡ stretches (length steps)
+    as-steps = ap stretches (sym (run .counted))
+
+    pub tries-first : 0 < r .tried → FirstAt (Breaking c steps) (stretches (length steps)) (stretchOf (r .first) (r .size)) (r .tried)
+    tries-first h =
+        first-as (Enough need) (Breaking c steps) (Inside (length steps)) breaking enough (stretches (length steps)) (stretches-inside (length steps)) _ _
+        (subst (λ (l : List Stretch). FirstAt (Enough need) l (stretchOf (r .first) (r .size)) (r .tried)) as-steps (searches .first-is h))
+
+    pub tries-none : r .tried ≡ 0 → ¬ Some (Breaking c steps) (stretches (length steps))
+    tries-none e one =
+        searches .none e
+        (subst (Some (Enough need)) (sym as-steps) (some-as (Breaking c steps) (Enough need) (Inside (length steps)) enough (stretches (length steps)) (stretches-inside (length steps)) one))
+
+-- ---- a row of a table
+
+row-accepted : (c : Constraint) → Sound c → Accepted (c ∷ [])
+unfolding rowsQuestions
+row-accepted c sound =
+    judged-yes 3 _ _ Taken (omega arith)
+    (judged-yes 5 _ _ Taken (sound .kinds-fit)
+    (judged-yes 18 _ _ Taken (sound .kinds-suit) (judged-yes 6 _ _ Taken (sound .in-range) (judged-yes 7 _ _ Taken (sound .lower-first) judged-none))))
+
+-- the first that breaks is one that breaks
+some-first : (P : Stretch → Type 0) (list : List Stretch) (s : Stretch) (place : ℕ) → FirstAt P list s place → Some P list
+some-first P list s place f = subst (Some P) (sym (f .in-order)) (some-right P (f .before) (s ∷ f .later) (inl (f .has)))
+
+module _ (table : Table) (i : ℕ) (streams times : List ℕ) (count : ℕ) (few : count ≤ 256) where
+  pub asks-none : ((rows : List Constraint) → table ≡ tableOf rows → Accepted rows → length rows ≤ i) → Asks table i streams times count (StretchAnswer.Refused 15 0)
+  asks-none past rows steps e accepted run =
+      no-stretch 15 (judged-yes 22 _ _ (Refused 15) (omega (arith, run .counted, few)) (judged-no 15 _ _ (λ h. omega (arith, h, past rows e accepted))))
+
+  module _ (d : Entry) (there : i < table .count) where
+    abbrev c : Constraint
+    c = getD (table .rows) i d .constraint
+
+    module _ (rows : List Constraint) (steps : List Step) (e : table ≡ tableOf rows) (accepted : Accepted rows) (run : Run steps streams times count) where
+      within : i < length rows
+      within = omega (arith, record-count table rows e, there)
+
+      is : getElem? rows i ≡ some c
+      is = row-there table rows i d e within
+
+      alone : Accepted (c ∷ [])
+      alone = row-accepted c (sound-at rows (accepted-sound 0 rows accepted .0) i c is)
+
+      -- 22 and 15 are answered "yes"
+      asked-first : (a : Answer) → Judged ((23, (d : Constraint) × (getElem? rows i ≡ some d) × Some (Breaking d steps) (stretches (length steps))) ∷ []) a → Judged (stretchQuestions rows steps i) a
+      asked-first a later = judged-yes 22 _ _ a (omega (arith, run .counted, few)) (judged-yes 15 _ _ a within later)
+
+      by-answer : (answer : StretchAnswer) → Tries c steps answer → AnswersRow rows steps i answer
+      by-answer (StretchAnswer.Found first size tried) first-at =
+          found c first size tried
+          (asked-first Taken (judged-yes 23 _ _ Taken (c, is, some-first (Breaking c steps) (stretches (length steps)) (stretchOf first size) tried first-at) judged-none)) is first-at
+      by-answer (StretchAnswer.Refused n place) (n-is, place-is, none) =
+          subst (λ (k : ℕ). AnswersRow rows steps i (StretchAnswer.Refused k place)) (sym n-is)
+          (subst (λ (p : ℕ). AnswersRow rows steps i (StretchAnswer.Refused 23 p)) (sym place-is)
+          (no-stretch 23 (asked-first (Refused 23) (judged-no 23 _ _ (λ one. none (of-row (one .0) (one .1) (one .2)))))))
+        where
+          of-row : (d : Constraint) → getElem? rows i ≡ some d → Some (Breaking d steps) (stretches (length steps)) → Some (Breaking c steps) (stretches (length steps))
+          of-row d at-i one = let known = is in let same : d ≡ c = cc in subst (λ (x : Constraint). Some (Breaking x steps) (stretches (length steps))) same one
+
+    pub asks-row : (answer : StretchAnswer) → TriesAll c streams times count answer → Asks table i streams times count answer
+    asks-row answer tries rows steps e accepted run = by-answer rows steps e accepted run answer (tries steps run (alone rows steps e accepted run))
+
+-- ---- a recording
+
+pub run-of : (bytes streams times : List ℕ) (steps : List Step) (count : ℕ) → ReadsInOrder bytes (recording-of steps) → count ≡ min (length steps) 257 → Kept steps streams times
+    → count ≤ 256 → Run steps streams times count
+run-of bytes streams times steps count reads counted kept few =
+    record { counted = omega (arith, counted, few); kept = kept; taken = recording-taken bytes steps reads }
+
+-- more than 256 records
+pub too-many : (rows : List Constraint) (steps : List Step) (i count : ℕ) → count ≡ min (length steps) 257 → 256 < count → AnswersRow rows steps i (StretchAnswer.Refused 22 0)
+too-many rows steps i count counted many = no-stretch 22 (judged-no 22 _ _ (λ h. omega (arith, h, counted, many)))

@@ -1,0 +1,67 @@
+-- Each answer is that of the first "no": the table's, the recording's, 22, and then the row's.
+use native.Mathlib.Omega.{arith}
+use borrow.Author.Needs.{needs}
+use mathlib.Core.Path.{_≡_, refl}
+use denote.Ref.{now}
+use Rattle.constraint.specs.Rows.{rowsOf, tableOf}
+use Rattle.constraint.specs.Table.{ReadsTable, table-of, table-refused}
+use Rattle.queue.proofs.Shared.{free}
+use Rattle.table.proofs.AcceptedRows.{read-accepted}
+use Rattle.constraint.specs.Stretches.{no-table, no-recording, answers}
+use Rattle.stretch.proofs.Answers.{run-of, too-many}
+use Rattle.stretch.proofs.shortest.Statement.{statement}
+use Rattle.stretch.proofs.shortest.Tie as tie
+
+-- the refusal that was read
+refusal : (c : tie.After-answer) → ReadsTable (now (c .before .before .before .before .before .args .table)) (table-refused (c .answer .given .0 .0) (c .answer .given .0 .1 .0))
+refusal c = rw (c .answer .given .1) at (c .before .before .read .ensures .reads)
+
+-- the rows that were read
+rows-read : (c : tie.After-enum-told) → ReadsTable (now (c .before .before .before .before .before .args .table)) (table-of (rowsOf (c .before .before .read .result .table)))
+rows-read c = rw (c .enum-told .given .1) at (c .before .before .read .ensures .reads)
+
+rows-held : (c : tie.After-enum-told) → c .before .before .read .result .table ≡ tableOf (rowsOf (c .before .before .read .result .table))
+rows-held c = rw (c .enum-told .given .1) at (c .before .before .read .ensures .holds)
+
+enum-known-answer : tie.Need-enum-known-answer
+enum-known-answer c = search needs
+
+returns : tie.Need-returns
+returns c = no-table _ _ (refusal (c .before))
+
+enum-told : tie.Need-enum-told
+enum-told c = search needs
+
+gather-requires : tie.Need-gather-requires
+gather-requires c κs = (refl, refl)
+
+returns-2 : tie.Need-returns-2
+returns-2 c =
+    let at-gather = c .before .before in
+    let told = at-gather .before .before .before in
+    no-recording _ _ _ (rows-read told) (at-gather .gather .ensures .refused (c .if1 .taken))
+
+returns-3 : tie.Need-returns-3
+returns-3 c =
+    let at-gather = c .before .before .before in
+    let told = at-gather .before .before .before in
+    let taken = at-gather .gather .ensures .taken (omega (arith, c .before .if1 .left)) in
+    answers _ (taken .0) (rows-read told) (taken .1) (too-many _ (taken .0) _ _ (taken .2) (c .if2 .taken))
+
+ask-row-requires : tie.Need-ask-row-requires
+ask-row-requires c κs = search needs
+
+returns-4 : tie.Need-returns-4
+returns-4 c =
+    let passed = c .before .before .before .before in
+    let at-gather = passed .before .before .before in
+    let told = at-gather .before .before .before in
+    let begun = told .before .before .before .before .before in
+    let taken = at-gather .gather .ensures .taken (omega (arith, passed .before .if1 .left)) in
+    let rows = rowsOf (told .before .before .read .result .table) in
+    answers rows (taken .0) (rows-read told) (taken .1)
+    (c .ask-row .ensures rows (taken .0) (rows-held told) (read-accepted (now (begun .args .table)) rows (rows-read told))
+    (run-of (now (begun .args .recording)) _ _ (taken .0) _ (taken .1) (taken .2) (taken .3) (passed .if2 .left)))
+
+pub shortest-spec : {M : Type 1} → statement M
+shortest-spec = tie.close (tie.spec free enum-known-answer returns enum-told gather-requires returns-2 returns-3 ask-row-requires returns-4)

@@ -1,0 +1,45 @@
+-- The first stretch that is as long as its start needs is the first that breaks the row.
+use native.Mathlib.Omega.{arith}
+use mathlib.Core.Path.{refl}
+use denote.Ref.{now}
+use borrow.Author.Needs.{needs}
+use Rattle.stretch.proofs.Answers.{tries-first, tries-none}
+use Rattle.stretch.proofs.try_row.Statement.{statement}
+use Rattle.stretch.proofs.try_row.Tie as tie
+
+needs-requires : tie.Need-needs-requires
+needs-requires c κs = search needs
+
+search-requires : tie.Need-search-requires
+search-requires c κs = search needs
+
+returns : tie.Need-returns
+returns c steps run accepted =
+    let at-search = c .before .before in
+    let at-needs = at-search .before .before in
+    let args = at-needs .before .args in (
+      refl,
+      refl,
+      tries-none (args .constraint) (args .streams .now) (args .times .now) (args .count) (at-needs .needs .result) (at-needs .needs .ensures) steps run accepted
+          (at-search .search .result) (at-search .search .ensures) (c .if1 .taken),
+    )
+
+cast-t10 : tie.Need-cast-t10
+cast-t10 c = search needs
+
+cast-t11 : tie.Need-cast-t11
+cast-t11 c = search needs
+
+cast-t12 : tie.Need-cast-t12
+cast-t12 c = search needs
+
+returns-2 : tie.Need-returns-2
+returns-2 c steps run accepted =
+    let at-search = c .before .before .before .before .before in
+    let at-needs = at-search .before .before in
+    let args = at-needs .before .args in
+    tries-first (args .constraint) (args .streams .now) (args .times .now) (args .count) (at-needs .needs .result) (at-needs .needs .ensures) steps run accepted
+    (at-search .search .result) (at-search .search .ensures) (omega (arith, c .before .before .before .if1 .left))
+
+pub try-row-spec : {M : Type 1} → statement M
+try-row-spec = tie.close (tie.spec needs-requires search-requires returns cast-t10 cast-t11 cast-t12 returns-2)

@@ -1,0 +1,2 @@
+-- What the search for the shortest stretch computes and promises.
+pub mod Machine

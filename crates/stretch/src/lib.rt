@@ -1,0 +1,274 @@
+// The shortest stretch of consecutive records that breaks a row. Each start is run once, over one row and no monitor, for the least number of
+// records that break the row from there; then the stretches are tried by length and by start.
+use constraint::Constraint;
+use constraint::STREAM_COUNT;
+use constraint::StretchAnswer;
+use constraint::Table;
+use machine::parts::kind_of;
+use monitor::calls;
+use order::Order;
+use row::Occurrence;
+use row::Row;
+use table::ReadAnswer;
+ghost use mathlib.Core.Path.{_≡_};
+ghost use Prim.Native.Nat.{ℕ, _≤_, _<_};
+ghost use lib.ListN.{length, getD};
+ghost use Rattle.constraint.specs.Stretches.{AnswersStretch};
+ghost use Rattle.stretch.specs.Machine.{seenAs, Keeps, Gathers, NeedsFrom, Searches, TriesAll, Asks};
+
+// How many records a recording may have.
+pub const RECORD_LIMIT: usize = 256;
+
+// More records than there are.
+const NEVER: usize = RECORD_LIMIT + 1;
+
+// No event: a kind that no row has, and no stream.
+const NO_EVENT: u64 = 65;
+
+const NO_STREAM: u64 = STREAM_COUNT as u64;
+
+// How many records there are, more than 256 counting as 257; or (number above 0) a refusal with its place.
+pub struct Gathered {
+    pub number: u8,
+    pub place: usize,
+    pub count: usize,
+}
+
+// A stretch, and how many were tried with it; 0 tried: none.
+pub struct Found {
+    pub first: usize,
+    pub size: usize,
+    pub tried: usize,
+}
+
+// What a row sees of a record.
+fn seen(stream: u64, time: u64) -> Occurrence
+    ensures { λ r. ⌜ r ≡ seenAs stream time ⌝ }
+{
+    if stream == NO_STREAM {
+        return Occurrence {
+            kind: NO_EVENT,
+            stream: NO_STREAM,
+            time,
+            closes: false,
+        };
+    }
+    Occurrence {
+        kind: kind_of(stream),
+        stream,
+        time,
+        closes: false,
+    }
+}
+
+// Keeps a record's stream and time behind those of so many, if there is room, and answers how many there are then.
+fn keep(streams: &mut [u64; 256], times: &mut [u64; 256], count: usize, o: Occurrence) -> usize
+    ensures { λ r. ⌜ Keeps (now (streams .entry)) (now (times .entry)) count o (now (streams .exit)) (now (times .exit)) r ⌝ }
+{
+    if RECORD_LIMIT <= count {
+        return NEVER;
+    }
+    streams[count] = o.stream;
+    times[count] = o.time;
+    count + 1
+}
+
+// The records of a recording: questions 13 and 14 and those of the steps.
+fn gather(bytes: &[u8], streams: &mut [u64; 256], times: &mut [u64; 256]) -> Gathered
+    requires { ⌜ (length (now streams) ≡ 256) × (length (now times) ≡ 256) ⌝ }
+    ensures { λ r. ⌜ Gathers (now (bytes .entry)) (now (streams .exit)) (now (times .exit)) r ⌝ }
+{
+    if !recording::version_known(bytes) {
+        return Gathered {
+            number: 13,
+            place: 0,
+            count: 0,
+        };
+    }
+    let mut order = Order::start();
+    let mut count: usize = 0;
+    let mut place: usize = 1;
+    while place < bytes.len() {
+        let read = order::read(bytes, place, order);
+        if 0 < read.number {
+            return Gathered {
+                number: read.number,
+                place,
+                count: 0,
+            };
+        }
+        let call = read.call;
+        let o = calls::occurrence(call, 0);
+        count = keep(streams, times, count, o);
+        let later = read.order;
+        order = later;
+        place = read.next;
+    }
+    Gathered {
+        number: 0,
+        place: 0,
+        count,
+    }
+}
+
+// The least number of records from a start on that break the row; 257 where none do, as the end or a 12 comes first.
+fn need_from(
+    constraint: Constraint,
+    streams: &[u64; 256],
+    times: &[u64; 256],
+    count: usize,
+    start: usize,
+) -> usize
+    requires { ⌜ count ≤ 256 ⌝ }
+    ensures { λ r. ⌜ NeedsFrom constraint (now (streams .entry)) (now (times .entry)) count start r ⌝ }
+{
+    let fresh = Row::begin(constraint);
+    let rule = fresh.rule;
+    let mut waiting = fresh.times;
+    let mut state = fresh.now;
+    let mut size: usize = 0;
+    let mut at = start;
+    while at < count {
+        let o = seen(streams[at], times[at]);
+        if row::crowded(rule, state, &waiting, o) {
+            return NEVER;
+        }
+        at = at + 1;
+        size = size + 1;
+        state = row::step(rule, state, &mut waiting, o, size as u64);
+        if 0 < state.broken {
+            return size;
+        }
+    }
+    NEVER
+}
+
+// The same for each start.
+fn needs(
+    constraint: Constraint,
+    streams: &[u64; 256],
+    times: &[u64; 256],
+    count: usize,
+) -> [usize; 256]
+    requires { ⌜ count ≤ 256 ⌝ }
+    ensures { λ r. ⌜ ((start : ℕ) → start < count → NeedsFrom constraint (now (streams .entry)) (now (times .entry)) count start (getD r start 0)) ⌝ }
+{
+    let mut need = [0usize; 256];
+    let mut start: usize = 0;
+    while start < count {
+        need[start] = need_from(constraint, streams, times, count, start);
+        start = start + 1;
+    }
+    need
+}
+
+// The first stretch of so many records, by length and then by start, that is as long as its start needs; each one tried is counted.
+fn search(need: &[usize; 256], count: usize) -> Found
+    requires { ⌜ count ≤ 256 ⌝ }
+    ensures { λ r. ⌜ Searches (now (need .entry)) count r ⌝ }
+{
+    let mut first: usize = 0;
+    let mut size: usize = 1;
+    let mut tried: usize = 0;
+    while size <= count {
+        tried = tried + 1;
+        if need[first] <= size {
+            return Found { first, size, tried };
+        }
+        if first + size < count {
+            first = first + 1;
+        } else {
+            first = 0;
+            size = size + 1;
+        }
+    }
+    Found {
+        first: 0,
+        size: 0,
+        tried: 0,
+    }
+}
+
+// The answer of a row: the first stretch that breaks it, or 23.
+fn try_row(
+    constraint: Constraint,
+    streams: &[u64; 256],
+    times: &[u64; 256],
+    count: usize,
+) -> StretchAnswer
+    requires { ⌜ count ≤ 256 ⌝ }
+    ensures { λ r. ⌜ TriesAll constraint (now (streams .entry)) (now (times .entry)) count r ⌝ }
+{
+    let need = needs(constraint, streams, times, count);
+    let found = search(&need, count);
+    if found.tried == 0 {
+        return StretchAnswer::Refused {
+            number: 23,
+            place: 0,
+        };
+    }
+    StretchAnswer::Found {
+        first: found.first as u8,
+        size: found.size as u16,
+        tried: found.tried as u32,
+    }
+}
+
+// The answer of a row of a table: question 15 first.
+fn ask_row(
+    table: Table,
+    row: u64,
+    streams: &[u64; 256],
+    times: &[u64; 256],
+    count: usize,
+) -> StretchAnswer
+    requires { ⌜ count ≤ 256 ⌝ }
+    ensures { λ r. ⌜ Asks table row (now (streams .entry)) (now (times .entry)) count r ⌝ }
+{
+    if 32 <= row {
+        return StretchAnswer::Refused {
+            number: 15,
+            place: 0,
+        };
+    }
+    if table.count as u64 <= row {
+        return StretchAnswer::Refused {
+            number: 15,
+            place: 0,
+        };
+    }
+    let i = row as usize;
+    let entry = table.rows[i];
+    let constraint = entry.constraint;
+    try_row(constraint, streams, times, count)
+}
+
+// The shortest stretch of a recording that breaks a row of a table, and how many were tried by length and by start; or the refusal. For n
+// records it takes at most n(n + 1)/2 steps of the row.
+pub fn shortest(table: &[u8], recording: &[u8], row: u64) -> StretchAnswer
+    ensures { λ r. ⌜ AnswersStretch (now (table .entry)) (now (recording .entry)) row r ⌝ }
+{
+    let reading = table::read(table);
+    let answer = reading.answer;
+    if let ReadAnswer::Refused { number, place } = answer {
+        return StretchAnswer::Refused { number, place };
+    }
+    let mut streams = [0u64; 256];
+    let mut times = [0u64; 256];
+    let gathered = gather(recording, &mut streams, &mut times);
+    if 0 < gathered.number {
+        return StretchAnswer::Refused {
+            number: gathered.number,
+            place: gathered.place,
+        };
+    }
+    let count = gathered.count;
+    if RECORD_LIMIT < count {
+        return StretchAnswer::Refused {
+            number: 22,
+            place: 0,
+        };
+    }
+    let rows = reading.table;
+    ask_row(rows, row, &streams, &times, count)
+}

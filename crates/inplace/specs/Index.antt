@@ -23,7 +23,7 @@ use Rattle.inplace.specs.declared.index.Listed.{Listed}
 
 -- ---- the lists
 
--- there are 66, of 33 places each: one for the length, and one for each row that a monitor may have
+-- there are 66, of 33 places each: one for the length, and one for each row that a monitor may have; six places more make whole words
 abbrev pub listCount : ℕ
 listCount = 66
 
@@ -31,7 +31,7 @@ abbrev pub listPlaces : ℕ
 listPlaces = 33
 
 abbrev pub listSize : ℕ
-listSize = 2178
+listSize = 2184
 
 -- the list that every row is in
 abbrev pub everyRow : ℕ

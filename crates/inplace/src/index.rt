@@ -34,8 +34,8 @@ pub struct Indexed {
     pub monitor: Monitor,
     // no row is due before this time
     pub soonest: u64,
-    // list after list: its length, and the numbers of its rows
-    pub lists: [u8; 2178],
+    // list after list: its length, and the numbers of its rows; six bytes more make whole words
+    pub lists: [u8; 2184],
 }
 
 // Whether a row is in list k.
@@ -46,7 +46,7 @@ fn in_list(rule: Rule, k: u64) -> bool
 }
 
 // Row i, put behind the rows of list k, where it is in it.
-fn push(lists: &mut [u8; 2178], k: usize, i: u8, so: bool)
+fn push(lists: &mut [u8; 2184], k: usize, i: u8, so: bool)
     requires { ⌜ k < listCount ⌝ }
     ensures { λ _. ⌜ now (lists .exit) ≡ pushed (now (lists .entry)) k i so ⌝ }
 {
@@ -61,7 +61,7 @@ fn push(lists: &mut [u8; 2178], k: usize, i: u8, so: bool)
 }
 
 // Row i, put into each list that it is in.
-fn enlist(rule: Rule, i: u8, lists: &mut [u8; 2178])
+fn enlist(rule: Rule, i: u8, lists: &mut [u8; 2184])
     ensures { λ _. ⌜ now (lists .exit) ≡ enlisted rule i (now (lists .entry)) listCount ⌝ }
 {
     let mut k = 0;
@@ -73,11 +73,11 @@ fn enlist(rule: Rule, i: u8, lists: &mut [u8; 2178])
 }
 
 // The lists of a monitor's rows.
-fn lists_of(monitor: Monitor) -> [u8; 2178]
+fn lists_of(monitor: Monitor) -> [u8; 2184]
     ensures { λ r. ⌜ r ≡ listsOf monitor (heldRows monitor) ⌝ }
 {
     let len = asked_rows(0, monitor.len);
-    let mut lists = [0u8; 2178];
+    let mut lists = [0u8; 2184];
     let mut i = 0;
     while i < len {
         let row = monitor.rows[i];

@@ -33,20 +33,22 @@ help:
 	@echo "make bench       the speed beside plain Rust"
 	@echo "With DELKUTHI_LIB set, libdelkuthi.a is taken from the folder that it names, and rt is not needed."
 
-# The archive: proved and built, or taken from where DELKUTHI_LIB says.
+# The archive: proved and built, or taken from where DELKUTHI_LIB says. It is put together of parts that are compiled by
+# themselves: the search for a stretch uses what a step uses, and would make the steps slower if both were compiled as one.
 ifdef DELKUTHI_LIB
-ARCHIVE := $(DELKUTHI_LIB)/libdelkuthi.a
+ARCHIVES := $(DELKUTHI_LIB)/libdelkuthi.a
 else
-ARCHIVE := target/staticlib/libdelkuthi.a
-$(ARCHIVE): crates.txt $(shell find crates -type f)
+ARCHIVES := $(patsubst %,target/staticlib/lib%.a,delkuthi stretch_host)
+$(ARCHIVES): target/staticlib/lib%.a: crates.txt $(shell find crates -type f)
 	@command -v rt >/dev/null || { echo "rt, of the Rattle kit, is not there; DELKUTHI_LIB can name the folder of a libdelkuthi.a"; exit 1; }
-	rt staticlib delkuthi
+	rt staticlib $*
 endif
 
 # These two are looked at in every make, as DELKUTHI_LIB and PREFIX may be others than last time.
-$(BUILD)/libdelkuthi.a: $(ARCHIVE) always
+$(BUILD)/libdelkuthi.a: $(ARCHIVES) always
 	@mkdir -p $(BUILD)
-	@cmp -s $(ARCHIVE) $@ || cp $(ARCHIVE) $@
+	@{ echo "create $@.new"; for part in $(ARCHIVES); do echo "addlib $$part"; done; echo save; echo end; } | ar -M
+	@if cmp -s $@.new $@; then rm $@.new; else mv $@.new $@; fi
 
 $(BUILD)/delkuthi.pc: release/delkuthi.pc.in always
 	@mkdir -p $(BUILD)

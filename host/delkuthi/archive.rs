@@ -2,8 +2,9 @@
 
 use std::env;
 use std::fs;
+use std::io::Write;
 use std::path::{Path, PathBuf};
-use std::process::{Command, exit};
+use std::process::{Command, Stdio, exit};
 
 /// Has cargo link the archive of a proved library, and gives the folder that it is in.
 ///
@@ -13,17 +14,41 @@ use std::process::{Command, exit};
 pub fn link(name: &str) -> PathBuf {
     let file = format!("lib{name}.a");
     println!("cargo::rerun-if-env-changed=DELKUTHI_LIB");
-    let archive = match env::var_os("DELKUTHI_LIB") {
-        Some(folder) => changing(&Path::new(&folder).join(&file)),
-        None => built(name).join(&file),
-    };
     let folder = PathBuf::from(env::var_os("OUT_DIR").expect("cargo sets OUT_DIR"));
-    if let Err(error) = fs::copy(&archive, folder.join(&file)) {
-        give_up(&format!("there is no {} ({error}): DELKUTHI_LIB has to name the folder of {file}", archive.display()));
+    match env::var_os("DELKUTHI_LIB") {
+        Some(given) => copy(&changing(&Path::new(&given).join(&file)), &folder.join(&file)),
+        None => put_together(&parts(name), &folder.join(&file)),
     }
     println!("cargo::rustc-link-search=native={}", folder.display());
     println!("cargo::rustc-link-lib=static={name}");
     folder
+}
+
+/// The proved libraries that an archive is put together of: those of the `Makefile`.
+fn parts(name: &str) -> Vec<&str> {
+    if name == "delkuthi" { vec!["delkuthi", "stretch_host"] } else { vec![name] }
+}
+
+/// Copies an archive that is there.
+fn copy(archive: &Path, to: &Path) {
+    if let Err(error) = fs::copy(archive, to) {
+        let (archive, file) = (archive.display(), to.file_name().unwrap_or_default().display());
+        give_up(&format!("there is no {archive} ({error}): DELKUTHI_LIB has to name the folder of {file}"));
+    }
+}
+
+/// Builds the parts of an archive and puts them together.
+fn put_together(parts: &[&str], archive: &Path) {
+    let added = parts.iter().map(|part| format!("addlib {}/lib{part}.a\n", built(part).display())).collect::<String>();
+    let script = format!("create {}\n{added}save\nend\n", archive.display());
+    let ar = Command::new("ar").arg("-M").stdin(Stdio::piped()).spawn();
+    let written = ar.and_then(|mut ar| {
+        ar.stdin.take().expect("ar reads").write_all(script.as_bytes())?;
+        ar.wait()
+    });
+    if !written.is_ok_and(|status| status.success()) {
+        give_up("ar, of binutils, did not put the archive together");
+    }
 }
 
 /// Proves and builds the library, unless nothing has changed since it was proved; gives the folder of the archive.

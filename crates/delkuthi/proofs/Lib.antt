@@ -12,4 +12,3 @@ pub mod RecordNumbers
 pub mod StampNumbers
 pub mod JoinNumbers
 pub mod StampWords
-pub mod StretchNumbers

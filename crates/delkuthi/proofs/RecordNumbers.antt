@@ -28,12 +28,32 @@ number-short (q ∷ later) n all (inr h) = let same : n ≡ q .0 = cc (h .1) in 
 
 call-short : (steps : List Step) (s : Call) → AllShort (questions [] steps s)
 unfolding questions AllShort
-call-short steps (Call.Event k t) =
-    ((omega arith, omega arith), ((omega arith, omega arith), ((omega arith, omega arith), ((omega arith, omega arith),
-    ((omega arith, omega arith), ((omega arith, omega arith), ((omega arith, omega arith), tt)))))))
-call-short steps (Call.ColouredEvent k c t) =
-    ((omega arith, omega arith), ((omega arith, omega arith), ((omega arith, omega arith), ((omega arith, omega arith),
-    ((omega arith, omega arith), ((omega arith, omega arith), ((omega arith, omega arith), tt)))))))
+call-short steps (Call.Event k t) = (
+  (omega arith, omega arith),
+  (
+    (omega arith, omega arith),
+    (
+      (omega arith, omega arith),
+      (
+        (omega arith, omega arith),
+        ((omega arith, omega arith), ((omega arith, omega arith), ((omega arith, omega arith), tt))),
+      ),
+    ),
+  ),
+)
+call-short steps (Call.ColouredEvent k c t) = (
+  (omega arith, omega arith),
+  (
+    (omega arith, omega arith),
+    (
+      (omega arith, omega arith),
+      (
+        (omega arith, omega arith),
+        ((omega arith, omega arith), ((omega arith, omega arith), ((omega arith, omega arith), tt))),
+      ),
+    ),
+  ),
+)
 call-short steps (Call.Tick t) = ((omega arith, omega arith), ((omega arith, omega arith), ((omega arith, omega arith), ((omega arith, omega arith), ((omega arith, omega arith), tt)))))
 call-short steps Call.Close = ((omega arith, omega arith), ((omega arith, omega arith), tt))
 

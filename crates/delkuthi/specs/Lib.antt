@@ -6,4 +6,3 @@ pub mod Tables
 pub mod Printed
 pub mod Stamps
 pub mod Joining
-pub mod Stretches

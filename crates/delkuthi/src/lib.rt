@@ -5,7 +5,6 @@ pub mod printed;
 mod records;
 mod report;
 pub mod stamped;
-pub mod stretched;
 pub mod tables;
 
 use text::Text;

@@ -1,5 +1,5 @@
 -- The bytes of a record read as its step, wherever they stand; so the bytes of steps each of which could be taken read as these steps.
-use Prim.Native.Nat.{ℕ, _+_, _-_, _/_, _%_, _≤_, _<_}
+use Prim.Native.Nat.{ℕ, suc, _+_, _-_, _/_, _%_, _≤_, _<_}
 use native.Mathlib.Omega.{arith}
 use mathlib.Core.Path.{_≡_, refl, sym, ap, subst, _∙_}
 use mathlib.Core.Bool.{Bool, true, false, cond}
@@ -97,9 +97,10 @@ taken-plain : (steps : List Step) (s t : ℕ) → Accepts steps (event s t) → 
 unfolding questions
 taken-plain steps s t a plain =
     judged-yes 8 _ _ Taken (a .not-closed)
+    (judged-yes 24 _ _ Taken (a .counted)
     (judged-yes 9 _ _ Taken (omega arith)
     (judged-yes 19 _ _ Taken plain
-    (judged-yes 10 _ _ Taken (a .time-small) (judged-yes 11 _ _ Taken (a .in-order) (judged-yes 12 _ _ Taken (room-none _) judged-none)))))
+    (judged-yes 10 _ _ Taken (a .time-small) (judged-yes 11 _ _ Taken (a .in-order) (judged-yes 12 _ _ Taken (room-none _) judged-none))))))
 
 pub same-stream : (s : ℕ) → firstColoured ≤ s → stream (kindOf s) ((s - firstColoured) % 8) ≡ s
 same-stream s h = rw (coloured-kind s h) (omega arith)
@@ -109,16 +110,18 @@ taken-coloured : (steps : List Step) (s t : ℕ) → Accepts steps (event s t) �
 unfolding questions
 taken-coloured steps s t a h =
     judged-yes 8 _ _ Taken (a .not-closed)
+    (judged-yes 24 _ _ Taken (a .counted)
     (judged-yes 9 _ _ Taken (kind-small s (a .stream-small))
     (judged-yes 19 _ _ Taken (rw (coloured-kind s h) (omega arith), omega arith)
     (judged-yes 10 _ _ Taken (a .time-small)
-    (judged-yes 11 _ _ Taken (rw (same-stream s h) (a .in-order)) (judged-yes 12 _ _ Taken (room-none _) judged-none)))))
+    (judged-yes 11 _ _ Taken (rw (same-stream s h) (a .in-order)) (judged-yes 12 _ _ Taken (room-none _) judged-none))))))
 
 taken-tick : (steps : List Step) (t : ℕ) → Accepts steps (tick t) → Judged (questions [] steps (Call.Tick t)) Taken
 unfolding questions
 taken-tick steps t a =
     judged-yes 8 _ _ Taken (a .not-closed)
-    (judged-yes 10 _ _ Taken (a .time-small) (judged-yes 11 _ _ Taken (a .later) (judged-yes 12 _ _ Taken (room-none _) judged-none)))
+    (judged-yes 24 _ _ Taken (a .counted)
+    (judged-yes 10 _ _ Taken (a .time-small) (judged-yes 11 _ _ Taken (a .later) (judged-yes 12 _ _ Taken (room-none _) judged-none))))
 
 -- the call that a step was, is taken where the step is accepted, and is that step
 taken-for : (version : ℕ) (steps : List Step) (s : Step) → Fits version s → Accepts steps s → Judged (questions [] steps (callFor s)) Taken × (stepFor (callFor s) ≡ s)
@@ -138,6 +141,18 @@ pub bytes-append : (a b : List Step) → stepsBytes (a ++ b) ≡ stepsBytes a ++
 unfolding stepsBytes
 bytes-append [] b = refl
 bytes-append (s ∷ a) b = ap (λ (x : List ℕ). stepBytes s ++ x) (bytes-append a b) ∙ sym (append-assoc (stepBytes s) (stepsBytes a) (stepsBytes b))
+
+-- each record has bytes
+pub steps-few : (version now : ℕ) (steps : List Step) → Line version now steps → length steps ≤ length (stepsBytes steps)
+unfolding stepsBytes stepBytes
+steps-few version now [] l = omega arith
+steps-few version now (event s t ∷ steps) l =
+    split (ltb s firstColoured)
+    (λ x. suc (length steps) ≤ length (cond x (eventBytes s t) (colouredBytes (kindOf s) ((s - firstColoured) % 8) t) ++ stepsBytes steps))
+    (λ plain. omega (arith, length-append (eventBytes s t) (stepsBytes steps), steps-few version t steps (l .2)))
+    (λ coloured. omega (arith, length-append (colouredBytes (kindOf s) ((s - firstColoured) % 8) t) (stepsBytes steps), steps-few version t steps (l .2)))
+steps-few version now (tick t ∷ steps) l = omega (arith, length-append (tickBytes t) (stepsBytes steps), steps-few version t steps (l .2))
+steps-few version now (close ∷ steps) l = absurd (l .1)
 
 line-each : (version now : ℕ) (a : List Step) (s : Step) (b : List Step) → Line version now (a ++ s ∷ b) → Fits version s
 line-each version now [] s b l = l .1

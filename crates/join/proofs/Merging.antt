@@ -5,10 +5,11 @@ use native.Mathlib.Omega.{arith}
 use mathlib.Core.Path.{_≡_, refl, sym, ap, subst, _∙_}
 use mathlib.Core.Bool.{Bool, true, false, cond, _||_}
 use mathlib.Core.List.{List, [], _∷_, _++_, append-nil}
+use lib.ListN.{length, length-append}
 use lib.Seq.{append-snoc}
 use lib.Dec.{leb, eqb}
 use borrow.Author.Tests.{leb-true, leb-false, eq-eqb, eqb-true, eqb-false}
-use Rattle.constraint.specs.Limits.{firstColoured, streamCount, lastTime}
+use Rattle.constraint.specs.Limits.{firstColoured, streamCount, lastTime, lastCount}
 use Rattle.constraint.specs.Streams.{kindOf}
 use Rattle.constraint.specs.Steps.{Step, event, tick, close, among, times, clockFrom, clock, closed}
 use Rattle.constraint.proofs.Lists.{split, both, or-false, Each, Rising, rising-across}
@@ -115,29 +116,38 @@ module _ (version : ℕ) where
   own-first s t steps = rw (eq-eqb s s refl)
 
   valid-left : (steps done : List Step) (now : ℕ) → Valid done → clock done ≡ now → closed done ≡ false → Line version now steps
-      → ((s : ℕ) → Rising (times s (done ++ steps))) → Valid (done ++ left now steps)
+      → ((s : ℕ) → Rising (times s (done ++ steps))) → length (done ++ left now steps) ≤ lastCount → Valid (done ++ left now steps)
   unfolding left times
-  valid-left [] done now v is unclosed l r = subst Valid (sym (append-nil done)) v
-  valid-left (event s t ∷ steps) done now v is unclosed l r =
+  valid-left [] done now v is unclosed l r few = subst Valid (sym (append-nil done)) v
+  valid-left (event s t ∷ steps) done now v is unclosed l r few =
       let own : Rising (times s done ++ t ∷ times s steps) = subst Rising (times-append s done (event s t ∷ steps) ∙ ap (λ (x : List ℕ). times s done ++ x) (own-first s t steps)) (r s) in
       let accepts : AcceptsEvent done s t = record {
         not-closed = unclosed;
+        counted = omega (arith, few, length-append done (event s t ∷ left t steps));
         stream-small = l .1 .0;
         time-small = l .1 .1;
         in-order = (omega (arith, is, l .0), λ i h. rising-across (times s done) (t ∷ times s steps) own i h 0 (omega arith));
       } in
       subst Valid (append-snoc done (event s t) (left t steps))
       (valid-left steps (done ++ (event s t ∷ [])) t (valid-more (event s t) v accepts) (clock-event s t done) (closed-event s t done ∙ unclosed) (l .2)
-      (λ j. subst (λ (x : List Step). Rising (times j x)) (sym (append-snoc done (event s t) steps)) (r j)))
-  valid-left (tick t ∷ steps) done now v is unclosed l r =
-      split (leb t now) (λ x. Valid (done ++ cond x (left now steps) (tick t ∷ left t steps)))
-      (λ e. valid-left steps done now v is unclosed (line-earlier version t now steps (l .0) (l .2))
-      (λ j. subst Rising (times-append j done (tick t ∷ steps) ∙ sym (times-append j done steps)) (r j)))
-      (λ e. subst Valid (append-snoc done (tick t) (left t steps))
-      (valid-left steps (done ++ (tick t ∷ [])) t (valid-more (tick t) v (record { not-closed = unclosed; time-small = l .1; later = omega (arith, is, leb-false t now e) }))
+      (λ j. subst (λ (x : List Step). Rising (times j x)) (sym (append-snoc done (event s t) steps)) (r j))
+      (subst (λ (x : List Step). length x ≤ lastCount) (sym (append-snoc done (event s t) (left t steps))) few))
+  valid-left (tick t ∷ steps) done now v is unclosed l r few =
+      split (leb t now)
+      (λ x. length (done ++ cond x (left now steps) (tick t ∷ left t steps)) ≤ lastCount → Valid (done ++ cond x (left now steps) (tick t ∷ left t steps)))
+      (λ e short. valid-left steps done now v is unclosed (line-earlier version t now steps (l .0) (l .2))
+      (λ j. subst Rising (times-append j done (tick t ∷ steps) ∙ sym (times-append j done steps)) (r j)) short)
+      (λ e short. subst Valid (append-snoc done (tick t) (left t steps))
+      (valid-left steps (done ++ (tick t ∷ [])) t (valid-more (tick t) v (record {
+        not-closed = unclosed;
+        counted = omega (arith, short, length-append done (tick t ∷ left t steps));
+        time-small = l .1;
+        later = omega (arith, is, leb-false t now e);
+      }))
       (clock-tick t done) (closed-tick t done ∙ unclosed) (l .2)
-      (λ j. subst (λ (x : List Step). Rising (times j x)) (sym (append-snoc done (tick t) steps)) (r j))))
-  valid-left (close ∷ steps) done now v is unclosed l r = absurd (l .1)
+      (λ j. subst (λ (x : List Step). Rising (times j x)) (sym (append-snoc done (tick t) steps)) (r j))
+      (subst (λ (x : List Step). length x ≤ lastCount) (sym (append-snoc done (tick t) (left t steps))) short))) few
+  valid-left (close ∷ steps) done now v is unclosed l r few = absurd (l .1)
 
   -- what is left fits the version still
   pub line-left : (steps : List Step) (now : ℕ) → Line version now steps → Line version now (left now steps)
@@ -150,13 +160,13 @@ module _ (version : ℕ) where
       (λ e. (l .0, l .1, line-left steps t (l .2)))
   line-left (close ∷ steps) now l = absurd (l .1)
 
-  -- the joined list of two valid ones without a kind in common
+  -- the joined list of two valid ones without a kind in common, where it is no longer than a list of steps may be
   pub joined-valid : (first second : List Step) → Valid first → Valid second → Line version 0 first → Line version 0 second → NoneInCommon first second
-      → Valid (joined first second)
+      → length (joined first second) ≤ lastCount → Valid (joined first second)
   unfolding closed clockFrom
-  joined-valid first second v w l m apart =
+  joined-valid first second v w l m apart few =
       valid-left (merged first second) [] 0 valid-none refl refl (line-merged version 0 first second l m)
-      (λ s. rising-merged s first second apart (past-of v .rising s) (past-of w .rising s))
+      (λ s. rising-merged s first second apart (past-of v .rising s) (past-of w .rising s)) few
 
   pub joined-line : (first second : List Step) → Line version 0 first → Line version 0 second → Line version 0 (joined first second)
   joined-line first second l m = line-left (merged first second) 0 (line-merged version 0 first second l m)

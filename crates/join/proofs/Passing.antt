@@ -64,10 +64,10 @@ event-kind s k t e h = inl (ap (λ (x : ℕ). x ∷ []) e, omega arith, λ ks. a
 call-kind : (steps : List Step) (call : Call) → Judged (questions [] steps call) Taken → KindIs (stepFor call) (callKind call)
 unfolding questions
 call-kind steps (Call.Event k t) j =
-    let nine = judged-all 9 _ _ (judged-all 8 _ _ j .1) in
+    let nine = judged-all 9 _ _ (judged-all 24 _ _ (judged-all 8 _ _ j .1) .1) in
     event-kind k k t (plain-kind k (judged-all 19 _ _ (nine .1) .0)) (nine .0)
 call-kind steps (Call.ColouredEvent k c t) j =
-    let nine = judged-all 9 _ _ (judged-all 8 _ _ j .1) in
+    let nine = judged-all 9 _ _ (judged-all 24 _ _ (judged-all 8 _ _ j .1) .1) in
     let coloured = judged-all 19 _ _ (nine .1) .0 in
     event-kind (stream k c) k t (stream-kind k c (coloured .0) (coloured .1)) (nine .0)
 call-kind steps (Call.Tick t) j = inr (refl, refl, λ ks. refl)

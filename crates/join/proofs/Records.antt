@@ -32,13 +32,13 @@ module _ (version : ℕ) (steps : List Step) where
   unfolding questions
   fits-plain k t j =
       let a = accepts-taken [] steps (Call.Event k t) j in
-      (a .stream-small, a .time-small, λ one. judged-all 19 _ _ (judged-all 9 _ _ (judged-all 8 _ _ j .1) .1) .0)
+      (a .stream-small, a .time-small, λ one. judged-all 19 _ _ (judged-all 9 _ _ (judged-all 24 _ _ (judged-all 8 _ _ j .1) .1) .1) .0)
 
   fits-coloured : (k c t : ℕ) → Judged (questions [] steps (Call.ColouredEvent k (colourIn version c) t)) Taken → Fits version (event (stream k (colourIn version c)) t)
   unfolding questions
   fits-coloured k c t j =
       let a = accepts-taken [] steps (Call.ColouredEvent k (colourIn version c) t) j in
-      let few : colourIn version c ≤ lastColour = judged-all 19 _ _ (judged-all 9 _ _ (judged-all 8 _ _ j .1) .1) .0 .1 in
+      let few : colourIn version c ≤ lastColour = judged-all 19 _ _ (judged-all 9 _ _ (judged-all 24 _ _ (judged-all 8 _ _ j .1) .1) .1) .0 .1 in
       (a .stream-small, a .time-small, λ one. absurd (no-colour few one))
     where
       no-colour : colourIn version c ≤ lastColour → version ≡ 1 → ⊥
@@ -82,9 +82,9 @@ bytes-coloured k c t h few =
 
 bytes-call : (steps : List Step) (call : Call) → Judged (questions [] steps call) Taken → callBytes call ≡ stepBytes (stepFor call)
 unfolding questions stepBytes
-bytes-call steps (Call.Event k t) j = bytes-plain k t (judged-all 19 _ _ (judged-all 9 _ _ (judged-all 8 _ _ j .1) .1) .0)
+bytes-call steps (Call.Event k t) j = bytes-plain k t (judged-all 19 _ _ (judged-all 9 _ _ (judged-all 24 _ _ (judged-all 8 _ _ j .1) .1) .1) .0)
 bytes-call steps (Call.ColouredEvent k c t) j =
-    let asked = judged-all 19 _ _ (judged-all 9 _ _ (judged-all 8 _ _ j .1) .1) .0 in
+    let asked = judged-all 19 _ _ (judged-all 9 _ _ (judged-all 24 _ _ (judged-all 8 _ _ j .1) .1) .1) .0 in
     bytes-coloured k c t (asked .0) (asked .1)
 bytes-call steps (Call.Tick t) j = refl
 bytes-call steps Call.Close j = refl

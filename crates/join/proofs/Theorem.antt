@@ -1,27 +1,29 @@
 -- What the joined recording is: valid, of the higher version, and with the records of both.
-use Prim.Native.Nat.{ℕ, _≤_, max}
+use Prim.Native.Nat.{ℕ, _≤_, _<_, _^_, max}
 use native.Mathlib.Omega.{arith}
 use mathlib.Core.Path.{_≡_, refl}
 use mathlib.Core.List.{List}
+use lib.ListN.{length}
 use Rattle.constraint.specs.Steps.{Step, at}
 use Rattle.constraint.specs.Recording.{ReadsInOrder, recording-of}
 use Rattle.constraint.specs.Joined.{joined, joinedBytes, NoneInCommon, Interleaves, timesOf, without}
 use Rattle.join.proofs.Merging.{line-other, joined-valid, joined-line}
-use Rattle.join.proofs.Bytes.{reads-back}
+use Rattle.join.proofs.Bytes.{reads-back, steps-few}
 use Rattle.join.proofs.Records.{whole}
 use Rattle.join.proofs.Holding.{joined-interleaves}
 
 module _ (one two : List ℕ) (first second : List Step) (read : ReadsInOrder one (recording-of first)) (also : ReadsInOrder two (recording-of second)) where
-  -- it is valid, and reads as the joined steps
-  pub joined-reads : NoneInCommon first second → ReadsInOrder (joinedBytes one two first second) (recording-of (joined first second))
-  joined-reads apart =
+  -- it is valid, and reads as the joined steps; the bytes are those of a buffer, of which there are fewer than 2 ^ 64
+  pub joined-reads : NoneInCommon first second → length (joinedBytes one two first second) < 2 ^ 64 → ReadsInOrder (joinedBytes one two first second) (recording-of (joined first second))
+  joined-reads apart long =
       let a = whole one first read in
       let b = whole two second also in
       let version = max (at one 0) (at two 0) in
       let l = line-other (at one 0) version (λ e. omega (arith, a .known .1, b .known .1, e)) 0 first (a .line) in
       let m = line-other (at two 0) version (λ e. omega (arith, a .known .1, b .known .1, e)) 0 second (b .line) in
+      let line = joined-line version first second l m in
       reads-back version (omega (arith, a .known .1), omega (arith, a .known .2, b .known .2)) (joined first second)
-      (joined-valid version first second (a .valid) (b .valid) l m apart) (joined-line version first second l m)
+      (joined-valid version first second (a .valid) (b .valid) l m apart (omega (arith, long, steps-few version 0 (joined first second) line))) line
 
   -- its version is the higher one
   pub joined-version : at (joinedBytes one two first second) 0 ≡ max (at one 0) (at two 0)

@@ -173,24 +173,6 @@ module _ (engine : (c : Constraint) → Sound c → Exact c) where
       let a = play-follows rows [] (monitorOf rows) (start-follows rows accepted) calls in
       (a .0, (play step (monitorOf rows) calls .answers, a .1), a .2)
 
-  after-more : (rows : List Constraint) (calls : List Call) (s : Call) → stepOf (after rows calls) s .monitor ≡ after rows (calls ++ (s ∷ []))
+  pub after-more : (rows : List Constraint) (calls : List Call) (s : Call) → stepOf (after rows calls) s .monitor ≡ after rows (calls ++ (s ∷ []))
   unfolding after play
   after-more rows calls s = sym (play-append (monitorOf rows) calls (s ∷ []))
-
-  pub steps-keep : (m : Monitor) (s : Call) → Steps m s (stepOf m s)
-  steps-keep m s =
-      record {
-        equals = refl;
-        means = λ rows calls accepted e.
-            let a = after-follows rows calls accepted in
-            ((a .0, a .1, step-answered engine rows (a .0) m (subst (Follows engine rows (a .0)) (sym e) (a .2)) s .0), ap (λ (x : Monitor). stepOf x s .monitor) e ∙ after-more rows calls s);
-      }
-
-  pub reading-keeps : (m : Monitor) (i : ℕ) → Reading m i (verdictOf m i)
-  reading-keeps m i =
-      record {
-        equals = refl;
-        means = λ rows calls accepted e.
-            let a = after-follows rows calls accepted in
-            (a .0, a .1, subst (λ (x : Monitor). ReadsRow rows (a .0) i (verdictOf x i)) (sym e) (verdict-reads rows (a .0) (after rows calls) (a .2) i));
-      }

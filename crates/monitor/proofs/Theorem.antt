@@ -32,9 +32,9 @@ use Rattle.monitor.specs.Beside.{allTaken}
 use Rattle.monitor.specs.Contract.{step, after, take, afterRequests, Remains, Recorded, Steps, Withdraws, Reading}
 use Rattle.monitor.specs.declared.Monitor.{Monitor}
 use Rattle.monitor.specs.declared.Stepped.{Stepped}
-use Rattle.monitor.proofs.Demand.{promise, accepted-sound, steps-keep, reading-keeps}
+use Rattle.monitor.proofs.Demand.{promise, accepted-sound}
 use Rattle.monitor.proofs.FittingRows.{sound-at}
-use Rattle.monitor.proofs.Withdrawing.{promise-requests, struck, withdraws-keep}
+use Rattle.monitor.proofs.Withdrawing.{promise-requests, struck, withdraws-keep, steps-keep, reading-keeps}
 
 -- over every table, every list of calls from a fresh monitor, and every row
 pub monitor-is-exact : Promise monitorOf step verdictOf

@@ -38,14 +38,14 @@ use Rattle.row.proofs.Exact.{Sound, Exact}
 use Rattle.row.proofs.Undo.{row-without}
 use Rattle.monitor.specs.Machine.{monitorOf, mapFirst, zipFirst, refuses, takes, nextStep, placeFor, freeAfter, nextFor, occurrenceOf, crowds, refusalBy}
 use Rattle.monitor.specs.Machine.{takenCall, stepOf, verdictOf, placeIn, withdrawn, withdrawOf, bare, Same}
-use Rattle.monitor.specs.Contract.{step, after, take, afterRequests, Remains, Withdraws}
+use Rattle.monitor.specs.Contract.{step, after, take, afterRequests, Remains, Steps, Withdraws, Reading}
 use Rattle.monitor.specs.Beside.{allTaken}
 use Rattle.monitor.specs.declared.Monitor.{Monitor}
 use Rattle.monitor.specs.declared.Stepped.{Stepped}
 use Rattle.monitor.proofs.Answers.{place-small}
 use Rattle.monitor.proofs.FittingRows.{FitRows}
 use Rattle.monitor.proofs.Following.{Follows, step-is, step-answered}
-use Rattle.monitor.proofs.Demand.{step-untouched, start-follows, verdict-reads, broken-row, reads-still}
+use Rattle.monitor.proofs.Demand.{step-untouched, start-follows, after-follows, after-more, verdict-reads, broken-row, reads-still}
 
 -- ---- what may be withdrawn does not matter to a call
 
@@ -170,15 +170,6 @@ run-more : (rows : List Constraint) (calls : List Call) {steps end : List Step} 
 run-more rows [] s done judged = call s Taken judged done
 run-more rows (c ∷ calls) s (call _ _ j rest) judged = call c Taken j (run-more rows calls s rest judged)
 
-play-more : (m : Monitor) (calls : List Call) (s : Call) → play step m (calls ++ (s ∷ [])) .monitor ≡ stepOf (play step m calls .monitor) s .monitor
-unfolding play
-play-more m [] s = refl
-play-more m (c ∷ calls) s = play-more (step m c .monitor) calls s
-
-after-more : (rows : List Constraint) (calls : List Call) (s : Call) → after rows (calls ++ (s ∷ [])) ≡ stepOf (after rows calls) s .monitor
-unfolding after
-after-more rows calls s = play-more (monitorOf rows) calls s
-
 play-requests : (m : Monitor) (a b : List Request) → playRequests take m (a ++ b) .monitor ≡ playRequests take (playRequests take m a .monitor) b .monitor
 unfolding playRequests
 play-requests m [] b = refl
@@ -285,7 +276,7 @@ module _ (engine : (c : Constraint) → Sound c → Exact c) (rows : List Constr
                 (stamped-taken engine (occurrenceOf m s) (nextStep m) steps rows (m .rows) (m .before) (f .fit) stamped-next);
             calls = p .calls ++ (s ∷ []);
             taken = run-more rows (p .calls) s (p .taken) (answered .0);
-            same = ap bare (sym (taken-monitor m s e)) ∙ same-step m (after rows (p .calls)) s (p .same) ∙ ap bare (sym (after-more rows (p .calls) s));
+            same = ap bare (sym (taken-monitor m s e)) ∙ same-step m (after rows (p .calls)) s (p .same) ∙ ap bare (after-more engine rows (p .calls) s);
           }
 
       stamped-less : Stamped (length rows) (nextStep m) (withdrawn (takenCall m s) .before)
@@ -436,5 +427,40 @@ module _ (engine : (c : Constraint) → Sound c → Exact c) where
             let judged = request-holds engine rows (h .0) (afterRequests rows requests) (h .2) withdraws .0 in (
               (h .0, (playRequests take (monitorOf rows) requests .answers, h .1), subst (λ (x : Monitor). Judged (requestQuestions rows (h .0) withdraws) (withdrawOf x .answer)) (sym e) judged),
               ap (λ (x : Monitor). withdrawOf x .monitor) e ∙ sym (play-requests (monitorOf rows) requests (withdraws ∷ [])),
+            );
+      }
+
+  -- ---- the contracts of a call and of a verdict
+
+  pub steps-keep : (m : Monitor) (s : Call) → Steps m s (stepOf m s)
+  unfolding afterRequests playRequests
+  steps-keep m s =
+      record {
+        equals = refl;
+        means = λ rows calls accepted e.
+            let a = after-follows engine rows calls accepted in
+            ((a .0, a .1, step-answered engine rows (a .0) m (subst (Follows engine rows (a .0)) (sym e) (a .2)) s .0), ap (λ (x : Monitor). stepOf x s .monitor) e ∙ after-more engine rows calls s);
+        goes-on = λ rows requests accepted e.
+            let h = held engine rows accepted requests in
+            let judged = request-holds engine rows (h .0) (afterRequests rows requests) (h .2) (asks s) .0 in (
+              (h .0, (playRequests take (monitorOf rows) requests .answers, h .1), subst (λ (x : Monitor). Judged (requestQuestions rows (h .0) (asks s)) (stepOf x s .answer)) (sym e) judged),
+              ap (λ (x : Monitor). stepOf x s .monitor) e ∙ sym (play-requests (monitorOf rows) requests (asks s ∷ [])),
+            );
+      }
+
+  pub reading-keeps : (m : Monitor) (i : ℕ) → Reading m i (verdictOf m i)
+  unfolding afterRequests
+  reading-keeps m i =
+      record {
+        equals = refl;
+        means = λ rows calls accepted e.
+            let a = after-follows engine rows calls accepted in
+            (a .0, a .1, subst (λ (x : Monitor). ReadsRow rows (a .0) i (verdictOf x i)) (sym e) (verdict-reads engine rows (a .0) (after rows calls) (a .2) i));
+        goes-on = λ rows requests accepted e.
+            let h = held engine rows accepted requests in (
+              h .0,
+              (playRequests take (monitorOf rows) requests .answers, h .1),
+              subst (λ (x : Monitor). ReadsRow rows (h .0 .steps) i (verdictOf x i)) (sym e)
+                  (verdict-reads engine rows (h .0 .steps) (afterRequests rows requests) (h .2 .part .follows) i),
             );
       }

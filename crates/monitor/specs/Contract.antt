@@ -63,6 +63,10 @@ pub record Steps (m : Monitor) (s : Call) (result : Stepped) : Type 0 where
   pub equals : result ≡ stepOf m s
   pub means : (rows : List Constraint) (calls : List Call) → Accepted rows → m ≡ after rows calls
       → ((steps : List Step) × Recorded rows calls steps × Judged (questions rows steps s) (result .answer)) × (result .monitor ≡ after rows (calls ++ (s ∷ [])))
+  -- §3.13: and where steps were withdrawn, over those that are left
+  pub goes-on : (rows : List Constraint) (requests : List Request) → Accepted rows → m ≡ afterRequests rows requests
+      → ((left : Left) × Remains rows requests left × Judged (requestQuestions rows left (asks s)) (result .answer))
+      × (result .monitor ≡ afterRequests rows (requests ++ (asks s ∷ [])))
 
 -- §3.12, §8.21: a withdrawal: the answer that its question gives over what the requests have left, and the monitor after the longer list of requests
 pub record Withdraws (m : Monitor) (result : Stepped) : Type 0 where
@@ -75,6 +79,9 @@ pub record Reading (m : Monitor) (i : ℕ) (verdict : Option Verdict) : Type 0 w
   pub equals : verdict ≡ verdictOf m i
   pub means : (rows : List Constraint) (calls : List Call) → Accepted rows → m ≡ after rows calls
       → (steps : List Step) × Recorded rows calls steps × ReadsRow rows steps i verdict
+  -- §3.13: and where steps were withdrawn, after those that are left
+  pub goes-on : (rows : List Constraint) (requests : List Request) → Accepted rows → m ≡ afterRequests rows requests
+      → (left : Left) × Remains rows requests left × ReadsRow rows (left .steps) i verdict
 
 -- the verdict in an answer: none in a refusal
 abbrev pub verdictIn : RowVerdict → Option Verdict

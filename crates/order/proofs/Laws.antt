@@ -32,7 +32,8 @@ use Rattle.monitor.specs.Contract.{step, after, Recorded, Steps}
 use Rattle.monitor.specs.declared.Monitor.{Monitor}
 use Rattle.monitor.specs.declared.Stepped.{Stepped}
 use Rattle.monitor.proofs.Following.{Follows}
-use Rattle.monitor.proofs.Demand.{start-follows, play-follows, steps-keep}
+use Rattle.monitor.proofs.Demand.{start-follows, play-follows}
+use Rattle.monitor.proofs.Withdrawing.{steps-keep}
 use Rattle.recording.specs.Record.{CallAt}
 use Rattle.recording.proofs.Records.{record-judged, record-refused as record-not-there}
 use Rattle.order.specs.Order.{orderOf, After, Takes, refusedRead, AsksCall, ReadsNext}

@@ -9,6 +9,7 @@ use mathlib.Core.List.{List, [], _∷_, _++_}
 use mathlib.Core.Logic.{by-cases}
 use lib.ListN.{length, take, drop, getD, length-append, length-drop, List·getD-append}
 use lib.Seq.{take-append-le, take-at, getD-at, take-suc, take-add, getD-drop}
+use Rattle.constraint.specs.Limits.{lastCount}
 use Rattle.constraint.specs.Steps.{Step, event, tick, close, times, clockFrom, clock, closed}
 use Rattle.constraint.specs.Continuation.{EventInOrder}
 use Rattle.constraint.specs.Questions.{Judged}
@@ -73,6 +74,9 @@ module _ (front part : List Step) where
   closed-part (tick t ∷ front) e = closed-part front e
   closed-part (close ∷ front) e = absurd (let z : _≡_ {A = ℕ} 0 1 = cc in omega arith)
 
+  count-part : length (front ++ part) < lastCount → length part < lastCount
+  count-part h = omega (arith, h, length-append front part)
+
   clock-part : clock part ≤ clock (front ++ part)
   clock-part = rw (clock-append 0 front part) (clock-later 0 (clockFrom 0 front) part (omega arith))
 
@@ -94,23 +98,29 @@ module _ (front part : List Step) where
     unfolding questions
     part-judged (Call.Event k t) judged room =
         let q8 = judged-all 8 _ _ judged in
-        let q9 = judged-all 9 _ _ (q8 .1) in
+        let q24 = judged-all 24 _ _ (q8 .1) in
+        let q9 = judged-all 9 _ _ (q24 .1) in
         let q19 = judged-all 19 _ _ (q9 .1) in
         judged-yes 8 _ _ Taken (closed-part front (q8 .0))
-        (judged-yes 9 _ _ Taken (q9 .0) (judged-yes 19 _ _ Taken (q19 .0) (event-judged k t (q19 .1) room)))
+        (judged-yes 24 _ _ Taken (count-part (q24 .0)) (judged-yes 9 _ _ Taken (q9 .0) (judged-yes 19 _ _ Taken (q19 .0) (event-judged k t (q19 .1) room))))
     part-judged (Call.ColouredEvent k colour t) judged room =
         let q8 = judged-all 8 _ _ judged in
-        let q9 = judged-all 9 _ _ (q8 .1) in
+        let q24 = judged-all 24 _ _ (q8 .1) in
+        let q9 = judged-all 9 _ _ (q24 .1) in
         let q19 = judged-all 19 _ _ (q9 .1) in
         judged-yes 8 _ _ Taken (closed-part front (q8 .0))
-        (judged-yes 9 _ _ Taken (q9 .0) (judged-yes 19 _ _ Taken (q19 .0) (event-judged _ t (q19 .1) room)))
+        (judged-yes 24 _ _ Taken (count-part (q24 .0)) (judged-yes 9 _ _ Taken (q9 .0) (judged-yes 19 _ _ Taken (q19 .0) (event-judged _ t (q19 .1) room))))
     part-judged (Call.Tick t) judged room =
         let q8 = judged-all 8 _ _ judged in
-        let q10 = judged-all 10 _ _ (q8 .1) in
+        let q24 = judged-all 24 _ _ (q8 .1) in
+        let q10 = judged-all 10 _ _ (q24 .1) in
         let q11 = judged-all 11 _ _ (q10 .1) in
         judged-yes 8 _ _ Taken (closed-part front (q8 .0))
-        (judged-yes 10 _ _ Taken (q10 .0) (judged-yes 11 _ _ Taken (omega (arith, clock-part, q11 .0)) (judged-yes 12 _ _ Taken room judged-none)))
-    part-judged Call.Close judged room = let q8 = judged-all 8 _ _ judged in judged-yes 8 _ _ Taken (closed-part front (q8 .0)) judged-none
+        (judged-yes 24 _ _ Taken (count-part (q24 .0))
+        (judged-yes 10 _ _ Taken (q10 .0) (judged-yes 11 _ _ Taken (omega (arith, clock-part, q11 .0)) (judged-yes 12 _ _ Taken room judged-none))))
+    part-judged Call.Close judged room =
+        let q8 = judged-all 8 _ _ judged in
+        judged-yes 8 _ _ Taken (closed-part front (q8 .0)) (judged-yes 24 _ _ Taken (count-part (judged-all 24 _ _ (q8 .1) .0)) judged-none)
 
 -- ---- the record behind so many from a start on
 

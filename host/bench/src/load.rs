@@ -11,13 +11,21 @@ const WOBBLE: u64 = 10;
 /// In how many rounds a rare signal comes once.
 const RARELY: u64 = 64;
 
+/// A call of a load: a step, or the withdrawal of the last one.
+#[derive(Clone, Copy, Debug)]
+pub enum Call {
+    Step(Step),
+    Withdraw,
+}
+
 /// A table and a drive over it.
 #[derive(Clone)]
 pub struct Load {
-    pub name: &'static str,
+    pub name: String,
     pub rows: Vec<Constraint>,
-    /// Events only.
+    /// The steps that are left at the end: events only.
     pub steps: Vec<Step>,
+    pub calls: Vec<Call>,
 }
 
 /// The events of one stream: one in each round, or in each so many rounds, from the round `lag` on.
@@ -166,7 +174,7 @@ pub fn sparse(events: usize) -> Load {
     rows.push(execution_time(rhythms[3], (preempt, resume), stop));
     rows.push(repetition(signals.next(0), 8));
     rows.push(signals.chain(4));
-    Load { name: "sparse", rows, steps: signals.drive(events) }
+    Load::new("sparse", rows, signals.drive(events))
 }
 
 /// Nearly all rows share two kinds, of which an event concerns 24 rows or 25. An execution and a run through a chain, which
@@ -187,10 +195,31 @@ pub fn dense(events: usize) -> Load {
     let [start, preempt, resume, stop] = [0; 4].map(|lag| signals.next(lag));
     rows.push(execution_time(start, (preempt, resume), stop));
     rows.push(signals.chain(1));
-    Load { name: "dense", rows, steps: signals.drive(events) }
+    Load::new("dense", rows, signals.drive(events))
 }
 
 impl Load {
+    /// Each step given once.
+    fn new(name: &str, rows: Vec<Constraint>, steps: Vec<Step>) -> Load {
+        let calls = steps.iter().map(|step| Call::Step(*step)).collect();
+        Load { name: name.into(), rows, steps, calls }
+    }
+
+    /// The same drive with a tenth of the steps withdrawn: of nine steps one is given, withdrawn and given again.
+    pub fn withdrawing(self) -> Load {
+        let again = |step: Step| [Call::Step(step), Call::Withdraw, Call::Step(step)];
+        let nine = |steps: &[Step]| -> Vec<Call> {
+            again(steps[0]).into_iter().chain(steps[1..].iter().map(|step| Call::Step(*step))).collect()
+        };
+        let calls = self.steps.chunks(9).flat_map(nine).collect();
+        Load { name: format!("{}, withdrawing", self.name), calls, ..self }
+    }
+
+    /// How many steps are taken, with those that are withdrawn.
+    pub fn taken(&self) -> usize {
+        self.calls.iter().filter(|call| matches!(call, Call::Step(_))).count()
+    }
+
     /// The table's bytes.
     pub fn table(&self) -> Vec<u8> {
         table_bytes(&self.rows)

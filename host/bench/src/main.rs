@@ -5,6 +5,8 @@ use bench::measure::{Measured, agree, reports, steps, with_rows};
 
 /// "A million events".
 const EVENTS: usize = 1_000_000;
+/// So many are left of a million steps, of which a tenth is withdrawn.
+const LEFT: usize = EVENTS / 10 * 9;
 const RUNS: usize = 5;
 const NUMBERS_OF_ROWS: [usize; 6] = [1, 2, 4, 8, 16, 32];
 
@@ -17,7 +19,7 @@ fn commas(number: f64) -> String {
 
 fn print_line(measured: &Measured) {
     println!(
-        "| {:<16} | {:>9} | {:>15} | {:>13} | {:>5.1} |",
+        "| {:<26} | {:>9} | {:>15} | {:>13} | {:>5.1} |",
         measured.what,
         commas(measured.number as f64),
         commas(measured.library_rate()),
@@ -44,15 +46,16 @@ fn growth_cells(measured: &Measured) -> String {
 
 fn main() {
     let loads: [Load; 2] = [sparse(EVENTS), dense(EVENTS)];
-    for load in &loads {
+    let withdrawing: [Load; 2] = [sparse(LEFT), dense(LEFT)].map(Load::withdrawing);
+    for load in loads.iter().chain(&withdrawing) {
         agree(load);
         println!("{}: 32 rows of all types; an event concerns {:.1} of them in the mean", load.name, load.concerned());
     }
     println!("the verdicts of both monitors agree; every row is open until the close");
     println!("processor time, the best of {RUNS} runs in turn\n");
-    println!("| what             |    number | library, in 1 s | plain, in 1 s | times |");
-    println!("|------------------|----------:|----------------:|--------------:|------:|");
-    loads.iter().for_each(|load| print_line(&steps(load, RUNS)));
+    println!("| what                       |    number | library, in 1 s | plain, in 1 s | times |");
+    println!("|----------------------------|----------:|----------------:|--------------:|------:|");
+    loads.iter().chain(&withdrawing).for_each(|load| print_line(&steps(load, RUNS)));
     loads.iter().for_each(|load| print_line(&reports(load, RUNS)));
     println!();
     print_growth(&loads);

@@ -1,10 +1,10 @@
 //! The measurements: the library and plain Rust in turn, in one run, on the same steps.
 
 use crate::clock::thread_time;
-use crate::load::Load;
+use crate::load::{Call, Load};
 use crate::plain::{self, Plain};
 use delkuthi::Monitor;
-use model::{Step, Verdict};
+use model::{Answer, Step, Verdict};
 use std::hint::black_box;
 use std::time::Duration;
 
@@ -54,30 +54,41 @@ fn time(act: &mut impl FnMut()) -> Duration {
     thread_time() - start
 }
 
-/// Gives the steps to the library's monitor.
-///
-/// # Panics
-/// If one is refused.
-fn play_library(monitor: &mut Monitor, steps: &[Step]) {
-    for step in steps {
-        let answer = match *step {
-            Step::Event { kind, time } => monitor.event(kind, time),
-            Step::Coloured { kind, colour, time } => monitor.coloured_event(kind, colour, time),
-            Step::Tick { time } => monitor.tick(time),
-            Step::Close => monitor.close(),
+/// A monitor that takes the calls of a load.
+trait Played {
+    fn call(&mut self, call: Call) -> Answer;
+}
+
+impl Played for Monitor {
+    fn call(&mut self, call: Call) -> Answer {
+        let answer = match call {
+            Call::Step(Step::Event { kind, time }) => self.event(kind, time),
+            Call::Step(Step::Coloured { kind, colour, time }) => self.coloured_event(kind, colour, time),
+            Call::Step(Step::Tick { time }) => self.tick(time),
+            Call::Step(Step::Close) => self.close(),
+            Call::Withdraw => self.withdraw(),
         };
-        assert!(answer.is_ok(), "{step}: {answer:?}");
+        answer.map_err(|refusal| refusal.number())
     }
 }
 
-/// Gives the steps to the plain monitor.
+impl Played for Plain {
+    fn call(&mut self, call: Call) -> Answer {
+        match call {
+            Call::Step(step) => self.step(step),
+            Call::Withdraw => self.withdraw(),
+        }
+    }
+}
+
+/// Gives the calls to a monitor.
 ///
 /// # Panics
 /// If one is refused.
-fn play_plain(monitor: &mut Plain, steps: &[Step]) {
-    for step in steps {
-        let answer = monitor.step(*step);
-        assert!(answer.is_ok(), "{step}: {answer:?}");
+fn play(monitor: &mut impl Played, calls: &[Call]) {
+    for call in calls {
+        let answer = monitor.call(*call);
+        assert!(answer.is_ok(), "{call:?}: {answer:?}");
     }
 }
 
@@ -98,12 +109,12 @@ fn verdicts(monitor: &Monitor) -> Vec<Verdict> {
 pub fn agree(load: &Load) {
     let mut library = Monitor::fresh(&load.table()).expect("an accepted table");
     let mut plain = Plain::new(&load.rows);
-    play_library(&mut library, &load.steps);
-    play_plain(&mut plain, &load.steps);
+    play(&mut library, &load.calls);
+    play(&mut plain, &load.calls);
     assert_eq!(verdicts(&library), vec![Verdict::Open; load.rows.len()], "{}: open until the close", load.name);
     assert_eq!(plain.verdicts(), verdicts(&library), "{}: before the close", load.name);
-    play_library(&mut library, &[Step::Close]);
-    play_plain(&mut plain, &[Step::Close]);
+    play(&mut library, &[Call::Step(Step::Close)]);
+    play(&mut plain, &[Call::Step(Step::Close)]);
     assert_eq!(plain.verdicts(), verdicts(&library), "{}: at the close", load.name);
 }
 
@@ -114,16 +125,16 @@ pub fn steps(load: &Load, runs: usize) -> Measured {
         runs,
         || {
             let mut monitor = fresh.clone();
-            play_library(&mut monitor, &load.steps);
+            play(&mut monitor, &load.calls);
             black_box(monitor.rows());
         },
         || {
             let mut monitor = Plain::new(&load.rows);
-            play_plain(&mut monitor, &load.steps);
+            play(&mut monitor, &load.calls);
             black_box(monitor.count());
         },
     );
-    Measured { what: format!("steps, {}", load.name), number: load.steps.len(), library, plain }
+    Measured { what: format!("steps, {}", load.name), number: load.taken(), library, plain }
 }
 
 /// Times a report on the load's recording.

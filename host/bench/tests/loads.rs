@@ -1,6 +1,6 @@
 //! The loads of the benchmark: what they claim to be, and the verdicts of both monitors on them.
 
-use bench::load::{Load, dense, sparse};
+use bench::load::{Call, Load, dense, sparse};
 use bench::measure::agree;
 use bench::plain::report::report;
 use model::random::Random;
@@ -39,6 +39,16 @@ fn every_row_hears_events() {
 fn both_monitors_agree_and_rows_stay_open() {
     for load in loads(30_000) {
         [1, 8, 32].map(|number| load.with_rows(number)).iter().for_each(agree);
+        agree(&load.withdrawing());
+    }
+}
+
+#[test]
+fn a_tenth_is_withdrawn() {
+    for load in loads(9_000).map(Load::withdrawing) {
+        let withdrawn = load.calls.iter().filter(|call| matches!(call, Call::Withdraw)).count();
+        assert_eq!((load.taken(), withdrawn), (10_000, 1_000));
+        assert_eq!(load.taken() - withdrawn, load.steps.len());
     }
 }
 

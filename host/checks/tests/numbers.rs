@@ -95,6 +95,7 @@ fn refusals() -> BTreeMap<String, u64> {
         ("ROW_BOUNDS", question("LowerFirst ")),
         ("CLOSED", question("closed steps ")),
         ("COUNT_FULL", question("length steps < lastCount)")),
+        ("NOTHING_TO_WITHDRAW", question("left .may ")),
         ("KIND", question("k ≤ lastKind)")),
         ("FORM", question("k < firstColoured)")),
         ("TIME_RANGE", question("t ≤ lastTime)")),

@@ -56,7 +56,7 @@ fn thousands_of_lists() {
         let number = 60 + random.place(60);
         closes += play(&mut random, &rows, number, &mut seen);
     }
-    seen.demand_refusals((8..=12).chain([19, 21]));
+    seen.demand_refusals((8..=11).chain([19, 21]));
     seen.demand_verdicts();
     assert!(closes > 0);
 }

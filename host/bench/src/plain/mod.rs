@@ -7,7 +7,7 @@ mod ring;
 mod rule;
 
 use model::constraint::stream;
-use model::{Answer, Constraint, FIRST_COLOURED, LAST_COLOUR, LAST_KIND, LAST_TIME, Step, Verdict};
+use model::{Answer, Constraint, FIRST_COLOURED, LAST_COLOUR, LAST_COUNT, LAST_KIND, LAST_TIME, Step, Verdict};
 use rule::{Before, Rule};
 
 /// A row: its rule, the last clock at which it is open without an event of its own, and the step that broke it (or 0).
@@ -85,10 +85,19 @@ impl Plain {
         }
     }
 
-    pub fn event(&mut self, kind: u8, time: u64) -> Answer {
+    /// Not closed, and the count has room.
+    fn first_questions(&self) -> Answer {
         if self.closed {
             return Err(8);
         }
+        if self.count == LAST_COUNT {
+            return Err(24);
+        }
+        Ok(())
+    }
+
+    pub fn event(&mut self, kind: u8, time: u64) -> Answer {
+        self.first_questions()?;
         if kind > LAST_KIND {
             return Err(9);
         }
@@ -99,9 +108,7 @@ impl Plain {
     }
 
     pub fn coloured_event(&mut self, kind: u8, colour: u8, time: u64) -> Answer {
-        if self.closed {
-            return Err(8);
-        }
+        self.first_questions()?;
         if kind > LAST_KIND {
             return Err(9);
         }
@@ -134,9 +141,7 @@ impl Plain {
     }
 
     pub fn tick(&mut self, time: u64) -> Answer {
-        if self.closed {
-            return Err(8);
-        }
+        self.first_questions()?;
         if time > LAST_TIME {
             return Err(10);
         }
@@ -150,9 +155,7 @@ impl Plain {
     }
 
     pub fn close(&mut self) -> Answer {
-        if self.closed {
-            return Err(8);
-        }
+        self.first_questions()?;
         self.begin(None, 0);
         self.closed = true;
         each(self.open, |row| {

@@ -1,7 +1,8 @@
-// The shortest stretch that breaks a row, for a host in C: the answer as one number.
-use super::stamped::place_number;
+// The shortest stretch that breaks a row, for a host in C: the answer as one number. It is compiled by itself, so that the steps of a lent
+// monitor, which use the same functions of a row, are compiled as if there were no other caller.
 use constraint::StretchAnswer;
-ghost use Rattle.delkuthi.specs.Stretches.{NumbersStretch};
+use delkuthi::stamped::place_number;
+ghost use Rattle.stretch_host.specs.Stretches.{NumbersStretch};
 
 // The shortest stretch of a recording that breaks a row of a table: its first record's number in bits 8 to 15, its length from bit 16, and
 // from bit 32 how many stretches were tried, with it; on a refusal 256 times its place and its number. For n records it takes at most

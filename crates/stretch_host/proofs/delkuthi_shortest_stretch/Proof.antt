@@ -8,9 +8,9 @@ use Rattle.constraint.proofs.Judged.{never}
 use Rattle.queue.proofs.Shared.{free}
 use Rattle.constraint.specs.Stretches.{AnswersStretch}
 use Rattle.constraint.specs.declared.StretchAnswer.{StretchAnswer}
-use Rattle.delkuthi.proofs.StretchNumbers.{stretch-above}
-use Rattle.delkuthi.proofs.stretched.delkuthi_shortest_stretch.Statement.{statement}
-use Rattle.delkuthi.proofs.stretched.delkuthi_shortest_stretch.Tie as tie
+use Rattle.stretch_host.proofs.StretchNumbers.{stretch-above}
+use Rattle.stretch_host.proofs.delkuthi_shortest_stretch.Statement.{statement}
+use Rattle.stretch_host.proofs.delkuthi_shortest_stretch.Tie as tie
 
 -- what is told of a refusal
 refusal-told : (n place m at : ℕ) → 0 < n → n < 256 → StretchAnswer.Refused n place ≡ StretchAnswer.Refused m at → (0 < m) × (m < 256)

@@ -1,0 +1,2 @@
+-- What the call for a host promises.
+pub mod Stretches

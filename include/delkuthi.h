@@ -308,12 +308,12 @@ extern "C" {
 #define DELKUTHI_NO_LIMIT UINT64_C(18446744073709551615)
 
 /*
- * A monitor: 26,576 bytes, aligned as a uint64_t is. Put it on the stack, in
+ * A monitor: 28,768 bytes, aligned as a uint64_t is. Put it on the stack, in
  * static memory, on a heap or in a struct of your own, and give it to
  * delkuthi_fresh first. What its words mean is the library's own business.
  */
 typedef struct delkuthi_monitor {
-    uint64_t words[3322];
+    uint64_t words[3596];
 } delkuthi_monitor;
 
 /* Returns the version of the library, which is that of its own header. */

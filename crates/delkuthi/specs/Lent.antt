@@ -16,7 +16,8 @@ use Rattle.constraint.specs.Table.{ReadsTable, table-of, table-refused}
 use Rattle.monitor.specs.Machine.{verdictOf}
 use Rattle.monitor.specs.Contract.{after, Recorded, stepIn}
 use Rattle.monitor.specs.declared.Monitor.{Monitor}
-use Rattle.monitor.specs.declared.Stepped.{Stepped}
+use Rattle.inplace.specs.Index.{Indexes}
+use Rattle.inplace.specs.declared.index.Indexed.{Indexed}
 
 -- ---- the library
 
@@ -24,17 +25,16 @@ use Rattle.monitor.specs.declared.Stepped.{Stepped}
 abbrev pub version : ℕ
 version = 0 * 1000000 + 4 * 1000 + 0
 
--- the bytes of a monitor (`monitor-size`: of its type on the machine)
+-- the bytes of a monitor with its index (`monitor-size`: of its type on the machine)
 abbrev pub monitorSize : ℕ
-monitorSize = 26576
+monitorSize = 28768
 
 -- ---- fresh
 
--- §11.5: the number that answers and the monitor behind the reference then: 0, and the fresh monitor over the table's rows; or 256 times
--- the place and the number of the refusal, and the monitor as it was
--- or 256 times the place and the number of the refusal, and the monitor as it was
-pub data Begins (bytes : List ℕ) (before : Monitor) : ℕ → Monitor → Type 0 where
-  begun : (rows : List Constraint) → ReadsTable bytes (table-of rows) → Begins bytes before 0 (after rows [])
+-- §11.5: the number that answers and what lies behind the reference then: 0, the fresh monitor over the table's rows and its index; or 256 times the
+-- place and the number of the refusal, and all as it was
+pub data Begins (bytes : List ℕ) (before : Indexed) : ℕ → Indexed → Type 0 where
+  begun : (rows : List Constraint) (h : Indexed) → ReadsTable bytes (table-of rows) → h .monitor ≡ after rows [] → Indexes h → Begins bytes before 0 h
   refused : (n place : ℕ) → ReadsTable bytes (table-refused n place) → 0 < n → n < 256 → Begins bytes before (place * 256 + n) before
 
 -- ---- verdicts

@@ -1,21 +1,23 @@
 // The monitor lent to a host in C: functions on numbers, bytes and references alone. The numbers are those of specs/Lent.antt.
 use constraint::Call;
 use constraint::Verdict;
+use inplace::index;
+use inplace::index::Indexed;
 use monitor::Monitor;
 use monitor::RowVerdict;
 use monitor::verdicts;
 use table::ReadAnswer;
 ghost use mathlib.Core.Path.{_≡_};
 ghost use Rattle.constraint.specs.declared.Call.{Call};
-ghost use Rattle.monitor.specs.Contract.{Steps, Withdraws, verdictIn, stepIn};
+ghost use Rattle.monitor.specs.Contract.{verdictIn, stepIn};
 ghost use Rattle.monitor.specs.Parts.{verdictBy};
-ghost use Rattle.inplace.specs.Store.{steppedFrom};
+ghost use Rattle.inplace.specs.Index.{Takes, TakesBack};
 ghost use Rattle.delkuthi.specs.Lent.{Begins, wordOf, WordOfVerdict, StepOfVerdict, NumberOfRows, version, monitorSize};
 
 // The version of the library: 0.4.0 as major * 1,000,000 + minor * 1,000 + patch.
 pub const VERSION: u32 = 4000;
-// The bytes of a monitor.
-pub const MONITOR_SIZE: u64 = 26576;
+// The bytes of a monitor with its index.
+pub const MONITOR_SIZE: u64 = 28768;
 
 // The version of the library, for a host to compare with that of its header.
 #[no_mangle]
@@ -33,14 +35,14 @@ pub extern "C" fn delkuthi_monitor_size() -> u64
     MONITOR_SIZE
 }
 
-// The answer as a number, 0 where the table is accepted, and the monitor then.
+// The answer as a number, 0 where the table is accepted, and the monitor with its index then.
 pub struct Begun {
     pub number: u64,
-    pub monitor: Monitor,
+    pub monitor: Indexed,
 }
 
 // The fresh monitor over a table's bytes, or the refusal and the monitor as it was.
-fn fresh(m: Monitor, table: &[u8]) -> Begun
+fn fresh(m: Indexed, table: &[u8]) -> Begun
     ensures { λ r. ⌜ Begins (now (table .entry)) m (r .number) (r .monitor) ⌝ }
 {
     let reading = table::read(table);
@@ -48,7 +50,7 @@ fn fresh(m: Monitor, table: &[u8]) -> Begun
     match answer {
         ReadAnswer::Accepted => {
             let fresh = Monitor::fresh(reading.table);
-            let monitor = fresh.monitor;
+            let monitor = index::over(fresh.monitor);
             Begun { number: 0, monitor }
         }
         ReadAnswer::Refused { number, place } => Begun {
@@ -60,7 +62,7 @@ fn fresh(m: Monitor, table: &[u8]) -> Begun
 
 // Makes the monitor fresh over a table's bytes and answers 0; on a refusal answers 256 times its place and its number, and leaves the monitor as it was.
 #[no_mangle]
-pub extern "C" fn delkuthi_fresh(m: &mut Monitor, table: &[u8]) -> u64
+pub extern "C" fn delkuthi_fresh(m: &mut Indexed, table: &[u8]) -> u64
     ensures { λ r. ⌜ Begins (now (table .entry)) (now (m .entry)) r (now (m .exit)) ⌝ }
 {
     let s = fresh(*m, table);
@@ -108,42 +110,42 @@ fn step_by(row: u64, len: usize, closed: u64, broken: u64) -> u64
 
 // An event of a kind at a time: 0 if it is taken, else the number of its refusal.
 #[no_mangle]
-pub extern "C" fn delkuthi_event(m: &mut Monitor, kind: u8, time: u64) -> u8
-    ensures { λ r. ⌜ Steps (now (m .entry)) (Call.Event kind time) (steppedFrom r (now (m .exit))) ⌝ }
+pub extern "C" fn delkuthi_event(m: &mut Indexed, kind: u8, time: u64) -> u8
+    ensures { λ r. ⌜ Takes (now (m .entry)) (Call.Event kind time) r (now (m .exit)) ⌝ }
 {
-    inplace::take(m, Call::Event { kind, time })
+    index::take(m, Call::Event { kind, time })
 }
 
 // An event of a coloured kind and a colour at a time: 0 if it is taken, else the number of its refusal.
 #[no_mangle]
-pub extern "C" fn delkuthi_coloured_event(m: &mut Monitor, kind: u8, colour: u8, time: u64) -> u8
-    ensures { λ r. ⌜ Steps (now (m .entry)) (Call.ColouredEvent kind colour time) (steppedFrom r (now (m .exit))) ⌝ }
+pub extern "C" fn delkuthi_coloured_event(m: &mut Indexed, kind: u8, colour: u8, time: u64) -> u8
+    ensures { λ r. ⌜ Takes (now (m .entry)) (Call.ColouredEvent kind colour time) r (now (m .exit)) ⌝ }
 {
-    inplace::take(m, Call::ColouredEvent { kind, colour, time })
+    index::take(m, Call::ColouredEvent { kind, colour, time })
 }
 
 // A tick to a time: 0 if it is taken, else the number of its refusal.
 #[no_mangle]
-pub extern "C" fn delkuthi_tick(m: &mut Monitor, time: u64) -> u8
-    ensures { λ r. ⌜ Steps (now (m .entry)) (Call.Tick time) (steppedFrom r (now (m .exit))) ⌝ }
+pub extern "C" fn delkuthi_tick(m: &mut Indexed, time: u64) -> u8
+    ensures { λ r. ⌜ Takes (now (m .entry)) (Call.Tick time) r (now (m .exit)) ⌝ }
 {
-    inplace::take(m, Call::Tick { time })
+    index::take(m, Call::Tick { time })
 }
 
 // The close: 0 if it is taken, else the number of its refusal.
 #[no_mangle]
-pub extern "C" fn delkuthi_close(m: &mut Monitor) -> u8
-    ensures { λ r. ⌜ Steps (now (m .entry)) Call.Close (steppedFrom r (now (m .exit))) ⌝ }
+pub extern "C" fn delkuthi_close(m: &mut Indexed) -> u8
+    ensures { λ r. ⌜ Takes (now (m .entry)) Call.Close r (now (m .exit)) ⌝ }
 {
-    inplace::take(m, Call::Close)
+    index::take(m, Call::Close)
 }
 
 // The last step is withdrawn: 0, or 21 where nothing may be withdrawn.
 #[no_mangle]
-pub extern "C" fn delkuthi_withdraw(m: &mut Monitor) -> u8
-    ensures { λ r. ⌜ Withdraws (now (m .entry)) (steppedFrom r (now (m .exit))) ⌝ }
+pub extern "C" fn delkuthi_withdraw(m: &mut Indexed) -> u8
+    ensures { λ r. ⌜ TakesBack (now (m .entry)) r (now (m .exit)) ⌝ }
 {
-    inplace::withdraw(m)
+    index::withdraw(m)
 }
 
 // The word for what a row reads: OPEN, KEPT, BROKEN, or NO_ROW.

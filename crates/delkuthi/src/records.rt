@@ -1,5 +1,6 @@
 // Takes a recording: call by call, those of its records and then the close, on one monitor where it lies.
 use constraint::Call;
+use inplace::index;
 use monitor::Monitor;
 use recording::Record;
 use table::ReadAnswer;
@@ -104,14 +105,16 @@ fn next_turn(bytes: &[u8], turn: Turn, number: u8) -> Turn
 }
 
 // What a fresh monitor gives to a whole recording; it takes each call where it lies.
-pub(crate) fn take_recording(mut monitor: Monitor, bytes: &[u8]) -> RecordingTaken
-    ensures { λ r. ⌜ TakesRecording monitor (now (bytes .entry)) r ⌝ }
+pub(crate) fn take_recording(fresh: Monitor, bytes: &[u8]) -> RecordingTaken
+    ensures { λ r. ⌜ TakesRecording fresh (now (bytes .entry)) r ⌝ }
 {
+    let mut indexed = index::over(fresh);
     let mut turn = first_turn(bytes);
     while turn.more {
-        let number = inplace::take(&mut monitor, turn.call);
+        let number = index::take(&mut indexed, turn.call);
         turn = next_turn(bytes, turn, number);
     }
     let answer = turn.answer;
+    let monitor = indexed.monitor;
     RecordingTaken { answer, monitor }
 }

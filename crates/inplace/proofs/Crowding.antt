@@ -93,18 +93,18 @@ pub none-crowded : (f : Row → Bool) (rows : List Row) → anyFirst 0 f rows �
 unfolding anyFirst
 none-crowded f rows = refl
 
-or-false : (b : Bool) → (b || false) ≡ b
-or-false true = refl
-or-false false = refl
+pub or-none : (b : Bool) → (b || false) ≡ b
+or-none true = refl
+or-none false = refl
 
-or-assoc : (a b c : Bool) → (a || (b || c)) ≡ ((a || b) || c)
+pub or-assoc : (a b c : Bool) → (a || (b || c)) ≡ ((a || b) || c)
 or-assoc true b c = refl
 or-assoc false b c = refl
 
-any-suc : (f : Row → Bool) (rows : List Row) (n : ℕ) (d : Row) → n < length rows → anyFirst (suc n) f rows ≡ (anyFirst n f rows || f (getD rows n d))
+pub any-suc : (f : Row → Bool) (rows : List Row) (n : ℕ) (d : Row) → n < length rows → anyFirst (suc n) f rows ≡ (anyFirst n f rows || f (getD rows n d))
 unfolding anyFirst
 any-suc f [] n d l = absurd (not-suc-le-zero l)
-any-suc f (r ∷ rows) zero d l = or-false (f r)
+any-suc f (r ∷ rows) zero d l = or-none (f r)
 any-suc f (r ∷ rows) (suc n) d l = ap (λ (b : Bool). f r || b) (any-suc f rows n d (le-of-suc-le-suc l)) ∙ or-assoc (f r) (anyFirst n f rows) (f (getD rows n d))
 
 -- the row behind the first n is asked too

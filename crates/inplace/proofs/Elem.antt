@@ -89,6 +89,10 @@ module _ {M : Type 1} {𝓤 : URA M} {H : Heap 𝓤} {A : Atoms 𝓤} {K : Type 
 pub as-val : {M : Type 1} {𝓤 : URA M} {H : Heap 𝓤} {A : Atoms 𝓤} {K : Type 0} {W : Given 𝓤 H A} → K → {j : Item 𝓤} {q : Share} {τ : Ty} {b o : ℕ} {back : Val → Item 𝓤} {v v′ : Val} → v ≡ v′ → Part K W j q τ b o v back → Part K W j q τ b o v′ back
 as-val {K = K} {W = W} t {j} {q} {τ} {b} {o} {back} e p = subst (λ (u : Val). Part K W j q τ b o u back) e p
 
+-- and at another way to write where it lies
+pub at-place : {M : Type 1} {𝓤 : URA M} {H : Heap 𝓤} {A : Atoms 𝓤} {K : Type 0} {W : Given 𝓤 H A} → K → {j : Item 𝓤} {q : Share} {τ : Ty} {b o o′ : ℕ} {back : Val → Item 𝓤} {v : Val} → o ≡ o′ → Part K W j q τ b o v back → Part K W j q τ b o′ v back
+at-place {K = K} {W = W} t {j} {q} {τ} {b} {back = back} {v = v} e p = subst (λ (o : ℕ). Part K W j q τ b o v back) e p
+
 -- ---- the relation
 module _ (R : RattleType) where
   each-get : (xs : List (R .Denot)) (us : List Val) (i : ℕ) (d : R .Denot) (e : Val) → i < length xs → shadow (eachOf (R .Denot) (R .own) xs us) → Is R (getD xs i d) (getD us i e ∷ [])

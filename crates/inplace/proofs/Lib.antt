@@ -11,5 +11,10 @@ pub mod Types
 pub mod Rows
 pub mod Numbers
 pub mod Promises
+pub mod Within
+mod Following
+mod Listing
+mod Indexing
+mod Withdrawn
 mod Crowding
 mod Whole

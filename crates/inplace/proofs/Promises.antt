@@ -1,10 +1,10 @@
 -- What each walk promises, and what the functions promise that it calls, as the frame has contracts.
-use Prim.Native.Nat.{ℕ, _<_, _≤_}
+use Prim.Native.Nat.{ℕ, _+_, _<_, _≤_, min}
 use mathlib.Core.Path.{_≡_}
 use mathlib.Core.List.{[], _∷_}
 use mathlib.Core.Bool.{_||_}
 use lib.ListN.{getD}
-use Rattle.constraint.specs.Limits.{streamCount}
+use Rattle.constraint.specs.Limits.{streamCount, noLimit}
 use Rattle.row.specs.Machine.{rowFrom, rowStep}
 use Rattle.row.specs.Undo.{noBefore, movesBy, Moves}
 use Rattle.queue.specs.Ring.{putBack}
@@ -13,9 +13,10 @@ use Rattle.monitor.specs.Parts.{rowsWithout}
 use Rattle.monitor.specs.Contract.{Steps, Withdraws}
 use Rattle.inplace.specs.Store.{steppedFrom, askedOf, askedBy, answerOf, rowStepped, rowsStepped, rowsCrowded, withNumbers}
 use Rattle.inplace.specs.Store.{withdrawalOf, withdrawalBy, rowBack, withUndo}
+use Rattle.inplace.specs.Index.{listSize, listFor, rowOf, listedOf, listedBy, crowdedAt, listCrowded, heeded, stepAt, listStepped, lateStepped, lateAt, passed, begun, Indexes, Takes, soonestAfter, TakesBack}
 use Rattle.inplace.proofs.Plain.{truth, nothing}
 use Rattle.inplace.proofs.Types.{byte-type, word-type, call-type, rule-type, times-type, state-type, occurrence-type, before-type, moved-type, undo-type, monitor-type}
-use Rattle.inplace.proofs.Types.{asked-type, numbered-type, withdrawal-type}
+use Rattle.inplace.proofs.Types.{asked-type, numbered-type, withdrawal-type, indexed-type, listed-type}
 use Rattle.inplace.proofs.Frame.{no-demand, demand, Promise}
 use Rattle.inplace.proofs.Calls.{Callee, Pure, mut-of, shr-of}
 
@@ -60,6 +61,33 @@ withdrawal-of =
 
 abbrev pub by-value : Pure
 by-value = record { front = monitor-type ∷ call-type ∷ []; result = numbered-type; asks = λ a. no-demand; gives = λ a r. Steps (a .0) (a .1 .0) (steppedFrom (r .number) (r .monitor)) }
+
+abbrev pub list-of : Pure
+list-of = record { front = occurrence-type ∷ []; result = word-type; asks = λ a. no-demand; gives = λ a r. r ≡ listFor (a .0) }
+
+abbrev pub row-of : Pure
+row-of = record { front = byte-type ∷ []; result = word-type; asks = λ a. no-demand; gives = λ a r. r ≡ rowOf (a .0) }
+
+abbrev pub list-from : Pure
+list-from =
+    record {
+      front = byte-type ∷ word-type ∷ byte-type ∷ [];
+      result = listed-type;
+      asks = λ a. demand (a .1 .0 < listSize);
+      gives = λ a r. r ≡ listedOf (a .0) (a .1 .0) (a .1 .1 .0);
+    }
+
+abbrev pub sooner : Pure
+sooner = record { front = word-type ∷ word-type ∷ []; result = word-type; asks = λ a. no-demand; gives = λ a r. r ≡ min (a .0) (a .1 .0) }
+
+abbrev pub indexed-over : Pure
+indexed-over = record { front = monitor-type ∷ []; result = indexed-type; asks = λ a. no-demand; gives = λ a r. (r .monitor ≡ a .0) × Indexes r }
+
+abbrev pub soonest-after : Pure
+soonest-after = record { front = byte-type ∷ word-type ∷ []; result = word-type; asks = λ a. no-demand; gives = λ a r. r ≡ soonestAfter (a .0) (a .1 .0) }
+
+abbrev pub no-limit : Pure
+no-limit = record { front = []; result = word-type; asks = λ a. no-demand; gives = λ a r. r ≡ noLimit }
 
 -- ---- functions that are lent a row's times
 
@@ -134,3 +162,49 @@ put-undo = record { asks = λ κs h a. demand (a .0 .place < streamCount); gives
 
 abbrev pub withdraw : Promise monitor-type [] byte-type
 withdraw = record { asks = λ κs h a. no-demand; gives = λ κs h a r h′. Withdraws h (steppedFrom r h′) }
+
+abbrev pub late-row : Promise monitor-type (word-type ∷ occurrence-type ∷ word-type ∷ []) nothing
+late-row = record { asks = λ κs h a. demand (a .0 < 32); gives = λ κs h a r h′. h′ ≡ lateStepped h (a .0) (a .1 .0) (a .1 .1 .0) }
+
+-- ---- walks over an indexed monitor
+
+abbrev pub list-at : Promise indexed-type (byte-type ∷ occurrence-type ∷ []) listed-type
+list-at = record { asks = λ κs h a. no-demand; gives = λ κs h a r h′. (r ≡ listedBy h (a .0) (a .1 .0)) × (h′ ≡ h) }
+
+abbrev pub asks-at : Promise indexed-type (word-type ∷ occurrence-type ∷ []) truth
+asks-at = record { asks = λ κs h a. demand (a .0 < listSize); gives = λ κs h a r h′. (r ≡ crowdedAt h (a .0) (a .1 .0)) × (h′ ≡ h) }
+
+abbrev pub list-asks : Promise indexed-type (word-type ∷ word-type ∷ occurrence-type ∷ []) truth
+list-asks =
+    record {
+      asks = λ κs h a. demand (a .0 + a .1 .0 ≤ listSize);
+      gives = λ κs h a r h′. (r ≡ listCrowded h (a .0) (a .1 .0) (a .1 .1 .0)) × (h′ ≡ h);
+    }
+
+abbrev pub heed : Promise indexed-type (word-type ∷ []) nothing
+heed = record { asks = λ κs h a. demand (a .0 < 32); gives = λ κs h a r h′. h′ ≡ heeded h (a .0) }
+
+abbrev pub steps-at : Promise indexed-type (word-type ∷ occurrence-type ∷ word-type ∷ []) nothing
+steps-at = record { asks = λ κs h a. demand (a .0 < listSize); gives = λ κs h a r h′. h′ ≡ stepAt h (a .0) (a .1 .0) (a .1 .1 .0) }
+
+abbrev pub list-step : Promise indexed-type (word-type ∷ word-type ∷ occurrence-type ∷ word-type ∷ []) nothing
+list-step =
+    record {
+      asks = λ κs h a. demand (a .0 + a .1 .0 ≤ listSize);
+      gives = λ κs h a r h′. h′ ≡ listStepped h (a .0) (a .1 .0) (a .1 .1 .0) (a .1 .1 .1 .0);
+    }
+
+abbrev pub late-step : Promise indexed-type (word-type ∷ occurrence-type ∷ word-type ∷ []) nothing
+late-step = record { asks = λ κs h a. demand (a .0 < 32); gives = λ κs h a r h′. h′ ≡ lateAt h (a .0) (a .1 .0) (a .1 .1 .0) }
+
+abbrev pub pass : Promise indexed-type (word-type ∷ occurrence-type ∷ word-type ∷ []) nothing
+pass = record { asks = λ κs h a. demand (a .0 ≤ 32); gives = λ κs h a r h′. h′ ≡ passed h (a .0) (a .1 .0) (a .1 .1 .0) }
+
+abbrev pub begin : Promise indexed-type (word-type ∷ occurrence-type ∷ word-type ∷ []) nothing
+begin = record { asks = λ κs h a. demand (a .0 ≤ 32); gives = λ κs h a r h′. h′ ≡ begun h (a .0) (a .1 .0) (a .1 .1 .0) }
+
+abbrev pub take-indexed : Promise indexed-type (call-type ∷ []) byte-type
+take-indexed = record { asks = λ κs h a. no-demand; gives = λ κs h a r h′. Takes h (a .0) r h′ }
+
+abbrev pub withdraw-indexed : Promise indexed-type [] byte-type
+withdraw-indexed = record { asks = λ κs h a. no-demand; gives = λ κs h a r h′. TakesBack h r h′ }

@@ -23,6 +23,8 @@ use Rattle.row.specs.Machine.{rowFrom}
 use Rattle.row.specs.declared.Row.{Row}
 use Rattle.machine.specs.declared.Rule.{Rule}
 use Rattle.machine.specs.declared.State.{State}
+use Rattle.machine.proofs.State as U
+use Rattle.machine.proofs.State.Laws as U′
 use Rattle.row.proofs.Row as S
 use Rattle.row.proofs.Row.Laws as S′
 use Rattle.row.specs.Undo.{noBefore}
@@ -105,13 +107,13 @@ module _ (h : Monitor) (was : Known monitor-type h) where
   pub kept-length : length (h .before) ≡ 32
   kept-length = item-count (B.the-field .row) (B.the-field .into) kept-tuple (B′.the-field-laws .tells) 32 (h .before) kept-are
 
-  vals-32 : length (row-vals (h .rows)) ≡ 32
+  pub vals-32 : length (row-vals (h .rows)) ≡ 32
   vals-32 = vals-count (S.the-field .row) (S.the-field .into) tuple (S′.the-field-laws .tells) 32 (h .rows) rows-are
 
   pub kept-32 : length (kept-vals (h .before)) ≡ 32
   kept-32 = vals-count (B.the-field .row) (B.the-field .into) kept-tuple (B′.the-field-laws .tells) 32 (h .before) kept-are
 
-  within : (i : ℕ) → i < 32 → i < length (row-vals (h .rows))
+  pub within : (i : ℕ) → i < 32 → i < length (row-vals (h .rows))
   within = item-within (S.the-field .row) (S.the-field .into) tuple (S′.the-field-laws .tells) 32 (h .rows) rows-are
 
   pub kept-within : (i : ℕ) → i < 32 → i < length (kept-vals (h .before))
@@ -150,7 +152,7 @@ module _ (h : Monitor) (was : Known monitor-type h) where
         ),
       )
 
-got : (h : Monitor) (i : ℕ) → getD (row-vals (h .rows)) i (row-type .val noRow) ≡ row-type .val (getD (h .rows) i noRow)
+pub got : (h : Monitor) (i : ℕ) → getD (row-vals (h .rows)) i (row-type .val noRow) ≡ row-type .val (getD (h .rows) i noRow)
 got h i = item-got (S.the-field .row) (S.the-field .into) tuple (S′.the-field-laws .tells) 32 (h .rows) i noRow
 
 put-vals : (h : Monitor) (i : ℕ) (r : Row) → set (row-vals (h .rows)) i (row-type .val r) ≡ row-vals (set (h .rows) i r)
@@ -196,6 +198,9 @@ module _ (b : Before) (was : Known before-type b) where
 
   pub second-word-known : Known word-type (b .second)
   second-word-known = LL.owed B.the-type B′.the-laws b _ was .1 .1 .1 .0
+
+pub due-known : (h : Monitor) → Known monitor-type h → (i : ℕ) → i < 32 → Known word-type (getD (h .rows) i noRow .now .due)
+due-known h was i l = LL.owed U.the-type U′.the-laws (getD (h .rows) i noRow .now) _ (now-known (getD (h .rows) i noRow) (row-known h was i l)) .1 .1 .1 .0
 
 -- ---- where they lie
 

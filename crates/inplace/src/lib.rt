@@ -23,6 +23,8 @@ ghost use Rattle.monitor.specs.Parts.{rowsWithout};
 ghost use Rattle.monitor.specs.Contract.{Steps, Withdraws};
 ghost use Rattle.inplace.specs.Store.{steppedFrom, askedRows, askedOf, askedBy, answerOf, rowStepped, rowsStepped, rowsCrowded, withNumbers, mayAnswer, withdrawalOf, withdrawalBy, rowBack, withUndo};
 
+pub mod index;
+
 // A row with fewer waiting has room for two more words.
 const ROOMY: usize = WAITING_LIMIT - 1;
 

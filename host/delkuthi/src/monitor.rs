@@ -5,14 +5,14 @@ use crate::refusal::Refusal;
 use core::fmt;
 
 /// How many words of 64 bits a monitor takes.
-pub const WORDS: usize = 3322;
+pub const WORDS: usize = 3596;
 
 /// The word for each verdict, as the library answers it; any other says that there is no such row.
 const OPEN: u8 = 0;
 const KEPT: u8 = 1;
 const BROKEN: u8 = 2;
 
-/// A monitor over a table: 26,576 bytes, with no pointer in them. A copy is a monitor of its own.
+/// A monitor over a table: 28,768 bytes, with no pointer in them. A copy is a monitor of its own.
 #[derive(Clone, PartialEq, Eq)]
 #[repr(transparent)]
 pub struct Monitor {

@@ -40,10 +40,10 @@ use denote.Triple.Spec.{Meets, tripleOf}
 use denote.Triple.Table.{entered, cited}
 use denote.Triple.Walked.{says, Stays, stay-ref, stay-none-slice, walkOf, AllGo, goes-ref, goes-none-slice, Walks, ends-at, walked, walk-meets}
 use denote.Exit.{yes}
-use Rattle.monitor.specs.declared.Monitor.{Monitor}
-use Rattle.monitor.proofs.Monitor as T
-use Rattle.monitor.proofs.Monitor.Laws as T′
-use Rattle.delkuthi.proofs.Walk.{val, typed}
+use Rattle.inplace.specs.declared.index.Indexed.{Indexed}
+use Rattle.inplace.proofs.index.Indexed as T
+use Rattle.inplace.proofs.index.Indexed.Laws as T′
+use Rattle.delkuthi.proofs.Walk.{indexed-val as val, indexed-typed as typed}
 use Rattle.delkuthi.specs.Lent.{Begins}
 use Rattle.delkuthi.specs.declared.lent.Begun.{Begun}
 use Rattle.delkuthi.proofs.lent.Begun as S
@@ -59,7 +59,7 @@ use Rattle.delkuthi.proofs.lent.delkuthi_fresh.Code as code
 
 -- the references to the monitor and to the bytes
 abbrev Arg : Type 0
-Arg = RefT Monitor × (RefT (List ℕ) × Unit {0})
+Arg = RefT Indexed × (RefT (List ℕ) × Unit {0})
 
 -- both are still owned at the end
 abbrev stayed : Stays (f.ended .signature .params) (f.ended .kept)
@@ -71,10 +71,10 @@ module _ {M : Type 1} (𝓤 : URA M) (H : Heap 𝓤) (A : Atoms 𝓤) (mem : Mem
   Callee = tripleOf 𝓤 H A g.signature (g.spec 𝓤 H A mem run)
 
   -- what it says of its result
-  said-of : (κ : Lft) (h : Monitor) (s : RefT (List ℕ)) (r : Begun) → ent 𝓤 (ensured 𝓤 H A g.ended (g.clauses 𝓤 H A mem run) (κ, tt) (h, (s, tt)) tt r) (fact 𝓤 (Begins (now s) h (r .number) (r .monitor)))
+  said-of : (κ : Lft) (h : Indexed) (s : RefT (List ℕ)) (r : Begun) → ent 𝓤 (ensured 𝓤 H A g.ended (g.clauses 𝓤 H A mem run) (κ, tt) (h, (s, tt)) tt r) (fact 𝓤 (Begins (now s) h (r .number) (r .monitor)))
   said-of κ h s r = exE 𝓤 _ (λ ws. snd∗ 𝓤 (sem 𝓤 H A (lasts g.ended (κ, tt) (h, (s, tt)) ws)) (fact 𝓤 (Begins (now s) h (r .number) (r .monitor))))
 
-module _ {M : Type 1} (𝓤 : URA M) (H : Heap 𝓤) (A : Atoms 𝓤) (W : Given 𝓤 H A) (at-mem : Memory → SProp 𝓤) (run : Routine → Fun 𝓤) (κ κ′ : Lft) (q q′ : Share) (b o : ℕ) (γ : GName) (h : Monitor) (s : RefT (List ℕ)) where
+module _ {M : Type 1} (𝓤 : URA M) (H : Heap 𝓤) (A : Atoms 𝓤) (W : Given 𝓤 H A) (at-mem : Memory → SProp 𝓤) (run : Routine → Fun 𝓤) (κ κ′ : Lft) (q q′ : Share) (b o : ℕ) (γ : GName) (h : Indexed) (s : RefT (List ℕ)) where
   abbrev κs : Lfts 2
   κs = (κ, (κ′, tt))
 

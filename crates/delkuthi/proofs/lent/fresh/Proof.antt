@@ -2,6 +2,7 @@
 use native.Mathlib.Omega.{arith}
 use borrow.Author.Needs.{needs}
 use Prim.Native.Nat.{_≤_, _<_}
+use mathlib.Core.Path.{_∙_}
 use denote.Ref.{now}
 use Rattle.constraint.specs.Rows.{rowsOf}
 use Rattle.constraint.specs.Table.{ReadsTable, table-of, table-refused}
@@ -28,6 +29,9 @@ enum-told c = search needs
 fresh-requires : tie.Need-fresh-requires
 fresh-requires c κs = search needs
 
+over-requires : tie.Need-over-requires
+over-requires c κs = search needs
+
 enum-known-answer : tie.Need-enum-known-answer
 enum-known-answer c = search needs
 
@@ -48,7 +52,9 @@ returns c =
     let bytes = now (at-read .before .before .args .table) in
     let table = at-read .read .result .table in
     let read : ReadsTable bytes (table-of (rowsOf table)) = rw (told .enum-told .given .1) at (at-read .read .ensures .reads) in
-    rw (fresh-made table (at-fresh .fresh .result .answer) (at-fresh .fresh .result .monitor) (read-accepted bytes (rowsOf table) read) (at-fresh .fresh .ensures)) (begun (rowsOf table) read)
+    begun (rowsOf table) _ read
+    (c .over .ensures .0 ∙ fresh-made table (at-fresh .fresh .result .answer) (at-fresh .fresh .result .monitor) (read-accepted bytes (rowsOf table) read) (at-fresh .fresh .ensures))
+    (c .over .ensures .1)
 
 returns-2 : tie.Need-returns-2
 returns-2 c = refused _ _ (refusal (c .before)) (small (c .before) .0) (omega arith)
@@ -60,6 +66,7 @@ fresh-spec =
     read-requires
     enum-told
     fresh-requires
+    over-requires
     enum-known-answer
     mul-t11
     cast-t12

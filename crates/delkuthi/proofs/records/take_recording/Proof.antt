@@ -1,6 +1,6 @@
 -- The monitor lies in a local of its own and is lent to the call of each turn; what holds of the turn and of the monitor before a call holds of the next turn and of the monitor after it, and
 -- each turn leaves fewer.
-use mathlib.Core.Path.{refl}
+use mathlib.Core.Path.{refl, sym, subst}
 use Prim.Native.Nat.{ℕ}
 use mathlib.Core.Bool.{Bool}
 use mathlib.Core.List.{[], _∷_, List}
@@ -22,16 +22,22 @@ use denote.Triple.Statement.{Triple}
 use denote.Triple.Table.{cited}
 use Rattle.monitor.specs.declared.Monitor.{Monitor}
 use Rattle.inplace.proofs.Plain.{Plain, struct, enum, Known, typed}
-use Rattle.inplace.proofs.Types.{byte-type, call-type, monitor-type}
+use Rattle.inplace.proofs.Types.{byte-type, call-type, monitor-type, indexed-type}
 use Rattle.inplace.proofs.Frame.{no-demand}
 use Rattle.inplace.proofs.Locals.{Frame, env, leaves, copies, sets, lands-in}
-use Rattle.inplace.proofs.Calls.{Callee, triple, lent-callee, lent-triple, calls-mut}
+use Rattle.inplace.proofs.Calls.{Callee, triple, lent-callee, lent-triple, calls-mut, pure-triple, calls-plain}
 use Rattle.inplace.proofs.Bytes.{bytes-slot, slice, bytes-at, calls-bytes, calls-bytes-last, Reading, enters-reading}
+use Rattle.inplace.specs.Index.{Indexes}
+use Rattle.inplace.specs.declared.index.Indexed.{Indexed}
+use Rattle.inplace.proofs.Within.{monitor-in}
 use Rattle.inplace.proofs.Loop.{repeats}
-use Rattle.inplace.proofs.Promises.{take}
-use Rattle.inplace.proofs.take.Symbol as take-def
-use Rattle.inplace.proofs.take.Symbol.{name as #inplace·take}
-use Rattle.inplace.proofs.take.Met as take-thm
+use Rattle.inplace.proofs.Promises.{indexed-over, take-indexed}
+use Rattle.inplace.proofs.index.over.Symbol as over-def
+use Rattle.inplace.proofs.index.over.Symbol.{name as #inplace·index·over}
+use Rattle.inplace.proofs.index.over.Met as over-thm
+use Rattle.inplace.proofs.index.take.Symbol as take-def
+use Rattle.inplace.proofs.index.take.Symbol.{name as #inplace·index·take}
+use Rattle.inplace.proofs.index.take.Met as take-thm
 use Rattle.delkuthi.specs.Taking.{left, Turns, NextAtStart, NextAfter, TakesRecording}
 use Rattle.delkuthi.specs.declared.records.Turn.{Turn}
 use Rattle.delkuthi.specs.declared.records.RecordingTaken.{RecordingTaken}
@@ -82,46 +88,50 @@ gives m bytes r = TakesRecording m bytes r
 
 module _
     {M : Type 1} (𝓤 : URA M) (H : Heap 𝓤) (A : Atoms 𝓤) (W : Given 𝓤 H A) (𝓣 : Tables 𝓤 H) (cites-first : Triple 𝓤 (𝓣 .C #delkuthi·records·first-turn) (triple first-turn 𝓤 H A))
-    (cites-take : Triple 𝓤 (𝓣 .C #inplace·take) (lent-triple take 𝓤 H A)) (cites-next : Triple 𝓤 (𝓣 .C #delkuthi·records·next-turn) (triple next-turn 𝓤 H A)) where
+    (cites-over : Triple 𝓤 (𝓣 .C #inplace·index·over) (pure-triple indexed-over 𝓤 H A)) (cites-take : Triple 𝓤 (𝓣 .C #inplace·index·take) (lent-triple take-indexed 𝓤 H A)) (cites-next : Triple 𝓤 (𝓣 .C #delkuthi·records·next-turn) (triple next-turn 𝓤 H A)) where
   -- [the bytes; their token; _0; …]: _i is at 2 + i; while the monitor's cell is lent, it stands in front of them
   walk : Reading monitor-type taken-type gives 𝓤 H A W (𝓣 .C) (𝓣 .Λ) code.function
   walk κ q s h h-is Kf ends bs =
-      sets ! (of-opd ! (copies ! 3 refl)) 5 refl (typed 𝓤 H A W monitor-type h h-is) $
+      calls-plain ! (fmOf 𝓤 H (W .laws) 𝓣) indexed-over cites-over (h, tt) (h-is, tt) tt (and-then ! (copies ! 4 refl) (no-more !)) (λ y y-is made.
+      lands-in ! 10 refl (typed 𝓤 H A W indexed-type y y-is) $
+      sets ! (of-opd ! (copies ! 10 refl)) 5 refl (typed 𝓤 H A W indexed-type y y-is) $
+      forget ! 10 refl $
       calls-bytes ! (fmOf 𝓤 H (W .laws) 𝓣) first-turn cites-first κ q s tt tt tt tt tt (and-then ! (copies ! 4 refl) (no-more !)) (λ turn ws turn-is begins.
       lands-in ! 6 refl (typed 𝓤 H A W turn-type turn turn-is) $
-      first ! $ blocks ! $ repeats 𝓤 H A W 𝓣 (env 𝓤 H (code.function .locals) bs) _ _ _ 7 State Good more size At 9 (record {
+      first ! $ blocks ! $ repeats 𝓤 H A W 𝓣 (env 𝓤 H (code.function .locals) bs) _ _ _ 9 State Good more size At 11 (record {
         test-typed = λ b. (tt, tt);
         room-there = λ x. refl;
         test-there = λ x b. refl;
         tests = λ x. of-opd ! (load ! (from ! (fld ! refl (stop !))) (look-in ! 6 (sub ! 0 refl (whole !))));
         goes-on = λ x Q good there again.
-            sets ! (addr ! (from ! (stop !))) 10 refl (tt, tt) $
+            sets ! (addr ! (from ! (stop !))) 12 refl (tt, tt) $
             move ! (5 ∷ []) $
-            calls-mut ! (fmOf 𝓤 H (W .laws) 𝓣) monitor-type (lent-callee take) cites-take (bs 3) 0 (x .1) (good .1 .0) (λ _. tt) (λ _. tt) (λ _. (x .0 .call, tt)) (λ _. (call-known (x .0) (good .0), tt)) (λ _ δ. tt)
-            (λ α δ. and-then ! (copies ! 11 refl) (and-then ! (load ! (from ! (fld ! refl (stop !))) (look-in ! 7 (sub ! 1 refl (whole !)))) (no-more !))) (λ κs δ n ws n-is kept m-is.
+            calls-mut ! (fmOf 𝓤 H (W .laws) 𝓣) indexed-type (lent-callee take-indexed) cites-take (bs 3) 0 (x .1) (good .1 .0) (λ _. tt) (λ _. tt) (λ _. (x .0 .call, tt)) (λ _. (call-known (x .0) (good .0), tt)) (λ _ δ. tt)
+            (λ α δ. and-then ! (copies ! 13 refl) (and-then ! (load ! (from ! (fld ! refl (stop !))) (look-in ! 7 (sub ! 1 refl (whole !)))) (no-more !))) (λ κs δ n ws n-is kept m-is.
             lands-in ! 7 refl (typed 𝓤 H A W byte-type n n-is) $
             move ! (1 ∷ 2 ∷ 3 ∷ 4 ∷ 5 ∷ 0 ∷ []) $
             calls-bytes-last ! (fmOf 𝓤 H (W .laws) 𝓣) next-turn cites-next κ q s tt (x .0, (n, tt)) tt (good .0, (n-is, tt)) tt
             (and-then ! (copies ! 4 refl) (and-then ! (copies ! 6 refl) (and-then ! (copies ! 7 refl) (no-more !)))) (λ turn′ ws′ turn′-is goes.
-            let on = goes h (x .1) (ws .0) there (good .1 .1) kept in
+            let stepped = kept .steps (good .1 .1 .0) in
+            let on = goes h (x .1 .monitor) (ws .0 .monitor) there (good .1 .1 .1) (stepped .0) in
             land-last ! (from ! (stop !)) (store ! 6 refl (typed 𝓤 H A W turn-type turn′ turn′-is)) $
-            forget ! 7 refl $ forget ! 9 refl $ forget ! 10 refl $ by ! (again (turn′, ws .0) (turn′-is, (m-is, on .0)) (on .1))));
+            forget ! 7 refl $ forget ! 11 refl $ forget ! 12 refl $ by ! (again (turn′, ws .0) (turn′-is, (m-is, (stepped .1, on .0))) (on .1))));
         ends = λ x good over.
-            let taken : RecordingTaken = record { answer = x .0 .answer; monitor = x .1 } in
-            let taken-is : Known taken-type taken = LL.owes S.the-type S′.the-laws taken (answer-known (x .0) (good .0), (good .1 .0, tt)) in
-            exec ! (𝓣 .C) (𝓣 .Λ) (env 𝓤 H (code.function .locals) bs) code-mir.t-4 (atRet (env 𝓤 H (code.function .locals) bs) Kf) $
+            let taken : RecordingTaken = record { answer = x .0 .answer; monitor = x .1 .monitor } in
+            let taken-is : Known taken-type taken = LL.owes S.the-type S′.the-laws taken (answer-known (x .0) (good .0), (monitor-in (x .1) (good .1 .0), tt)) in
+            exec ! (𝓣 .C) (𝓣 .Λ) (env 𝓤 H (code.function .locals) bs) code-mir.t-5 (atRet (env 𝓤 H (code.function .locals) bs) Kf) $
             sets ! (of-opd ! (load ! (from ! (fld ! refl (stop !))) (look-in ! 6 (sub ! 4 refl (whole !))))) 8 refl (typed 𝓤 H A W answer-type (x .0 .answer) (answer-known (x .0) (good .0))) $
-            sets ! (of-opd ! (copies ! 5 refl)) 11 refl (typed 𝓤 H A W monitor-type (x .1) (good .1 .0)) $
-            sets ! (agg ! (and-then ! (copies ! 8 refl) (and-then ! (copies ! 11 refl) (no-more !)))) 2 refl (typed 𝓤 H A W taken-type taken taken-is) $
-            leaves ! (code.function .locals) tt bs (taken-type .val taken) refl (ends taken taken-is (turns-over h (s .now) (x .0) (x .1) over (good .1 .1)));
-      }) (turn, h) (turn-is, (h-is, begins h)))
+            sets ! (of-opd ! (load ! (from ! (fld ! refl (stop !))) (look-in ! 5 (sub ! 0 refl (whole !))))) 9 refl (typed 𝓤 H A W monitor-type (x .1 .monitor) (monitor-in (x .1) (good .1 .0))) $
+            sets ! (agg ! (and-then ! (copies ! 8 refl) (and-then ! (copies ! 9 refl) (no-more !)))) 2 refl (typed 𝓤 H A W taken-type taken taken-is) $
+            leaves ! (code.function .locals) tt bs (taken-type .val taken) refl (ends taken taken-is (turns-over h (s .now) (x .0) (x .1 .monitor) over (good .1 .1 .1)));
+      }) (turn, y) (turn-is, (y-is, (made .1, subst (Turns h (s .now) turn) (sym (made .0)) (begins h))))))
     where
       -- a turn, and the monitor before it
       State : Type 0
-      State = Turn × Monitor
+      State = Turn × Indexed
 
       Good : State → Type 0
-      Good x = Known turn-type (x .0) × (Known monitor-type (x .1) × Turns h (s .now) (x .0) (x .1))
+      Good x = Known turn-type (x .0) × (Known indexed-type (x .1) × (Indexes (x .1) × Turns h (s .now) (x .0) (x .1 .monitor)))
 
       more : State → Bool
       more x = x .0 .more
@@ -131,7 +141,7 @@ module _
 
       At : State → List (Item 𝓤)
       At x = ‵ (bytes-at κ s) ∷ ‵ (flft κ q)
-          ∷ Frame 𝓤 H A W (code.function .locals) bs (none ∷ some (monitor-type .val h) ∷ some (slice s) ∷ some (monitor-type .val (x .1)) ∷ some (turn-type .val (x .0)) ∷ [])
+          ∷ Frame 𝓤 H A W (code.function .locals) bs (none ∷ some (monitor-type .val h) ∷ some (slice s) ∷ some (indexed-type .val (x .1)) ∷ some (turn-type .val (x .0)) ∷ [])
 
       call-known : (turn : Turn) → Known turn-type turn → Known call-type (turn .call)
       call-known turn is = LL.owed T.the-type T′.the-laws turn _ is .1 .0
@@ -146,5 +156,6 @@ take-recording-spec 𝓤 H 𝓜 𝓖 𝓡 =
     (λ κ s h h-is s-is. (typed 𝓤 H (𝓖 .A) (givenOf 𝓤 H 𝓜 𝓖) monitor-type h h-is, (shr-slice-lawful 𝓤 H (𝓖 .A) (givenOf 𝓤 H 𝓜 𝓖) (named 0) κ u8 .typed s (slice s ∷ []) s-is .0, tt)))
     (walk 𝓤 H (𝓖 .A) (givenOf 𝓤 H 𝓜 𝓖) (tablesOf 𝓤 H 𝓜 (tables 𝓤 H 𝓜 𝓡 code.env))
     (cited 𝓤 H (triple first-turn 𝓤 H (𝓖 .A)) 𝓜 𝓡 code.env #delkuthi·records·first-turn first-def.routine code.calls-delkuthi·records·first-turn (first-thm.met 𝓤 H 𝓜 𝓖 𝓡))
-    (cited 𝓤 H (lent-triple take 𝓤 H (𝓖 .A)) 𝓜 𝓡 code.env #inplace·take take-def.routine code.calls-inplace·take (take-thm.met 𝓤 H 𝓜 𝓖 𝓡))
+    (cited 𝓤 H (pure-triple indexed-over 𝓤 H (𝓖 .A)) 𝓜 𝓡 code.env #inplace·index·over over-def.routine code.calls-inplace·index·over (over-thm.met 𝓤 H 𝓜 𝓖 𝓡))
+    (cited 𝓤 H (lent-triple take-indexed 𝓤 H (𝓖 .A)) 𝓜 𝓡 code.env #inplace·index·take take-def.routine code.calls-inplace·index·take (take-thm.met 𝓤 H 𝓜 𝓖 𝓡))
     (cited 𝓤 H (triple next-turn 𝓤 H (𝓖 .A)) 𝓜 𝓡 code.env #delkuthi·records·next-turn next-def.routine code.calls-delkuthi·records·next-turn (next-thm.met 𝓤 H 𝓜 𝓖 𝓡)))

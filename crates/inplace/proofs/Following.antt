@@ -1,0 +1,201 @@
+-- One row after the other of a list of rows takes a step. Where the others would be left as they are by it, that is the step of all rows.
+use Prim.Native.Nat.{ℕ, zero, suc, _<_, _≤_, min}
+use native.Mathlib.Numerals.{add-one}
+use native.Mathlib.Omega.{arith}
+use mathlib.Core.Path.{_≡_, refl, sym, _∙_, ap, subst}
+use mathlib.Core.Bool.{Bool, true, false, cond, _||_}
+use mathlib.Core.List.{List, [], _∷_, _++_, append-nil}
+use lib.ListN.{length, getD, set}
+use lib.Seq.{getD-set-same}
+use lib.Dec.{ltb}
+use borrow.Author.Tests.{ltb-true, ltb-false}
+use Rattle.constraint.proofs.Lists.{split}
+use Rattle.row.specs.Undo.{noBefore}
+use Rattle.row.specs.declared.Before.{Before}
+use Rattle.row.specs.declared.Row.{Row}
+use Rattle.monitor.specs.Machine.{noRow, mapFirst, zipFirst, anyFirst}
+use Rattle.monitor.specs.Parts.{withRows}
+use Rattle.monitor.specs.declared.Monitor.{Monitor}
+use Rattle.monitor.proofs.First.{map-behind, zip-none, zip-behind, zip-next, zip-length}
+use Rattle.inplace.specs.Store.{withRow}
+use Rattle.inplace.specs.Index.{numbers, rowAt, keptAt, withMonitor, heeded}
+use Rattle.inplace.specs.declared.index.Indexed.{Indexed}
+use Rattle.inplace.proofs.Elem.{set-getD}
+use Rattle.inplace.proofs.Crowding.{any-suc, none-crowded, or-none, or-assoc}
+
+-- ---- the first rows
+
+module _ (f : Row → Row) where
+  none-first : (rows : List Row) → mapFirst 0 f rows ≡ rows
+  unfolding mapFirst
+  none-first rows = refl
+
+  one-more : (i : ℕ) (rows : List Row) (d : Row) → set (mapFirst i f rows) i (f (getD (mapFirst i f rows) i d)) ≡ mapFirst (suc i) f rows
+  unfolding mapFirst
+  one-more zero [] d = refl
+  one-more zero (r ∷ rows) d = refl
+  one-more (suc i) [] d = refl
+  one-more (suc i) (r ∷ rows) d = ap {B = List Row} (λ l. f r ∷ l) (one-more i rows d)
+
+  -- a row that f leaves as it is
+  none-more : (i : ℕ) (rows : List Row) (d : Row) → f (getD rows i d) ≡ getD rows i d → mapFirst i f rows ≡ mapFirst (suc i) f rows
+  none-more i rows d e =
+      let same : f (getD (mapFirst i f rows) i d) ≡ getD (mapFirst i f rows) i d = ap f (map-behind f rows i d) ∙ e ∙ sym (map-behind f rows i d) in
+      sym (set-getD (mapFirst i f rows) i d) ∙ ap (set (mapFirst i f rows) i) (sym same) ∙ one-more i rows d
+
+  pub mapped : (n i : ℕ) (rows : List Row) (d : Row) → i < n → i < length rows → getD (mapFirst n f rows) i d ≡ f (getD rows i d)
+  unfolding mapFirst
+  mapped zero i rows d l there = absurd (omega arith)
+  mapped (suc n) i [] d l there = absurd (omega arith)
+  mapped (suc n) zero (r ∷ rows) d l there = refl
+  mapped (suc n) (suc i) (r ∷ rows) d l there = mapped n i rows d (omega arith) (omega arith)
+
+  pub map-length : (n : ℕ) (rows : List Row) → length (mapFirst n f rows) ≡ length rows
+  unfolding mapFirst
+  map-length zero rows = refl
+  map-length (suc n) [] = refl
+  map-length (suc n) (r ∷ rows) = ap suc (map-length n rows)
+
+-- what g did beforehand makes no difference to f
+pub map-twice : (f g : Row → Row) → ((r : Row) → f (g r) ≡ f r) → (n : ℕ) (rows : List Row) → mapFirst n f (mapFirst n g rows) ≡ mapFirst n f rows
+unfolding mapFirst
+map-twice f g same zero rows = refl
+map-twice f g same (suc n) [] = refl
+map-twice f g same (suc n) (r ∷ rows) = ap (λ (x : Row). x ∷ mapFirst n f (mapFirst n g rows)) (same r) ∙ ap {B = List Row} (λ l. f r ∷ l) (map-twice f g same n rows)
+
+-- ---- what is kept of them
+
+module _ (save : Row → Before → Before) where
+  zip-more : (rows : List Row) (kept : List Before) (i : ℕ) → i < length rows → i < length kept
+      → set (zipFirst i save rows kept) i (save (getD rows i noRow) (getD (zipFirst i save rows kept) i noBefore)) ≡ zipFirst (suc i) save rows kept
+  zip-more rows kept i there too = zip-next save rows kept i noRow noBefore there too ∙ ap (λ (n : ℕ). zipFirst n save rows kept) (add-one i)
+
+  -- one that is left as it is
+  zip-rests : (rows : List Row) (kept : List Before) (i : ℕ) → i < length rows → i < length kept → save (getD rows i noRow) (getD kept i noBefore) ≡ getD kept i noBefore
+      → zipFirst i save rows kept ≡ zipFirst (suc i) save rows kept
+  zip-rests rows kept i there too e =
+      let behind = zip-behind save rows kept i noBefore in
+      let same : save (getD rows i noRow) (getD (zipFirst i save rows kept) i noBefore) ≡ getD (zipFirst i save rows kept) i noBefore = ap (save (getD rows i noRow)) behind ∙ e ∙ sym behind in
+      sym (set-getD (zipFirst i save rows kept) i noBefore) ∙ ap (set (zipFirst i save rows kept) i) (sym same) ∙ zip-more rows kept i there too
+
+  pub zipped : (n i : ℕ) (rows : List Row) (kept : List Before) → i < n → i < length rows → i < length kept
+      → getD (zipFirst n save rows kept) i noBefore ≡ save (getD rows i noRow) (getD kept i noBefore)
+  unfolding zipFirst
+  zipped zero i rows kept l there too = absurd (omega arith)
+  zipped (suc n) i [] kept l there too = absurd (omega arith)
+  zipped (suc n) i (r ∷ rows) [] l there too = absurd (omega arith)
+  zipped (suc n) zero (r ∷ rows) (b ∷ kept) l there too = refl
+  zipped (suc n) (suc i) (r ∷ rows) (b ∷ kept) l there too = zipped n i rows kept (omega arith) (omega arith) (omega arith)
+
+pub zip-twice : (save t : Row → Before → Before) (g : Row → Row) → ((r : Row) (b : Before) → save (g r) (t r b) ≡ save r b) → (n : ℕ) (rows : List Row) (kept : List Before)
+    → zipFirst n save (mapFirst n g rows) (zipFirst n t rows kept) ≡ zipFirst n save rows kept
+unfolding mapFirst zipFirst
+zip-twice save t g same zero rows kept = refl
+zip-twice save t g same (suc n) [] kept = refl
+zip-twice save t g same (suc n) (r ∷ rows) [] = refl
+zip-twice save t g same (suc n) (r ∷ rows) (b ∷ kept) =
+    ap (λ (x : Before). x ∷ zipFirst n save (mapFirst n g rows) (zipFirst n t rows kept)) (same r b) ∙ ap {B = List Before} (λ l. save r b ∷ l) (zip-twice save t g same n rows kept)
+
+-- ---- rows one after the other
+
+-- below n + 1 is below n, or n
+below : {P : Type 0} (i n : ℕ) → i < suc n → (i < n → P) → (i ≡ n → P) → P
+below {P} i n l lower same = split (ltb i n) (λ b. P) (λ e. lower (ltb-true i n e)) (λ e. same (omega (arith, ltb-false i n e, l)))
+
+module _ (f : Row → Row) (save : Row → Before → Before) where
+  -- row i of an indexed monitor, what is kept of it, and its due time heeded
+  abbrev pub visit : Indexed → ℕ → Indexed
+  visit h i = heeded (withMonitor h (withRow (h .monitor) i (f (rowAt (h .monitor) i)) (save (rowAt (h .monitor) i) (keptAt (h .monitor) i)))) i
+
+  abbrev pub visits : Indexed → List ℕ → Indexed
+  visits h [] = h
+  visits h (i ∷ is) = visits (visit h i) is
+
+  pub visits-last : (is : List ℕ) (h : Indexed) (i : ℕ) → visits h (is ++ (i ∷ [])) ≡ visit (visits h is) i
+  visits-last [] h i = refl
+  visits-last (j ∷ is) h i = visits-last is (visit h j) i
+
+  pub visits-lists : (is : List ℕ) (h : Indexed) → visits h is .lists ≡ h .lists
+  visits-lists [] h = refl
+  visits-lists (j ∷ is) h = visits-lists is (visit h j)
+
+  module _ (test : ℕ → Bool) (h : Indexed) (kept-there : length (h .monitor .before) ≡ length (h .monitor .rows)) where
+    abbrev rows : List Row
+    rows = h .monitor .rows
+
+    abbrev kept : List Before
+    kept = h .monitor .before
+
+    abbrev row : ℕ → Row
+    row i = rowAt (h .monitor) i
+
+    -- after the rows below n that pass the test
+    pub record Visited (n : ℕ) (x : Indexed) : Type 0 where
+      pub monitor-is : x .monitor ≡ withRows (h .monitor) (mapFirst n f rows) (zipFirst n save rows kept)
+      pub not-later : x .soonest ≤ h .soonest
+      pub heeds : (i : ℕ) → i < n → x .soonest ≤ f (row i) .now .due
+
+    -- one more passes it
+    goes : (n : ℕ) (x : Indexed) → n < length rows → Visited n x → Visited (suc n) (visit x n)
+    goes n x there so-far =
+        let first : x .monitor .rows ≡ mapFirst n f rows = ap (λ (m : Monitor). m .rows) (so-far .monitor-is) in
+        let before : rowAt (x .monitor) n ≡ row n = ap (λ (l : List Row). getD l n noRow) first ∙ map-behind f rows n noRow in
+        let wide : length (x .monitor .rows) ≡ length rows = ap length first ∙ map-length f n rows in
+        let after : rowAt (visit x n .monitor) n ≡ f (row n) = getD-set-same (x .monitor .rows) n (f (rowAt (x .monitor) n)) noRow (omega (arith, there, wide)) ∙ ap f before in
+        let due : visit x n .soonest ≤ f (row n) .now .due = subst (λ (r : Row). visit x n .soonest ≤ r .now .due) after (omega arith) in
+        let less : visit x n .soonest ≤ x .soonest = omega arith in
+        record {
+          monitor-is = ap (λ (m : Monitor). withRow m n (f (getD (m .rows) n noRow)) (save (getD (m .rows) n noRow) (getD (m .before) n noBefore))) (so-far .monitor-is)
+              ∙ ap (λ (l : List Row). withRows (h .monitor) l (set (zipFirst n save rows kept) n (save (getD (mapFirst n f rows) n noRow) (getD (zipFirst n save rows kept) n noBefore)))) (one-more f n rows noRow)
+              ∙ ap (λ (r : Row). withRows (h .monitor) (mapFirst (suc n) f rows) (set (zipFirst n save rows kept) n (save r (getD (zipFirst n save rows kept) n noBefore)))) (map-behind f rows n noRow)
+              ∙ ap (withRows (h .monitor) (mapFirst (suc n) f rows)) (zip-more save rows kept n there (omega (arith, there, kept-there)));
+          not-later = omega (arith, less, so-far .not-later);
+          heeds = λ i l. below i n l (λ k. omega (arith, less, so-far .heeds i k)) (λ e. subst (λ (j : ℕ). visit x n .soonest ≤ f (row j) .now .due) (sym e) due);
+        }
+
+    -- one more does not, and is left as it is
+    abbrev Rests : ℕ → Type 0
+    Rests i = (f (row i) ≡ row i) × ((save (row i) (keptAt (h .monitor) i) ≡ keptAt (h .monitor) i) × (h .soonest ≤ row i .now .due))
+
+    rests : (n : ℕ) (x : Indexed) → n < length rows → Rests n → Visited n x → Visited (suc n) x
+    rests n x there same so-far =
+        record {
+          monitor-is = so-far .monitor-is ∙ ap (λ (l : List Row). withRows (h .monitor) l (zipFirst n save rows kept)) (none-more f n rows noRow (same .0))
+              ∙ ap (withRows (h .monitor) (mapFirst (suc n) f rows)) (zip-rests save rows kept n there (omega (arith, there, kept-there)) (same .1 .0));
+          not-later = so-far .not-later;
+          heeds = λ i l. below i n l (so-far .heeds i) (λ e. subst (λ (j : ℕ). x .soonest ≤ f (row j) .now .due) (sym e) (subst (λ (r : Row). x .soonest ≤ r .now .due) (sym (same .0)) (omega (arith, same .1 .1, so-far .not-later))));
+        }
+
+    pub visited : (n : ℕ) → n ≤ length rows → ((i : ℕ) → i < n → test i ≡ false → Rests i) → Visited n (visits h (numbers test n))
+    visited zero there others =
+        record {
+          monitor-is = sym (ap (λ (l : List Row). withRows (h .monitor) l (zipFirst 0 save rows kept)) (none-first f rows) ∙ ap (withRows (h .monitor) rows) (zip-none save rows kept));
+          not-later = omega arith;
+          heeds = λ i l. absurd (omega (arith, l));
+        }
+    visited (suc n) there others =
+        let so-far = visited n (omega (arith, there)) (λ i l. others i (omega (arith, l))) in
+        split (test n) (λ b. Visited (suc n) (visits h (numbers test n ++ cond b (n ∷ []) [])))
+        (λ e. subst (Visited (suc n)) (sym (visits-last (numbers test n) h n)) (goes n (visits h (numbers test n)) (omega (arith, there)) so-far))
+        (λ e. subst (λ (l : List ℕ). Visited (suc n) (visits h l)) (sym (append-nil (numbers test n))) (rests n (visits h (numbers test n)) (omega (arith, there)) (others n (omega arith) e) so-far))
+
+-- ---- one of them has a mark
+
+module _ (q : ℕ → Bool) where
+  abbrev pub anyIn : List ℕ → Bool
+  anyIn [] = false
+  anyIn (i ∷ is) = q i || anyIn is
+
+  pub any-last : (is : List ℕ) (i : ℕ) → anyIn (is ++ (i ∷ [])) ≡ (anyIn is || q i)
+  any-last [] i = or-none (q i)
+  any-last (j ∷ is) i = ap (λ (b : Bool). q j || b) (any-last is i) ∙ or-assoc (q j) (anyIn is) (q i)
+
+-- a mark that only rows have that pass the test
+pub any-numbers : (mark : Row → Bool) (test : ℕ → Bool) (rows : List Row) (n : ℕ) → n ≤ length rows → ((i : ℕ) → i < n → test i ≡ false → mark (getD rows i noRow) ≡ false)
+    → anyIn (λ i. mark (getD rows i noRow)) (numbers test n) ≡ anyFirst n mark rows
+any-numbers mark test rows zero there others = sym (none-crowded mark rows)
+any-numbers mark test rows (suc n) there others =
+    let so-far = any-numbers mark test rows n (omega (arith, there)) (λ i l. others i (omega (arith, l))) in
+    split (test n) (λ b. anyIn (λ i. mark (getD rows i noRow)) (numbers test n ++ cond b (n ∷ []) []) ≡ anyFirst (suc n) mark rows)
+    (λ e. any-last (λ i. mark (getD rows i noRow)) (numbers test n) n ∙ ap (λ (b : Bool). b || mark (getD rows n noRow)) so-far ∙ sym (any-suc mark rows n noRow (omega (arith, there))))
+    (λ e. ap (anyIn (λ i. mark (getD rows i noRow))) (append-nil (numbers test n)) ∙ so-far ∙ sym (or-none (anyFirst n mark rows)) ∙ ap (λ (b : Bool). anyFirst n mark rows || b) (sym (others n (omega arith) e)) ∙ sym (any-suc mark rows n noRow (omega (arith, there))))

@@ -68,7 +68,7 @@ static void calls(delkuthi_monitor *monitor)
         if (i % 8 == 7)
             (void)delkuthi_close(monitor);
         if (number() % 8 == 0)
-            monitor->words[number() % 3322] = number();
+            monitor->words[number() % 3596] = number();
     }
 }
 

@@ -26,9 +26,11 @@ list-same : (l l′ : List ℕ) (k : ℕ) → ((j : ℕ) → j < listPlaces → 
     → (getD l (k * listPlaces) 0 ≡ getD l′ (k * listPlaces) 0) × (listAt l k ≡ listAt l′ k)
 list-same l l′ k same =
     let at = k * listPlaces in
-    let first : getD l at 0 ≡ getD l′ at 0 = subst (λ (p : ℕ). getD l p 0 ≡ getD l′ p 0) (omega arith) (same 0 (omega arith)) in
-    (first, ap (λ (n : ℕ). entries l (at + 1) (min n rowLimit)) first
-    ∙ entries-same l l′ (at + 1) (min (getD l′ at 0) rowLimit) (λ j h. subst (λ (p : ℕ). getD l p 0 ≡ getD l′ p 0) (omega arith) (same (suc j) (omega (arith, h)))))
+    let first : getD l at 0 ≡ getD l′ at 0 = subst (λ (p : ℕ). getD l p 0 ≡ getD l′ p 0) (omega arith) (same 0 (omega arith)) in (
+      first,
+      ap (λ (n : ℕ). entries l (at + 1) (min n rowLimit)) first
+          ∙ entries-same l l′ (at + 1) (min (getD l′ at 0) rowLimit) (λ j h. subst (λ (p : ℕ). getD l p 0 ≡ getD l′ p 0) (omega arith) (same (suc j) (omega (arith, h)))),
+    )
 
 getD-replicate-0 : (n i : ℕ) → _≡_ {A = ℕ} (getD (replicate n 0) i 0) 0
 getD-replicate-0 zero i = refl

@@ -311,13 +311,13 @@ module _ (h : Indexed) (call : Call) (whole : length (h .monitor .rows) ≡ 32) 
         let kept-are : x .monitor .before ≡ zipFirst n t (m .rows) (m .before) = ap (λ (y : Monitor). y .before) made in
         let at : (i : ℕ) → i < n → rowAt (x .monitor) i ≡ g (rowAt m i) = λ i k. ap (λ (rows : List Row). getD rows i noRow) rows-are ∙ mapped g n i (m .rows) noRow k (omega (arith, whole, k)) in
         let too : (i : ℕ) → i < n → keptAt (x .monitor) i ≡ t (rowAt m i) (keptAt m i) =
-            λ i k. ap (λ (kept : List Before). getD kept i noBefore) kept-are ∙ zipped t n i (m .rows) (m .before) k (omega (arith, whole, k)) (omega (arith, kept-whole, k)) in
+        λ i k. ap (λ (kept : List Before). getD kept i noBefore) kept-are ∙ zipped t n i (m .rows) (m .before) k (omega (arith, whole, k)) (omega (arith, kept-whole, k)) in
         let wide : length (x .monitor .rows) ≡ 32 = ap length rows-are ∙ map-length g n (m .rows) ∙ whole in
         let kept-wide : length (x .monitor .before) ≡ 32 = ap length kept-are ∙ zip-length t (m .rows) (m .before) n ∙ kept-whole in
         let there : n ≤ length (x .monitor .rows) = omega (arith, wide) in
         let v = visited step save (isIn m (listFor o)) x (kept-wide ∙ sym wide) n there (λ i k out.
-                    subst (λ (r : Row). (step r ≡ r) × ((save r (keptAt (x .monitor) i) ≡ keptAt (x .monitor) i) × (x .soonest ≤ r .now .due))) (sym (at i k))
-                    (subst (λ (b : Before). (step (g (rowAt m i)) ≡ g (rowAt m i)) × ((save (g (rowAt m i)) b ≡ b) × (x .soonest ≤ g (rowAt m i) .now .due))) (sym (too i k)) (others i k out))) in
+        subst (λ (r : Row). (step r ≡ r) × ((save r (keptAt (x .monitor) i) ≡ keptAt (x .monitor) i) × (x .soonest ≤ r .now .due))) (sym (at i k))
+        (subst (λ (b : Before). (step (g (rowAt m i)) ≡ g (rowAt m i)) × ((save (g (rowAt m i)) b ≡ b) × (x .soonest ≤ g (rowAt m i) .now .due))) (sym (too i k)) (others i k out))) in
         let same-list = list-visited x same in
         record {
           monitor-is = ap (λ (y : Indexed). y .monitor) same-list ∙ v .monitor-is ∙ ap (λ (y : Monitor). withRows y (mapFirst n step (y .rows)) (zipFirst n save (y .rows) (y .before))) made

@@ -1,5 +1,5 @@
--- A monitor and its index: for each kind the rows that it concerns, and a time before which no row is due. What the index says of the monitor, and what a
--- call makes of both.
+-- A monitor and its index: for each kind the rows that it concerns, and a time before which no row is due. What the index says of the
+-- monitor, and what a call makes of both.
 use Prim.Native.Nat.{ℕ, zero, suc, _+_, _*_, _%_, _<_, _≤_, min}
 use mathlib.Core.Path.{_≡_}
 use mathlib.Core.Bool.{Bool, false, cond, _||_}
@@ -160,8 +160,8 @@ begun h n o number = cond (ltb (h .soonest) (o .time)) (passed h n o number) h
 
 -- ---- a call
 
--- a refusal changes nothing, whatever was lent; where the index is the monitor's, the call is the monitor's step, and the index is that of the monitor
--- after it
+-- a refusal changes nothing, whatever was lent; where the index is the monitor's, the call is the monitor's step, and the index is that
+-- of the monitor after it
 pub record Takes (h : Indexed) (call : Call) (number : ℕ) (after : Indexed) : Type 0 where
   pub untouched : ¬ (number ≡ 0) → after ≡ h
   pub steps : Indexes h → Steps (h .monitor) call (steppedFrom number (after .monitor)) × Indexes after

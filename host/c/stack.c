@@ -66,6 +66,12 @@ static void *verdict(void *unused)
     return unused;
 }
 
+static void *withdraw(void *unused)
+{
+    (void)delkuthi_withdraw(&monitor);
+    return unused;
+}
+
 static void *printed(void *unused)
 {
     (void)delkuthi_page(&monitor, page, sizeof page);
@@ -148,6 +154,7 @@ int main(int argc, char **argv)
     well &= within(DELKUTHI_MONITOR_STACK, "fresh", fresh);
     well &= within(DELKUTHI_STEP_STACK, "event", event);
     well &= within(DELKUTHI_STEP_STACK, "tick", tick);
+    well &= within(DELKUTHI_STEP_STACK, "withdraw", withdraw);
     well &= within(DELKUTHI_STEP_STACK, "verdict", verdict);
     well &= within(DELKUTHI_STEP_STACK, "close", close_it);
     well &= within(DELKUTHI_PAGE_STACK, "page", printed);

@@ -90,7 +90,7 @@
  *   stack, join      at most 16 KiB       DELKUTHI_JOIN_STACK
  *   stack, stretch   at most 32 KiB       DELKUTHI_STRETCH_STACK
  *   stack, fresh     at most 256 KiB      DELKUTHI_MONITOR_STACK
- *   stack, steps     at most 1 KiB        DELKUTHI_STEP_STACK
+ *   stack, steps     at most 2 KiB        DELKUTHI_STEP_STACK
  *
  * What waits in a row: sources that have no target yet (Delay, StrongDelay),
  * groups begun and not complete (StrongSynchronization). In other rows nothing
@@ -302,7 +302,7 @@ extern "C" {
 #define DELKUTHI_JOIN_STACK    16384
 #define DELKUTHI_STRETCH_STACK 32768
 #define DELKUTHI_MONITOR_STACK 262144
-#define DELKUTHI_STEP_STACK    1024
+#define DELKUTHI_STEP_STACK    2048
 
 /* The upper of a Delay, Repeat or Sporadic that has no upper limit. */
 #define DELKUTHI_NO_LIMIT UINT64_C(18446744073709551615)

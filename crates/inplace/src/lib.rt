@@ -21,7 +21,7 @@ ghost use Rattle.row.specs.Machine.{rowFrom, rowStep};
 ghost use Rattle.monitor.specs.Machine.{noRow};
 ghost use Rattle.monitor.specs.Parts.{rowsWithout};
 ghost use Rattle.monitor.specs.Contract.{Steps, Withdraws};
-ghost use Rattle.inplace.specs.Store.{steppedFrom, askedRows, askedOf, askedBy, answerOf, rowStepped, rowsStepped, rowsCrowded, withNumbers, mayAnswer, withdrawalOf, withdrawalBy, rowBack, withUndo};
+ghost use Rattle.inplace.specs.Store.{steppedFrom, askedRows, askedOf, askedBy, answerOf, rowStepped, withNumbers, mayAnswer, withdrawalOf, withdrawalBy, rowBack, withUndo};
 
 pub mod index;
 
@@ -114,18 +114,6 @@ fn row_step(m: &mut Monitor, i: usize, o: Occurrence, number: u64)
     }
 }
 
-// Each of the first n rows of a monitor that is lent, after what occurs.
-fn rows_step(m: &mut Monitor, n: usize, o: Occurrence, number: u64)
-    requires { ⌜ n ≤ 32 ⌝ }
-    ensures { λ _. ⌜ now (m .exit) ≡ rowsStepped (now (m .entry)) n o number ⌝ }
-{
-    let mut i = 0;
-    while i < n {
-        row_step(m, i, o, number);
-        i += 1;
-    }
-}
-
 // Whether what occurs crowds row i of a monitor that is lent.
 fn row_asks(m: &mut Monitor, i: usize, o: Occurrence) -> bool
     requires { ⌜ i < 32 ⌝ }
@@ -135,21 +123,6 @@ fn row_asks(m: &mut Monitor, i: usize, o: Occurrence) -> bool
     let rule = r.rule;
     let old = r.now;
     crowded(rule, old, &r.times, o)
-}
-
-// Whether what occurs crowds one of the first n rows of a monitor that is lent.
-fn rows_ask(m: &mut Monitor, n: usize, o: Occurrence) -> bool
-    requires { ⌜ n ≤ 32 ⌝ }
-    ensures { λ r. ⌜ ((number : ℕ) → r ≡ rowsCrowded (now (m .entry)) n o number) × (now (m .exit) ≡ now (m .entry)) ⌝ }
-{
-    let mut any = false;
-    let mut i = 0;
-    while i < n {
-        let one = row_asks(m, i, o);
-        any = either(any, one);
-        i += 1;
-    }
-    any
 }
 
 // All questions but 12, of a monitor that is lent.
@@ -171,20 +144,6 @@ fn put_numbers(m: &mut Monitor, q: Asked)
     m.count = q.step;
     m.closed = q.closed;
     m.undo = q.undo;
-}
-
-// A call on a monitor that is lent, in place: 0 if it is taken, else the number of its refusal.
-pub fn take(m: &mut Monitor, call: Call) -> u8
-    ensures { λ r. ⌜ Steps (now (m .entry)) call (steppedFrom r (now (m .exit))) ⌝ }
-{
-    let q = ask_at(m, call);
-    let crowded = rows_ask(m, q.rows, q.occurrence);
-    let answer = answer_of(q.number, crowded);
-    if answer == 0 {
-        rows_step(m, q.rows, q.occurrence, q.step);
-        put_numbers(m, q);
-    }
-    answer
 }
 
 // What a withdrawal is to do: its answer, 0 or 21; from how many rows it takes the last step, and its number; and the numbers to put back.

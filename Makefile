@@ -34,7 +34,7 @@ help:
 	@echo "With DELKUTHI_LIB set, libdelkuthi.a is taken from the folder that it names, and rt is not needed."
 
 # The archive: proved and built, or taken from where DELKUTHI_LIB says. It is put together of parts that are compiled by
-# themselves: the search for a stretch uses what a step uses, and would make the steps slower if both were compiled as one.
+# themselves: the search for a stretch uses what a step uses, and the compiler would treat the steps otherwise if both were one.
 ifdef DELKUTHI_LIB
 ARCHIVES := $(DELKUTHI_LIB)/libdelkuthi.a
 else

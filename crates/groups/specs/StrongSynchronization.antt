@@ -1,10 +1,11 @@
 -- StrongSynchronization: the times are the first times of the groups begun and not complete; `first` to `fourth` say how many of these groups
 -- have an event of that kind.
 use Prim.Native.Nat.{ℕ, _-_}
-use mathlib.Core.Bool.{Bool, cond, _&&_, _||_}
+use mathlib.Core.Bool.{Bool, true, false, cond, _&&_, _||_}
 use mathlib.Core.List.{List}
 use lib.ListN.{length}
 use lib.Dec.{ltb, eqb}
+use Rattle.constraint.specs.Limits.{waitingLimit}
 use Rattle.queue.specs.declared.Edit.the-variants.{Drop, Push}
 use Rattle.machine.specs.Rule.{noKind}
 use Rattle.machine.specs.Parts.{plus, waits}
@@ -46,6 +47,10 @@ complete rule marks =
 -- the counts without the oldest group
 abbrev pub withoutOldest : Marks → Marks
 withoutOldest marks = withCounts (marks .first - 1) (marks .second - 1) (marks .third - 1) (marks .fourth - 1) marks
+
+-- 64 groups begun, one more begins: they all have an event of the kind
+unfoldable pub fillsStrongSynchronization : Rule → Marks → ℕ → ℕ → ℕ → Bool
+fillsStrongSynchronization rule marks len kind t = cond (ltb len waitingLimit) false (cond (ltb (countOf rule marks kind) len) false true)
 
 -- an event of a kind that all groups have begins a new one; any other goes to the first group that lacks its kind, and a complete one leaves
 unfoldable pub decideStrongSynchronization : Rule → Marks → List ℕ → ℕ → ℕ → Change

@@ -8,8 +8,9 @@ use machine::parts;
 use queue::SIZE;
 use queue::minus;
 ghost use mathlib.Core.Path.{_≡_};
+ghost use Prim.Native.Nat.{ℕ};
 ghost use Rattle.queue.specs.Ring.{ring};
-ghost use Rattle.groups.specs.StrongSynchronization.{countOf, oneMore, counted, has, complete, withoutOldest, decideStrongSynchronization};
+ghost use Rattle.groups.specs.StrongSynchronization.{fillsStrongSynchronization, countOf, oneMore, counted, has, complete, withoutOldest, decideStrongSynchronization};
 
 // What an event makes of the row.
 pub fn decide(
@@ -31,6 +32,19 @@ pub fn decide(
         return parts::fewer_wait(rule.upper, now, times, head, len, 0);
     }
     parts::one_more_waits(rule.upper, now, times, head, len, t)
+}
+
+// Whether an event begins one more group, where there is no room.
+pub fn fills(rule: Rule, marks: Marks, len: usize, kind: u64) -> bool
+    ensures { λ r. ⌜ ((t : ℕ) → r ≡ fillsStrongSynchronization rule marks len kind t) ⌝ }
+{
+    if len < SIZE {
+        return false;
+    }
+    if count_of(rule, marks, kind) < len as u64 {
+        return false;
+    }
+    true
 }
 
 // How many of the groups have an event of the kind.

@@ -1,8 +1,9 @@
 -- Delay: the times are the waiting sources; `last` is one more than the last target's time.
 use Prim.Native.Nat.{ℕ, suc, _+_}
-use mathlib.Core.Bool.{Bool, cond, _&&_}
+use mathlib.Core.Bool.{Bool, true, false, cond, _&&_}
 use mathlib.Core.List.{List, [], _∷_}
-use lib.Dec.{leb, eqb}
+use lib.Dec.{leb, ltb, eqb}
+use Rattle.constraint.specs.Limits.{waitingLimit}
 use Rattle.queue.specs.declared.Edit.the-variants.{Drop, Push}
 use Rattle.machine.specs.Parts.{plus, withLast, waits}
 use Rattle.machine.specs.declared.Rule.{Rule}
@@ -17,6 +18,11 @@ answeredBy lower t (s ∷ sources) = cond (leb (s + lower) t) (suc (answeredBy l
 -- a source at t that the last target answers at once
 abbrev pub answeredAtOnce : ℕ → ℕ → ℕ → Bool
 answeredAtOnce lower last t = eqb lower 0 && eqb last (plus t 1)
+
+-- 64 waiting, one more waits: a source that is not answered at once
+unfoldable pub fillsDelay : Rule → Marks → ℕ → ℕ → ℕ → Bool
+fillsDelay rule marks len kind t =
+    cond (ltb len waitingLimit) false (cond (eqb kind (rule .first)) (cond (answeredAtOnce (rule .lower) (marks .last) t) false true) false)
 
 -- a source waits unless it is answered at once; a target leaves with those that it answers
 unfoldable pub decideDelay : Rule → Marks → List ℕ → ℕ → ℕ → Change

@@ -1,14 +1,19 @@
 -- StrongDelay: the times are the sources beyond the number of targets; `last` is one more than the time of a target beyond the number of
 -- sources.
 use Prim.Native.Nat.{ℕ, _+_}
-use mathlib.Core.Bool.{false, cond}
+use mathlib.Core.Bool.{Bool, false, cond}
 use mathlib.Core.List.{List}
-use lib.Dec.{leb, eqb}
+use lib.Dec.{leb, ltb, eqb}
+use Rattle.constraint.specs.Limits.{waitingLimit}
 use Rattle.queue.specs.declared.Edit.the-variants.{Drop, Push}
 use Rattle.machine.specs.Parts.{plus, earlyOf, withLast, goesOn, breaking, waits, front, none-left}
 use Rattle.machine.specs.declared.Rule.{Rule}
 use Rattle.machine.specs.declared.Marks.{Marks}
 use Rattle.machine.specs.declared.Change.{Change}
+
+-- 64 waiting, one more waits: a source, and no target is beyond
+unfoldable pub fillsStrongDelay : Rule → Marks → ℕ → ℕ → ℕ → Bool
+fillsStrongDelay rule marks len kind t = cond (ltb len waitingLimit) false (cond (eqb kind (rule .first)) (eqb (earlyOf marks) 0) false)
 
 -- a source: one that waits, or the partner of the target beyond
 unfoldable pub sourceStrongDelay : Rule → Marks → List ℕ → ℕ → Change

@@ -7,7 +7,7 @@ use queue::SIZE;
 use queue::time_at;
 ghost use mathlib.Core.Path.{_≡_};
 ghost use Rattle.queue.specs.Ring.{ring};
-ghost use Rattle.pairs.specs.Delay.{answeredBy, answeredAtOnce, decideDelay};
+ghost use Rattle.pairs.specs.Delay.{answeredBy, answeredAtOnce, fillsDelay, decideDelay};
 
 // What an event makes of the row.
 pub fn decide(
@@ -30,6 +30,22 @@ pub fn decide(
     let dropped = answered(rule.lower, t, times, head, len);
     let marks = parts::with_last(marks, parts::plus(t, 1));
     parts::fewer_wait(rule.upper, marks, times, head, len, dropped)
+}
+
+// Whether an event lets one more wait, where there is no room.
+pub fn fills(rule: Rule, marks: Marks, len: usize, kind: u64, t: u64) -> bool
+    ensures { λ r. ⌜ r ≡ fillsDelay rule marks len kind t ⌝ }
+{
+    if len < SIZE {
+        return false;
+    }
+    if kind == rule.first {
+        if answered_at_once(rule.lower, marks.last, t) {
+            return false;
+        }
+        return true;
+    }
+    false
 }
 
 // How many of the waiting sources a target at t answers, from the oldest on.

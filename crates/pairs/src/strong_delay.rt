@@ -7,8 +7,9 @@ use machine::parts;
 use queue::Edit;
 use queue::SIZE;
 ghost use mathlib.Core.Path.{_≡_};
+ghost use Prim.Native.Nat.{ℕ};
 ghost use Rattle.queue.specs.Ring.{ring};
-ghost use Rattle.pairs.specs.StrongDelay.{sourceStrongDelay, targetStrongDelay, decideStrongDelay};
+ghost use Rattle.pairs.specs.StrongDelay.{fillsStrongDelay, sourceStrongDelay, targetStrongDelay, decideStrongDelay};
 
 // What an event makes of the row.
 pub fn decide(
@@ -26,6 +27,19 @@ pub fn decide(
         return source(rule, marks, times, head, len, t);
     }
     target(rule, marks, times, head, len, t)
+}
+
+// Whether an event lets one more wait, where there is no room.
+pub fn fills(rule: Rule, marks: Marks, len: usize, kind: u64) -> bool
+    ensures { λ r. ⌜ ((t : ℕ) → r ≡ fillsStrongDelay rule marks len kind t) ⌝ }
+{
+    if len < SIZE {
+        return false;
+    }
+    if kind == rule.first {
+        return marks.last == 0;
+    }
+    false
 }
 
 // What a source makes of the row: it waits, or it is the partner of the target beyond.

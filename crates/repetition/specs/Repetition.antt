@@ -43,6 +43,10 @@ placed rule marks n low high =
     (cond (hasPlace rule low high) (goesOn (PushTwo 2 low high) marks noLimit true)
     breaking)
 
+-- 63 numbers or more, two more come: the point is one of the first span
+unfoldable pub fillsRepetition : Rule → Marks → ℕ → ℕ → ℕ → Bool
+fillsRepetition rule marks len kind t = ltb (len / 2) (rule .span)
+
 unfoldable pub decideRepetition : Rule → Marks → List ℕ → ℕ → ℕ → Change
 decideRepetition rule marks times kind t =
     placed rule marks (points times) (lowest rule (points times) (front times) t) (highest rule (points times) (firstHigh times t) t)

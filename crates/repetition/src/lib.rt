@@ -12,7 +12,8 @@ use queue::time_at;
 ghost use mathlib.Core.Path.{_≡_};
 ghost use Prim.Native.Nat.{ℕ};
 ghost use Rattle.queue.specs.Ring.{ring};
-ghost use Rattle.repetition.specs.Repetition.{firstHigh, lowest, highest, placed, decideRepetition};
+ghost use Rattle.machine.specs.declared.Marks.{Marks};
+ghost use Rattle.repetition.specs.Repetition.{fillsRepetition, firstHigh, lowest, highest, placed, decideRepetition};
 
 // What an event makes of the row.
 pub fn decide(
@@ -29,6 +30,13 @@ pub fn decide(
     let low = lowest(rule, n, parts::front(times, head, len), t);
     let high = highest(rule, n, first_high(times, head, len, t), t);
     placed(rule, marks, n, low, high)
+}
+
+// Whether an event lets two more numbers come, where there is no room for two.
+pub fn fills(rule: Rule, len: usize) -> bool
+    ensures { λ r. ⌜ ((marks : Marks) (kind t : ℕ) → r ≡ fillsRepetition rule marks len kind t) ⌝ }
+{
+    ((len / 2) as u64) < rule.span
 }
 
 // The last place where the oldest point can be; t where there is none.

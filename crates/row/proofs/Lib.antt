@@ -5,4 +5,6 @@ pub mod OwnKinds
 pub mod Steps
 pub mod Unheard
 pub mod Undo
+pub mod Crowding
+pub mod Apart
 mod Dispatch

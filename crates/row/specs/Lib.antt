@@ -1,3 +1,4 @@
 -- The machine of a row: what the code computes, as functions on numbers and lists.
 pub mod Machine
 pub mod Undo
+pub mod Apart

@@ -27,7 +27,11 @@ ghost use lib.ListN.{length};
 ghost use Rattle.constraint.specs.Limits.{waitingLimit};
 ghost use Rattle.queue.specs.Ring.{ring, changed};
 ghost use Rattle.row.specs.Undo.{savedFrom, movesBy, savedBy, backRow, rowWithout, keptWithout, noBefore, Edited, Moves};
+ghost use Rattle.row.specs.Apart.{fills, crowdedBy, endsBy, Ends, withChange, Hears};
 ghost use Rattle.row.specs.Machine.{decide, concerns, mark, rowFrom, rowOf, brokenState, applied, changedRow, rowStep};
+
+// A row with fewer waiting has room for two more words.
+const ROOMY: usize = WAITING_LIMIT - 1;
 
 #[repr(C)]
 pub struct Row {
@@ -255,6 +259,101 @@ pub fn moves(rule: Rule, now: State, o: Occurrence) -> bool
         return true;
     }
     concerns(rule, o.kind)
+}
+
+// Whether an event of one of the row's streams lets more wait than there is room for, 63 or 64 waiting.
+fn fills(rule: Rule, marks: Marks, len: usize, stream: u64, t: u64) -> bool
+    ensures { λ r. ⌜ r ≡ fills rule marks len stream t ⌝ }
+{
+    let form = rule.form;
+    match form {
+        1 => delay::fills(rule, marks, len, stream, t),
+        2 => strong_delay::fills(rule, marks, len, stream),
+        3 | 5 => repeat::fills(rule, marks, len, t),
+        4 => false,
+        6 => false,
+        8 => false,
+        9 => false,
+        10 => repetition::fills(rule, len),
+        _ => strong_synchronization::fills(rule, marks, len, stream),
+    }
+}
+
+// Whether what occurs crowds a row in which at most 64 wait: it is not tried, and its times are not read.
+pub fn crowded_by(rule: Rule, now: State, o: Occurrence) -> bool
+    ensures { λ r. ⌜ r ≡ crowdedBy rule now o ⌝ }
+{
+    if now.len < ROOMY {
+        return false;
+    }
+    if 0 < now.broken {
+        return false;
+    }
+    if now.due < o.time {
+        return false;
+    }
+    if concerns(rule, o.kind) {
+        return fills(rule, now.marks, now.len, o.stream, o.time);
+    }
+    false
+}
+
+// Whether the clock or the close alone goes to the row: an open one that is overdue, or that the close finds.
+pub fn ends(rule: Rule, now: State, o: Occurrence) -> bool
+    ensures { λ r. ⌜ r ≡ endsBy rule now o ⌝ }
+{
+    if 0 < now.broken {
+        return false;
+    }
+    if now.due < o.time {
+        return true;
+    }
+    if o.closes {
+        return !concerns(rule, o.kind);
+    }
+    false
+}
+
+// What the row keeps then, and what it was before.
+pub fn end(old: State, times: &[u64; SIZE], o: Occurrence, number: u64) -> Moved
+    ensures { λ r. ⌜ Ends old (now (times .entry)) o number r ⌝ }
+{
+    let before = saved(old, times, 0, number);
+    if old.due < o.time {
+        return Moved {
+            now: broken_at(number),
+            before,
+        };
+    }
+    if old.kept == 0 {
+        return Moved {
+            now: broken_at(number),
+            before,
+        };
+    }
+    Moved { now: old, before }
+}
+
+// What the row keeps after a change that does not crowd it: broken, or with the change.
+fn with_change(rule: Rule, old: State, times: &mut [u64; SIZE], change: Change, number: u64) -> State
+    ensures { λ r. ⌜ rowFrom rule (now (times .exit)) r ≡ withChange (rowFrom rule (now (times .entry)) old) change number ⌝ }
+{
+    if change.breaks {
+        return broken_at(number);
+    }
+    apply(rule, old, times, change)
+}
+
+// What the row keeps after an event that concerns it, and what it was before; its times are changed where they lie.
+pub fn hear(rule: Rule, old: State, times: &mut [u64; SIZE], o: Occurrence, number: u64) -> Moved
+    ensures { λ r. ⌜ Hears rule old (now (times .entry)) o number (now (times .exit)) r ⌝ }
+{
+    let change = decide(rule, old.marks, times, old.head, old.len, o.stream, o.time);
+    let edit = change.edit;
+    let place = queue::edit_place(old.head, old.len, edit);
+    let before = saved(old, times, place, number);
+    let now = with_change(rule, old, times, change, number);
+    Moved { now, before }
 }
 
 // Whether what occurs would leave the row open with more than 64 waiting.

@@ -1,10 +1,11 @@
 -- Repeat and Burst: the times are those of the last span events, or of all while they are fewer; `last` is one more than the last event's time.
 -- A Repeat has minimum 0, a Burst no upper.
 use Prim.Native.Nat.{ℕ, _+_}
-use mathlib.Core.Bool.{Bool, true, cond, _&&_, _||_}
+use mathlib.Core.Bool.{Bool, true, false, cond, _&&_, _||_}
 use mathlib.Core.List.{List}
 use lib.ListN.{length, drop}
 use lib.Dec.{leb, ltb}
+use Rattle.constraint.specs.Limits.{waitingLimit}
 use Rattle.queue.specs.declared.Edit.the-variants.{Push}
 use Rattle.machine.specs.Parts.{plus, farEnough, withLast, goesOn, breaking, front, dueOr}
 use Rattle.machine.specs.declared.Rule.{Rule}
@@ -23,6 +24,10 @@ leaving rule len = cond (ltb len (rule .span)) 0 1
 -- waits for one until upper after it
 abbrev pub dueWith : Rule → List ℕ → ℕ → ℕ
 dueWith rule times t = dueOr (plus t (rule .upper)) (rule .upper) (drop (leaving rule (length times)) times)
+
+-- 64 kept, one more is kept: none leaves, as the span is longer, and the event is far enough from the last
+unfoldable pub fillsRepeat : Rule → Marks → ℕ → ℕ → ℕ → Bool
+fillsRepeat rule marks len kind t = cond (ltb len waitingLimit) false (cond (ltb len (rule .span)) (farEnough (rule .minimum) (marks .last) t) false)
 
 unfoldable pub decideRepeat : Rule → Marks → List ℕ → ℕ → ℕ → Change
 decideRepeat rule marks times kind t =

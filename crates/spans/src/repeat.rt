@@ -9,7 +9,7 @@ use queue::SIZE;
 ghost use mathlib.Core.Path.{_≡_};
 ghost use Prim.Native.Nat.{ℕ};
 ghost use Rattle.queue.specs.Ring.{ring};
-ghost use Rattle.spans.specs.Repeat.{spanReached, leaving, decideRepeat};
+ghost use Rattle.spans.specs.Repeat.{spanReached, leaving, fillsRepeat, decideRepeat};
 
 // What an event makes of the row.
 pub fn decide(
@@ -30,6 +30,19 @@ pub fn decide(
         return parts::goes_on(Edit::Push { dropped, word: t }, marks, due, true);
     }
     parts::breaking()
+}
+
+// Whether an event lets one more be kept, where there is no room.
+pub fn fills(rule: Rule, marks: Marks, len: usize, t: u64) -> bool
+    ensures { λ r. ⌜ ((kind : ℕ) → r ≡ fillsRepeat rule marks len kind t) ⌝ }
+{
+    if len < SIZE {
+        return false;
+    }
+    if (len as u64) < rule.span {
+        return parts::far_enough(rule.minimum, marks.last, t);
+    }
+    false
 }
 
 // How many times leave as one more comes: the oldest, where there are span of them.

@@ -1,0 +1,145 @@
+-- The step of a row is what its parts make of it: an open row that is overdue, or that the close finds, is ended; one that an event concerns hears it; and no step
+-- leaves more than 64 waiting, nor does a withdrawal.
+use Prim.Native.Nat.{ℕ, _+_, _-_, _≤_}
+use native.Mathlib.Omega.{arith}
+use mathlib.Core.Path.{_≡_, refl, sym, _∙_, ap, subst}
+use mathlib.Core.Bool.{Bool, true, false, cond, _&&_}
+use mathlib.Core.List.{List}
+use lib.Dec.{ltb, eqb}
+use lib.ListN.{length, set}
+use borrow.Author.Tests.{ltb-true}
+use Rattle.constraint.specs.Limits.{waitingLimit}
+use Rattle.constraint.proofs.Lists.{split, both}
+use Rattle.queue.specs.Ring.{Ring, ringOf, ringPlace, pushRing, putRing, dropRing, changed, edited, editPlace}
+use Rattle.queue.specs.declared.Edit.{Edit}
+use Rattle.queue.specs.declared.Edit.the-variants.{Drop, Push, PushTwo, Store}
+use Rattle.machine.specs.declared.Change.{Change}
+use Rattle.machine.specs.declared.State.{State}
+use Rattle.row.specs.Machine.{decide, concerns, rowFrom, itemsOf, brokenState, brokenRow, applied, stays, crowding, changedRow, rowStep}
+use Rattle.row.specs.Undo.{movesBy, stepPlace, savedAt, savedRow, savedBy, backRow, rowWithout, keptWithout, noBefore}
+use Rattle.row.specs.Apart.{endsBy, endedState, changeBy, withChange, heardRow, heardBefore}
+use Rattle.row.specs.declared.Before.{Before}
+use Rattle.row.specs.declared.Occurrence.{Occurrence}
+use Rattle.row.specs.declared.Row.{Row}
+use Rattle.row.specs.declared.RowStep.{RowStep}
+
+-- ---- a row that hears an event
+
+module _ (r : Row) (o : Occurrence) (number : ℕ) (unbroken : ltb 0 (r .now .broken) ≡ false) (in-time : ltb (r .now .due) (o .time) ≡ false)
+    (concerned : concerns (r .rule) (o .kind) ≡ true) where
+  own-step : rowStep r o number ≡ changedRow r (changeBy r o) number
+  unfolding rowStep
+  own-step = rw (unbroken, in-time, concerned)
+
+  by-room : (a b : Bool) (x y z : Row) → cond {A = RowStep} a (stays x) (cond b (crowding y) (stays z)) .crowded ≡ false
+      → cond {A = RowStep} a (stays x) (cond b (crowding y) (stays z)) .row ≡ cond a x z
+  by-room true b x y z e = refl
+  by-room false true x y z e = both e
+  by-room false false x y z e = refl
+
+  changed-heard : changedRow r (changeBy r o) number .crowded ≡ false → changedRow r (changeBy r o) number .row ≡ heardRow r o number
+  unfolding changedRow withChange
+  changed-heard e =
+      by-room (changeBy r o .breaks) (ltb waitingLimit (length (changed (changeBy r o .edit) (itemsOf r)))) (brokenRow r number) r (applied r (changeBy r o)) e
+
+  pub step-heard : rowStep r o number .crowded ≡ false → rowStep r o number .row ≡ heardRow r o number
+  step-heard room = ap (λ (s : RowStep). s .row) own-step ∙ changed-heard (ap (λ (s : RowStep). s .crowded) (sym own-step) ∙ room)
+
+  always : (b : Bool) → cond b true true ≡ true
+  always true = refl
+  always false = refl
+
+  pub saved-heard : (b : Before) → savedBy o number r b ≡ heardBefore r o number
+  unfolding savedBy movesBy stepPlace
+  saved-heard b = rw (unbroken, in-time, concerned, always (o .closes))
+
+-- ---- a row that the clock or the close ends
+
+module _ (r : Row) (o : Occurrence) (number : ℕ) where
+  abbrev ended : Row
+  ended = rowFrom (r .rule) (r .times) (endedState (r .now) o number)
+
+  by-tests : (broken late closes own unkept : Bool) (s : RowStep) (x y : State)
+      → cond broken false (cond late true (cond closes (cond own false true) false)) ≡ true
+      → cond {A = RowStep} broken (stays (rowFrom (r .rule) (r .times) y)) (cond late (stays (rowFrom (r .rule) (r .times) x)) (cond own s (cond (closes && unkept) (stays (rowFrom (r .rule) (r .times) x)) (stays (rowFrom (r .rule) (r .times) y))))) .row
+      ≡ rowFrom (r .rule) (r .times) (cond late x (cond unkept x y))
+  by-tests true late closes own unkept s x y e = both (sym e)
+  by-tests false true closes own unkept s x y e = refl
+  by-tests false false true true unkept s x y e = both (sym e)
+  by-tests false false true false true s x y e = refl
+  by-tests false false true false false s x y e = refl
+  by-tests false false false own unkept s x y e = both (sym e)
+
+  pub step-ended : endsBy (r .rule) (r .now) o ≡ true → rowStep r o number .row ≡ ended
+  unfolding endsBy endedState rowStep brokenRow
+  step-ended e =
+      by-tests (ltb 0 (r .now .broken)) (ltb (r .now .due) (o .time)) (o .closes) (concerns (r .rule) (o .kind)) (eqb (r .now .kept) 0)
+      (changedRow r (changeBy r o) number) (brokenState number) (r .now) e
+
+  by-saves : (broken late closes own : Bool) (place : ℕ) (b : Before) → cond broken false (cond late true (cond closes (cond own false true) false)) ≡ true
+      → cond (cond broken false (cond late true (cond closes true own))) (savedAt r (cond broken 0 (cond late 0 (cond own place 0))) number) b ≡ savedAt r 0 number
+  by-saves true late closes own place b e = both (sym e)
+  by-saves false true closes own place b e = refl
+  by-saves false false true true place b e = both (sym e)
+  by-saves false false true false place b e = refl
+  by-saves false false false own place b e = both (sym e)
+
+  pub saved-ended : (b : Before) → endsBy (r .rule) (r .now) o ≡ true → savedBy o number r b ≡ savedAt r 0 number
+  unfolding endsBy savedBy movesBy stepPlace
+  saved-ended b e =
+      by-saves (ltb 0 (r .now .broken)) (ltb (r .now .due) (o .time)) (o .closes) (concerns (r .rule) (o .kind))
+      (editPlace (changeBy r o .edit) (ringOf (r .times) (r .now .head) (r .now .len))) b e
+
+-- ---- at most 64 wait
+
+abbrev pub Roomy : State → Type 0
+Roomy now = now .len ≤ 64
+
+pushed-few : (word : ℕ) (q : Ring) → q .len ≤ 64 → pushRing word q .len ≤ 64
+unfolding pushRing
+pushed-few word q few =
+    split (ltb (q .len) 64) (λ b. ltb (q .len) 64 ≡ b → cond {A = Ring} b (ringOf (set (q .times) (ringPlace (q .head) (q .len)) word) (q .head) (q .len + 1)) q .len ≤ 64)
+    (λ _ e. omega (arith, ltb-true (q .len) 64 e)) (λ _ e. few) refl
+
+put-few : (i word : ℕ) (q : Ring) → q .len ≤ 64 → putRing i word q .len ≤ 64
+unfolding putRing
+put-few i word q few = split (ltb i (q .len)) (λ b. cond {A = Ring} b (ringOf (set (q .times) (ringPlace (q .head) i) word) (q .head) (q .len)) q .len ≤ 64) (λ _. few) (λ _. few)
+
+edited-few : (edit : Edit) (q : Ring) → q .len ≤ 64 → edited edit q .len ≤ 64
+edited-few (Drop k) q few = omega (arith, few)
+edited-few (Push k word) q few = pushed-few word (dropRing k q) (omega (arith, few))
+edited-few (PushTwo k first second) q few = pushed-few second (pushRing first (dropRing k q)) (pushed-few first (dropRing k q) (omega (arith, few)))
+edited-few (Store place first second) q few = put-few (place + 1) second (putRing place first q) (put-few place first q few)
+
+few-by : (b : Bool) (x y : RowStep) → x .row .now .len ≤ 64 → y .row .now .len ≤ 64 → cond {A = RowStep} b x y .row .now .len ≤ 64
+few-by true x y p q = p
+few-by false x y p q = q
+
+changed-few : (r : Row) (change : Change) (number : ℕ) → Roomy (r .now) → Roomy (changedRow r change number .row .now)
+unfolding changedRow brokenRow applied
+changed-few r change number few =
+    few-by (change .breaks) (stays (brokenRow r number)) (cond (ltb waitingLimit (length (changed (change .edit) (itemsOf r)))) (crowding r) (stays (applied r change))) (omega arith)
+    (few-by (ltb waitingLimit (length (changed (change .edit) (itemsOf r)))) (crowding r) (stays (applied r change)) few
+    (edited-few (change .edit) (ringOf (r .times) (r .now .head) (r .now .len)) few))
+
+pub step-few : (r : Row) (o : Occurrence) (number : ℕ) → Roomy (r .now) → Roomy (rowStep r o number .row .now)
+unfolding rowStep brokenRow
+step-few r o number few =
+    let ends : RowStep = cond (o .closes && eqb (r .now .kept) 0) (stays (brokenRow r number)) (stays r) in
+    let own : RowStep = cond (concerns (r .rule) (o .kind)) (changedRow r (changeBy r o) number) ends in
+    few-by (ltb 0 (r .now .broken)) (stays r) (cond (ltb (r .now .due) (o .time)) (stays (brokenRow r number)) own) few
+    (few-by (ltb (r .now .due) (o .time)) (stays (brokenRow r number)) own (omega arith)
+    (few-by (concerns (r .rule) (o .kind)) (changedRow r (changeBy r o) number) ends (changed-few r (changeBy r o) number few)
+    (few-by (o .closes && eqb (r .now .kept) 0) (stays (brokenRow r number)) (stays r) (omega arith) few)))
+
+pub saved-few : (r : Row) (o : Occurrence) (number : ℕ) (b : Before) → Roomy (r .now) → Roomy (b .state) → Roomy (savedBy o number r b .state)
+unfolding savedBy
+saved-few r o number b few kept = split (movesBy (r .rule) (r .now) o) (λ x. Roomy (cond x (savedRow r o number) b .state)) (λ _. few) (λ _. kept)
+
+pub without-few : (number : ℕ) (r : Row) (b : Before) → Roomy (r .now) → Roomy (b .state) → Roomy (rowWithout number r b .now)
+unfolding rowWithout backRow
+without-few number r b few kept = split (eqb (b .stamp) number) (λ x. Roomy (cond x (backRow r b) r .now)) (λ _. kept) (λ _. few)
+
+pub kept-few : (number : ℕ) (b : Before) → Roomy (b .state) → Roomy (keptWithout number b .state)
+unfolding keptWithout
+kept-few number b kept = split (eqb (b .stamp) number) (λ x. Roomy (cond x noBefore b .state)) (λ _. omega arith) (λ _. kept)

@@ -1,0 +1,90 @@
+-- The step of a row taken apart, as a monitor that is lent takes it: whether an event crowds a row, what the clock or the close alone makes of a
+-- row, and what an event makes of a row that it concerns.
+use Prim.Native.Nat.{ℕ}
+use mathlib.Core.Path.{_≡_}
+use mathlib.Core.Bool.{Bool, true, false, cond, _||_}
+use mathlib.Core.List.{List}
+use lib.Dec.{ltb, eqb}
+use Rattle.queue.specs.Ring.{ringOf, editPlace}
+use Rattle.machine.specs.declared.Rule.{Rule}
+use Rattle.machine.specs.declared.Marks.{Marks}
+use Rattle.machine.specs.declared.State.{State}
+use Rattle.machine.specs.declared.Change.{Change}
+use Rattle.pairs.specs.Delay.{fillsDelay}
+use Rattle.pairs.specs.StrongDelay.{fillsStrongDelay}
+use Rattle.spans.specs.Repeat.{fillsRepeat}
+use Rattle.groups.specs.StrongSynchronization.{fillsStrongSynchronization}
+use Rattle.repetition.specs.Repetition.{fillsRepetition}
+use Rattle.row.specs.declared.Before.{Before}
+use Rattle.row.specs.declared.Moved.{Moved}
+use Rattle.row.specs.declared.Occurrence.{Occurrence}
+use Rattle.row.specs.declared.Row.{Row}
+use Rattle.row.specs.Machine.{decide, concerns, rowFrom, itemsOf, brokenState, brokenRow, applied}
+use Rattle.row.specs.Undo.{savedFrom, savedAt}
+
+-- ---- the question for 64 (§8.12)
+
+-- a type in which no event lets more wait
+abbrev pub fillsNever : Marks → ℕ → ℕ → ℕ → Bool
+fillsNever marks len s t = false
+
+-- an event of one of the row's streams lets more wait than there is room for, 63 or 64 waiting: by the number of the row's type
+abbrev pub fills : Rule → Marks → ℕ → ℕ → ℕ → Bool
+fills rule =
+    cond (eqb (rule .form) 1) (fillsDelay rule)
+    (cond (eqb (rule .form) 2) (fillsStrongDelay rule)
+    (cond (eqb (rule .form) 3 || eqb (rule .form) 5) (fillsRepeat rule)
+    (cond (eqb (rule .form) 4) fillsNever
+    (cond (eqb (rule .form) 6) fillsNever
+    (cond (eqb (rule .form) 8) fillsNever
+    (cond (eqb (rule .form) 9) fillsNever
+    (cond (eqb (rule .form) 10) (fillsRepetition rule)
+    (fillsStrongSynchronization rule))))))))
+
+-- what occurs crowds a row in which at most 64 wait
+unfoldable pub crowdedBy : Rule → State → Occurrence → Bool
+crowdedBy rule now o =
+    cond (ltb (now .len) 63) false
+    (cond (ltb 0 (now .broken)) false
+    (cond (ltb (now .due) (o .time)) false
+    (cond (concerns rule (o .kind)) (fills rule (now .marks) (now .len) (o .stream) (o .time))
+    false)))
+
+-- ---- the clock and the close
+
+-- the clock or the close alone goes to the row: it is not broken, and it is overdue, or it is closed and that is no event of its own
+unfoldable pub endsBy : Rule → State → Occurrence → Bool
+endsBy rule now o =
+    cond (ltb 0 (now .broken)) false (cond (ltb (now .due) (o .time)) true (cond (o .closes) (cond (concerns rule (o .kind)) false true) false))
+
+-- what the row keeps then: it is broken where it is overdue or not kept
+unfoldable pub endedState : State → Occurrence → ℕ → State
+endedState now o number = cond (ltb (now .due) (o .time)) (brokenState number) (cond (eqb (now .kept) 0) (brokenState number) now)
+
+-- what the row's function promises of what it keeps then, and of what it was
+pub record Ends (old : State) (times : List ℕ) (o : Occurrence) (number : ℕ) (result : Moved) : Type 0 where
+  pub ends : result .now ≡ endedState old o number
+  pub saves : result .before ≡ savedFrom old times 0 number
+
+-- ---- an event
+
+-- what an event makes of the row
+abbrev pub changeBy : Row → Occurrence → Change
+changeBy r o = decide (r .rule) (r .now .marks) (itemsOf r) (o .stream) (o .time)
+
+-- the row with a change that does not crowd it: broken, or with the change
+unfoldable pub withChange : Row → Change → ℕ → Row
+withChange r change number = cond (change .breaks) (brokenRow r number) (applied r change)
+
+-- the row after an event that concerns it, where it is not overdue and has room
+abbrev pub heardRow : Row → Occurrence → ℕ → Row
+heardRow r o number = withChange r (changeBy r o) number
+
+-- what it was before
+abbrev pub heardBefore : Row → Occurrence → ℕ → Before
+heardBefore r o number = savedAt r (editPlace (changeBy r o .edit) (ringOf (r .times) (r .now .head) (r .now .len))) number
+
+-- what the row's function promises of its words, before and after, what it keeps then, and what it was
+pub record Hears (rule : Rule) (old : State) (entry : List ℕ) (o : Occurrence) (number : ℕ) (exit : List ℕ) (result : Moved) : Type 0 where
+  pub hears : rowFrom rule exit (result .now) ≡ heardRow (rowFrom rule entry old) o number
+  pub saves : result .before ≡ heardBefore (rowFrom rule entry old) o number

@@ -2,11 +2,11 @@
 use Prim.Native.Nat.{ℕ, zero, suc, _<_, _≤_, min}
 use native.Mathlib.Numerals.{add-one}
 use native.Mathlib.Omega.{arith}
-use mathlib.Core.Path.{_≡_, refl, sym, _∙_, ap, subst}
+use mathlib.Core.Path.{_≡_, refl, sym, _∙_, ap, ap₂, subst}
 use mathlib.Core.Bool.{Bool, true, false, cond, _||_}
 use mathlib.Core.List.{List, [], _∷_, _++_, append-nil}
 use lib.ListN.{length, getD, set}
-use lib.Seq.{getD-set-same}
+use lib.Seq.{getD-set-same, getD-set-other}
 use lib.Dec.{ltb}
 use borrow.Author.Tests.{ltb-true, ltb-false}
 use Rattle.constraint.proofs.Lists.{split}
@@ -179,6 +179,46 @@ module _ (f : Row → Row) (save : Row → Before → Before) where
         (λ e. subst (Visited (suc n)) (sym (visits-last (numbers test n) h n)) (goes n (visits h (numbers test n)) (omega (arith, there)) so-far))
         (λ e. subst (λ (l : List ℕ). Visited (suc n) (visits h l)) (sym (append-nil (numbers test n))) (rests n (visits h (numbers test n)) (omega (arith, there)) (others n (omega arith) e) so-far))
 
+-- ---- by other functions that do the same
+
+module _ (f g : Row → Row) (save keep : Row → Before → Before) (test : ℕ → Bool) (h : Indexed) where
+  -- row j after the visits of rows below n, where it is not one of them
+  behind : (j n : ℕ) → n ≤ j → (rowAt (visits f save h (numbers test n) .monitor) j ≡ rowAt (h .monitor) j)
+      × (keptAt (visits f save h (numbers test n) .monitor) j ≡ keptAt (h .monitor) j)
+  behind j zero l = (refl, refl)
+  behind j (suc n) l =
+      let so-far = behind j n (omega (arith, l)) in
+      split (test n)
+      (λ b. (rowAt (visits f save h (numbers test n ++ cond b (n ∷ []) []) .monitor) j ≡ rowAt (h .monitor) j)
+      × (keptAt (visits f save h (numbers test n ++ cond b (n ∷ []) []) .monitor) j ≡ keptAt (h .monitor) j))
+      (λ e.
+      let x : Indexed = visits f save h (numbers test n) in
+      let last = visits-last f save (numbers test n) h n in
+      (ap (λ (y : Indexed). rowAt (y .monitor) j) last ∙ getD-set-other (x .monitor .rows) n j (f (rowAt (x .monitor) n)) noRow (λ same. omega (arith, same, l)) ∙ so-far .0,
+      ap (λ (y : Indexed). keptAt (y .monitor) j) last ∙ getD-set-other (x .monitor .before) n j (save (rowAt (x .monitor) n) (keptAt (x .monitor) n)) noBefore (λ same. omega (arith, same, l)) ∙ so-far .1))
+      (λ e. (ap (λ (l′ : List ℕ). rowAt (visits f save h l′ .monitor) j) (append-nil (numbers test n)) ∙ so-far .0,
+      ap (λ (l′ : List ℕ). keptAt (visits f save h l′ .monitor) j) (append-nil (numbers test n)) ∙ so-far .1))
+
+  pub visits-same : (n : ℕ) → ((i : ℕ) → i < n → test i ≡ true
+      → (f (rowAt (h .monitor) i) ≡ g (rowAt (h .monitor) i)) × (save (rowAt (h .monitor) i) (keptAt (h .monitor) i) ≡ keep (rowAt (h .monitor) i) (keptAt (h .monitor) i)))
+      → visits f save h (numbers test n) ≡ visits g keep h (numbers test n)
+  visits-same zero same = refl
+  visits-same (suc n) same =
+      let so-far = visits-same n (λ i l. same i (omega (arith, l))) in
+      split (test n) (λ b. test n ≡ b → visits f save h (numbers test n ++ cond b (n ∷ []) []) ≡ visits g keep h (numbers test n ++ cond b (n ∷ []) []))
+      (λ _ e.
+      let x : Indexed = visits f save h (numbers test n) in
+      let there = behind n n (omega arith) in
+      let now = same n (omega arith) e in
+      let row : f (rowAt (x .monitor) n) ≡ g (rowAt (x .monitor) n) = ap f (there .0) ∙ now .0 ∙ ap g (sym (there .0)) in
+      let kept : save (rowAt (x .monitor) n) (keptAt (x .monitor) n) ≡ keep (rowAt (x .monitor) n) (keptAt (x .monitor) n) =
+      ap₂ save (there .0) (there .1) ∙ now .1 ∙ ap₂ keep (sym (there .0)) (sym (there .1)) in
+      visits-last f save (numbers test n) h n
+      ∙ ap₂ (λ (r : Row) (b : Before). heeded (withMonitor x (withRow (x .monitor) n r b)) n) row kept
+      ∙ ap (λ (y : Indexed). visit g keep y n) so-far
+      ∙ sym (visits-last g keep (numbers test n) h n))
+      (λ _ e. ap (visits f save h) (append-nil (numbers test n)) ∙ so-far ∙ ap (visits g keep h) (sym (append-nil (numbers test n)))) refl
+
 -- ---- one of them has a mark
 
 module _ (q : ℕ → Bool) where
@@ -189,6 +229,15 @@ module _ (q : ℕ → Bool) where
   pub any-last : (is : List ℕ) (i : ℕ) → anyIn (is ++ (i ∷ [])) ≡ (anyIn is || q i)
   any-last [] i = or-none (q i)
   any-last (j ∷ is) i = ap (λ (b : Bool). q j || b) (any-last is i) ∙ or-assoc (q j) (anyIn is) (q i)
+
+-- the same mark
+pub any-same : (p q : ℕ → Bool) (test : ℕ → Bool) (n : ℕ) → ((i : ℕ) → i < n → p i ≡ q i) → anyIn p (numbers test n) ≡ anyIn q (numbers test n)
+any-same p q test zero same = refl
+any-same p q test (suc n) same =
+    let so-far = any-same p q test n (λ i l. same i (omega (arith, l))) in
+    split (test n) (λ b. anyIn p (numbers test n ++ cond b (n ∷ []) []) ≡ anyIn q (numbers test n ++ cond b (n ∷ []) []))
+    (λ e. any-last p (numbers test n) n ∙ ap₂ (λ (a b : Bool). a || b) so-far (same n (omega arith)) ∙ sym (any-last q (numbers test n) n))
+    (λ e. ap (anyIn p) (append-nil (numbers test n)) ∙ so-far ∙ ap (anyIn q) (sym (append-nil (numbers test n))))
 
 -- a mark that only rows have that pass the test
 pub any-numbers : (mark : Row → Bool) (test : ℕ → Bool) (rows : List Row) (n : ℕ) → n ≤ length rows → ((i : ℕ) → i < n → test i ≡ false → mark (getD rows i noRow) ≡ false)

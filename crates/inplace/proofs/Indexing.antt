@@ -12,7 +12,8 @@ use borrow.Author.Tests.{lt-ltb, ltb-true, ltb-false}
 use Rattle.constraint.specs.Limits.{rowLimit}
 use Rattle.constraint.proofs.Lists.{split}
 use Rattle.monitor.specs.declared.Monitor.{Monitor}
-use Rattle.inplace.specs.Index.{listCount, listPlaces, listSize, rowOf, entries, listAt, numbers, heldRows, rowAt, isIn, Indexes, pushed, enlisted, listsOf}
+use Rattle.row.specs.Machine.{concerns}
+use Rattle.inplace.specs.Index.{listCount, listPlaces, listSize, rowOf, entries, listAt, numbers, heldRows, rowAt, isIn, Roomy, Indexes, pushed, enlisted, listsOf}
 use Rattle.inplace.specs.declared.index.Indexed.{Indexed}
 
 entries-same : (l l′ : List ℕ) (first n : ℕ) → ((j : ℕ) → j < n → getD l (first + j) 0 ≡ getD l′ (first + j) 0) → entries l first n ≡ entries l′ first n
@@ -156,9 +157,10 @@ module _ (m : Monitor) where
       record { wide = every .wide; each = every .done }
 
 -- so made, the index is the monitor's
-pub indexes : (h : Indexed) → h .soonest ≡ 0 → h .lists ≡ listsOf (h .monitor) (heldRows (h .monitor)) → Indexes h
-indexes h soon made =
+pub indexes : (h : Indexed) → h .soonest ≡ 0 → h .lists ≡ listsOf (h .monitor) (heldRows (h .monitor)) → Roomy (h .monitor) → Indexes h
+indexes h soon made few =
     record {
       listed = λ k few. ap (λ (l : List ℕ). listAt l k) made ∙ all-rows (h .monitor) (heldRows (h .monitor)) (omega arith) .each k few .rows-are;
       no-sooner = λ i _. omega (arith, soon);
+      roomy = few;
     }

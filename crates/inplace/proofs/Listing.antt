@@ -1,86 +1,74 @@
--- A call goes to the rows of one list, after the overdue ones are broken. Where the index is the monitor's that is the step of all rows, and the index is that of the monitor after it: a
--- row that is in no such list and is not overdue is left as it is by the step, and is not crowded by it.
+-- A call goes to the rows of its kind's list, after the clock and the close have done their part. Where the index is the monitor's that is the step of all rows, and the index is that of the
+-- monitor after it: a row that is not in the list is not concerned, so that it is changed by that part alone and crowded by nothing; one in it hears the event, as it has room.
 use Prim.Native.Nat.{ℕ, zero, suc, _+_, _*_, _<_, _≤_, min}
 use native.Mathlib.Omega.{arith}
 use mathlib.Core.Path.{_≡_, refl, sym, _∙_, ap, subst}
 use mathlib.Core.Bool.{Bool, true, false, cond, _&&_, _||_}
+use mathlib.Core.Logic.{_⊎_, inl, inr, ⊎-elim}
 use mathlib.Core.List.{List, [], _∷_, _++_}
-use lib.ListN.{length, getD, set}
-use lib.Dec.{ltb, eqb}
-use borrow.Author.Tests.{lt-ltb, le-ltb, ltb-false}
-use Rattle.constraint.specs.Limits.{rowLimit, noLimit, waitingLimit}
+use lib.ListN.{length, getD}
+use lib.Dec.{ltb, leb, eqb}
+use borrow.Author.Tests.{lt-ltb, le-ltb, ltb-true, ltb-false, eq-eqb, ne-eqb}
+use Rattle.constraint.specs.Limits.{rowLimit, noLimit, waitingLimit, lastKind, firstColoured, lastColour, lastCount}
 use Rattle.queue.specs.Ring.{changed}
 use Rattle.constraint.specs.declared.Call.{Call}
-use Rattle.constraint.proofs.Lists.{split, both, or-false}
+use Rattle.constraint.proofs.Lists.{split, both}
+use Rattle.constraint.proofs.Streams.{stream-kind, kind-small}
 use Rattle.machine.specs.declared.Rule.{Rule}
 use Rattle.machine.specs.declared.Change.{Change}
-use Rattle.row.specs.Machine.{decide, concerns, noEvent, itemsOf, brokenRow, applied, stays, crowding, changedRow, rowStep}
-use Rattle.row.specs.Undo.{noBefore, movesBy, savedRow, savedBy}
+use Rattle.row.specs.Machine.{decide, concerns, noEvent, rowFrom, itemsOf, brokenState, brokenRow, applied, stays, crowding, changedRow, rowStep}
+use Rattle.row.specs.Undo.{noBefore, movesBy, savedAt, savedRow, savedBy}
+use Rattle.row.specs.Apart.{endsBy, endedState, heardRow, heardBefore}
 use Rattle.row.specs.declared.Before.{Before}
 use Rattle.row.specs.declared.Occurrence.{Occurrence}
 use Rattle.row.specs.declared.Row.{Row}
 use Rattle.row.specs.declared.RowStep.{RowStep}
-use Rattle.monitor.specs.Machine.{noRow, mapFirst, zipFirst, anyFirst}
+use Rattle.row.proofs.Undo.{still}
+use Rattle.row.proofs.Crowding.{crowds, step-crowds, crowded-known}
+use Rattle.row.proofs.Apart.{step-heard, saved-heard, step-ended, saved-ended, step-few, saved-few}
+use Rattle.monitor.specs.Machine.{noRow, mapFirst, zipFirst, anyFirst, placeFor, timeRefusal, ownRefusal, refusalBy, occurrenceBy}
 use Rattle.monitor.specs.Parts.{withRows}
 use Rattle.monitor.proofs.First.{zip-length}
 use Rattle.monitor.specs.Contract.{Steps}
 use Rattle.monitor.specs.declared.Monitor.{Monitor}
-use Rattle.inplace.specs.Store.{steppedFrom, askedRows, askedBy, answerOf, withRow, rowStepped, rowsStepped, rowsCrowded, withNumbers}
-use Rattle.inplace.specs.Index.{listCount, listPlaces, listSize, everyRow, inList, listFor, rowOf, entries, listAt, numbers, heldRows, rowAt, keptAt, isIn, Indexes, listedBy, crowdedAt, listCrowded, withMonitor, withSoonest, steppedAt, stepAt, listStepped, lateStepped, lateAt, passed, begun, Takes}
+use Rattle.inplace.specs.Store.{steppedFrom, askedRows, askedBy, answerOf, heardBy, heardSaves, endedBy, endedSaves, rowsStepped, rowsCrowded, withNumbers}
+use Rattle.inplace.specs.Index.{listCount, listPlaces, listSize, listFor, rowOf, entries, listAt, numbers, heldRows, rowAt, keptAt, isIn, Roomy, Indexes, listedBy, crowdsRow, crowdedAt, listCrowded, withMonitor, withSoonest, hearAt, listHeard, endAt, passed, mayEnd, begun, Takes}
 use Rattle.inplace.specs.declared.Asked.{Asked}
 use Rattle.inplace.specs.declared.index.Indexed.{Indexed}
 use Rattle.inplace.specs.declared.index.Listed.{Listed}
-use Rattle.inplace.proofs.Elem.{set-getD}
-use Rattle.inplace.proofs.Crowding.{crowds, step-crowds, rows-crowd, none-crowded}
-use Rattle.inplace.proofs.Following.{mapped, map-length, map-twice, zipped, zip-twice, visit, visits, visits-last, visits-lists, Visited, visited, anyIn, any-last, any-numbers}
+use Rattle.inplace.proofs.Crowding.{rows-crowd, none-crowded, any-none}
+use Rattle.inplace.proofs.Following.{mapped, map-length, map-twice, zipped, zip-twice, visit, visits, visits-last, visits-lists, visits-same, Visited, visited, anyIn, any-last, any-same, any-numbers}
 use Rattle.inplace.proofs.Whole.{asked-small, after, refused-steps, taken-steps}
 
--- ---- a row that is not in the list
+-- ---- the kind of a call that is taken
 
-unlisted-by : (b : Bool) (rule : Rule) (kind : ℕ) → inList rule (cond b everyRow kind) ≡ false → (b ≡ false) × (concerns rule kind ≡ false)
-unlisted-by true rule kind e = both e
-unlisted-by false rule kind e = (refl, or-false (eqb kind everyRow) (concerns rule kind) e .1)
+after-first : (a b : Bool) (n : ℕ) → cond a 8 (cond b 24 n) ≡ 0 → n ≡ 0
+after-first true b n e = absurd (omega (arith, e))
+after-first false true n e = absurd (omega (arith, e))
+after-first false false n e = e
 
-unlisted : (rule : Rule) (o : Occurrence) → inList rule (listFor o) ≡ false → (o .closes ≡ false) × (concerns rule (o .kind) ≡ false)
-unlisted rule o e =
-    let tests = unlisted-by (o .closes || ltb noEvent (o .kind)) rule (o .kind) e in
-    (or-false (o .closes) (ltb noEvent (o .kind)) (tests .0) .0, tests .1)
+no-further : (a : Bool) (number rest : ℕ) → 0 < number → cond a number rest ≡ 0 → (a ≡ false) × (rest ≡ 0)
+no-further true number rest h e = absurd (omega (arith, h, e))
+no-further false number rest h e = (refl, e)
 
-still-by : (a : Bool) (r : Row) → cond {A = RowStep} a (stays r) (stays r) .row ≡ r
-still-by true r = refl
-still-by false r = refl
+own-kind : (call : Call) (clock next : ℕ) → ownRefusal call clock next ≡ 0 → occurrenceBy call clock .kind ≤ noEvent
+own-kind (Call.Event k t) clock next e =
+    let small = no-further (ltb lastKind k) 9 (cond (leb firstColoured k) 19 (timeRefusal t clock next)) (omega arith) e in
+    omega (arith, kind-small k (omega (arith, ltb-false lastKind k (small .0))))
+own-kind (Call.ColouredEvent k c t) clock next e =
+    let small = no-further (ltb lastKind k) 9 (cond (ltb k firstColoured) 19 (cond (ltb lastColour c) 19 (timeRefusal t clock next))) (omega arith) e in
+    let coloured = no-further (ltb k firstColoured) 19 (cond (ltb lastColour c) 19 (timeRefusal t clock next)) (omega arith) (small .1) in
+    let colour = no-further (ltb lastColour c) 19 (timeRefusal t clock next) (omega arith) (coloured .1) in
+    omega (arith, ltb-false lastKind k (small .0), stream-kind k c (ltb-false k firstColoured (coloured .0)) (ltb-false lastColour c (colour .0)))
+own-kind (Call.Tick t) clock next e = omega arith
+own-kind Call.Close clock next e = omega arith
 
--- it is left as it is
-still : (r : Row) (o : Occurrence) (number : ℕ) → inList (r .rule) (listFor o) ≡ false → o .time ≤ r .now .due → rowStep r o number .row ≡ r
-unfolding rowStep
-still r o number e due = let so = unlisted (r .rule) o e in rw (le-ltb (r .now .due) (o .time) due, so .1, so .0) (still-by (ltb 0 (r .now .broken)) r)
+call-kind : (call : Call) (closed count clock next : ℕ) → refusalBy call closed count clock next ≡ 0 → occurrenceBy call clock .kind ≤ noEvent
+call-kind call closed count clock next e = own-kind call clock next (after-first (ltb 0 closed) (leb lastCount count) (ownRefusal call clock next) e)
 
--- nothing is kept of it anew
-none-by : (a : Bool) → cond a false false ≡ false
-none-by true = refl
-none-by false = refl
-
-not-moved : (r : Row) (o : Occurrence) → inList (r .rule) (listFor o) ≡ false → o .time ≤ r .now .due → movesBy (r .rule) (r .now) o ≡ false
-unfolding movesBy
-not-moved r o e due = let so = unlisted (r .rule) o e in rw (le-ltb (r .now .due) (o .time) due, so .1, so .0) (none-by (ltb 0 (r .now .broken)))
-
-unsaved : (r : Row) (o : Occurrence) (number : ℕ) (b : Before) → inList (r .rule) (listFor o) ≡ false → o .time ≤ r .now .due → savedBy o number r b ≡ b
-unfolding savedBy
-unsaved r o number b e due = ap (λ (z : Bool). cond z (savedRow r o number) b) (not-moved r o e due)
-
--- nor of a broken one
-broken-unsaved : (r : Row) (o : Occurrence) (number : ℕ) (b : Before) → ltb 0 (r .now .broken) ≡ true → savedBy o number r b ≡ b
-unfolding savedBy movesBy
-broken-unsaved r o number b e = rw e
-
--- it is not crowded
-calm-by : (a b : Bool) → cond a false (cond b false false) ≡ false
-calm-by true b = refl
-calm-by false true = refl
-calm-by false false = refl
-
-calm : (r : Row) (o : Occurrence) → inList (r .rule) (listFor o) ≡ false → crowds o r ≡ false
-calm r o e = rw (unlisted (r .rule) o e .1) (calm-by (ltb 0 (r .now .broken)) (ltb (r .now .due) (o .time)))
+-- its list is its kind's
+own-list : (o : Occurrence) → o .kind ≤ noEvent → listFor o ≡ o .kind
+own-list o small = rw (le-ltb noEvent (o .kind) small)
 
 -- ---- what a step makes of a row
 
@@ -105,103 +93,207 @@ rule-stays r o number =
     (same-rule (r .rule) (concerns (r .rule) (o .kind)) (changedRow r change number) ends (changed-rule r change number)
     (same-rule (r .rule) (o .closes && eqb (r .now .kept) 0) (stays (brokenRow r number)) (stays r) refl refl)))
 
--- a broken row is left as it is; an overdue one is broken
+-- a broken row is left as it is
 broken-stays : (r : Row) (o : Occurrence) (number : ℕ) → ltb 0 (r .now .broken) ≡ true → rowStep r o number .row ≡ r
 unfolding rowStep
 broken-stays r o number e = rw e
 
-breaks : (r : Row) (o : Occurrence) (number : ℕ) → ltb 0 (r .now .broken) ≡ false → ltb (r .now .due) (o .time) ≡ true → rowStep r o number .row ≡ brokenRow r number
-unfolding rowStep
-breaks r o number e l = rw (e, l)
+broken-unsaved : (r : Row) (o : Occurrence) (number : ℕ) (b : Before) → ltb 0 (r .now .broken) ≡ true → savedBy o number r b ≡ b
+unfolding savedBy movesBy
+broken-unsaved r o number b e = rw e
 
 is-broken : (r : Row) (number : ℕ) → 0 < number → ltb 0 (brokenRow r number .now .broken) ≡ true
 unfolding brokenRow
 is-broken r number h = lt-ltb 0 number h
 
--- ---- a step, and one of overdue rows alone
+-- one that is not concerned moves where the clock or the close goes to it
+same-tests : (broken late closes : Bool) → cond broken false (cond late true (cond closes true false)) ≡ cond broken false (cond late true (cond closes (cond false false true) false))
+same-tests true late closes = refl
+same-tests false true closes = refl
+same-tests false false true = refl
+same-tests false false false = refl
+
+unconcerned : (r : Row) (o : Occurrence) → concerns (r .rule) (o .kind) ≡ false → movesBy (r .rule) (r .now) o ≡ endsBy (r .rule) (r .now) o
+unfolding movesBy endsBy
+unconcerned r o e = rw e (same-tests (ltb 0 (r .now .broken)) (ltb (r .now .due) (o .time)) (o .closes))
+
+-- they go to none that is in time while the recording is open
+no-ends-by : (broken : Bool) → cond broken false false ≡ false
+no-ends-by true = refl
+no-ends-by false = refl
+
+no-ends : (r : Row) (o : Occurrence) → o .closes ≡ false → ltb (r .now .due) (o .time) ≡ false → endsBy (r .rule) (r .now) o ≡ false
+unfolding endsBy
+no-ends r o not-closed in-time = rw (in-time, not-closed) (no-ends-by (ltb 0 (r .now .broken)))
+
+-- one that is not broken is in time where they do not
+in-time-by : (broken late closes own : Bool) → broken ≡ false → cond broken false (cond late true (cond closes (cond own false true) false)) ≡ false → late ≡ false
+in-time-by true late closes own b e = both b
+in-time-by false true closes own b e = both e
+in-time-by false false closes own b e = refl
+
+open-in-time : (r : Row) (o : Occurrence) → ltb 0 (r .now .broken) ≡ false → endsBy (r .rule) (r .now) o ≡ false → ltb (r .now .due) (o .time) ≡ false
+unfolding endsBy
+open-in-time r o unbroken e = in-time-by (ltb 0 (r .now .broken)) (ltb (r .now .due) (o .time)) (o .closes) (concerns (r .rule) (o .kind)) unbroken e
+
+-- one that is concerned is overdue where they do
+overdue-by : (broken late closes own : Bool) → own ≡ true → cond broken false (cond late true (cond closes (cond own false true) false)) ≡ true → late ≡ true
+overdue-by true late closes own c e = both (sym e)
+overdue-by false true closes own c e = refl
+overdue-by false false true true c e = both (sym e)
+overdue-by false false true false c e = both (sym c)
+overdue-by false false false own c e = both (sym e)
+
+overdue : (r : Row) (o : Occurrence) → concerns (r .rule) (o .kind) ≡ true → endsBy (r .rule) (r .now) o ≡ true → ltb (r .now .due) (o .time) ≡ true
+unfolding endsBy
+overdue r o concerned e = overdue-by (ltb 0 (r .now .broken)) (ltb (r .now .due) (o .time)) (o .closes) (concerns (r .rule) (o .kind)) concerned e
+
+-- one that is not broken has no step that broke it
+not-zero : (n : ℕ) → ltb 0 n ≡ true → eqb n 0 ≡ false
+not-zero n e = ne-eqb n 0 (λ z. omega (arith, z, ltb-true 0 n e))
+
+is-zero : (n : ℕ) → ltb 0 n ≡ false → eqb n 0 ≡ true
+is-zero n e = eq-eqb n 0 (omega (arith, ltb-false 0 n e))
+
+-- ---- a step, and the part of it that the clock and the close do
 module _ (o : Occurrence) (number : ℕ) where
   abbrev moved : Row → Row
   moved r = rowStep r o number .row
 
+  abbrev ends : Row → Bool
+  ends r = endsBy (r .rule) (r .now) o
+
   abbrev late : Row → Row
-  late r = cond (ltb (r .now .due) (o .time)) (moved r) r
+  late r = cond (ends r) (moved r) r
 
   abbrev saves : Row → Before → Before
   saves r b = savedBy o number r b
 
   abbrev late-saves : Row → Before → Before
-  late-saves r b = cond (ltb (r .now .due) (o .time)) (saves r b) b
+  late-saves r b = cond (ends r) (saves r b) b
 
-  once : (r : Row) → 0 < number → ltb (r .now .due) (o .time) ≡ true → moved (moved r) ≡ moved r
-  once r h l =
-      split (ltb 0 (r .now .broken)) (λ b. ltb 0 (r .now .broken) ≡ b → moved (moved r) ≡ moved r)
-      (λ _ e. ap moved (broken-stays r o number e))
-      (λ _ e. ap moved (breaks r o number e l) ∙ broken-stays (brokenRow r number) o number (is-broken r number h) ∙ sym (breaks r o number e l)) refl
+  -- that part, as it is done
+  ended-late : (r : Row) → endedBy o number r ≡ late r
+  ended-late r =
+      split (ends r) (λ b. ends r ≡ b → cond b (rowFrom (r .rule) (r .times) (endedState (r .now) o number)) r ≡ cond b (moved r) r)
+      (λ _ e. sym (step-ended r o number e)) (λ _ e. refl) refl
 
-  now-broken : (r : Row) → 0 < number → ltb (r .now .due) (o .time) ≡ true → ltb 0 (moved r .now .broken) ≡ true
-  now-broken r h l =
-      split (ltb 0 (r .now .broken)) (λ b. ltb 0 (r .now .broken) ≡ b → ltb 0 (moved r .now .broken) ≡ true)
-      (λ _ e. subst (λ (x : Row). ltb 0 (x .now .broken) ≡ true) (sym (broken-stays r o number e)) e)
-      (λ _ e. subst (λ (x : Row). ltb 0 (x .now .broken) ≡ true) (sym (breaks r o number e l)) (is-broken r number h)) refl
+  saved-late : (r : Row) (b : Before) → endedSaves o number r b ≡ late-saves r b
+  saved-late r b =
+      split (ends r) (λ z. ends r ≡ z → cond z (savedAt r 0 number) b ≡ cond z (saves r b) b) (λ _ e. sym (saved-ended r o number b e)) (λ _ e. refl) refl
+
+  -- the row is broken by it, or left as it is
+  by-state : (r : Row) (a b : Bool) → rowFrom (r .rule) (r .times) (cond a (brokenState number) (cond b (brokenState number) (r .now))) ≡ brokenRow r number ⊎ rowFrom (r .rule) (r .times) (cond a (brokenState number) (cond b (brokenState number) (r .now))) ≡ r
+  unfolding brokenRow
+  by-state r true b = inl refl
+  by-state r false true = inl refl
+  by-state r false false = inr refl
+
+  either-way : (r : Row) → ends r ≡ true → (moved r ≡ brokenRow r number) ⊎ (moved r ≡ r)
+  unfolding endedState
+  either-way r e =
+      ⊎-elim (λ broken. inl (step-ended r o number e ∙ broken)) (λ same. inr (step-ended r o number e ∙ same)) (by-state r (ltb (r .now .due) (o .time)) (eqb (r .now .kept) 0))
+
+  once : (r : Row) → 0 < number → ends r ≡ true → moved (moved r) ≡ moved r
+  once r h e =
+      ⊎-elim (λ broken. ap moved broken ∙ broken-stays (brokenRow r number) o number (is-broken r number h) ∙ sym broken) (λ same. ap moved same) (either-way r e)
+
+  saves-twice : (r : Row) (b : Before) → saves r (saves r b) ≡ saves r b
+  unfolding savedBy
+  saves-twice r b = split (movesBy (r .rule) (r .now) o) (λ z. cond z (savedRow r o number) (cond z (savedRow r o number) b) ≡ cond z (savedRow r o number) b) (λ _. refl) (λ _. refl)
+
+  saves-once : (r : Row) (b : Before) → 0 < number → ends r ≡ true → saves (moved r) (saves r b) ≡ saves r b
+  saves-once r b h e =
+      ⊎-elim (λ broken. ap (λ (x : Row). saves x (saves r b)) broken ∙ broken-unsaved (brokenRow r number) o number (saves r b) (is-broken r number h))
+      (λ same. ap (λ (x : Row). saves x (saves r b)) same ∙ saves-twice r b) (either-way r e)
+
+  -- to do that part beforehand makes no difference
+  late-first : 0 < number → (r : Row) → moved (late r) ≡ moved r
+  late-first h r = split (ends r) (λ b. ends r ≡ b → moved (cond b (moved r) r) ≡ moved r) (λ _ e. once r h e) (λ _ e. refl) refl
 
   late-saves-first : 0 < number → (r : Row) (b : Before) → saves (late r) (late-saves r b) ≡ saves r b
   late-saves-first h r b =
-      split (ltb (r .now .due) (o .time)) (λ z. ltb (r .now .due) (o .time) ≡ z → saves (cond z (moved r) r) (cond z (saves r b) b) ≡ saves r b)
-      (λ _ e. broken-unsaved (moved r) o number (saves r b) (now-broken r h e)) (λ _ e. refl) refl
+      split (ends r) (λ z. ends r ≡ z → saves (cond z (moved r) r) (cond z (saves r b) b) ≡ saves r b) (λ _ e. saves-once r b h e) (λ _ e. refl) refl
 
-  late-unsaved : 0 < number → (r : Row) (b : Before) → inList (r .rule) (listFor o) ≡ false → saves (late r) (late-saves r b) ≡ late-saves r b
-  late-unsaved h r b out =
-      split (ltb (r .now .due) (o .time)) (λ z. ltb (r .now .due) (o .time) ≡ z → saves (cond z (moved r) r) (cond z (saves r b) b) ≡ cond z (saves r b) b)
-      (λ _ e. broken-unsaved (moved r) o number (saves r b) (now-broken r h e)) (λ _ e. unsaved r o number b out (ltb-false (r .now .due) (o .time) e)) refl
-
-  -- to break the overdue rows beforehand makes no difference
-  late-first : 0 < number → (r : Row) → moved (late r) ≡ moved r
-  late-first h r =
-      split (ltb (r .now .due) (o .time)) (λ b. ltb (r .now .due) (o .time) ≡ b → moved (cond b (moved r) r) ≡ moved r) (λ _ e. once r h e) (λ _ e. refl) refl
-
-  -- then a row that is not in the list is left as it is
-  late-still : 0 < number → (r : Row) → inList (r .rule) (listFor o) ≡ false → moved (late r) ≡ late r
+  -- then a row that is not concerned is left as it is
+  late-still : 0 < number → (r : Row) → concerns (r .rule) (o .kind) ≡ false → moved (late r) ≡ late r
   late-still h r out =
-      split (ltb (r .now .due) (o .time)) (λ b. ltb (r .now .due) (o .time) ≡ b → moved (cond b (moved r) r) ≡ cond b (moved r) r) (λ _ e. once r h e)
-      (λ _ e. still r o number out (ltb-false (r .now .due) (o .time) e)) refl
+      split (ends r) (λ b. ends r ≡ b → moved (cond b (moved r) r) ≡ cond b (moved r) r) (λ _ e. once r h e) (λ _ e. still r o number (unconcerned r o out ∙ e)) refl
+
+  unsaved : (r : Row) (b : Before) → movesBy (r .rule) (r .now) o ≡ false → saves r b ≡ b
+  unfolding savedBy
+  unsaved r b e = rw e
+
+  late-unsaved : 0 < number → (r : Row) (b : Before) → concerns (r .rule) (o .kind) ≡ false → saves (late r) (late-saves r b) ≡ late-saves r b
+  late-unsaved h r b out =
+      split (ends r) (λ z. ends r ≡ z → saves (cond z (moved r) r) (cond z (saves r b) b) ≡ cond z (saves r b) b) (λ _ e. saves-once r b h e)
+      (λ _ e. unsaved r b (unconcerned r o out ∙ e)) refl
+
+  -- ---- a row that hears the event
+
+  -- what it hears is its step, where it is concerned and has room, and is broken or in time
+  heard-moved : (r : Row) → concerns (r .rule) (o .kind) ≡ true → (ltb 0 (r .now .broken) ≡ false → (ltb (r .now .due) (o .time) ≡ false) × (crowds o r ≡ false))
+      → (heardBy o number r ≡ moved r) × ((b : Before) → heardSaves o number r b ≡ saves r b)
+  heard-moved r concerned when-open =
+      split (ltb 0 (r .now .broken))
+      (λ z. ltb 0 (r .now .broken) ≡ z → (heardBy o number r ≡ moved r) × ((b : Before) → heardSaves o number r b ≡ saves r b))
+      (λ _ e. (ap (λ (z : Bool). cond z (heardRow r o number) r) (not-zero (r .now .broken) e) ∙ sym (broken-stays r o number e),
+      λ b. ap (λ (z : Bool). cond z (heardBefore r o number) b) (not-zero (r .now .broken) e) ∙ sym (broken-unsaved r o number b e)))
+      (λ _ e.
+      let so = when-open e in
+      (ap (λ (z : Bool). cond z (heardRow r o number) r) (is-zero (r .now .broken) e) ∙ sym (step-heard r o number e (so .0) concerned (step-crowds r o number ∙ so .1)),
+      λ b. ap (λ (z : Bool). cond z (heardBefore r o number) b) (is-zero (r .now .broken) e) ∙ sym (saved-heard r o number e (so .0) concerned b))) refl
+
+  now-broken : (r : Row) → 0 < number → concerns (r .rule) (o .kind) ≡ true → ends r ≡ true → ltb 0 (moved r .now .broken) ≡ true
+  unfolding endedState brokenRow
+  now-broken r h concerned e =
+      subst (λ (x : Row). ltb 0 (x .now .broken) ≡ true) (sym (step-ended r o number e ∙ ap (λ (z : Bool). rowFrom (r .rule) (r .times) (cond z (brokenState number) (cond (eqb (r .now .kept) 0) (brokenState number) (r .now)))) (overdue r o concerned e)))
+      (lt-ltb 0 number h)
+
+  -- so too after that part
+  heard-late : 0 < number → (r : Row) → concerns (r .rule) (o .kind) ≡ true → crowds o r ≡ false
+      → (heardBy o number (late r) ≡ moved (late r)) × ((b : Before) → heardSaves o number (late r) b ≡ saves (late r) b)
+  heard-late h r concerned room =
+      split (ends r) (λ z. ends r ≡ z → (heardBy o number (cond z (moved r) r) ≡ moved (cond z (moved r) r)) × ((b : Before) → heardSaves o number (cond z (moved r) r) b ≡ saves (cond z (moved r) r) b))
+      (λ _ e. heard-moved (moved r) (ap (λ (rule : Rule). concerns rule (o .kind)) (rule-stays r o number) ∙ concerned) (λ unbroken. both (sym (now-broken r h concerned e) ∙ unbroken)))
+      (λ _ e. heard-moved r concerned (λ unbroken. (open-in-time r o unbroken e, room))) refl
 
   -- ---- the parts of a call as visits
 
-  late-visit : (h : Indexed) (i : ℕ) → lateAt h i o number ≡ visit late late-saves h i
-  late-visit h i = ap (λ (m : Monitor). visited-at m) (by-test (ltb (rowAt (h .monitor) i .now .due) (o .time)))
-    where
-      visited-at : Monitor → Indexed
-      visited-at m = withSoonest (withMonitor h m) (min (h .soonest) (rowAt m i .now .due))
+  late-visit : (h : Indexed) (i : ℕ) → endAt h i o number ≡ visit late late-saves h i
+  late-visit h i = λ j. visit (λ r. ended-late r j) (λ r b. saved-late r b j) h i
 
-      by-test : (b : Bool) → cond b (rowStepped (h .monitor) i o number) (h .monitor)
-          ≡ withRow (h .monitor) i (cond b (moved (rowAt (h .monitor) i)) (rowAt (h .monitor) i)) (cond b (saves (rowAt (h .monitor) i) (keptAt (h .monitor) i)) (keptAt (h .monitor) i))
-      by-test true = refl
-      by-test false =
-          sym (ap (λ (l : List Row). withRows (h .monitor) l (set (h .monitor .before) i (keptAt (h .monitor) i))) (set-getD (h .monitor .rows) i noRow)
-          ∙ ap (withRows (h .monitor) (h .monitor .rows)) (set-getD (h .monitor .before) i noBefore))
-
-  list-visits : (h : Indexed) (first n : ℕ) → listStepped h first n o number ≡ visits moved saves h (entries (h .lists) first n)
+  list-visits : (h : Indexed) (first n : ℕ) → listHeard h first n o number ≡ visits (heardBy o number) (heardSaves o number) h (entries (h .lists) first n)
   list-visits h first zero = refl
   list-visits h first (suc n) =
       let so-far = list-visits h first n in
-      ap (λ (x : Indexed). stepAt x (first + n) o number) so-far
-      ∙ ap (λ (l : List ℕ). visit moved saves (visits moved saves h (entries (h .lists) first n)) (rowOf (getD l (first + n) 0))) (visits-lists moved saves (entries (h .lists) first n) h)
-      ∙ sym (visits-last moved saves (entries (h .lists) first n) h (rowOf (getD (h .lists) (first + n) 0)))
+      let hears : Indexed → List ℕ → Indexed = visits (heardBy o number) (heardSaves o number) in
+      ap (λ (x : Indexed). hearAt x (first + n) o number) so-far
+      ∙ ap (λ (l : List ℕ). visit (heardBy o number) (heardSaves o number) (hears h (entries (h .lists) first n)) (rowOf (getD l (first + n) 0))) (visits-lists (heardBy o number) (heardSaves o number) (entries (h .lists) first n) h)
+      ∙ sym (visits-last (heardBy o number) (heardSaves o number) (entries (h .lists) first n) h (rowOf (getD (h .lists) (first + n) 0)))
 
   pass-visits : (h : Indexed) (n : ℕ) → passed h n o number ≡ visits late late-saves (withSoonest h noLimit) (numbers (λ _. true) n)
   pass-visits h zero = refl
   pass-visits h (suc n) =
-      ap (λ (x : Indexed). lateAt x n o number) (pass-visits h n) ∙ late-visit (visits late late-saves (withSoonest h noLimit) (numbers (λ _. true) n)) n
+      ap (λ (x : Indexed). endAt x n o number) (pass-visits h n) ∙ late-visit (visits late late-saves (withSoonest h noLimit) (numbers (λ _. true) n)) n
       ∙ sym (visits-last late late-saves (numbers (λ _. true) n) (withSoonest h noLimit) n)
 
 -- ---- whether a row is crowded
 
-crowd-is : (h : Indexed) (first n : ℕ) (o : Occurrence) → listCrowded h first n o ≡ anyIn (λ i. crowds o (rowAt (h .monitor) i)) (entries (h .lists) first n)
+crowd-is : (h : Indexed) (first n : ℕ) (o : Occurrence) → listCrowded h first n o ≡ anyIn (λ i. crowdsRow o (rowAt (h .monitor) i)) (entries (h .lists) first n)
 crowd-is h first zero o = refl
 crowd-is h first (suc n) o =
     ap (λ (b : Bool). b || crowdedAt h (first + n) o) (crowd-is h first n o)
-    ∙ ap (λ (b : Bool). anyIn (λ i. crowds o (rowAt (h .monitor) i)) (entries (h .lists) first n) || b) (step-crowds (rowAt (h .monitor) (rowOf (getD (h .lists) (first + n) 0))) o 0)
-    ∙ sym (any-last (λ i. crowds o (rowAt (h .monitor) i)) (entries (h .lists) first n) (rowOf (getD (h .lists) (first + n) 0)))
+    ∙ sym (any-last (λ i. crowdsRow o (rowAt (h .monitor) i)) (entries (h .lists) first n) (rowOf (getD (h .lists) (first + n) 0)))
+
+-- one that is not concerned is not crowded
+calm-by : (a b : Bool) → cond a false (cond b false false) ≡ false
+calm-by true b = refl
+calm-by false true = refl
+calm-by false false = refl
+
+calm : (r : Row) (o : Occurrence) → concerns (r .rule) (o .kind) ≡ false → crowds o r ≡ false
+calm r o e = rw e (calm-by (ltb 0 (r .now .broken)) (ltb (r .now .due) (o .time)))
 
 pub same-numbers : (p r : ℕ → Bool) (n : ℕ) → ((i : ℕ) → i < n → p i ≡ r i) → numbers p n ≡ numbers r n
 same-numbers p r zero same = refl
@@ -222,8 +314,8 @@ map-none (suc n) [] = refl
 map-none (suc n) (r ∷ rows) = ap {B = List Row} (λ l. r ∷ l) (map-none n rows)
 
 list-few : (o : Occurrence) → listFor o < listCount
-list-few o = split (o .closes || ltb noEvent (o .kind)) (λ b. cond b everyRow (o .kind) < listCount) (λ e. omega arith)
-    (λ e. omega (arith, ltb-false noEvent (o .kind) (or-false (o .closes) (ltb noEvent (o .kind)) e .1)))
+list-few o = split (ltb noEvent (o .kind)) (λ b. ltb noEvent (o .kind) ≡ b → cond b noEvent (o .kind) < listCount) (λ _ e. omega arith)
+    (λ _ e. omega (arith, ltb-false noEvent (o .kind) e)) refl
 
 -- ---- the whole call
 module _ (h : Indexed) (call : Call) (whole : length (h .monitor .rows) ≡ 32) (kept-whole : length (h .monitor .before) ≡ 32) where
@@ -250,26 +342,39 @@ module _ (h : Indexed) (call : Call) (whole : length (h .monitor .rows) ≡ 32) 
   list-is : Indexes h → listAt (h .lists) (listFor o) ≡ numbers (isIn m (listFor o)) (heldRows m)
   list-is ix = ix .listed (listFor o) (list-few o)
 
+  -- they are those that are concerned
+  in-list : q .number ≡ 0 → (i : ℕ) → isIn m (listFor o) i ≡ concerns (rowAt m i .rule) (o .kind)
+  in-list answered i = ap (concerns (rowAt m i .rule)) (own-list o (call-kind call (m .closed) (m .count) (m .clock) (getD (m .next) (placeFor call) 0) answered))
+
   -- ---- the question
   crowd-same : Indexes h → (number : ℕ) → listCrowded h (l .first) (l .rows) o ≡ rowsCrowded m (q .rows) o number
   crowd-same ix number =
-      split (ltb 0 (q .number)) (λ b. listCrowded h (l .first) (cond b 0 (min (getD (h .lists) (listFor o * listPlaces) 0) rowLimit)) o ≡ rowsCrowded m (cond b 0 (min (m .len) rowLimit)) o number)
-      (λ e. sym (rows-crowd m 0 o number ∙ none-crowded (crowds o) (m .rows)))
-      (λ e. crowd-is h (l .first) (min (getD (h .lists) (listFor o * listPlaces) 0) rowLimit) o
-      ∙ ap (anyIn (λ i. crowds o (rowAt m i))) (list-is ix)
-      ∙ any-numbers (crowds o) (isIn m (listFor o)) (m .rows) (heldRows m) (omega (arith, whole)) (λ i _ out. calm (rowAt m i) o out)
-      ∙ sym (rows-crowd m (heldRows m) o number))
+      split (ltb 0 (q .number)) (λ b. ltb 0 (q .number) ≡ b → listCrowded h (l .first) (cond b 0 (min (getD (h .lists) (listFor o * listPlaces) 0) rowLimit)) o ≡ rowsCrowded m (cond b 0 (min (m .len) rowLimit)) o number)
+      (λ _ e. sym (rows-crowd m 0 o number ∙ none-crowded (crowds o) (m .rows)))
+      (λ _ e.
+      let answered : q .number ≡ 0 = omega (arith, ltb-false 0 (q .number) e) in
+      crowd-is h (l .first) (min (getD (h .lists) (listFor o * listPlaces) 0) rowLimit) o
+      ∙ ap (anyIn (λ i. crowdsRow o (rowAt m i))) (list-is ix)
+      ∙ any-same (λ i. crowdsRow o (rowAt m i)) (λ i. crowds o (rowAt m i)) (isIn m (listFor o)) (heldRows m) (λ i below. crowded-known (rowAt m i) o (ix .roomy .now-few i below))
+      ∙ any-numbers (crowds o) (isIn m (listFor o)) (m .rows) (heldRows m) (omega (arith, whole)) (λ i _ out. calm (rowAt m i) o (sym (in-list answered i) ∙ out))
+      ∙ sym (rows-crowd m (heldRows m) o number)) refl
 
   -- ---- the step
   abbrev stored : Indexed
   stored = withMonitor h (withNumbers m q)
 
   abbrev pub taken : Indexed
-  taken = listStepped (begun stored (q .rows) o (q .step)) (l .first) (l .rows) o (q .step)
+  taken = listHeard (begun stored (q .rows) o (q .step)) (l .first) (l .rows) o (q .step)
 
-  module _ (ix : Indexes h) (answered : q .number ≡ 0) where
+  module _ (ix : Indexes h) (answered : q .number ≡ 0) (none-crowds : rowsCrowded m (q .rows) o 0 ≡ false) where
     abbrev n : ℕ
     n = heldRows m
+
+    -- each has room
+    room : (i : ℕ) → i < n → crowds o (rowAt m i) ≡ false
+    room i below =
+        any-none (crowds o) n i (m .rows) noRow
+        (ap (λ (k : ℕ). anyFirst k (crowds o) (m .rows)) (sym (ap (λ (number : ℕ). askedRows number (m .len)) answered)) ∙ sym (rows-crowd m (q .rows) o 0) ∙ none-crowds) below (omega (arith, whole, below))
 
     above : 0 < q .step
     above = omega arith
@@ -289,15 +394,21 @@ module _ (h : Indexed) (call : Call) (whole : length (h .monitor .rows) ≡ 32) 
       pub heeds : (i : ℕ) → i < n → x .soonest ≤ step (rowAt m i) .now .due
       pub lists-are : x .lists ≡ h .lists
 
-    abbrev list-stepped : Indexed → Indexed
-    list-stepped x = listStepped x (l .first) (l .rows) o (q .step)
+    abbrev list-heard : Indexed → Indexed
+    list-heard x = listHeard x (l .first) (l .rows) o (q .step)
 
-    list-visited : (x : Indexed) → x .lists ≡ h .lists → list-stepped x ≡ visits step save x (numbers (isIn m (listFor o)) n)
+    abbrev hear : Row → Row
+    hear = heardBy o (q .step)
+
+    abbrev hear-save : Row → Before → Before
+    hear-save = heardSaves o (q .step)
+
+    list-visited : (x : Indexed) → x .lists ≡ h .lists → list-heard x ≡ visits hear hear-save x (numbers (isIn m (listFor o)) n)
     list-visited x same =
         list-visits o (q .step) x (l .first) (l .rows)
-        ∙ ap (λ (lists : List ℕ). visits step save x (entries lists (l .first) (l .rows))) same
-        ∙ ap (λ (number : ℕ). visits step save x (entries (h .lists) (l .first) (askedRows number (getD (h .lists) (listFor o * listPlaces) 0)))) answered
-        ∙ ap (visits step save x) (list-is ix)
+        ∙ ap (λ (lists : List ℕ). visits hear hear-save x (entries lists (l .first) (l .rows))) same
+        ∙ ap (λ (number : ℕ). visits hear hear-save x (entries (h .lists) (l .first) (askedRows number (getD (h .lists) (listFor o * listPlaces) 0)))) answered
+        ∙ ap (visits hear hear-save x) (list-is ix)
 
     -- the list of a monitor in which no row is overdue that is not in it
     list-steps : (x : Indexed) (g : Row → Row) (t : Row → Before → Before) → x .lists ≡ h .lists
@@ -305,8 +416,9 @@ module _ (h : Indexed) (call : Call) (whole : length (h .monitor .rows) ≡ 32) 
         → ((r : Row) → step (g r) ≡ step r) → ((r : Row) (b : Before) → save (g r) (t r b) ≡ save r b)
         → ((i : ℕ) → i < n → isIn m (listFor o) i ≡ false
         → (step (g (rowAt m i)) ≡ g (rowAt m i)) × ((save (g (rowAt m i)) (t (rowAt m i) (keptAt m i)) ≡ t (rowAt m i) (keptAt m i)) × (x .soonest ≤ g (rowAt m i) .now .due)))
-        → Stepped (list-stepped x)
-    list-steps x g t same made no-matter nor-kept others =
+        → ((i : ℕ) → i < n → isIn m (listFor o) i ≡ true → (hear (g (rowAt m i)) ≡ step (g (rowAt m i))) × ((b : Before) → hear-save (g (rowAt m i)) b ≡ save (g (rowAt m i)) b))
+        → Stepped (list-heard x)
+    list-steps x g t same made no-matter nor-kept others own =
         let rows-are : x .monitor .rows ≡ mapFirst n g (m .rows) = ap (λ (y : Monitor). y .rows) made in
         let kept-are : x .monitor .before ≡ zipFirst n t (m .rows) (m .before) = ap (λ (y : Monitor). y .before) made in
         let at : (i : ℕ) → i < n → rowAt (x .monitor) i ≡ g (rowAt m i) = λ i k. ap (λ (rows : List Row). getD rows i noRow) rows-are ∙ mapped g n i (m .rows) noRow k (omega (arith, whole, k)) in
@@ -318,7 +430,8 @@ module _ (h : Indexed) (call : Call) (whole : length (h .monitor .rows) ≡ 32) 
         let v = visited step save (isIn m (listFor o)) x (kept-wide ∙ sym wide) n there (λ i k out.
         subst (λ (r : Row). (step r ≡ r) × ((save r (keptAt (x .monitor) i) ≡ keptAt (x .monitor) i) × (x .soonest ≤ r .now .due))) (sym (at i k))
         (subst (λ (b : Before). (step (g (rowAt m i)) ≡ g (rowAt m i)) × ((save (g (rowAt m i)) b ≡ b) × (x .soonest ≤ g (rowAt m i) .now .due))) (sym (too i k)) (others i k out))) in
-        let same-list = list-visited x same in
+        let same-list = list-visited x same ∙ visits-same hear step hear-save save (isIn m (listFor o)) x n (λ i k is-own.
+        subst (λ (r : Row). (hear r ≡ step r) × (hear-save r (keptAt (x .monitor) i) ≡ save r (keptAt (x .monitor) i))) (sym (at i k)) (own i k is-own .0, own i k is-own .1 (keptAt (x .monitor) i))) in
         record {
           monitor-is = ap (λ (y : Indexed). y .monitor) same-list ∙ v .monitor-is ∙ ap (λ (y : Monitor). withRows y (mapFirst n step (y .rows)) (zipFirst n save (y .rows) (y .before))) made
               ∙ ap (λ (rows : List Row). withRows (withNumbers m q) rows (zipFirst n save (mapFirst n g (m .rows)) (zipFirst n t (m .rows) (m .before)))) (map-twice step g no-matter n (m .rows))
@@ -328,37 +441,56 @@ module _ (h : Indexed) (call : Call) (whole : length (h .monitor .rows) ≡ 32) 
           lists-are = ap (λ (y : Indexed). y .lists) same-list ∙ visits-lists step save (numbers (isIn m (listFor o)) n) x ∙ same;
         }
 
-    -- no row can be overdue
-    not-late : ltb (h .soonest) (o .time) ≡ false → Stepped (list-stepped stored)
+    -- the clock and the close can go to no row
+    not-late : mayEnd (h .soonest) o ≡ false → Stepped (list-heard stored)
     not-late e =
         list-steps stored (λ r. r) (λ r b. b) refl
         (sym (ap (λ (rows : List Row). withRows (withNumbers m q) rows (zipFirst n (λ r b. b) (m .rows) (m .before))) (map-none n (m .rows)) ∙ ap (withRows (withNumbers m q) (m .rows)) (zip-nothing n (m .rows) (m .before))))
         (λ r. refl) (λ r b. refl)
         (λ i k out.
-        let in-time : o .time ≤ rowAt m i .now .due = omega (arith, ltb-false (h .soonest) (o .time) e, ix .no-sooner i k) in
-        (still (rowAt m i) o (q .step) out in-time, (unsaved (rowAt m i) o (q .step) (keptAt m i) out in-time, ix .no-sooner i k)))
+        let unmoved : movesBy (rowAt m i .rule) (rowAt m i .now) o ≡ false = unconcerned (rowAt m i) o (sym (in-list answered i) ∙ out) ∙ none-ends i k in
+        (still (rowAt m i) o (q .step) unmoved, (unsaved o (q .step) (rowAt m i) (keptAt m i) unmoved, ix .no-sooner i k)))
+        (λ i k is-own. heard-moved o (q .step) (rowAt m i) (sym (in-list answered i) ∙ is-own) (λ _. (in-time i k, room i k)))
+      where
+        by-test : (closes late : Bool) → cond closes true late ≡ false → (closes ≡ false) × (late ≡ false)
+        by-test true late x = both x
+        by-test false late x = (refl, x)
 
-    -- the overdue rows are broken first
-    some-late : Stepped (list-stepped (passed stored n o (q .step)))
+        in-time : (i : ℕ) → i < n → ltb (rowAt m i .now .due) (o .time) ≡ false
+        in-time i k = le-ltb (rowAt m i .now .due) (o .time) (omega (arith, ltb-false (h .soonest) (o .time) (by-test (o .closes) (ltb (h .soonest) (o .time)) e .1), ix .no-sooner i k))
+
+        none-ends : (i : ℕ) → i < n → endsBy (rowAt m i .rule) (rowAt m i .now) o ≡ false
+        none-ends i k = no-ends (rowAt m i) o (by-test (o .closes) (ltb (h .soonest) (o .time)) e .0) (in-time i k)
+
+    -- the rows to which they go come first
+    some-late : Stepped (list-heard (passed stored n o (q .step)))
     some-late =
         let v = visited (late o (q .step)) (late-saves o (q .step)) (λ _. true) (withSoonest stored noLimit) (kept-whole ∙ sym whole) n (omega (arith, whole)) (λ i k out. both out) in
         let p = pass-visits o (q .step) stored n in
         list-steps (passed stored n o (q .step)) (late o (q .step)) (late-saves o (q .step))
         (ap (λ (y : Indexed). y .lists) p ∙ visits-lists (late o (q .step)) (late-saves o (q .step)) (numbers (λ _. true) n) (withSoonest stored noLimit))
         (ap (λ (y : Indexed). y .monitor) p ∙ v .monitor-is) (late-first o (q .step) above) (late-saves-first o (q .step) above)
-        (λ i k out. (late-still o (q .step) above (rowAt m i) out, (late-unsaved o (q .step) above (rowAt m i) (keptAt m i) out, subst (λ (y : Indexed). y .soonest ≤ late o (q .step) (rowAt m i) .now .due) (sym p) (v .heeds i k))))
+        (λ i k out.
+        let free = sym (in-list answered i) ∙ out in
+        (late-still o (q .step) above (rowAt m i) free, (late-unsaved o (q .step) above (rowAt m i) (keptAt m i) free, subst (λ (y : Indexed). y .soonest ≤ late o (q .step) (rowAt m i) .now .due) (sym p) (v .heeds i k))))
+        (λ i k is-own. heard-late o (q .step) above (rowAt m i) (sym (in-list answered i) ∙ is-own) (room i k))
 
     all-stepped : Stepped taken
     all-stepped =
-        subst (λ (k : ℕ). Stepped (list-stepped (begun stored k o (q .step)))) (sym all-held)
-        (split (ltb (h .soonest) (o .time)) (λ b. ltb (h .soonest) (o .time) ≡ b → Stepped (list-stepped (cond b (passed stored n o (q .step)) stored))) (λ _ e. some-late) (λ _ e. not-late e) refl)
+        subst (λ (k : ℕ). Stepped (list-heard (begun stored k o (q .step)))) (sym all-held)
+        (split (mayEnd (h .soonest) o) (λ b. mayEnd (h .soonest) o ≡ b → Stepped (list-heard (cond b (passed stored n o (q .step)) stored))) (λ _ e. some-late) (λ _ e. not-late e) refl)
 
     -- the index is that of the monitor after the call
     pub taken-indexes : Indexes taken
     taken-indexes =
         record {
-          listed = λ k few. ap (λ (lists : List ℕ). listAt lists k) (all-stepped .lists-are) ∙ ix .listed k few ∙ subst (λ (y : Monitor). numbers (isIn m k) n ≡ numbers (isIn y k) (heldRows y)) (sym (all-stepped .monitor-is)) (same-numbers (isIn m k) _ n (λ i below. ap (λ (r : Rule). inList r k) (sym (ap (λ (r : Row). r .rule) (mapped step n i (m .rows) noRow below (omega (arith, whole, below))) ∙ rule-stays (rowAt m i) o (q .step)))));
+          listed = λ k few. ap (λ (lists : List ℕ). listAt lists k) (all-stepped .lists-are) ∙ ix .listed k few ∙ subst (λ (y : Monitor). numbers (isIn m k) n ≡ numbers (isIn y k) (heldRows y)) (sym (all-stepped .monitor-is)) (same-numbers (isIn m k) _ n (λ i below. ap (λ (r : Rule). concerns r k) (sym (ap (λ (r : Row). r .rule) (mapped step n i (m .rows) noRow below (omega (arith, whole, below))) ∙ rule-stays (rowAt m i) o (q .step)))));
           no-sooner = λ i. subst (λ (y : Monitor). i < heldRows y → taken .soonest ≤ rowAt y i .now .due) (sym (all-stepped .monitor-is)) (λ below. subst (λ (r : Row). taken .soonest ≤ r .now .due) (sym (mapped step n i (m .rows) noRow below (omega (arith, whole, below)))) (all-stepped .heeds i below));
+          roomy = subst Roomy (sym (all-stepped .monitor-is)) (record {
+            now-few = λ i below. subst (λ (r : Row). r .now .len ≤ 64) (sym (mapped step n i (m .rows) noRow below (omega (arith, whole, below)))) (step-few (rowAt m i) o (q .step) (ix .roomy .now-few i below));
+            then-few = λ i below. subst (λ (b : Before). b .state .len ≤ 64) (sym (zipped save n i (m .rows) (m .before) below (omega (arith, whole, below)) (omega (arith, kept-whole, below))))
+                (saved-few (rowAt m i) o (q .step) (keptAt m i) (ix .roomy .now-few i below) (ix .roomy .then-few i below));
+          });
         }
 
     -- the monitor is the one after the step of all rows
@@ -380,13 +512,19 @@ module _ (h : Indexed) (call : Call) (whole : length (h .monitor .rows) ≡ 32) 
     zero-answer zero b e = refl
     zero-answer (suc number) b e = absurd (omega (arith, e))
 
+    no-crowd : (number : ℕ) (b : Bool) → answerOf number b ≡ 0 → b ≡ false
+    no-crowd zero true e = absurd (omega (arith, e))
+    no-crowd zero false e = refl
+    no-crowd (suc number) b e = absurd (omega (arith, e))
+
     pub taken-takes : answer ≡ 0 → Takes h call answer taken
     taken-takes none =
         record {
           untouched = λ some-number. absurd (some-number none);
           steps = λ ix.
-              let answered = zero-answer (q .number) c none in (
-                subst (λ (y : Monitor). Steps m call (steppedFrom answer y)) (sym (taken-monitor ix answered)) (taken-steps m call whole c (crowd-known ix) none),
-                taken-indexes ix answered,
+              let answered = zero-answer (q .number) c none in
+              let calm-all = sym (crowd-known ix 0) ∙ no-crowd (q .number) c none in (
+                subst (λ (y : Monitor). Steps m call (steppedFrom answer y)) (sym (taken-monitor ix answered calm-all)) (taken-steps m call whole c (crowd-known ix) none),
+                taken-indexes ix answered calm-all,
               );
         }

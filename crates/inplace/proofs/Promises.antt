@@ -5,15 +5,15 @@ use mathlib.Core.List.{[], _∷_}
 use mathlib.Core.Bool.{_||_}
 use lib.ListN.{getD}
 use Rattle.constraint.specs.Limits.{streamCount, noLimit}
-use Rattle.row.specs.Machine.{rowFrom, rowStep}
-use Rattle.row.specs.Undo.{noBefore, movesBy, Moves}
+use Rattle.row.specs.Undo.{noBefore}
+use Rattle.row.specs.Apart.{crowdedBy, endsBy, Ends, Hears}
 use Rattle.queue.specs.Ring.{putBack}
 use Rattle.monitor.specs.Machine.{noRow, noUndo, placeFor}
 use Rattle.monitor.specs.Parts.{rowsWithout}
 use Rattle.monitor.specs.Contract.{Steps, Withdraws}
-use Rattle.inplace.specs.Store.{steppedFrom, askedOf, askedBy, answerOf, rowStepped, rowsStepped, rowsCrowded, withNumbers}
+use Rattle.inplace.specs.Store.{steppedFrom, askedOf, askedBy, answerOf, rowHeard, rowEnded, withNumbers}
 use Rattle.inplace.specs.Store.{withdrawalOf, withdrawalBy, rowBack, withUndo}
-use Rattle.inplace.specs.Index.{listSize, listFor, rowOf, listedOf, listedBy, crowdedAt, listCrowded, heeded, stepAt, listStepped, lateStepped, lateAt, passed, begun, Indexes, Takes, soonestAfter, TakesBack}
+use Rattle.inplace.specs.Index.{listSize, listFor, rowOf, listedOf, listedBy, crowdsRow, crowdedAt, listCrowded, heeded, hearAt, listHeard, endAt, passed, mayEnd, begun, Roomy, Indexes, Takes, soonestAfter, TakesBack}
 use Rattle.inplace.proofs.Plain.{truth, nothing}
 use Rattle.inplace.proofs.Types.{byte-type, word-type, call-type, rule-type, times-type, state-type, occurrence-type, before-type, moved-type, undo-type, monitor-type}
 use Rattle.inplace.proofs.Types.{asked-type, numbered-type, withdrawal-type, indexed-type, listed-type}
@@ -40,14 +40,26 @@ answer-of = record { front = byte-type ∷ truth ∷ []; result = byte-type; ask
 abbrev pub either : Pure
 either = record { front = truth ∷ truth ∷ []; result = truth; asks = λ a. no-demand; gives = λ a r. r ≡ (a .0 || a .1 .0) }
 
-abbrev pub moves : Pure
-moves =
+abbrev pub ends : Pure
+ends =
     record {
       front = rule-type ∷ state-type ∷ occurrence-type ∷ [];
       result = truth;
       asks = λ a. no-demand;
-      gives = λ a r. r ≡ movesBy (a .0) (a .1 .0) (a .1 .1 .0);
+      gives = λ a r. r ≡ endsBy (a .0) (a .1 .0) (a .1 .1 .0);
     }
+
+abbrev pub crowded-by : Pure
+crowded-by =
+    record {
+      front = rule-type ∷ state-type ∷ occurrence-type ∷ [];
+      result = truth;
+      asks = λ a. no-demand;
+      gives = λ a r. r ≡ crowdedBy (a .0) (a .1 .0) (a .1 .1 .0);
+    }
+
+abbrev pub may-end : Pure
+may-end = record { front = word-type ∷ occurrence-type ∷ []; result = truth; asks = λ a. no-demand; gives = λ a r. r ≡ mayEnd (a .0) (a .1 .0) }
 
 abbrev pub none : Pure
 none = record { front = []; result = before-type; asks = λ a. no-demand; gives = λ a r. r ≡ noBefore }
@@ -81,7 +93,7 @@ abbrev pub sooner : Pure
 sooner = record { front = word-type ∷ word-type ∷ []; result = word-type; asks = λ a. no-demand; gives = λ a r. r ≡ min (a .0) (a .1 .0) }
 
 abbrev pub indexed-over : Pure
-indexed-over = record { front = monitor-type ∷ []; result = indexed-type; asks = λ a. no-demand; gives = λ a r. (r .monitor ≡ a .0) × Indexes r }
+indexed-over = record { front = monitor-type ∷ []; result = indexed-type; asks = λ a. no-demand; gives = λ a r. (r .monitor ≡ a .0) × (Roomy (a .0) → Indexes r) }
 
 abbrev pub soonest-after : Pure
 soonest-after = record { front = byte-type ∷ word-type ∷ []; result = word-type; asks = λ a. no-demand; gives = λ a r. r ≡ soonestAfter (a .0) (a .1 .0) }
@@ -91,14 +103,14 @@ no-limit = record { front = []; result = word-type; asks = λ a. no-demand; give
 
 -- ---- functions that are lent a row's times
 
-abbrev pub advance : Callee (mut-of times-type)
-advance =
+abbrev pub hear : Callee (mut-of times-type)
+hear =
     record {
       front = rule-type ∷ state-type ∷ [];
       back = occurrence-type ∷ word-type ∷ [];
       result = moved-type;
       asks = λ κs a. no-demand;
-      gives = λ κs a r e. Moves (a .0) (a .1 .0) (a .1 .1 .0 .now) (a .1 .1 .1 .0) (a .1 .1 .1 .1 .0) (e .1 .1 .0 .now) r;
+      gives = λ κs a r e. Hears (a .0) (a .1 .0) (a .1 .1 .0 .now) (a .1 .1 .1 .0) (a .1 .1 .1 .1 .0) (e .1 .1 .0 .now) r;
     }
 
 abbrev pub put-back : Callee (mut-of times-type)
@@ -111,33 +123,24 @@ put-back =
       gives = λ κs a r e. e .0 .now ≡ putBack (a .1 .0) (a .1 .1 .0) (a .1 .1 .1 .0) (a .0 .now);
     }
 
-abbrev pub crowded : Callee (shr-of times-type)
-crowded =
+abbrev pub end : Callee (shr-of times-type)
+end =
     record {
-      front = rule-type ∷ state-type ∷ [];
-      back = occurrence-type ∷ [];
-      result = truth;
+      front = state-type ∷ [];
+      back = occurrence-type ∷ word-type ∷ [];
+      result = moved-type;
       asks = λ κs a. no-demand;
-      gives = λ κs a r e. (number : ℕ) → r ≡ rowStep (rowFrom (a .0) (a .1 .1 .0 .now) (a .1 .0)) (a .1 .1 .1 .0) number .crowded;
+      gives = λ κs a r e. Ends (a .0) (a .1 .0 .now) (a .1 .1 .0) (a .1 .1 .1 .0) r;
     }
 
 -- ---- walks
 
-abbrev pub row-step : Promise monitor-type (word-type ∷ occurrence-type ∷ word-type ∷ []) nothing
-row-step = record { asks = λ κs h a. demand (a .0 < 32); gives = λ κs h a r h′. h′ ≡ rowStepped h (a .0) (a .1 .0) (a .1 .1 .0) }
-
-abbrev pub rows-step : Promise monitor-type (word-type ∷ occurrence-type ∷ word-type ∷ []) nothing
-rows-step = record { asks = λ κs h a. demand (a .0 ≤ 32); gives = λ κs h a r h′. h′ ≡ rowsStepped h (a .0) (a .1 .0) (a .1 .1 .0) }
+abbrev pub row-hears : Promise monitor-type (word-type ∷ occurrence-type ∷ word-type ∷ []) nothing
+row-hears = record { asks = λ κs h a. demand (a .0 < 32); gives = λ κs h a r h′. h′ ≡ rowHeard h (a .0) (a .1 .0) (a .1 .1 .0) }
 
 abbrev pub row-asks : Promise monitor-type (word-type ∷ occurrence-type ∷ []) truth
 row-asks =
-    record {
-      asks = λ κs h a. demand (a .0 < 32);
-      gives = λ κs h a r h′. ((number : ℕ) → r ≡ rowStep (getD (h .rows) (a .0) noRow) (a .1 .0) number .crowded) × (h′ ≡ h);
-    }
-
-abbrev pub rows-ask : Promise monitor-type (word-type ∷ occurrence-type ∷ []) truth
-rows-ask = record { asks = λ κs h a. demand (a .0 ≤ 32); gives = λ κs h a r h′. ((number : ℕ) → r ≡ rowsCrowded h (a .0) (a .1 .0) number) × (h′ ≡ h) }
+    record { asks = λ κs h a. demand (a .0 < 32); gives = λ κs h a r h′. (r ≡ crowdsRow (a .1 .0) (getD (h .rows) (a .0) noRow)) × (h′ ≡ h) }
 
 abbrev pub ask-at : Promise monitor-type (call-type ∷ []) asked-type
 ask-at = record { asks = λ κs h a. no-demand; gives = λ κs h a r h′. (r ≡ askedBy h (a .0)) × (h′ ≡ h) }
@@ -163,8 +166,8 @@ put-undo = record { asks = λ κs h a. demand (a .0 .place < streamCount); gives
 abbrev pub withdraw : Promise monitor-type [] byte-type
 withdraw = record { asks = λ κs h a. no-demand; gives = λ κs h a r h′. Withdraws h (steppedFrom r h′) }
 
-abbrev pub late-row : Promise monitor-type (word-type ∷ occurrence-type ∷ word-type ∷ []) nothing
-late-row = record { asks = λ κs h a. demand (a .0 < 32); gives = λ κs h a r h′. h′ ≡ lateStepped h (a .0) (a .1 .0) (a .1 .1 .0) }
+abbrev pub row-ends : Promise monitor-type (word-type ∷ occurrence-type ∷ word-type ∷ []) nothing
+row-ends = record { asks = λ κs h a. demand (a .0 < 32); gives = λ κs h a r h′. h′ ≡ rowEnded h (a .0) (a .1 .0) (a .1 .1 .0) }
 
 -- ---- walks over an indexed monitor
 
@@ -184,18 +187,18 @@ list-asks =
 abbrev pub heed : Promise indexed-type (word-type ∷ []) nothing
 heed = record { asks = λ κs h a. demand (a .0 < 32); gives = λ κs h a r h′. h′ ≡ heeded h (a .0) }
 
-abbrev pub steps-at : Promise indexed-type (word-type ∷ occurrence-type ∷ word-type ∷ []) nothing
-steps-at = record { asks = λ κs h a. demand (a .0 < listSize); gives = λ κs h a r h′. h′ ≡ stepAt h (a .0) (a .1 .0) (a .1 .1 .0) }
+abbrev pub hears-at : Promise indexed-type (word-type ∷ occurrence-type ∷ word-type ∷ []) nothing
+hears-at = record { asks = λ κs h a. demand (a .0 < listSize); gives = λ κs h a r h′. h′ ≡ hearAt h (a .0) (a .1 .0) (a .1 .1 .0) }
 
-abbrev pub list-step : Promise indexed-type (word-type ∷ word-type ∷ occurrence-type ∷ word-type ∷ []) nothing
-list-step =
+abbrev pub list-hears : Promise indexed-type (word-type ∷ word-type ∷ occurrence-type ∷ word-type ∷ []) nothing
+list-hears =
     record {
       asks = λ κs h a. demand (a .0 + a .1 .0 ≤ listSize);
-      gives = λ κs h a r h′. h′ ≡ listStepped h (a .0) (a .1 .0) (a .1 .1 .0) (a .1 .1 .1 .0);
+      gives = λ κs h a r h′. h′ ≡ listHeard h (a .0) (a .1 .0) (a .1 .1 .0) (a .1 .1 .1 .0);
     }
 
-abbrev pub late-step : Promise indexed-type (word-type ∷ occurrence-type ∷ word-type ∷ []) nothing
-late-step = record { asks = λ κs h a. demand (a .0 < 32); gives = λ κs h a r h′. h′ ≡ lateAt h (a .0) (a .1 .0) (a .1 .1 .0) }
+abbrev pub ends-at : Promise indexed-type (word-type ∷ occurrence-type ∷ word-type ∷ []) nothing
+ends-at = record { asks = λ κs h a. demand (a .0 < 32); gives = λ κs h a r h′. h′ ≡ endAt h (a .0) (a .1 .0) (a .1 .1 .0) }
 
 abbrev pub pass : Promise indexed-type (word-type ∷ occurrence-type ∷ word-type ∷ []) nothing
 pass = record { asks = λ κs h a. demand (a .0 ≤ 32); gives = λ κs h a r h′. h′ ≡ passed h (a .0) (a .1 .0) (a .1 .1 .0) }

@@ -175,6 +175,9 @@ module _ (r : Row) (was : Known row-type r) where
   pub now-known : Known state-type (r .now)
   now-known = LL.owed S.the-type S′.the-laws r _ was .1 .1 .0
 
+pub broken-known : (r : Row) → Known row-type r → Known word-type (r .now .broken)
+broken-known r was = LL.owed U.the-type U′.the-laws (r .now) _ (now-known r was) .1 .1 .1 .1 .1 .0
+
 pub row-from-known : (rule : Rule) (times : List ℕ) (now : State) → Known rule-type rule → Known times-type times → Known state-type now → Known row-type (rowFrom rule times now)
 row-from-known rule times now r-is t-is n-is = LL.owes S.the-type S′.the-laws (rowFrom rule times now) (r-is, (subst (λ (l : List ℕ). Known times-type l) (sym (into-same times)) t-is, (n-is, tt)))
 

@@ -7,15 +7,17 @@ use mathlib.Core.List.{List, [], _∷_}
 use lib.ListN.{getD}
 use lib.Dec.{ltb, eqb}
 use Rattle.machine.specs.declared.Rule.{Rule}
-use Rattle.row.specs.Undo.{backRow, rowWithout}
+use Rattle.row.specs.Machine.{concerns}
+use Rattle.row.specs.Undo.{noBefore, backRow, rowWithout, keptWithout}
 use Rattle.row.specs.declared.Before.{Before}
 use Rattle.row.specs.declared.Row.{Row}
+use Rattle.row.proofs.Apart.{without-few, kept-few}
 use Rattle.monitor.specs.Machine.{noRow, zipFirst, refuses, takes, withdrawn, withdrawOf}
 use Rattle.monitor.specs.Contract.{Withdraws}
 use Rattle.monitor.specs.declared.Monitor.{Monitor}
 use Rattle.monitor.specs.declared.Stepped.{Stepped}
 use Rattle.inplace.specs.Store.{numberOf, steppedFrom}
-use Rattle.inplace.specs.Index.{inList, numbers, heldRows, rowAt, isIn, Indexes, withMonitor, withSoonest, soonestAfter, TakesBack}
+use Rattle.inplace.specs.Index.{numbers, heldRows, rowAt, isIn, keptAt, Roomy, Indexes, withMonitor, withSoonest, soonestAfter, TakesBack}
 use Rattle.inplace.specs.declared.index.Indexed.{Indexed}
 use Rattle.inplace.proofs.Listing.{same-numbers}
 
@@ -44,6 +46,34 @@ same-rules m i = rows-rule (m .count) (m .len) (m .before) (m .rows) i
 same-held : (m : Monitor) → heldRows (withdrawn m) ≡ heldRows m
 unfolding withdrawn
 same-held m = refl
+
+-- ---- in no row wait more than 64
+
+rows-few : (number n : ℕ) (kept : List Before) (rows : List Row) (i : ℕ) → getD rows i noRow .now .len ≤ 64 → getD kept i noBefore .state .len ≤ 64
+    → getD (zipFirst n (λ b r. rowWithout number r b) kept rows) i noRow .now .len ≤ 64
+unfolding zipFirst
+rows-few number zero kept rows i few then-few = few
+rows-few number (suc n) [] rows i few then-few = few
+rows-few number (suc n) (b ∷ kept) [] i few then-few = few
+rows-few number (suc n) (b ∷ kept) (r ∷ rows) zero few then-few = without-few number r b few then-few
+rows-few number (suc n) (b ∷ kept) (r ∷ rows) (suc i) few then-few = rows-few number n kept rows i few then-few
+
+then-all-few : (number n : ℕ) (rows : List Row) (kept : List Before) (i : ℕ) → getD kept i noBefore .state .len ≤ 64
+    → getD (zipFirst n (λ r b. keptWithout number b) rows kept) i noBefore .state .len ≤ 64
+unfolding zipFirst
+then-all-few number zero rows kept i few = few
+then-all-few number (suc n) [] kept i few = few
+then-all-few number (suc n) (r ∷ rows) [] i few = few
+then-all-few number (suc n) (r ∷ rows) (b ∷ kept) zero few = kept-few number b few
+then-all-few number (suc n) (r ∷ rows) (b ∷ kept) (suc i) few = then-all-few number n rows kept i few
+
+back-roomy : (m : Monitor) → Roomy m → Roomy (withdrawn m)
+unfolding withdrawn
+back-roomy m few =
+    record {
+      now-few = λ i below. rows-few (m .count) (m .len) (m .before) (m .rows) i (few .now-few i below) (few .then-few i below);
+      then-few = λ i below. then-all-few (m .count) (m .len) (m .rows) (m .before) i (few .then-few i below);
+    }
 
 -- ---- what a withdrawal answers and leaves
 
@@ -75,9 +105,10 @@ module _ (h : Indexed) (number : ℕ) (m′ : Monitor) (w : Withdraws (h .monito
   indexes-taken ix =
       record {
         listed = λ k few. ix .listed k few
-            ∙ same-numbers (isIn (h .monitor) k) (isIn (withdrawn (h .monitor)) k) (heldRows (h .monitor)) (λ i _. ap (λ (r : Rule). inList r k) (sym (same-rules (h .monitor) i)))
+            ∙ same-numbers (isIn (h .monitor) k) (isIn (withdrawn (h .monitor)) k) (heldRows (h .monitor)) (λ i _. ap (λ (r : Rule). concerns r k) (sym (same-rules (h .monitor) i)))
             ∙ ap (numbers (isIn (withdrawn (h .monitor)) k)) (sym (same-held (h .monitor)));
         no-sooner = λ i _. omega arith;
+        roomy = back-roomy (h .monitor) (ix .roomy);
       }
 
   back-indexes : (n : ℕ) → number ≡ n → Indexes h → Indexes (withSoonest (withMonitor h m′) (soonestAfter n (h .soonest)))

@@ -36,7 +36,7 @@ use Rattle.constraint.proofs.Lists.{split, or-false}
 use Rattle.row.specs.Machine.{noEvent}
 use Rattle.row.specs.declared.Occurrence.{Occurrence}
 use Rattle.monitor.specs.declared.Monitor.{Monitor}
-use Rattle.inplace.specs.Index.{listPlaces, listSize, everyRow, listFor, rowOf, withMonitor, withSoonest}
+use Rattle.inplace.specs.Index.{listPlaces, listSize, listFor, rowOf, withMonitor, withSoonest}
 use Rattle.inplace.specs.declared.index.Indexed.{Indexed}
 use Rattle.inplace.proofs.index.Indexed as X
 use Rattle.inplace.proofs.index.Indexed.Laws as X′
@@ -103,7 +103,8 @@ pub row-small : (byte i : ℕ) → i ≡ rowOf byte → i < 32
 row-small byte i e = subst (λ (k : ℕ). k < 32) (sym e) (mod-lt byte {m = 32} (omega arith))
 
 pub list-small : (o : Occurrence) (k : ℕ) → k ≡ listFor o → k * listPlaces < listSize
-list-small o k e = subst (λ (n : ℕ). n * listPlaces < listSize) (sym e) (split (o .closes || ltb noEvent (o .kind)) (λ b. cond b everyRow (o .kind) * listPlaces < listSize) (λ f. omega arith) (λ f. omega (arith, ltb-false noEvent (o .kind) (or-false (o .closes) (ltb noEvent (o .kind)) f .1))))
+list-small o k e = subst (λ (n : ℕ). n * listPlaces < listSize) (sym e) 
+    (split (ltb noEvent (o .kind)) (λ b. cond b noEvent (o .kind) * listPlaces < listSize) (λ f. omega arith) (λ f. omega (arith, ltb-false noEvent (o .kind) f)))
 
 pub first-fits : (j : ℕ) → j < listSize → j < 2 ^ 64
 first-fits j l = omega (arith, l)

@@ -2,14 +2,15 @@
 -- monitor, and what a call makes of both.
 use Prim.Native.Nat.{ℕ, zero, suc, _+_, _*_, _%_, _<_, _≤_, min}
 use mathlib.Core.Path.{_≡_}
-use mathlib.Core.Bool.{Bool, false, cond, _||_}
+use mathlib.Core.Bool.{Bool, true, false, cond, _||_}
 use mathlib.Core.List.{List, [], _∷_, _++_}
 use lib.ListN.{getD, set, replicate}
-use lib.Dec.{ltb, eqb}
-use Rattle.constraint.specs.Limits.{rowLimit, noLimit}
+use lib.Dec.{ltb}
+use Rattle.constraint.specs.Limits.{rowLimit, noLimit, waitingLimit}
 use Rattle.constraint.specs.declared.Call.{Call}
 use Rattle.machine.specs.declared.Rule.{Rule}
-use Rattle.row.specs.Machine.{concerns, noEvent, rowStep}
+use Rattle.row.specs.Machine.{concerns, noEvent}
+use Rattle.row.specs.Apart.{crowdedBy}
 use Rattle.row.specs.Undo.{noBefore}
 use Rattle.row.specs.declared.Before.{Before}
 use Rattle.row.specs.declared.Occurrence.{Occurrence}
@@ -17,7 +18,7 @@ use Rattle.row.specs.declared.Row.{Row}
 use Rattle.monitor.specs.Machine.{noRow}
 use Rattle.monitor.specs.Contract.{Steps, Withdraws}
 use Rattle.monitor.specs.declared.Monitor.{Monitor}
-use Rattle.inplace.specs.Store.{steppedFrom, askedRows, rowStepped}
+use Rattle.inplace.specs.Store.{steppedFrom, askedRows, rowHeard, rowEnded}
 use Rattle.inplace.specs.declared.index.Indexed.{Indexed}
 use Rattle.inplace.specs.declared.index.Listed.{Listed}
 
@@ -33,17 +34,9 @@ listPlaces = 33
 abbrev pub listSize : ℕ
 listSize = 2184
 
--- the list that every row is in
-abbrev pub everyRow : ℕ
-everyRow = 64
-
--- a row is in the list of each kind that concerns it, and in that of every row
-abbrev pub inList : Rule → ℕ → Bool
-inList rule k = eqb k everyRow || concerns rule k
-
--- the list that what occurs goes to
+-- the list that what occurs goes to: its kind's
 abbrev pub listFor : Occurrence → ℕ
-listFor o = cond (o .closes || ltb noEvent (o .kind)) everyRow (o .kind)
+listFor o = cond (ltb noEvent (o .kind)) noEvent (o .kind)
 
 -- the row that a byte names
 abbrev pub rowOf : ℕ → ℕ
@@ -72,14 +65,20 @@ rowAt m i = getD (m .rows) i noRow
 abbrev pub keptAt : Monitor → ℕ → Before
 keptAt m i = getD (m .before) i noBefore
 
--- row i of a monitor is in list k
+-- row i of a monitor is in list k: the kind concerns it
 abbrev pub isIn : Monitor → ℕ → ℕ → Bool
-isIn m k i = inList (rowAt m i .rule) k
+isIn m k i = concerns (rowAt m i .rule) k
+
+-- in no row wait more than 64, nor did before its last step
+pub record Roomy (m : Monitor) : Type 0 where
+  pub now-few : (i : ℕ) → i < heldRows m → rowAt m i .now .len ≤ waitingLimit
+  pub then-few : (i : ℕ) → i < heldRows m → keptAt m i .state .len ≤ waitingLimit
 
 -- the index is the monitor's: each list holds the rows that are in it, and no row is due before the soonest time
 pub record Indexes (h : Indexed) : Type 0 where
   pub listed : (k : ℕ) → k < listCount → listAt (h .lists) k ≡ numbers (isIn (h .monitor) k) (heldRows (h .monitor))
   pub no-sooner : (i : ℕ) → i < heldRows (h .monitor) → h .soonest ≤ rowAt (h .monitor) i .now .due
+  pub roomy : Roomy (h .monitor)
 
 -- ---- the lists made
 
@@ -95,7 +94,7 @@ pushed lists k i so =
 -- row i in each of the first n lists that it is in
 unfoldable pub enlisted : Rule → ℕ → List ℕ → ℕ → List ℕ
 enlisted rule i lists zero = lists
-enlisted rule i lists (suc n) = pushed (enlisted rule i lists n) n i (inList rule n)
+enlisted rule i lists (suc n) = pushed (enlisted rule i lists n) n i (concerns rule n)
 
 -- the first n rows of a monitor in the lists
 unfoldable pub listsOf : Monitor → ℕ → List ℕ
@@ -111,9 +110,13 @@ listedOf number at len = record { first = at + 1; rows = askedRows number len }
 abbrev pub listedBy : Indexed → ℕ → Occurrence → Listed
 listedBy h number o = listedOf number (listFor o * listPlaces) (getD (h .lists) (listFor o * listPlaces) 0)
 
--- what occurs crowds the row that a place names, as a step of whatever number
+-- what occurs crowds a row in which at most 64 wait
+abbrev pub crowdsRow : Occurrence → Row → Bool
+crowdsRow o r = crowdedBy (r .rule) (r .now) o
+
+-- and the row that a place names
 abbrev pub crowdedAt : Indexed → ℕ → Occurrence → Bool
-crowdedAt h place o = rowStep (rowAt (h .monitor) (rowOf (getD (h .lists) place 0))) o 0 .crowded
+crowdedAt h place o = crowdsRow o (rowAt (h .monitor) (rowOf (getD (h .lists) place 0)))
 
 abbrev pub listCrowded : Indexed → ℕ → ℕ → Occurrence → Bool
 listCrowded h first zero o = false
@@ -131,32 +134,33 @@ withSoonest h time = record { monitor = h .monitor; soonest = time; lists = h .l
 abbrev pub heeded : Indexed → ℕ → Indexed
 heeded h i = withSoonest h (min (h .soonest) (rowAt (h .monitor) i .now .due))
 
--- row i after what occurs
-abbrev pub steppedAt : Indexed → ℕ → Occurrence → ℕ → Indexed
-steppedAt h i o number = heeded (withMonitor h (rowStepped (h .monitor) i o number)) i
+-- row i after an event that concerns it
+abbrev pub heardAt : Indexed → ℕ → Occurrence → ℕ → Indexed
+heardAt h i o number = heeded (withMonitor h (rowHeard (h .monitor) i o number)) i
 
 -- the row that a place names
-abbrev pub stepAt : Indexed → ℕ → Occurrence → ℕ → Indexed
-stepAt h place o number = steppedAt h (rowOf (getD (h .lists) place 0)) o number
+abbrev pub hearAt : Indexed → ℕ → Occurrence → ℕ → Indexed
+hearAt h place o number = heardAt h (rowOf (getD (h .lists) place 0)) o number
 
-abbrev pub listStepped : Indexed → ℕ → ℕ → Occurrence → ℕ → Indexed
-listStepped h first zero o number = h
-listStepped h first (suc n) o number = stepAt (listStepped h first n o number) (first + n) o number
+abbrev pub listHeard : Indexed → ℕ → ℕ → Occurrence → ℕ → Indexed
+listHeard h first zero o number = h
+listHeard h first (suc n) o number = hearAt (listHeard h first n o number) (first + n) o number
 
--- row i, after what occurs where it is overdue
-abbrev pub lateStepped : Monitor → ℕ → Occurrence → ℕ → Monitor
-lateStepped m i o number = cond (ltb (rowAt m i .now .due) (o .time)) (rowStepped m i o number) m
-
-abbrev pub lateAt : Indexed → ℕ → Occurrence → ℕ → Indexed
-lateAt h i o number = heeded (withMonitor h (lateStepped (h .monitor) i o number)) i
+-- row i, where the clock or the close alone goes to it
+abbrev pub endAt : Indexed → ℕ → Occurrence → ℕ → Indexed
+endAt h i o number = heeded (withMonitor h (rowEnded (h .monitor) i o number)) i
 
 abbrev pub passed : Indexed → ℕ → Occurrence → ℕ → Indexed
 passed h zero o number = withSoonest h noLimit
-passed h (suc n) o number = lateAt (passed h n o number) n o number
+passed h (suc n) o number = endAt (passed h n o number) n o number
 
--- the overdue among the first n rows are broken, where one may be
+-- the clock or the close alone may go to a row
+abbrev pub mayEnd : ℕ → Occurrence → Bool
+mayEnd soonest o = cond (o .closes) true (ltb soonest (o .time))
+
+-- the rows to which the clock or the close alone goes among the first n, where there may be one
 abbrev pub begun : Indexed → ℕ → Occurrence → ℕ → Indexed
-begun h n o number = cond (ltb (h .soonest) (o .time)) (passed h n o number) h
+begun h n o number = cond (mayEnd (h .soonest) o) (passed h n o number) h
 
 -- ---- a call
 

@@ -2,14 +2,15 @@
 use Prim.Native.Nat.{ℕ, zero, suc, min}
 use mathlib.Core.Bool.{Bool, cond}
 use lib.ListN.{getD, set}
-use lib.Dec.{ltb}
+use lib.Dec.{ltb, eqb}
 use Rattle.constraint.specs.Limits.{rowLimit}
 use Rattle.constraint.specs.declared.Answer.{Answer}
 use Rattle.constraint.specs.declared.Answer.the-variants.{Taken, Refused}
 use Rattle.constraint.specs.declared.Call.{Call}
 use Rattle.machine.specs.Parts.{plus}
-use Rattle.row.specs.Machine.{rowStep}
-use Rattle.row.specs.Undo.{noBefore, savedBy, rowWithout, keptWithout}
+use Rattle.row.specs.Machine.{rowFrom, rowStep}
+use Rattle.row.specs.Undo.{noBefore, savedAt, savedBy, rowWithout, keptWithout}
+use Rattle.row.specs.Apart.{endsBy, endedState, heardRow, heardBefore}
 use Rattle.row.specs.declared.Before.{Before}
 use Rattle.row.specs.declared.Occurrence.{Occurrence}
 use Rattle.row.specs.declared.Row.{Row}
@@ -69,6 +70,28 @@ answerOf (suc n) crowded = suc n
 -- the monitor with another row i, and what is kept of it
 abbrev pub withRow : Monitor → ℕ → Row → Before → Monitor
 withRow m i r b = withRows m (set (m .rows) i r) (set (m .before) i b)
+
+-- the monitor with row i after an event that concerns it; a broken one stays as it is
+abbrev pub heardBy : Occurrence → ℕ → Row → Row
+heardBy o number r = cond (eqb (r .now .broken) 0) (heardRow r o number) r
+
+abbrev pub heardSaves : Occurrence → ℕ → Row → Before → Before
+heardSaves o number r b = cond (eqb (r .now .broken) 0) (heardBefore r o number) b
+
+abbrev pub rowHeard : Monitor → ℕ → Occurrence → ℕ → Monitor
+rowHeard m i o number =
+    withRow m i (heardBy o number (getD (m .rows) i noRow)) (heardSaves o number (getD (m .rows) i noRow) (getD (m .before) i noBefore))
+
+-- and where the clock or the close alone goes to it
+abbrev pub endedBy : Occurrence → ℕ → Row → Row
+endedBy o number r = cond (endsBy (r .rule) (r .now) o) (rowFrom (r .rule) (r .times) (endedState (r .now) o number)) r
+
+abbrev pub endedSaves : Occurrence → ℕ → Row → Before → Before
+endedSaves o number r b = cond (endsBy (r .rule) (r .now) o) (savedAt r 0 number) b
+
+abbrev pub rowEnded : Monitor → ℕ → Occurrence → ℕ → Monitor
+rowEnded m i o number =
+    withRow m i (endedBy o number (getD (m .rows) i noRow)) (endedSaves o number (getD (m .rows) i noRow) (getD (m .before) i noBefore))
 
 -- the monitor with row i after what occurs
 abbrev pub rowStepped : Monitor → ℕ → Occurrence → ℕ → Monitor

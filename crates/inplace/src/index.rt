@@ -6,7 +6,8 @@ use crate::asked_rows;
 use crate::either;
 use crate::put_numbers;
 use crate::row_asks;
-use crate::row_step;
+use crate::row_ends;
+use crate::row_hears;
 use constraint::Call;
 use constraint::NO_LIMIT;
 use machine::Rule;
@@ -16,11 +17,9 @@ use row::concerns;
 ghost use Prim.Native.Nat.{ℕ, _+_, _<_, _≤_, min};
 ghost use mathlib.Core.Path.{_≡_};
 ghost use Rattle.constraint.specs.Limits.{noLimit};
-ghost use Rattle.inplace.specs.Index.{listCount, heldRows, pushed, enlisted, listsOf, listFor, inList, rowOf, Indexes, listedOf, listedBy, crowdedAt, listCrowded, heeded, stepAt, listStepped, lateStepped, lateAt, passed, begun, listSize, soonestAfter, Takes, TakesBack};
+ghost use Rattle.inplace.specs.Index.{listCount, heldRows, pushed, enlisted, listsOf, listFor, rowOf, Roomy, Indexes, listedOf, listedBy, crowdedAt, listCrowded, heeded, hearAt, listHeard, endAt, passed, mayEnd, begun, listSize, soonestAfter, Takes, TakesBack};
 
-// The list of every row, and the one for no event. Those below are the kinds'.
-const EVERY_ROW: u64 = 64;
-
+// The list for no event. Those below are the kinds'.
 const NO_EVENT: u64 = 65;
 
 // The lists, and the places of each: one for its length, and one for each row.
@@ -36,13 +35,6 @@ pub struct Indexed {
     pub soonest: u64,
     // list after list: its length, and the numbers of its rows; six bytes more make whole words
     pub lists: [u8; 2184],
-}
-
-// Whether a row is in list k.
-fn in_list(rule: Rule, k: u64) -> bool
-    ensures { λ r. ⌜ r ≡ inList rule k ⌝ }
-{
-    k == EVERY_ROW || concerns(rule, k)
 }
 
 // Row i, put behind the rows of list k, where it is in it.
@@ -66,7 +58,7 @@ fn enlist(rule: Rule, i: u8, lists: &mut [u8; 2184])
 {
     let mut k = 0;
     while k < LISTS {
-        let so = in_list(rule, k as u64);
+        let so = concerns(rule, k as u64);
         push(lists, k, i, so);
         k += 1;
     }
@@ -90,7 +82,7 @@ fn lists_of(monitor: Monitor) -> [u8; 2184]
 
 // A monitor with its index.
 pub fn over(monitor: Monitor) -> Indexed
-    ensures { λ r. ⌜ (r .monitor ≡ monitor) × Indexes r ⌝ }
+    ensures { λ r. ⌜ (r .monitor ≡ monitor) × (Roomy monitor → Indexes r) ⌝ }
 {
     let lists = lists_of(monitor);
     Indexed {
@@ -106,15 +98,12 @@ pub struct Listed {
     pub rows: usize,
 }
 
-// The list that what occurs goes to: its kind's; at the close every row.
+// The list that what occurs goes to: its kind's.
 fn list_of(o: Occurrence) -> usize
     ensures { λ r. ⌜ r ≡ listFor o ⌝ }
 {
-    if o.closes {
-        return EVERY_ROW as usize;
-    }
     if NO_EVENT < o.kind {
-        return EVERY_ROW as usize;
+        return NO_EVENT as usize;
     }
     o.kind as usize
 }
@@ -195,50 +184,39 @@ fn heed(m: &mut Indexed, i: usize)
     m.soonest = sooner(m.soonest, due);
 }
 
-// The row that stands at a place of the lists, after what occurs.
-fn steps_at(m: &mut Indexed, place: usize, o: Occurrence, number: u64)
+// The row that stands at a place of the lists, after an event that concerns it.
+fn hears_at(m: &mut Indexed, place: usize, o: Occurrence, number: u64)
     requires { ⌜ place < listSize ⌝ }
-    ensures { λ _. ⌜ now (m .exit) ≡ stepAt (now (m .entry)) place o number ⌝ }
+    ensures { λ _. ⌜ now (m .exit) ≡ hearAt (now (m .entry)) place o number ⌝ }
 {
     let byte = m.lists[place];
     let i = row_of(byte);
-    row_step(&mut m.monitor, i, o, number);
+    row_hears(&mut m.monitor, i, o, number);
     heed(m, i);
 }
 
-// Each of the n rows that stand from a place on, after what occurs.
-fn list_step(m: &mut Indexed, first: usize, n: usize, o: Occurrence, number: u64)
+// Each of the n rows that stand from a place on, after an event that concerns them.
+fn list_hears(m: &mut Indexed, first: usize, n: usize, o: Occurrence, number: u64)
     requires { ⌜ first + n ≤ listSize ⌝ }
-    ensures { λ _. ⌜ now (m .exit) ≡ listStepped (now (m .entry)) first n o number ⌝ }
+    ensures { λ _. ⌜ now (m .exit) ≡ listHeard (now (m .entry)) first n o number ⌝ }
 {
     let mut j = 0;
     while j < n {
-        steps_at(m, first + j, o, number);
+        hears_at(m, first + j, o, number);
         j += 1;
     }
 }
 
-// Row i of a monitor that is lent, broken where it is overdue.
-fn late_row(m: &mut Monitor, i: usize, o: Occurrence, number: u64)
+// Row i of an indexed monitor, where the clock or the close alone goes to it.
+fn ends_at(m: &mut Indexed, i: usize, o: Occurrence, number: u64)
     requires { ⌜ i < 32 ⌝ }
-    ensures { λ _. ⌜ now (m .exit) ≡ lateStepped (now (m .entry)) i o number ⌝ }
+    ensures { λ _. ⌜ now (m .exit) ≡ endAt (now (m .entry)) i o number ⌝ }
 {
-    let due = m.rows[i].now.due;
-    if due < o.time {
-        row_step(m, i, o, number);
-    }
-}
-
-// The same of an indexed monitor.
-fn late_step(m: &mut Indexed, i: usize, o: Occurrence, number: u64)
-    requires { ⌜ i < 32 ⌝ }
-    ensures { λ _. ⌜ now (m .exit) ≡ lateAt (now (m .entry)) i o number ⌝ }
-{
-    late_row(&mut m.monitor, i, o, number);
+    row_ends(&mut m.monitor, i, o, number);
     heed(m, i);
 }
 
-// Each of the first n rows, broken where it is overdue; the soonest due time is found anew.
+// Each of the first n rows, where the clock or the close alone goes to it; the soonest due time is found anew.
 fn pass(m: &mut Indexed, n: usize, o: Occurrence, number: u64)
     requires { ⌜ n ≤ 32 ⌝ }
     ensures { λ _. ⌜ now (m .exit) ≡ passed (now (m .entry)) n o number ⌝ }
@@ -246,17 +224,25 @@ fn pass(m: &mut Indexed, n: usize, o: Occurrence, number: u64)
     m.soonest = no_limit();
     let mut i = 0;
     while i < n {
-        late_step(m, i, o, number);
+        ends_at(m, i, o, number);
         i += 1;
     }
 }
 
-// The rows that are overdue are broken, if there can be one.
+// Whether the clock or the close alone may go to a row.
+fn may_end(soonest: u64, o: Occurrence) -> bool
+    ensures { λ r. ⌜ r ≡ mayEnd soonest o ⌝ }
+{
+    if o.closes { true } else { soonest < o.time }
+}
+
+// The rows to which the clock or the close alone goes, if there can be one.
 fn begin(m: &mut Indexed, n: usize, o: Occurrence, number: u64)
     requires { ⌜ n ≤ 32 ⌝ }
     ensures { λ _. ⌜ now (m .exit) ≡ begun (now (m .entry)) n o number ⌝ }
 {
-    if m.soonest < o.time {
+    let may = may_end(m.soonest, o);
+    if may {
         pass(m, n, o, number);
     }
 }
@@ -272,7 +258,7 @@ pub fn take(m: &mut Indexed, call: Call) -> u8
     if answer == 0 {
         put_numbers(&mut m.monitor, q);
         begin(m, q.rows, q.occurrence, q.step);
-        list_step(m, l.first, l.rows, q.occurrence, q.step);
+        list_hears(m, l.first, l.rows, q.occurrence, q.step);
     }
     answer
 }

@@ -1,32 +1,24 @@
 // A call on a monitor that is lent, taken where the monitor lies: nothing is copied but numbers.
 use constraint::Answer;
 use constraint::Call;
-use constraint::WAITING_LIMIT;
-use machine::Rule;
-use machine::State;
 use machine::parts::plus;
 use monitor::Monitor;
 use monitor::Undo;
 use monitor::calls;
 use row::Before;
 use row::Occurrence;
-use row::moves;
-ghost use Prim.Native.Nat.{ℕ, _<_, _≤_};
+ghost use Prim.Native.Nat.{_<_, _≤_};
 ghost use mathlib.Core.Bool.{false, _||_};
-ghost use mathlib.Core.List.{List};
 ghost use mathlib.Core.Path.{_≡_};
 ghost use lib.ListN.{getD};
 ghost use Rattle.constraint.specs.Limits.{streamCount};
-ghost use Rattle.row.specs.Machine.{rowFrom, rowStep};
+ghost use Rattle.row.specs.Apart.{crowdedBy};
 ghost use Rattle.monitor.specs.Machine.{noRow};
 ghost use Rattle.monitor.specs.Parts.{rowsWithout};
 ghost use Rattle.monitor.specs.Contract.{Steps, Withdraws};
-ghost use Rattle.inplace.specs.Store.{steppedFrom, askedRows, askedOf, askedBy, answerOf, rowStepped, withNumbers, mayAnswer, withdrawalOf, withdrawalBy, rowBack, withUndo};
+ghost use Rattle.inplace.specs.Store.{steppedFrom, askedRows, askedOf, askedBy, answerOf, rowHeard, rowEnded, withNumbers, mayAnswer, withdrawalOf, withdrawalBy, rowBack, withUndo};
 
 pub mod index;
-
-// A row with fewer waiting has room for two more words.
-const ROOMY: usize = WAITING_LIMIT - 1;
 
 // What a call is to do: the number of its refusal by all questions but 12, or 0; to how many rows it goes, what they see of it, and as which step;
 // the place of its stream, and the first free time of that stream and the mark of the close after it; and what it changes of these, as it was.
@@ -89,40 +81,42 @@ fn either(a: bool, b: bool) -> bool
     if a { true } else { b }
 }
 
-// Whether what occurs would leave the row open with more than 64 waiting: a row with room for two more words is not looked into.
-fn crowded(rule: Rule, old: State, times: &[u64; 64], o: Occurrence) -> bool
-    ensures { λ r. ⌜ ((number : ℕ) → r ≡ rowStep (rowFrom rule (now (times .entry)) old) o number .crowded) ⌝ }
-{
-    if old.len < ROOMY {
-        return false;
-    }
-    row::crowded(rule, old, times, o)
-}
-
-// Row i of a monitor that is lent, after what occurs, where the row lies.
-fn row_step(m: &mut Monitor, i: usize, o: Occurrence, number: u64)
+// Row i of a monitor that is lent, after an event that concerns it, where the row lies; a broken one stays as it is.
+fn row_hears(m: &mut Monitor, i: usize, o: Occurrence, number: u64)
     requires { ⌜ i < 32 ⌝ }
-    ensures { λ _. ⌜ now (m .exit) ≡ rowStepped (now (m .entry)) i o number ⌝ }
+    ensures { λ _. ⌜ now (m .exit) ≡ rowHeard (now (m .entry)) i o number ⌝ }
 {
     let r = &mut m.rows[i];
-    if moves(r.rule, r.now, o) {
+    if r.now.broken == 0 {
         let rule = r.rule;
         let old = r.now;
-        let new = row::advance(rule, old, &mut r.times, o, number);
+        let new = row::hear(rule, old, &mut r.times, o, number);
         r.now = new.now;
         m.before[i] = new.before;
     }
 }
 
-// Whether what occurs crowds row i of a monitor that is lent.
-fn row_asks(m: &mut Monitor, i: usize, o: Occurrence) -> bool
+// Row i of a monitor that is lent, where the clock or the close alone goes to it.
+fn row_ends(m: &mut Monitor, i: usize, o: Occurrence, number: u64)
     requires { ⌜ i < 32 ⌝ }
-    ensures { λ r. ⌜ ((number : ℕ) → r ≡ rowStep (getD (now (m .entry) .rows) i noRow) o number .crowded) × (now (m .exit) ≡ now (m .entry)) ⌝ }
+    ensures { λ _. ⌜ now (m .exit) ≡ rowEnded (now (m .entry)) i o number ⌝ }
 {
     let r = &mut m.rows[i];
-    let rule = r.rule;
-    let old = r.now;
-    crowded(rule, old, &r.times, o)
+    if row::ends(r.rule, r.now, o) {
+        let old = r.now;
+        let new = row::end(old, &r.times, o, number);
+        r.now = new.now;
+        m.before[i] = new.before;
+    }
+}
+
+// Whether what occurs crowds row i of a monitor that is lent, in which at most 64 wait.
+fn row_asks(m: &mut Monitor, i: usize, o: Occurrence) -> bool
+    requires { ⌜ i < 32 ⌝ }
+    ensures { λ r. ⌜ (r ≡ crowdedBy (getD (now (m .entry) .rows) i noRow .rule) (getD (now (m .entry) .rows) i noRow .now) o) × (now (m .exit) ≡ now (m .entry)) ⌝ }
+{
+    let r = &mut m.rows[i];
+    row::crowded_by(r.rule, r.now, o)
 }
 
 // All questions but 12, of a monitor that is lent.

@@ -59,7 +59,7 @@ module _
       calls-monitor ! (fmOf 𝓤 H (W .laws) 𝓣) row-asks cites-row-asks L h (λ _. (i, (a .1 .0, tt))) (λ _. (i-is, (a-is .1 .0, tt))) (λ _. row-small (getD (h .lists) j 0) i e)
       (λ α δ. and-then ! (copies ! 13 refl) (and-then ! (copies ! 9 refl) (and-then ! (copies ! 7 refl) (no-more !)))) (λ κs b m b-is said.
       lands-in ! 2 refl (tt, tt) $
-      leaves ! (code.function .locals) tt bs (vbool b) refl (ends b (withMonitor h m) refl (said .0 0 ∙ rw e, ap (withMonitor h) (said .1))))))
+      leaves ! (code.function .locals) tt bs (vbool b) refl (ends b (withMonitor h m) refl (said .0 ∙ rw e, ap (withMonitor h) (said .1))))))
 
 pub asks-at-spec : {M : Type 1} → stated.statement M
 unfolding code.routine tablesOf

@@ -6,7 +6,8 @@ use borrow.Author.Needs.{needs}
 use mathlib.Core.Path.{_≡_, refl, sym, ap}
 use mathlib.Core.List.{List}
 use Rattle.machine.specs.declared.Rule.{Rule}
-use Rattle.inplace.specs.Index.{listCount, inList, pushed, enlisted}
+use Rattle.row.specs.Machine.{concerns}
+use Rattle.inplace.specs.Index.{listCount, pushed, enlisted}
 use Rattle.inplace.proofs.index.enlist.Statement.{statement}
 use Rattle.inplace.proofs.index.enlist.Tie as tie
 
@@ -16,7 +17,7 @@ Inv-loop rule i lists₀ k₀ lists k = (k ≤ listCount) × (lists ≡ enlisted
 abbrev μ-loop : tie.MeasureT-loop
 μ-loop rule i lists₀ k₀ lists k = listCount - k
 
-one-more : (rule : Rule) (i : ℕ) (lists : List ℕ) (k : ℕ) → pushed (enlisted rule i lists k) k i (inList rule k) ≡ enlisted rule i lists (k + 1)
+one-more : (rule : Rule) (i : ℕ) (lists : List ℕ) (k : ℕ) → pushed (enlisted rule i lists k) k i (concerns rule k) ≡ enlisted rule i lists (k + 1)
 unfolding enlisted
 one-more rule i lists k = ap (enlisted rule i lists) (sym (add-one k))
 
@@ -24,8 +25,8 @@ loop-holds : tie.Need-loop-holds Inv-loop μ-loop
 unfolding enlisted
 loop-holds c = (omega arith, refl)
 
-in-list-requires : tie.Need-in-list-requires Inv-loop μ-loop
-in-list-requires c κs = search needs
+concerns-requires : tie.Need-concerns-requires Inv-loop μ-loop
+concerns-requires c κs = search needs
 
 push-requires : tie.Need-push-requires Inv-loop μ-loop
 push-requires c κs = omega arith
@@ -39,10 +40,10 @@ loop-less c = omega arith
 loop-again : tie.Need-loop-again Inv-loop μ-loop
 loop-again c =
     let at-loop = c .before .before .before .before in
-    (omega arith, rw (c .push .ensures, c .before .before .in-list .ensures, at-loop .loop .inv .1) (one-more _ _ _ (at-loop .loop .k)))
+    (omega arith, rw (c .push .ensures, c .before .before .concerns .ensures, at-loop .loop .inv .1) (one-more _ _ _ (at-loop .loop .k)))
 
 returns : tie.Need-returns Inv-loop μ-loop
 returns c = let all : c .before .loop .k ≡ listCount = omega arith in rw (c .before .loop .inv .1, all)
 
 pub enlist-spec : {M : Type 1} → statement M
-enlist-spec = tie.close (tie.spec Inv-loop μ-loop loop-holds in-list-requires push-requires add-k loop-less loop-again returns)
+enlist-spec = tie.close (tie.spec Inv-loop μ-loop loop-holds concerns-requires push-requires add-k loop-less loop-again returns)

@@ -28,13 +28,13 @@ use Rattle.inplace.proofs.Loans.{cell, opened, closed}
 use Rattle.inplace.proofs.Loop.{counts}
 use Rattle.inplace.proofs.Calls.{lent-triple, calls-lent, pure-triple, calls-plain}
 use Rattle.inplace.proofs.Within.{with-soonest-known}
-use Rattle.inplace.proofs.Promises.{late-step, no-limit, pass}
+use Rattle.inplace.proofs.Promises.{ends-at, no-limit, pass}
 use Rattle.inplace.proofs.index.no_limit.Symbol as no-limit-def
 use Rattle.inplace.proofs.index.no_limit.Symbol.{name as #inplace·index·no-limit}
 use Rattle.inplace.proofs.index.no_limit.Met as no-limit-thm
-use Rattle.inplace.proofs.index.late_step.Symbol as late-step-def
-use Rattle.inplace.proofs.index.late_step.Symbol.{name as #inplace·index·late-step}
-use Rattle.inplace.proofs.index.late_step.Met as late-step-thm
+use Rattle.inplace.proofs.index.ends_at.Symbol as ends-at-def
+use Rattle.inplace.proofs.index.ends_at.Symbol.{name as #inplace·index·ends-at}
+use Rattle.inplace.proofs.index.ends_at.Met as ends-at-thm
 use Rattle.inplace.proofs.index.pass.Key.{name as #inplace·index·pass}
 use Rattle.inplace.proofs.index.pass.Statement as stated
 use Rattle.inplace.proofs.index.pass.Code as code
@@ -43,7 +43,7 @@ use Rattle.inplace.proofs.index.pass.Code.Mir as code-mir
 module _
     {M : Type 1} (𝓤 : URA M) (H : Heap 𝓤) (A : Atoms 𝓤) (W : Given 𝓤 H A) (𝓣 : Tables 𝓤 H)
     (cites-no-limit : Triple 𝓤 (𝓣 .C #inplace·index·no-limit) (pure-triple no-limit 𝓤 H A))
-    (cites-late-step : Triple 𝓤 (𝓣 .C #inplace·index·late-step) (lent-triple late-step 𝓤 H A)) where
+    (cites-ends-at : Triple 𝓤 (𝓣 .C #inplace·index·ends-at) (lent-triple ends-at 𝓤 H A)) where
   -- [the reference or the cell; its token or what closes it; _0; …]: _i is at 2 + i
   walk : Walk pass 𝓤 H A W (𝓣 .C) (𝓣 .Λ) code.function
   walk L h a a-is bound Kf ends bs =
@@ -63,7 +63,7 @@ module _
         bound-there = λ i. refl;
         goes-on = λ i Q small again.
             sets ! (addr ! (from ! (hop ! (look ! 3 refl) (stop !)))) 11 refl (tt, tt) $
-            calls-lent ! (fmOf 𝓤 H (W .laws) 𝓣) late-step cites-late-step L (after i) (λ _. (i, a .1)) (λ _. ((refl, fits i small), a-is .1)) (λ _. omega (arith, small, bound))
+            calls-lent ! (fmOf 𝓤 H (W .laws) 𝓣) ends-at cites-ends-at L (after i) (λ _. (i, a .1)) (λ _. ((refl, fits i small), a-is .1)) (λ _. omega (arith, small, bound))
             (λ α δ. and-then ! (copies ! 11 refl) (and-then ! (copies ! 7 refl) (and-then ! (copies ! 5 refl) (and-then ! (copies ! 6 refl) (no-more !))))) (λ κs r h′ r-is e.
             lands-in ! 10 refl (tt, tt) $
             rewrite ! 0 (λ (m : Indexed). ‵ (own-at indexed-type L m)) (e ∙ ap after (sym (add-one i))) refl $
@@ -98,4 +98,4 @@ pass-spec 𝓤 H 𝓜 𝓖 𝓡 =
     enters pass 𝓤 H 𝓜 𝓖 𝓡 code.env #inplace·index·pass code.function (code.unfolded 𝓤 H 𝓜 𝓡) (fitting pass 𝓤 H (𝓖 .A) (givenOf 𝓤 H 𝓜 𝓖))
     (walk 𝓤 H (𝓖 .A) (givenOf 𝓤 H 𝓜 𝓖) (tablesOf 𝓤 H 𝓜 (tables 𝓤 H 𝓜 𝓡 code.env))
     (cited 𝓤 H (pure-triple no-limit 𝓤 H (𝓖 .A)) 𝓜 𝓡 code.env #inplace·index·no-limit no-limit-def.routine code.calls-inplace·index·no-limit (no-limit-thm.met 𝓤 H 𝓜 𝓖 𝓡))
-    (cited 𝓤 H (lent-triple late-step 𝓤 H (𝓖 .A)) 𝓜 𝓡 code.env #inplace·index·late-step late-step-def.routine code.calls-inplace·index·late-step (late-step-thm.met 𝓤 H 𝓜 𝓖 𝓡)))
+    (cited 𝓤 H (lent-triple ends-at 𝓤 H (𝓖 .A)) 𝓜 𝓡 code.env #inplace·index·ends-at ends-at-def.routine code.calls-inplace·index·ends-at (ends-at-thm.met 𝓤 H 𝓜 𝓖 𝓡)))

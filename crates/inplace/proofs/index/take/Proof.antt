@@ -35,7 +35,7 @@ use Rattle.inplace.proofs.Numbers.{number-known, rows-known, occurrence
 use Rattle.inplace.proofs.Within.{calls-monitor, first-known, listed-known, whole-rows, whole-kept}
 use Rattle.inplace.proofs.Whole.{asked-small}
 use Rattle.inplace.proofs.Listing.{refused-takes, taken-takes, list-room, taken}
-use Rattle.inplace.proofs.Promises.{answer-of, ask-at, begin, list-asks, list-at, list-step, put-numbers, take-indexed}
+use Rattle.inplace.proofs.Promises.{answer-of, ask-at, begin, list-asks, list-at, list-hears, put-numbers, take-indexed}
 use Rattle.inplace.proofs.ask_at.Symbol as ask-at-def
 use Rattle.inplace.proofs.ask_at.Symbol.{name as #inplace·ask-at}
 use Rattle.inplace.proofs.ask_at.Met as ask-at-thm
@@ -54,9 +54,9 @@ use Rattle.inplace.proofs.put_numbers.Met as put-numbers-thm
 use Rattle.inplace.proofs.index.begin.Symbol as begin-def
 use Rattle.inplace.proofs.index.begin.Symbol.{name as #inplace·index·begin}
 use Rattle.inplace.proofs.index.begin.Met as begin-thm
-use Rattle.inplace.proofs.index.list_step.Symbol as list-step-def
-use Rattle.inplace.proofs.index.list_step.Symbol.{name as #inplace·index·list-step}
-use Rattle.inplace.proofs.index.list_step.Met as list-step-thm
+use Rattle.inplace.proofs.index.list_hears.Symbol as list-hears-def
+use Rattle.inplace.proofs.index.list_hears.Symbol.{name as #inplace·index·list-hears}
+use Rattle.inplace.proofs.index.list_hears.Met as list-hears-thm
 use Rattle.inplace.proofs.index.take.Key.{name as #inplace·index·take}
 use Rattle.inplace.proofs.index.take.Statement as stated
 use Rattle.inplace.proofs.index.take.Code as code
@@ -70,7 +70,7 @@ module _
     (cites-answer-of : Triple 𝓤 (𝓣 .C #inplace·answer-of) (pure-triple answer-of 𝓤 H A))
     (cites-put-numbers : Triple 𝓤 (𝓣 .C #inplace·put-numbers) (lent-triple put-numbers 𝓤 H A))
     (cites-begin : Triple 𝓤 (𝓣 .C #inplace·index·begin) (lent-triple begin 𝓤 H A))
-    (cites-list-step : Triple 𝓤 (𝓣 .C #inplace·index·list-step) (lent-triple list-step 𝓤 H A)) where
+    (cites-list-hears : Triple 𝓤 (𝓣 .C #inplace·index·list-hears) (lent-triple list-hears 𝓤 H A)) where
   -- [the reference; its token; _0; …]: _i is at 2 + i
   walk : Walk take-indexed 𝓤 H A W (𝓣 .C) (𝓣 .Λ) code.function
   walk L h a a-is free Kf ends bs =
@@ -121,7 +121,7 @@ module _
       land ! (from ! (stop !)) (store ! 13 refl (tt, tt)) $
       rewrite ! 0 (λ (x : Indexed). ‵ (own-at indexed-type L x)) begins refl $
       sets ! (addr ! (from ! (hop ! (look ! 3 refl) (stop !)))) 16 refl (tt, tt) $
-      calls-lent-last ! (fmOf 𝓤 H (W .laws) 𝓣) list-step cites-list-step L h₂ (λ _. (l .first, (l .rows, (q .occurrence, (q .step, tt))))) (λ _. (first-known l l-is, (listed-known l l-is, (occurrence-known q q-is, (step-known q q-is, tt))))) (λ _. list-room h (a .0) (whole-rows h was) (whole-kept h was))
+      calls-lent-last ! (fmOf 𝓤 H (W .laws) 𝓣) list-hears cites-list-hears L h₂ (λ _. (l .first, (l .rows, (q .occurrence, (q .step, tt))))) (λ _. (first-known l l-is, (listed-known l l-is, (occurrence-known q q-is, (step-known q q-is, tt))))) (λ _. list-room h (a .0) (whole-rows h was) (whole-kept h was))
       (λ α δ. and-then ! (copies ! 16 refl) (and-then ! (load ! (from ! (fld ! refl (stop !))) (look-in ! 6 (sub ! 0 refl (whole !)))) (and-then ! (load ! (from ! (fld ! refl (stop !))) (look-in ! 6 (sub ! 1 refl (whole !))))
       (and-then ! (load ! (from ! (fld ! refl (stop !))) (look-in ! 5 (sub ! 2 refl (whole !)))) (and-then ! (load ! (from ! (fld ! refl (stop !))) (look-in ! 5 (sub ! 3 refl (whole !)))) (no-more !)))))) (λ κs₅ r₂ h₆ r₂-is steps.
       land-last ! (from ! (stop !)) (store ! 13 refl (tt, tt)) $
@@ -150,4 +150,4 @@ take-spec 𝓤 H 𝓜 𝓖 𝓡 =
     (cited 𝓤 H (pure-triple answer-of 𝓤 H (𝓖 .A)) 𝓜 𝓡 code.env #inplace·answer-of answer-of-def.routine code.calls-inplace·answer-of (answer-of-thm.met 𝓤 H 𝓜 𝓖 𝓡))
     (cited 𝓤 H (lent-triple put-numbers 𝓤 H (𝓖 .A)) 𝓜 𝓡 code.env #inplace·put-numbers put-numbers-def.routine code.calls-inplace·put-numbers (put-numbers-thm.met 𝓤 H 𝓜 𝓖 𝓡))
     (cited 𝓤 H (lent-triple begin 𝓤 H (𝓖 .A)) 𝓜 𝓡 code.env #inplace·index·begin begin-def.routine code.calls-inplace·index·begin (begin-thm.met 𝓤 H 𝓜 𝓖 𝓡))
-    (cited 𝓤 H (lent-triple list-step 𝓤 H (𝓖 .A)) 𝓜 𝓡 code.env #inplace·index·list-step list-step-def.routine code.calls-inplace·index·list-step (list-step-thm.met 𝓤 H 𝓜 𝓖 𝓡)))
+    (cited 𝓤 H (lent-triple list-hears 𝓤 H (𝓖 .A)) 𝓜 𝓡 code.env #inplace·index·list-hears list-hears-def.routine code.calls-inplace·index·list-hears (list-hears-thm.met 𝓤 H 𝓜 𝓖 𝓡)))

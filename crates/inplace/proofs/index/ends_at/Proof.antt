@@ -17,26 +17,26 @@ use Rattle.inplace.proofs.Frame.{token, Walk, enters, fitting}
 use Rattle.inplace.proofs.Locals.{env, leaves, copies, sets, lands-in}
 use Rattle.inplace.proofs.Calls.{lent-triple, calls-lent}
 use Rattle.inplace.proofs.Within.{calls-monitor}
-use Rattle.inplace.proofs.Promises.{heed, late-row, late-step}
-use Rattle.inplace.proofs.index.late_row.Symbol as late-row-def
-use Rattle.inplace.proofs.index.late_row.Symbol.{name as #inplace·index·late-row}
-use Rattle.inplace.proofs.index.late_row.Met as late-row-thm
+use Rattle.inplace.proofs.Promises.{heed, row-ends, ends-at}
+use Rattle.inplace.proofs.row_ends.Symbol as row-ends-def
+use Rattle.inplace.proofs.row_ends.Symbol.{name as #inplace·row-ends}
+use Rattle.inplace.proofs.row_ends.Met as row-ends-thm
 use Rattle.inplace.proofs.index.heed.Symbol as heed-def
 use Rattle.inplace.proofs.index.heed.Symbol.{name as #inplace·index·heed}
 use Rattle.inplace.proofs.index.heed.Met as heed-thm
-use Rattle.inplace.proofs.index.late_step.Key.{name as #inplace·index·late-step}
-use Rattle.inplace.proofs.index.late_step.Statement as stated
-use Rattle.inplace.proofs.index.late_step.Code as code
+use Rattle.inplace.proofs.index.ends_at.Key.{name as #inplace·index·ends-at}
+use Rattle.inplace.proofs.index.ends_at.Statement as stated
+use Rattle.inplace.proofs.index.ends_at.Code as code
 
 module _
     {M : Type 1} (𝓤 : URA M) (H : Heap 𝓤) (A : Atoms 𝓤) (W : Given 𝓤 H A) (𝓣 : Tables 𝓤 H)
-    (cites-late-row : Triple 𝓤 (𝓣 .C #inplace·index·late-row) (lent-triple late-row 𝓤 H A))
+    (cites-row-ends : Triple 𝓤 (𝓣 .C #inplace·row-ends) (lent-triple row-ends 𝓤 H A))
     (cites-heed : Triple 𝓤 (𝓣 .C #inplace·index·heed) (lent-triple heed 𝓤 H A)) where
   -- [the reference; its token; _0; …]: _i is at 2 + i
-  walk : Walk late-step 𝓤 H A W (𝓣 .C) (𝓣 .Λ) code.function
+  walk : Walk ends-at 𝓤 H A W (𝓣 .C) (𝓣 .Λ) code.function
   walk L h a a-is small Kf ends bs =
       sets ! (addr ! (from ! (hop ! (look ! 3 refl) (fld ! refl (stop !))))) 8 refl (tt, tt) $
-      calls-monitor ! (fmOf 𝓤 H (W .laws) 𝓣) late-row cites-late-row L h (λ _. a) (λ _. a-is) (λ _. small)
+      calls-monitor ! (fmOf 𝓤 H (W .laws) 𝓣) row-ends cites-row-ends L h (λ _. a) (λ _. a-is) (λ _. small)
       (λ α δ. and-then ! (copies ! 10 refl) (and-then ! (copies ! 6 refl) (and-then ! (copies ! 7 refl) (and-then ! (copies ! 8 refl) (no-more !))))) (λ κs r m r-is stepped.
       lands-in ! 7 refl (tt, tt) $
       sets ! (addr ! (from ! (hop ! (look ! 3 refl) (stop !)))) 9 refl (tt, tt) $
@@ -46,10 +46,10 @@ module _
       sets ! (of-opd ! (unit-lit !)) 2 refl (tt, tt) $
       leaves ! (code.function .locals) tt bs vunit refl (ends tt h′ refl (said ∙ ap (λ (m′ : Monitor). heeded (withMonitor h m′) (a .0)) stepped))))
 
-pub late-step-spec : {M : Type 1} → stated.statement M
+pub ends-at-spec : {M : Type 1} → stated.statement M
 unfolding code.routine tablesOf
-late-step-spec 𝓤 H 𝓜 𝓖 𝓡 =
-    enters late-step 𝓤 H 𝓜 𝓖 𝓡 code.env #inplace·index·late-step code.function (code.unfolded 𝓤 H 𝓜 𝓡) (fitting late-step 𝓤 H (𝓖 .A) (givenOf 𝓤 H 𝓜 𝓖))
+ends-at-spec 𝓤 H 𝓜 𝓖 𝓡 =
+    enters ends-at 𝓤 H 𝓜 𝓖 𝓡 code.env #inplace·index·ends-at code.function (code.unfolded 𝓤 H 𝓜 𝓡) (fitting ends-at 𝓤 H (𝓖 .A) (givenOf 𝓤 H 𝓜 𝓖))
     (walk 𝓤 H (𝓖 .A) (givenOf 𝓤 H 𝓜 𝓖) (tablesOf 𝓤 H 𝓜 (tables 𝓤 H 𝓜 𝓡 code.env))
-    (cited 𝓤 H (lent-triple late-row 𝓤 H (𝓖 .A)) 𝓜 𝓡 code.env #inplace·index·late-row late-row-def.routine code.calls-inplace·index·late-row (late-row-thm.met 𝓤 H 𝓜 𝓖 𝓡))
+    (cited 𝓤 H (lent-triple row-ends 𝓤 H (𝓖 .A)) 𝓜 𝓡 code.env #inplace·row-ends row-ends-def.routine code.calls-inplace·row-ends (row-ends-thm.met 𝓤 H 𝓜 𝓖 𝓡))
     (cited 𝓤 H (lent-triple heed 𝓤 H (𝓖 .A)) 𝓜 𝓡 code.env #inplace·index·heed heed-def.routine code.calls-inplace·index·heed (heed-thm.met 𝓤 H 𝓜 𝓖 𝓡)))

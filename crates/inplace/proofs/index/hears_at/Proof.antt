@@ -27,27 +27,27 @@ use Rattle.inplace.proofs.Loans.{cell, opened, closed}
 use Rattle.inplace.proofs.Elem.{elem, at-place}
 use Rattle.inplace.proofs.Calls.{lent-triple, calls-lent, pure-triple, calls-plain}
 use Rattle.inplace.proofs.Within.{byte-vals, got-byte, byte-place, lists-whole, within-lists, byte-known, calls-monitor, row-small}
-use Rattle.inplace.proofs.Promises.{heed, row-of, row-step, steps-at}
+use Rattle.inplace.proofs.Promises.{heed, row-of, row-hears, hears-at}
 use Rattle.inplace.proofs.index.row_of.Symbol as row-of-def
 use Rattle.inplace.proofs.index.row_of.Symbol.{name as #inplace·index·row-of}
 use Rattle.inplace.proofs.index.row_of.Met as row-of-thm
-use Rattle.inplace.proofs.row_step.Symbol as row-step-def
-use Rattle.inplace.proofs.row_step.Symbol.{name as #inplace·row-step}
-use Rattle.inplace.proofs.row_step.Met as row-step-thm
+use Rattle.inplace.proofs.row_hears.Symbol as row-hears-def
+use Rattle.inplace.proofs.row_hears.Symbol.{name as #inplace·row-hears}
+use Rattle.inplace.proofs.row_hears.Met as row-hears-thm
 use Rattle.inplace.proofs.index.heed.Symbol as heed-def
 use Rattle.inplace.proofs.index.heed.Symbol.{name as #inplace·index·heed}
 use Rattle.inplace.proofs.index.heed.Met as heed-thm
-use Rattle.inplace.proofs.index.steps_at.Key.{name as #inplace·index·steps-at}
-use Rattle.inplace.proofs.index.steps_at.Statement as stated
-use Rattle.inplace.proofs.index.steps_at.Code as code
+use Rattle.inplace.proofs.index.hears_at.Key.{name as #inplace·index·hears-at}
+use Rattle.inplace.proofs.index.hears_at.Statement as stated
+use Rattle.inplace.proofs.index.hears_at.Code as code
 
 module _
     {M : Type 1} (𝓤 : URA M) (H : Heap 𝓤) (A : Atoms 𝓤) (W : Given 𝓤 H A) (𝓣 : Tables 𝓤 H)
     (cites-row-of : Triple 𝓤 (𝓣 .C #inplace·index·row-of) (pure-triple row-of 𝓤 H A))
-    (cites-row-step : Triple 𝓤 (𝓣 .C #inplace·row-step) (lent-triple row-step 𝓤 H A))
+    (cites-row-hears : Triple 𝓤 (𝓣 .C #inplace·row-hears) (lent-triple row-hears 𝓤 H A))
     (cites-heed : Triple 𝓤 (𝓣 .C #inplace·index·heed) (lent-triple heed 𝓤 H A)) where
   -- [the reference or the cell; its token or what closes it; _0; …]: _i is at 2 + i
-  walk : Walk steps-at 𝓤 H A W (𝓣 .C) (𝓣 .Λ) code.function
+  walk : Walk hears-at 𝓤 H A W (𝓣 .C) (𝓣 .Λ) code.function
   walk L h a a-is small Kf ends bs =
       let j : ℕ = a .0 in
       opened ! tt indexed-type L h (λ was.
@@ -61,7 +61,7 @@ module _
       calls-plain ! (fmOf 𝓤 H (W .laws) 𝓣) row-of cites-row-of (getD (h .lists) j 0, tt) (byte-known h was j small, tt) tt (and-then ! (copies ! 8 refl) (no-more !)) (λ i i-is e.
       lands-in ! 8 refl (typed 𝓤 H A W word-type i i-is) $
       sets ! (addr ! (from ! (hop ! (look ! 3 refl) (fld ! refl (stop !))))) 13 refl (tt, tt) $
-      calls-monitor ! (fmOf 𝓤 H (W .laws) 𝓣) row-step cites-row-step L h (λ _. (i, a .1)) (λ _. (i-is, a-is .1)) (λ _. row-small (getD (h .lists) j 0) i e)
+      calls-monitor ! (fmOf 𝓤 H (W .laws) 𝓣) row-hears cites-row-hears L h (λ _. (i, a .1)) (λ _. (i-is, a-is .1)) (λ _. row-small (getD (h .lists) j 0) i e)
       (λ α δ. and-then ! (copies ! 15 refl) (and-then ! (copies ! 10 refl) (and-then ! (copies ! 7 refl) (and-then ! (copies ! 8 refl) (no-more !))))) (λ κs r m r-is stepped.
       lands-in ! 12 refl (tt, tt) $
       sets ! (addr ! (from ! (hop ! (look ! 3 refl) (stop !)))) 14 refl (tt, tt) $
@@ -71,11 +71,11 @@ module _
       sets ! (of-opd ! (unit-lit !)) 2 refl (tt, tt) $
       leaves ! (code.function .locals) tt bs vunit refl (ends tt h′ refl (said ∙ ap (λ (m′ : Monitor). heeded (withMonitor h m′) i) stepped ∙ rw e))))))
 
-pub steps-at-spec : {M : Type 1} → stated.statement M
+pub hears-at-spec : {M : Type 1} → stated.statement M
 unfolding code.routine tablesOf
-steps-at-spec 𝓤 H 𝓜 𝓖 𝓡 =
-    enters steps-at 𝓤 H 𝓜 𝓖 𝓡 code.env #inplace·index·steps-at code.function (code.unfolded 𝓤 H 𝓜 𝓡) (fitting steps-at 𝓤 H (𝓖 .A) (givenOf 𝓤 H 𝓜 𝓖))
+hears-at-spec 𝓤 H 𝓜 𝓖 𝓡 =
+    enters hears-at 𝓤 H 𝓜 𝓖 𝓡 code.env #inplace·index·hears-at code.function (code.unfolded 𝓤 H 𝓜 𝓡) (fitting hears-at 𝓤 H (𝓖 .A) (givenOf 𝓤 H 𝓜 𝓖))
     (walk 𝓤 H (𝓖 .A) (givenOf 𝓤 H 𝓜 𝓖) (tablesOf 𝓤 H 𝓜 (tables 𝓤 H 𝓜 𝓡 code.env))
     (cited 𝓤 H (pure-triple row-of 𝓤 H (𝓖 .A)) 𝓜 𝓡 code.env #inplace·index·row-of row-of-def.routine code.calls-inplace·index·row-of (row-of-thm.met 𝓤 H 𝓜 𝓖 𝓡))
-    (cited 𝓤 H (lent-triple row-step 𝓤 H (𝓖 .A)) 𝓜 𝓡 code.env #inplace·row-step row-step-def.routine code.calls-inplace·row-step (row-step-thm.met 𝓤 H 𝓜 𝓖 𝓡))
+    (cited 𝓤 H (lent-triple row-hears 𝓤 H (𝓖 .A)) 𝓜 𝓡 code.env #inplace·row-hears row-hears-def.routine code.calls-inplace·row-hears (row-hears-thm.met 𝓤 H 𝓜 𝓖 𝓡))
     (cited 𝓤 H (lent-triple heed 𝓤 H (𝓖 .A)) 𝓜 𝓡 code.env #inplace·index·heed heed-def.routine code.calls-inplace·index·heed (heed-thm.met 𝓤 H 𝓜 𝓖 𝓡)))

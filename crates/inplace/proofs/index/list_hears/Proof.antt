@@ -17,27 +17,27 @@ use types.Run.{look, store, forget, stop, hop, from, lit, unit-lit, bin, addr, o
 use sound.WpLaws.{fmOf}
 use denote.Triple.Statement.{Triple}
 use denote.Triple.Table.{cited}
-use Rattle.inplace.specs.Index.{listStepped}
+use Rattle.inplace.specs.Index.{listHeard}
 use Rattle.inplace.specs.declared.index.Indexed.{Indexed}
 use Rattle.inplace.proofs.Types.{occurrence-type, indexed-type}
 use Rattle.inplace.proofs.Frame.{own-at, token, Walk, enters, fitting}
 use Rattle.inplace.proofs.Locals.{Frame, env, leaves, copies, sets, lands-in}
 use Rattle.inplace.proofs.Loop.{counts}
 use Rattle.inplace.proofs.Calls.{lent-triple, calls-lent}
-use Rattle.inplace.proofs.Promises.{list-step, steps-at}
-use Rattle.inplace.proofs.index.steps_at.Symbol as steps-at-def
-use Rattle.inplace.proofs.index.steps_at.Symbol.{name as #inplace·index·steps-at}
-use Rattle.inplace.proofs.index.steps_at.Met as steps-at-thm
-use Rattle.inplace.proofs.index.list_step.Key.{name as #inplace·index·list-step}
-use Rattle.inplace.proofs.index.list_step.Statement as stated
-use Rattle.inplace.proofs.index.list_step.Code as code
-use Rattle.inplace.proofs.index.list_step.Code.Mir as code-mir
+use Rattle.inplace.proofs.Promises.{list-hears, hears-at}
+use Rattle.inplace.proofs.index.hears_at.Symbol as hears-at-def
+use Rattle.inplace.proofs.index.hears_at.Symbol.{name as #inplace·index·hears-at}
+use Rattle.inplace.proofs.index.hears_at.Met as hears-at-thm
+use Rattle.inplace.proofs.index.list_hears.Key.{name as #inplace·index·list-hears}
+use Rattle.inplace.proofs.index.list_hears.Statement as stated
+use Rattle.inplace.proofs.index.list_hears.Code as code
+use Rattle.inplace.proofs.index.list_hears.Code.Mir as code-mir
 
 module _
     {M : Type 1} (𝓤 : URA M) (H : Heap 𝓤) (A : Atoms 𝓤) (W : Given 𝓤 H A) (𝓣 : Tables 𝓤 H)
-    (cites-steps-at : Triple 𝓤 (𝓣 .C #inplace·index·steps-at) (lent-triple steps-at 𝓤 H A)) where
+    (cites-hears-at : Triple 𝓤 (𝓣 .C #inplace·index·hears-at) (lent-triple hears-at 𝓤 H A)) where
   -- [the reference; its token; _0; …]: _i is at 2 + i
-  walk : Walk list-step 𝓤 H A W (𝓣 .C) (𝓣 .Λ) code.function
+  walk : Walk list-hears 𝓤 H A W (𝓣 .C) (𝓣 .Λ) code.function
   walk L h a a-is bound Kf ends bs =
       sets ! (of-opd ! (lit ! tt)) 8 refl (tt, record { fits = lit< tt }) $
       first ! $ blocks ! $ counts 𝓤 H A W 𝓣 (env 𝓤 H (code.function .locals) bs) _ _ n At 7 6 3 9 8 5 (record {
@@ -49,7 +49,7 @@ module _
         goes-on = λ j Q small again.
             sets ! (addr ! (from ! (hop ! (look ! 3 refl) (stop !)))) 11 refl (tt, tt) $
             sets ! (bin ! (copies ! 4 refl) (copies ! 8 refl) (record { fits = place-fits j small })) 12 refl (tt, record { fits = place-fits j small }) $
-            calls-lent ! (fmOf 𝓤 H (W .laws) 𝓣) steps-at cites-steps-at L (after j) (λ _. (a .0 + j, a .1 .1)) (λ _. ((refl, place-fits j small), a-is .1 .1)) (λ _. omega (arith, small, bound))
+            calls-lent ! (fmOf 𝓤 H (W .laws) 𝓣) hears-at cites-hears-at L (after j) (λ _. (a .0 + j, a .1 .1)) (λ _. ((refl, place-fits j small), a-is .1 .1)) (λ _. omega (arith, small, bound))
             (λ α δ. and-then ! (copies ! 11 refl) (and-then ! (copies ! 12 refl) (and-then ! (copies ! 6 refl) (and-then ! (copies ! 7 refl) (no-more !))))) (λ κs r h′ r-is e.
             lands-in ! 10 refl (tt, tt) $
             rewrite ! 0 (λ (m : Indexed). ‵ (own-at indexed-type L m)) (e ∙ ap after (sym (add-one j))) refl $
@@ -66,7 +66,7 @@ module _
 
       -- before the turn of number j
       after : ℕ → Indexed
-      after j = listStepped h (a .0) j (a .1 .1 .0) (a .1 .1 .1 .0)
+      after j = listHeard h (a .0) j (a .1 .1 .0) (a .1 .1 .1 .0)
 
       At : ℕ → List (Item 𝓤)
       At j = ‵ (own-at indexed-type L (after j)) ∷ ‵ (token L)
@@ -78,9 +78,9 @@ module _
       fits-next : (j : ℕ) → j < n → j + 1 < 2 ^ 64
       fits-next j small = omega (arith, small, bound)
 
-pub list-step-spec : {M : Type 1} → stated.statement M
+pub list-hears-spec : {M : Type 1} → stated.statement M
 unfolding code.routine tablesOf
-list-step-spec 𝓤 H 𝓜 𝓖 𝓡 =
-    enters list-step 𝓤 H 𝓜 𝓖 𝓡 code.env #inplace·index·list-step code.function (code.unfolded 𝓤 H 𝓜 𝓡) (fitting list-step 𝓤 H (𝓖 .A) (givenOf 𝓤 H 𝓜 𝓖))
+list-hears-spec 𝓤 H 𝓜 𝓖 𝓡 =
+    enters list-hears 𝓤 H 𝓜 𝓖 𝓡 code.env #inplace·index·list-hears code.function (code.unfolded 𝓤 H 𝓜 𝓡) (fitting list-hears 𝓤 H (𝓖 .A) (givenOf 𝓤 H 𝓜 𝓖))
     (walk 𝓤 H (𝓖 .A) (givenOf 𝓤 H 𝓜 𝓖) (tablesOf 𝓤 H 𝓜 (tables 𝓤 H 𝓜 𝓡 code.env))
-    (cited 𝓤 H (lent-triple steps-at 𝓤 H (𝓖 .A)) 𝓜 𝓡 code.env #inplace·index·steps-at steps-at-def.routine code.calls-inplace·index·steps-at (steps-at-thm.met 𝓤 H 𝓜 𝓖 𝓡)))
+    (cited 𝓤 H (lent-triple hears-at 𝓤 H (𝓖 .A)) 𝓜 𝓡 code.env #inplace·index·hears-at hears-at-def.routine code.calls-inplace·index·hears-at (hears-at-thm.met 𝓤 H 𝓜 𝓖 𝓡)))

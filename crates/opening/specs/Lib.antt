@@ -1,0 +1,2 @@
+-- What a monitor that is made fresh in place is, and what its parts store.
+pub mod Store

@@ -7,15 +7,14 @@ use native.Mathlib.Omega.{arith}
 use lib.ListN.{length, length-append, drop, getD}
 use lib.Seq.{drop-cons}
 use Rattle.constraint.specs.Limits.{rowLimit}
-use Rattle.constraint.specs.Accepted.{Accepted}
-use Rattle.constraint.specs.Table.{TableRead, table-of, table-refused, ReadsRows, no-more, row-refused, row-taken, ReadsTable, version-taken, bodyAt}
+use Rattle.constraint.specs.Table.{TableRead, table-of, table-refused, ReadsRows, no-more, row-refused, row-taken, VersionOne, ReadsTable, version-taken, bodyAt}
 use Rattle.constraint.specs.declared.Constraint.{Constraint}
 use Rattle.constraint.proofs.Judged.{never}
-use Rattle.constraint.proofs.Accepted.{rows-room}
+use Rattle.table.specs.declared.ReadAnswer.{ReadAnswer}
 use Rattle.table.specs.declared.reader.RowRead.{RowRead}
 use Rattle.table.specs.declared.scan.Placed.{Placed}
 use Rattle.table.specs.Rows.{ReadsAt}
-use Rattle.table.specs.Scan.{Counted, PlacedAt}
+use Rattle.table.specs.Scan.{Counted, Says, PlacedAt}
 use Rattle.table.proofs.Places.{place-taken}
 use Rattle.table.proofs.Standing.{stands-once}
 use Rattle.table.proofs.AcceptedRows.{rows-accepted}
@@ -60,6 +59,12 @@ counted-end bytes count place so-far end =
       room = omega (arith, so-far .counted, so-far .room);
       accepted = rows-accepted bytes reads;
     }
+
+-- the version byte is asked for first
+pub counted-behind : (bytes : List ℕ) (a : ReadAnswer) (count : ℕ) → VersionOne bytes → Says (ReadsRows bytes 0 1) a count → Says (ReadsTable bytes) a count
+counted-behind bytes ReadAnswer.Accepted count one said =
+    record { rows = said .rows; reads = version-taken one (said .reads); counted = said .counted; room = said .room; accepted = said .accepted }
+counted-behind bytes (ReadAnswer.Refused n place) count one said = (version-taken one (said .0), said .1)
 
 -- Reading again
 

@@ -49,7 +49,7 @@ enum-known-number c = search needs
 
 returns : tie.Need-returns Inv-loop μ-loop
 returns c =
-    let at-number = c in
+    let at-number = c .before in
     let at-loop = at-number .before .before .before .before in
     let bytes = now (at-loop .before .before .args .bytes) in
     let judged = rw (at-number .number .given .1) at (at-number .before .before .read-row .ensures) in

@@ -7,7 +7,8 @@ use native.Mathlib.Omega.{arith}
 use lib.ListN.{length, length-append, drop, getD}
 use lib.Seq.{drop-cons}
 use Rattle.constraint.specs.Limits.{rowLimit}
-use Rattle.constraint.specs.Table.{TableRead, table-of, table-refused, ReadsRows, no-more, row-refused, row-taken, VersionOne, ReadsTable, version-taken, bodyAt}
+use Rattle.constraint.specs.Table.{TableRead, table-of, table-refused, ReadsRows, no-more, row-refused, row-taken}
+use Rattle.constraint.specs.Table.{VersionOne, ReadsTable, version-taken, bodyAt}
 use Rattle.constraint.specs.declared.Constraint.{Constraint}
 use Rattle.constraint.proofs.Judged.{never}
 use Rattle.table.specs.declared.ReadAnswer.{ReadAnswer}
@@ -61,7 +62,8 @@ counted-end bytes count place so-far end =
     }
 
 -- the version byte is asked for first
-pub counted-behind : (bytes : List ℕ) (a : ReadAnswer) (count : ℕ) → VersionOne bytes → Says (ReadsRows bytes 0 1) a count → Says (ReadsTable bytes) a count
+pub counted-behind : (bytes : List ℕ) (a : ReadAnswer) (count : ℕ) → VersionOne bytes → Says (ReadsRows bytes 0 1) a count
+    → Says (ReadsTable bytes) a count
 counted-behind bytes ReadAnswer.Accepted count one said =
     record { rows = said .rows; reads = version-taken one (said .reads); counted = said .counted; room = said .room; accepted = said .accepted }
 counted-behind bytes (ReadAnswer.Refused n place) count one said = (version-taken one (said .0), said .1)

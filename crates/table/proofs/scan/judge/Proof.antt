@@ -23,7 +23,8 @@ judge-rows-requires c κs = version c .0
 returns-2 : tie.Need-returns-2
 returns-2 c =
     let found = c .judge-rows in
-    counted-behind (now (c .before .before .before .before .args .bytes)) (found .result .answer) (found .result .rows) (version (c .before)) (found .ensures)
+    let a = c .before .before .before .before .args in
+    counted-behind (now (a .bytes)) (found .result .answer) (found .result .rows) (version (c .before)) (found .ensures)
 
 pub judge-spec : {M : Type 1} → statement M
 judge-spec = tie.close (tie.spec byte-at-requires returns judge-rows-requires returns-2)

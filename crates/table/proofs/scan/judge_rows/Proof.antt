@@ -1,4 +1,4 @@
--- The loop reads row after row and counts them: as many as were counted stand before the place, and what is read from there on, behind them, is the whole.
+-- The loop counts row after row: as many as were counted stand before the place, and what is read from there on, behind them, is the whole.
 use native.Mathlib.Omega.{arith}
 use borrow.Author.Needs.{needs}
 use Prim.Native.Nat.{_-_}

@@ -15,7 +15,8 @@ whole : (c : tie.Else1) → WholeAt (now (c .before .before .before .args .bytes
 whole c = passed (c .before .whole-at .result) (c .before .whole-at .ensures) (c .if1 .left)
 
 -- a slice of bytes holds bytes, so the row at the place is the one that the body is read as
-row : (c : tie.After-shared-slice-known) → RowAt (now (c .before .args .bytes)) (c .before .args .place) (constraintOf (bodyAt (now (c .before .args .bytes)) (c .before .args .place)))
+row : (c : tie.After-shared-slice-known)
+    → RowAt (now (c .before .args .bytes)) (c .before .args .place) (constraintOf (bodyAt (now (c .before .args .bytes)) (c .before .args .place)))
 unfolding Bytes
 row c = let a = c .before .args in row-at (now (a .bytes)) (a .place) (λ i h. omega (arith, c .shared-slice-known .given i))
 

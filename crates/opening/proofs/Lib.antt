@@ -1,5 +1,8 @@
 -- Walks that make a monitor fresh where it lies, and why what they store is the fresh monitor.
-mod Zeros
+mod Uniform
+pub mod Refusals
 pub mod Types
+pub mod Beside
 mod Promises
 mod Parts
+mod Freshness

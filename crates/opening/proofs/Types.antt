@@ -9,10 +9,20 @@ use denote.Plain.{UInt, uint-tells, uint-makes, uint-lawful}
 use denote.Array.{Array, arrayVal, array-tells, array-makes, array-lawful}
 use Rattle.constraint.proofs.Constraint as Constraint
 use Rattle.constraint.proofs.Constraint.Laws as ConstraintLaws
-use Rattle.inplace.proofs.Plain.{Plain, enum, words}
+use Rattle.table.proofs.scan.Placed as Placed
+use Rattle.table.proofs.scan.Placed.Laws as PlacedLaws
+use Rattle.opening.proofs.Judged as Judged
+use Rattle.opening.proofs.Judged.Laws as JudgedLaws
+use Rattle.inplace.proofs.Plain.{Plain, struct, enum, words}
 
 abbrev pub constraint-type : Plain
 constraint-type = enum Constraint.the-type ConstraintLaws.the-laws tt ConstraintLaws.the-plain ConstraintLaws.the-copy
+
+abbrev pub placed-type : Plain
+placed-type = struct Placed.the-type PlacedLaws.the-laws PlacedLaws.the-plain PlacedLaws.the-copy
+
+abbrev pub judged-type : Plain
+judged-type = struct Judged.the-type JudgedLaws.the-laws JudgedLaws.the-plain JudgedLaws.the-copy
 
 -- the first free times of a monitor
 abbrev pub next-type : Plain

@@ -3,6 +3,6 @@ mod Uniform
 pub mod Refusals
 pub mod Types
 pub mod Beside
-mod Promises
+pub mod Promises
 mod Parts
 mod Freshness

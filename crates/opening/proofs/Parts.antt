@@ -34,6 +34,7 @@ use Rattle.inplace.proofs.Loans.{cell}
 use Rattle.inplace.proofs.Elem.{as-val, Way, takes-out, puts-back}
 use Rattle.inplace.proofs.Rows.{row-vals, kept-vals, words-same}
 use Rattle.inplace.proofs.Within.{byte-vals}
+use Rattle.opening.specs.Store.{stepless}
 use Rattle.opening.proofs.Types.{next-type, lists-type}
 
 -- a number stands in an array as it is
@@ -44,15 +45,7 @@ into-same (t ∷ ts) = ap {B = List ℕ} (λ l. t ∷ l) (into-same ts)
 bytes-same : (bs : List ℕ) → arrayVal (byte-vals bs) ≡ lists-type .val bs
 bytes-same bs = ap (λ (l : List ℕ). arrayVal (map (vint w8) l)) (into-same bs)
 
-pub zero-known : Known word-type 0
-zero-known = (refl, lit< tt)
-
 -- ---- the first free times
-
--- the monitor with these for its first free times, and no step yet
-abbrev pub stepless : Monitor → List ℕ → ℕ → Monitor
-stepless m next n =
-    record { rows = m .rows; next = next; clock = 0; count = 0; closed = 0; len = n; before = m .before; undo = noUndo }
 
 abbrev with-next : Monitor → Val → Val
 with-next h u =
@@ -72,7 +65,7 @@ module _ (h : Monitor) (was : Known monitor-type h) where
         LL.owed T.the-type T′.the-laws h _ was .0,
         (
           subst (λ (l : List ℕ). Known next-type l) (sym (into-same next)) is,
-          (zero-known, (zero-known, (zero-known, (n-is, (LL.owed T.the-type T′.the-laws h _ was .1 .1 .1 .1 .1 .1 .0, (none-is, tt)))))),
+          ((refl, lit< tt), ((refl, lit< tt), ((refl, lit< tt), (n-is, (LL.owed T.the-type T′.the-laws h _ was .1 .1 .1 .1 .1 .1 .0, (none-is, tt)))))),
         ),
       )
 

@@ -1,5 +1,6 @@
 -- A monitor made fresh where it lies: what its parts store.
 use Prim.Native.Nat.{ℕ, zero, suc}
+use mathlib.Core.List.{List}
 use lib.ListN.{replicate}
 use Rattle.constraint.specs.Limits.{rowLimit, streamCount}
 use Rattle.constraint.specs.Rows.{filler}
@@ -22,10 +23,14 @@ abbrev pub blanked : Monitor → ℕ → Monitor
 blanked m zero = m
 blanked m (suc n) = rowPut (blanked m n) n filler
 
+-- no step yet: with these for the first free times, and n rows
+abbrev pub stepless : Monitor → List ℕ → ℕ → Monitor
+stepless m next n =
+    record { rows = m .rows; next = next; clock = 0; count = 0; closed = 0; len = n; before = m .before; undo = noUndo }
+
 -- the numbers beside the rows, of which there are n, before any step
 abbrev pub numbersCleared : Monitor → ℕ → Monitor
-numbersCleared m n =
-    record { rows = m .rows; next = replicate streamCount 0; clock = 0; count = 0; closed = 0; len = n; before = m .before; undo = noUndo }
+numbersCleared m n = stepless m (replicate streamCount 0) n
 
 -- over n rows, which are still the filler's, and in no list
 abbrev pub cleared : Indexed → ℕ → Indexed

@@ -27,7 +27,7 @@ use Rattle.inplace.proofs.Calls.{triple, calls-mut, lent-triple}
 use Rattle.inplace.proofs.Within.{calls-monitor}
 use Rattle.opening.specs.Store.{blanked, numbersCleared}
 use Rattle.opening.proofs.Types.{lists-type}
-use Rattle.opening.proofs.Parts.{zero-known, with-lists-known, lists-known, lists-whole, lists-at, lists-out, lists-in}
+use Rattle.opening.proofs.Parts.{with-lists-known, lists-known, lists-whole, lists-at, lists-out, lists-in}
 use Rattle.opening.proofs.Promises.{clear-bytes, blank, clear-numbers, clear}
 use Rattle.opening.proofs.store.blank.Symbol as blank-def
 use Rattle.opening.proofs.store.blank.Symbol.{name as #opening·store·blank}
@@ -75,7 +75,7 @@ module _
       lists-in ! L h₂ (ws .0) $
       assigns ! (of-opd ! (lit ! tt)) (from ! (hop ! (look ! 3 refl) (fld ! refl (stop !)))) (store-in ! 0 (sub ! 1 refl (whole !)) (tt, record { fits = lit< tt })) $
       sets ! (of-opd ! (unit-lit !)) 2 refl (tt, tt) $
-      closed ! tt indexed-type L (listed m₂ (ws .0)) (with-lists-known h₂ was 0 (ws .0) zero-known lists-is) $
+      closed ! tt indexed-type L (listed m₂ (ws .0)) (with-lists-known h₂ was 0 (ws .0) (refl, lit< tt) lists-is) $
       leaves ! (code.function .locals) tt bs vunit refl (ends tt (listed m₂ (ws .0)) refl (ap (λ (lists : List ℕ). listed m₂ lists) e))))))
 
 pub clear-spec : {M : Type 1} → stated.statement M

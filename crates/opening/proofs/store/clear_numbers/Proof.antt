@@ -26,7 +26,8 @@ use Rattle.inplace.proofs.Loans.{opened, closed}
 use Rattle.inplace.proofs.Calls.{triple, calls-mut, pure-triple, calls-plain}
 use Rattle.inplace.proofs.Promises.{no-undo}
 use Rattle.opening.proofs.Types.{next-type}
-use Rattle.opening.proofs.Parts.{stepless, stepless-known, next-known, next-whole, next-at, next-out, next-in}
+use Rattle.opening.specs.Store.{stepless}
+use Rattle.opening.proofs.Parts.{stepless-known, next-known, next-whole, next-at, next-out, next-in}
 use Rattle.opening.proofs.Promises.{clear-words, clear-numbers}
 use Rattle.monitor.proofs.calls.no_undo.Symbol as none-def
 use Rattle.monitor.proofs.calls.no_undo.Symbol.{name as #monitor·calls·no-undo}

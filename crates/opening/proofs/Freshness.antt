@@ -1,10 +1,10 @@
 -- A monitor that was cleared and whose rows were entered one after the other is the fresh monitor over them: row i is stored at place i, the filler stays behind the last, and each row is in its lists.
-use Prim.Native.Nat.{ℕ, zero, suc, _+_, _-_, _<_, _≤_, min}
+use Prim.Native.Nat.{ℕ, zero, suc, _+_, _-_, _<_, _≤_}
 use native.Mathlib.Numerals.{add-one}
 use native.Mathlib.Omega.{arith}
 use mathlib.Core.Path.{_≡_, refl, sym, _∙_, ap, ap₂, subst}
-use mathlib.Core.List.{List, [], _∷_, _++_, map}
-use lib.ListN.{length, getD, set, take, replicate, length-map, List·getD-map, List·getD-append}
+use mathlib.Core.List.{List, [], _++_, map}
+use lib.ListN.{length, getD, set, replicate, length-map, List·getD-map, List·getD-append}
 use lib.Seq.{take-all}
 use Rattle.constraint.specs.Limits.{rowLimit, streamCount}
 use Rattle.constraint.specs.Promise.{play}
@@ -62,14 +62,16 @@ entered-none h rows wide kept-wide =
 
 -- ---- one more
 
--- the rule of row i
-rule-is : (rows : List Constraint) (i : ℕ) (none : Constraint) → i < length rows → rowAt (monitorOf rows) i .rule ≡ ruleOf (getD rows i none)
-unfolding monitorOf rowOf
-rule-is rows i none there =
-    ap (λ (r : Row). r .rule)
-    (List·getD-append (map rowOf rows) (replicate (rowLimit - length rows) noRow) noRow i (subst (λ (n : ℕ). i < n) (sym (length-map rows rowOf)) there)
-    ∙ getD-within (map rowOf rows) i noRow (rowOf none) (subst (λ (n : ℕ). i < n) (sym (length-map rows rowOf)) there)
-    ∙ List·getD-map rowOf rows i none)
+-- row i
+row-is : (rows : List Constraint) (i : ℕ) (none : Constraint) → i < length rows → rowAt (monitorOf rows) i ≡ rowOf (getD rows i none)
+unfolding monitorOf
+row-is rows i none there =
+    let within : i < length (map rowOf rows) = subst (λ (n : ℕ). i < n) (sym (length-map rows rowOf)) there in
+    List·getD-append (map rowOf rows) (replicate (rowLimit - length rows) noRow) noRow i within ∙ getD-within (map rowOf rows) i noRow (rowOf none) within ∙ List·getD-map rowOf rows i none
+
+rule-is : (c : Constraint) → rowOf c .rule ≡ ruleOf c
+unfolding rowOf
+rule-is c = refl
 
 pub entered-next : (rows : List Constraint) (i : ℕ) (none : Constraint) → i < length rows → length rows ≤ rowLimit → entered (enteredTo rows i) i (getD rows i none) ≡ enteredTo rows (i + 1)
 unfolding listsOf
@@ -79,7 +81,7 @@ entered-next rows i none there few =
     ∙ ap (λ (bs : List Before). over (length rows) (filled rowOf noRow rows rowLimit (i + 1)) bs (enlisted (ruleOf (getD rows i none)) i (listsOf m i) listCount))
     (ap (set (replicate rowLimit noBefore) i) (sym (replicate-each noBefore rowLimit i)) ∙ set-getD (replicate rowLimit noBefore) i noBefore)
     ∙ ap (over (length rows) (filled rowOf noRow rows rowLimit (i + 1)) (replicate rowLimit noBefore))
-    (sym (ap (listsOf m) (add-one i) ∙ ap (λ rule. enlisted rule i (listsOf m i) listCount) (rule-is rows i none there)))
+    (sym (ap (listsOf m) (add-one i) ∙ ap (λ rule. enlisted rule i (listsOf m i) listCount) (ap (λ (r : Row). r .rule) (row-is rows i none there) ∙ rule-is (getD rows i none))))
 
 -- ---- all
 

@@ -10,7 +10,7 @@ use mir.Val.{vint}
 use prog.Wp.{Heap, Tables}
 use ghost.Atoms.{Atoms}
 use contract.Running.{givenOf, tables, tablesOf}
-use types.Kit.{Given, ‵, _$_, !, move, atRet}
+use types.Kit.{Given, _$_, !, move, atRet}
 use types.Run.{look, init, stop, hop, fld, from, load, lit, bin, addr, of-opd, and-then, no-more, land-last, first, branches, skips, exec}
 use types.Part.{whole, sub, look-in}
 use sound.WpLaws.{fmOf}

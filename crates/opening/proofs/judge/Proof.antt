@@ -1,11 +1,10 @@
 -- The answer is numbered; a refusal's place is small enough for the number to hold it.
 use native.Mathlib.Omega.{arith}
 use borrow.Author.Needs.{needs}
-use Prim.Native.Nat.{_≤_, _<_, _+_, _*_}
-use mathlib.Core.Path.{_≡_, refl}
+use Prim.Native.Nat.{_≤_, _<_}
+use mathlib.Core.Path.{refl}
 use denote.Ref.{now}
 use Rattle.constraint.specs.Table.{ReadsTable, table-refused}
-use Rattle.table.specs.Scan.{Counted}
 use Rattle.opening.proofs.Refusals.{refused-small}
 use Rattle.opening.proofs.judge.Statement.{statement}
 use Rattle.opening.proofs.judge.Tie as tie

@@ -1,7 +1,6 @@
 -- Place after place: before the turn of number i the first i are 0.
-use Prim.Native.Nat.{_+_, _-_}
+use Prim.Native.Nat.{_-_}
 use native.Mathlib.Omega.{arith}
-use mathlib.Core.Path.{refl}
 use Rattle.inplace.specs.Index.{listSize}
 use Rattle.opening.proofs.Uniform.{Uniform, uniform-none, uniform-next, uniform-all}
 use Rattle.opening.proofs.store.clear_bytes.Statement.{statement}

@@ -1,5 +1,4 @@
 -- The row's rule is that of the constraint, and its number is a byte.
-use native.Mathlib.Omega.{arith}
 use borrow.Author.Needs.{needs}
 use Rattle.opening.proofs.store.enlist.Statement.{statement}
 use Rattle.opening.proofs.store.enlist.Tie as tie

@@ -1,5 +1,5 @@
 -- A row and what is kept of it are stored where they lie.
-use mathlib.Core.Path.{_≡_, refl, subst}
+use mathlib.Core.Path.{refl, subst}
 use Prim.Native.Nat.{ℕ}
 use mathlib.Core.List.{List}
 use lib.ListN.{set}
@@ -16,7 +16,6 @@ use types.Part.{whole, sub, store-in}
 use sound.WpLaws.{fmOf}
 use denote.Triple.Statement.{Triple}
 use denote.Triple.Table.{cited}
-use Rattle.constraint.specs.declared.Constraint.{Constraint}
 use Rattle.row.specs.Machine.{rowOf}
 use Rattle.row.specs.Undo.{noBefore}
 use Rattle.row.specs.declared.Before.{Before}

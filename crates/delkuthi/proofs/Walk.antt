@@ -22,8 +22,6 @@ use Rattle.monitor.specs.declared.Monitor.{Monitor}
 use Rattle.monitor.proofs.Monitor as T
 use Rattle.monitor.proofs.Monitor.Laws as T′
 use Rattle.delkuthi.specs.Lent.{monitorSize}
-use Rattle.inplace.specs.declared.index.Indexed.{Indexed}
-use Rattle.inplace.proofs.index.Indexed as I
 use Rattle.inplace.proofs.index.Indexed.Laws as I′
 use Rattle.inplace.proofs.Elem.{array-length, array-get}
 
@@ -34,12 +32,6 @@ pub typed : {M : Type 1} (𝓤 : URA M) (H : Heap 𝓤) (A : Atoms 𝓤) (W : Gi
 typed 𝓤 H A W m is = LL.lawful T.the-type T′.the-laws 𝓤 H A W .typed m _ is .0
 
 -- ---- a monitor with its index
-
-abbrev pub indexed-val : Indexed → Val
-indexed-val = LL.val I.the-type I′.the-laws
-
-pub indexed-typed : {M : Type 1} (𝓤 : URA M) (H : Heap 𝓤) (A : Atoms 𝓤) (W : Given 𝓤 H A) (h : Indexed) → Is I.the-row h (indexed-val h ∷ []) → Yes (hasTy I′.mir (indexed-val h)) × WT (indexed-val h)
-indexed-typed 𝓤 H A W h is = LL.lawful I.the-type I′.the-laws 𝓤 H A W .typed h _ is .0
 
 -- what the library says its size is, is the size of its type
 pub monitor-size : size I′.mir ≡ monitorSize

@@ -1,23 +1,18 @@
 -- The numbers that the functions on a lent monitor answer with, and what those functions promise.
-use Prim.Native.Nat.{ℕ, _+_, _*_, _<_, _≤_, zero, suc}
+use Prim.Native.Nat.{ℕ, _+_, _*_, _<_, _≤_}
 use mathlib.Core.Path.{_≡_}
-use mathlib.Core.List.{List, []}
+use mathlib.Core.List.{List}
 use mathlib.Core.Option.{Option, none, some}
 use lib.ListN.{length}
 use Rattle.constraint.specs.Steps.{Step}
 use Rattle.constraint.specs.Accepted.{Accepted}
 use Rattle.constraint.specs.Promise.{ReadsRow}
-use Rattle.constraint.specs.declared.Answer.{Answer}
-use Rattle.constraint.specs.declared.Answer.the-variants.{Taken, Refused}
 use Rattle.constraint.specs.declared.Call.{Call}
 use Rattle.constraint.specs.declared.Constraint.{Constraint}
 use Rattle.constraint.specs.declared.Verdict.{Verdict}
-use Rattle.constraint.specs.Table.{ReadsTable, table-of, table-refused}
 use Rattle.monitor.specs.Machine.{verdictOf}
 use Rattle.monitor.specs.Contract.{after, Recorded, stepIn}
 use Rattle.monitor.specs.declared.Monitor.{Monitor}
-use Rattle.inplace.specs.Index.{Indexes}
-use Rattle.inplace.specs.declared.index.Indexed.{Indexed}
 
 -- ---- the library
 
@@ -28,14 +23,6 @@ version = 0 * 1000000 + 4 * 1000 + 0
 -- the bytes of a monitor with its index (`monitor-size`: of its type on the machine)
 abbrev pub monitorSize : ℕ
 monitorSize = 28768
-
--- ---- fresh
-
--- §11.5: the number that answers and what lies behind the reference then: 0, the fresh monitor over the table's rows and its index; or 256 times the
--- place and the number of the refusal, and all as it was
-pub data Begins (bytes : List ℕ) (before : Indexed) : ℕ → Indexed → Type 0 where
-  begun : (rows : List Constraint) (h : Indexed) → ReadsTable bytes (table-of rows) → h .monitor ≡ after rows [] → Indexes h → Begins bytes before 0 h
-  refused : (n place : ℕ) → ReadsTable bytes (table-refused n place) → 0 < n → n < 256 → Begins bytes before (place * 256 + n) before
 
 -- ---- verdicts
 

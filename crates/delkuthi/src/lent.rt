@@ -6,13 +6,13 @@ use inplace::index::Indexed;
 use monitor::Monitor;
 use monitor::RowVerdict;
 use monitor::verdicts;
-use table::ReadAnswer;
 ghost use mathlib.Core.Path.{_≡_};
 ghost use Rattle.constraint.specs.declared.Call.{Call};
 ghost use Rattle.monitor.specs.Contract.{verdictIn, stepIn};
 ghost use Rattle.monitor.specs.Parts.{verdictBy};
 ghost use Rattle.inplace.specs.Index.{Takes, TakesBack};
-ghost use Rattle.delkuthi.specs.Lent.{Begins, wordOf, WordOfVerdict, StepOfVerdict, NumberOfRows, version, monitorSize};
+ghost use Rattle.opening.specs.Begins.{Begins};
+ghost use Rattle.delkuthi.specs.Lent.{wordOf, WordOfVerdict, StepOfVerdict, NumberOfRows, version, monitorSize};
 
 // The version of the library: 0.4.0 as major * 1,000,000 + minor * 1,000 + patch.
 pub const VERSION: u32 = 4000;
@@ -35,40 +35,12 @@ pub extern "C" fn delkuthi_monitor_size() -> u64
     MONITOR_SIZE
 }
 
-// The answer as a number, 0 where the table is accepted, and the monitor with its index then.
-pub struct Begun {
-    pub number: u64,
-    pub monitor: Indexed,
-}
-
-// The fresh monitor over a table's bytes, or the refusal and the monitor as it was.
-fn fresh(m: Indexed, table: &[u8]) -> Begun
-    ensures { λ r. ⌜ Begins (now (table .entry)) m (r .number) (r .monitor) ⌝ }
-{
-    let reading = table::read(table);
-    let answer = reading.answer;
-    match answer {
-        ReadAnswer::Accepted => {
-            let fresh = Monitor::fresh(reading.table);
-            let monitor = index::over(fresh.monitor);
-            Begun { number: 0, monitor }
-        }
-        ReadAnswer::Refused { number, place } => Begun {
-            number: place as u64 * 256 + number as u64,
-            monitor: m,
-        },
-    }
-}
-
 // Makes the monitor fresh over a table's bytes and answers 0; on a refusal answers 256 times its place and its number, and leaves the monitor as it was.
 #[no_mangle]
 pub extern "C" fn delkuthi_fresh(m: &mut Indexed, table: &[u8]) -> u64
     ensures { λ r. ⌜ Begins (now (table .entry)) (now (m .entry)) r (now (m .exit)) ⌝ }
 {
-    let s = fresh(*m, table);
-    let n = s.monitor;
-    *m = n;
-    s.number
+    opening::fresh(m, table)
 }
 
 // The word for each verdict, and the one for "there is no row of that number".

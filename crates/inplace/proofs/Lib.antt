@@ -14,7 +14,7 @@ pub mod Promises
 pub mod Within
 mod Following
 mod Listing
-mod Indexing
+pub mod Indexing
 mod Withdrawn
 mod Crowding
 mod Whole

@@ -53,7 +53,7 @@ fn push(lists: &mut [u8; 2184], k: usize, i: u8, so: bool)
 }
 
 // Row i, put into each list that it is in.
-fn enlist(rule: Rule, i: u8, lists: &mut [u8; 2184])
+pub fn enlist(rule: Rule, i: u8, lists: &mut [u8; 2184])
     ensures { λ _. ⌜ now (lists .exit) ≡ enlisted rule i (now (lists .entry)) listCount ⌝ }
 {
     let mut k = 0;

@@ -12,7 +12,7 @@ use Rattle.constraint.proofs.Accepted.{rows-taken}
 use Rattle.table.proofs.Places.{place-taken}
 
 -- the rows that were read, with i rows before them, are accepted
-abbrev AcceptedBehind : ℕ → TableRead → Type 0
+abbrev pub AcceptedBehind : ℕ → TableRead → Type 0
 AcceptedBehind i (table-of rows) = Judged (rowsQuestions i rows []) Taken
 AcceptedBehind i (table-refused n place) = Unit {0}
 
@@ -21,7 +21,7 @@ accepted-more : (i : ℕ) (c : Constraint) (later : TableRead) → i < rowLimit 
 accepted-more i c (table-of rows) room own accepted = rows-taken i c rows [] Taken room own accepted
 accepted-more i c (table-refused n place) room own accepted = tt
 
-rows-accepted : (bytes : List ℕ) {i place : ℕ} {read : TableRead} → ReadsRows bytes i place read → AcceptedBehind i read
+pub rows-accepted : (bytes : List ℕ) {i place : ℕ} {read : TableRead} → ReadsRows bytes i place read → AcceptedBehind i read
 unfolding rowsQuestions
 rows-accepted bytes (no-more end) = judged-none
 rows-accepted bytes (row-refused n c there at-c refused) = tt

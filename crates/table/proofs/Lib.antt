@@ -14,3 +14,4 @@ pub mod Written
 pub mod Answers
 pub mod Again
 pub mod RawRows
+pub mod Scanning

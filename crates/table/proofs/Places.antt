@@ -4,21 +4,29 @@ use mathlib.Core.Path.{_≡_, ap}
 use mathlib.Core.List.{List, [], _∷_}
 use native.Mathlib.Nat.{add-sub-cancel-left}
 use native.Mathlib.Omega.{arith}
-use lib.ListN.{take, drop}
+use lib.Dec.{leb}
+use lib.ListN.{length, take, drop}
 use Rattle.constraint.specs.Limits.{rowLimit}
 use Rattle.constraint.specs.Steps.{at}
 use Rattle.constraint.specs.Bytes.{Bytes}
-use Rattle.constraint.specs.Questions.{Judged}
+use Rattle.constraint.specs.Questions.{Judged, Decides}
 use Rattle.constraint.specs.Accepted.{rowQuestions}
 use Rattle.constraint.specs.Table.{ShapeFits, lengthAt, bodyAt, WholeAt, RowAt, placeQuestions, VersionOne}
 use Rattle.constraint.specs.declared.Answer.{Answer}
 use Rattle.constraint.specs.declared.Answer.the-variants.{Taken, Refused}
 use Rattle.constraint.specs.declared.Constraint.{Constraint}
-use Rattle.constraint.proofs.Judged.{judged-yes, judged-no, judged-all, judged-once-on}
+use Rattle.constraint.proofs.Judged.{same-test, test-le, judged-yes, judged-no, judged-all, judged-once-on}
 use Rattle.table.specs.Rows.{constraintOf}
 use Rattle.table.proofs.Bodies.{bytes-part}
 use Rattle.table.proofs.Types.{row-stands}
 use Rattle.table.proofs.Standing.{stands-once}
+
+-- a row is whole where its length is no more than what is left behind the length field
+pub whole-asked : (bytes : List ℕ) (place size : ℕ) → size ≡ lengthAt bytes place → place + 2 ≤ length bytes
+    → Decides (WholeAt bytes place) (leb size (length bytes - 2 - place))
+whole-asked bytes place size e there =
+    let to : size ≤ length bytes - 2 - place → WholeAt bytes place = λ h. (there, omega (arith, e, h)) in
+    same-test to (λ whole. omega (arith, e, whole .1)) (leb size (length bytes - 2 - place)) (test-le size (length bytes - 2 - place))
 
 module _ (bytes : List ℕ) (i place : ℕ) (c : Constraint) where
   pub place-short : ¬ WholeAt bytes place → Judged (placeQuestions bytes i place c) (Refused 2)

@@ -3,3 +3,4 @@ pub mod Reading
 pub mod Writing
 pub mod Rows
 pub mod Raw
+pub mod Scan

@@ -2,6 +2,7 @@
 pub mod body;
 pub mod raw;
 mod reader;
+pub mod scan;
 mod writer;
 
 use constraint::Answer;

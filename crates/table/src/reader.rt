@@ -8,15 +8,16 @@ use constraint::Constraint;
 use constraint::Table;
 ghost use mathlib.Core.Path.{_≡_};
 ghost use mathlib.Core.List.{[]};
-ghost use Prim.Native.Nat.{_≤_, _<_};
+ghost use Prim.Native.Nat.{_<_};
 ghost use lib.ListN.{length};
 ghost use Rattle.constraint.specs.Rows.{tableOf};
-ghost use Rattle.constraint.specs.Table.{ReadsRows, table-refused};
+ghost use Rattle.constraint.specs.Questions.{Decides};
+ghost use Rattle.constraint.specs.Table.{WholeAt, ReadsRows, table-refused};
 ghost use Rattle.table.specs.Reading.{readOf, rowsRead};
 ghost use Rattle.table.specs.Rows.{ReadsAt};
 
 // What reading one row gives: the row and the place of the next, or the number of the refusal.
-enum RowRead {
+pub(crate) enum RowRead {
     Row(Constraint, usize),
     Refused(u8),
 }
@@ -30,22 +31,31 @@ pub(crate) fn refused(number: u8, place: usize) -> Reading
     Reading { answer, table }
 }
 
+// Question 2, of the row at a place: are its length field and its body whole?
+pub(crate) fn whole_at(bytes: &[u8], place: usize) -> bool
+    ensures { λ r. ⌜ Decides (WholeAt (now (bytes .entry)) place) r ⌝ }
+{
+    let size = bytes.len();
+    if size < 2 {
+        return false;
+    }
+    if size - 2 < place {
+        return false;
+    }
+    number::two_at(bytes, place) <= size - 2 - place
+}
+
 // Questions 2 to 7, put to the row at a place with some rows before it.
-fn read_row(bytes: &[u8], place: usize, before: usize) -> RowRead
-    requires { ⌜ place ≤ length (now bytes) ⌝ }
+pub(crate) fn read_row(bytes: &[u8], place: usize, before: usize) -> RowRead
     ensures { λ r. ⌜ ReadsAt (now (bytes .entry)) before place r ⌝ }
 {
-    let left = bytes.len() - place;
-    if left < 2 {
-        return RowRead::Refused(2);
-    }
-    let size = number::two_at(bytes, place);
-    if left - 2 < size {
+    if !whole_at(bytes, place) {
         return RowRead::Refused(2);
     }
     if constraint::ROW_LIMIT <= before {
         return RowRead::Refused(3);
     }
+    let size = number::two_at(bytes, place);
     let start = place + 2;
     let next = start + size;
     let body = &bytes[start..next];

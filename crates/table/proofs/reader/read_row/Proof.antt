@@ -5,7 +5,7 @@ use mathlib.Core.Path.{_≡_, ap, subst, subst⁻¹, _∙_}
 use denote.Ref.{now}
 use Rattle.constraint.specs.Questions.{Judged, Decides}
 use Rattle.constraint.specs.Bytes.{Bytes}
-use Rattle.constraint.specs.Table.{ShapeFits, bodyAt, RowAt, placeQuestions}
+use Rattle.constraint.specs.Table.{ShapeFits, bodyAt, WholeAt, RowAt, placeQuestions}
 use Rattle.constraint.specs.declared.Answer.{Answer}
 use Rattle.constraint.proofs.Judged.{passed, failed}
 use Rattle.table.specs.Rows.{constraintOf}
@@ -13,11 +13,15 @@ use Rattle.table.proofs.Places.{place-short, place-full, place-misshape
 use Rattle.table.proofs.reader.read_row.Statement.{statement}
 use Rattle.table.proofs.reader.read_row.Tie as tie
 
+-- the row passed question 2
+whole : (c : tie.Else1) → WholeAt (now (c .before .before .before .args .bytes)) (c .before .before .before .args .place)
+whole c = passed (c .before .whole-at .result) (c .before .whole-at .ensures) (c .if1 .left)
+
 -- the shape that is tested is that of the body at the place
 shape : (c : tie.After-shape-fits) → Decides (ShapeFits (bodyAt (now (c .before .before .before .before .before .before .before .args .bytes)) (c .before .before .before .before .before .before .before .args .place))) (c .shape-fits .result)
 shape c =
     let a = c .before .before .before .before .before .before .before .args in
-    let size = c .before .before .before .before .two-at in
+    let size = c .before .before .two-at in
     subst (λ body. Decides (ShapeFits body) (c .shape-fits .result)) (part-body (now (a .bytes)) (a .place) (size .result) (size .ensures)) (c .shape-fits .ensures)
 
 -- a slice of bytes holds bytes, so the row at the place is the one that the body is read as
@@ -29,7 +33,7 @@ row c = let a = c .before .args in row-at (now (a .bytes)) (a .place) (λ i h. o
 same : (c : tie.After-row-of) → c .row-of .result ≡ constraintOf (bodyAt (now (c .before .before .before .before .before .before .before .before .before .args .bytes)) (c .before .before .before .before .before .before .before .before .before .args .place))
 same c =
     let a = c .before .before .before .before .before .before .before .before .before .args in
-    let size = c .before .before .before .before .before .before .two-at in
+    let size = c .before .before .before .before .two-at in
     c .row-of .ensures ∙ ap constraintOf (part-body (now (a .bytes)) (a .place) (size .result) (size .ensures))
 
 judged : (c : tie.After-row-of) → RowAt (now (c .before .before .before .before .before .before .before .before .before .args .bytes)) (c .before .before .before .before .before .before .before .before .before .args .place) (c .row-of .result)
@@ -43,35 +47,31 @@ answer : (c : tie.After-judge) (a : Answer) → c .judge .result ≡ a
 answer c a e =
     let at-shape = c .before .before .before in
     let start = at-shape .before .before .before .before .before .before .before .args in
-    place-row (now (start .bytes)) (start .before) (start .place) _ a (omega arith) (omega arith)
-    (passed (at-shape .shape-fits .result) (shape at-shape) (c .before .before .if4 .left)) (rw e at (c .judge .ensures))
+    place-row (now (start .bytes)) (start .before) (start .place) _ a (whole (at-shape .before .before .before .before)) (omega arith)
+    (passed (at-shape .shape-fits .result) (shape at-shape) (c .before .before .if3 .left)) (rw e at (c .judge .ensures))
 
-sub-left : tie.Need-sub-left
-sub-left c = search needs
+whole-at-requires : tie.Need-whole-at-requires
+whole-at-requires c κs = search needs
 
 returns : tie.Need-returns
 returns c =
-    let a = c .before .before .args in
-    (_, row (c .before), place-short (now (a .bytes)) (a .before) (a .place) _ (λ whole. omega arith))
-
-two-at-requires : tie.Need-two-at-requires
-two-at-requires c κs = search needs
+    let asked = c .before .whole-at in
+    let a = c .before .before .before .args in
+    (_, row (c .before .before), place-short (now (a .bytes)) (a .before) (a .place) _ (failed (asked .result) (asked .ensures) (c .if1 .taken)))
 
 returns-2 : tie.Need-returns-2
 returns-2 c =
     let a = c .before .before .before .before .args in
-    (_, row (c .before .before .before), place-short (now (a .bytes)) (a .before) (a .place) _ (λ whole. omega arith))
+    (_, row (c .before .before .before), place-full (now (a .bytes)) (a .before) (a .place) _ (whole (c .before)) (c .if2 .taken))
 
-returns-3 : tie.Need-returns-3
-returns-3 c =
-    let a = c .before .before .before .before .before .args in
-    (_, row (c .before .before .before .before), place-full (now (a .bytes)) (a .before) (a .place) _ (omega arith) (c .if3 .taken))
+two-at-requires : tie.Need-two-at-requires
+two-at-requires c κs = search needs
 
 add-start : tie.Need-add-start
-add-start c = search needs
+add-start c = omega (arith, whole (c .before .before))
 
 add-next : tie.Need-add-next
-add-next c = search needs
+add-next c = omega (arith, whole (c .before .before))
 
 sub-body : tie.Need-sub-body
 sub-body c = search needs
@@ -80,18 +80,18 @@ part-body-start : tie.Need-part-body-start
 part-body-start c = search needs
 
 part-body-end : tie.Need-part-body-end
-part-body-end c = search needs
+part-body-end c = omega (arith, whole (c .before .before))
 
 shape-fits-requires : tie.Need-shape-fits-requires
 shape-fits-requires c κs = search needs
 
-returns-4 : tie.Need-returns-4
-returns-4 c =
+returns-3 : tie.Need-returns-3
+returns-3 c =
     let at-shape = c .before in
     let a = at-shape .before .before .before .before .before .before .before .args in (
       _,
       row (at-shape .before .before .before .before .before .before),
-      place-misshapen (now (a .bytes)) (a .before) (a .place) _ (omega arith) (omega arith) (failed (at-shape .shape-fits .result) (shape at-shape) (c .if4 .taken)),
+      place-misshapen (now (a .bytes)) (a .before) (a .place) _ (whole (at-shape .before .before .before .before)) (omega arith) (failed (at-shape .shape-fits .result) (shape at-shape) (c .if3 .taken)),
     )
 
 row-of-requires : tie.Need-row-of-requires
@@ -106,31 +106,30 @@ enum-told c = search needs
 enum-known-number : tie.Need-enum-known-number
 enum-known-number c = search needs
 
-returns-5 : tie.Need-returns-5
-returns-5 c = (judged (c .before .before .before), answer (c .before .before) _ (c .enum-told .given .1), omega arith)
+returns-4 : tie.Need-returns-4
+returns-4 c = (judged (c .before .before .before), answer (c .before .before) _ (c .enum-told .given .1), omega arith)
 
-returns-6 : tie.Need-returns-6
-returns-6 c = (_, judged (c .before .before .before .before), answer (c .before .before .before) _ (c .before .number .given .1))
+returns-5 : tie.Need-returns-5
+returns-5 c = (_, judged (c .before .before .before .before), answer (c .before .before .before) _ (c .before .number .given .1))
 
 pub read-row-spec : {M : Type 1} → statement M
 read-row-spec =
     tie.close
     (tie.spec
-    sub-left
+    whole-at-requires
     returns
-    two-at-requires
     returns-2
-    returns-3
+    two-at-requires
     add-start
     add-next
     sub-body
     part-body-start
     part-body-end
     shape-fits-requires
-    returns-4
+    returns-3
     row-of-requires
     judge-requires
     enum-told
     enum-known-number
-    returns-5
-    returns-6)
+    returns-4
+    returns-5)

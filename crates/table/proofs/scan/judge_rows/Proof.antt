@@ -1,0 +1,77 @@
+-- The loop counts row after row: as many as were counted stand before the place, and what is read from there on, behind them, is the whole.
+use native.Mathlib.Omega.{arith}
+use borrow.Author.Needs.{needs}
+use Prim.Native.Nat.{_-_}
+use lib.ListN.{length}
+use mathlib.Core.Path.{refl}
+use denote.Ref.{now}
+use Rattle.table.specs.declared.reader.RowRead.{RowRead}
+use Rattle.table.specs.Rows.{ReadsAt}
+use Rattle.table.proofs.Scanning.{CountedTo, counted-start, counted-more, counted-refused, counted-end}
+use Rattle.table.proofs.scan.judge_rows.Statement.{statement}
+use Rattle.table.proofs.scan.judge_rows.Tie as tie
+
+abbrev Inv-loop : tie.InvT-loop
+Inv-loop bytes rows₀ place₀ rows place = CountedTo bytes rows place
+
+abbrev μ-loop : tie.MeasureT-loop
+μ-loop bytes rows₀ place₀ rows place = length bytes - place
+
+-- what was read of the row that is counted
+row : (c : tie.After-next Inv-loop μ-loop)
+    → ReadsAt (now (c .before .before .before .before .before .before .args .bytes)) (c .before .before .before .before .loop .rows)
+    (c .before .before .before .before .loop .place) (RowRead.Row (c .next .given .0 .0) (c .next .given .0 .1 .0))
+row c = rw (c .next .given .1) at (c .before .before .read-row .ensures)
+
+loop-holds : tie.Need-loop-holds Inv-loop μ-loop
+loop-holds c = counted-start (now (c .before .args .bytes)) (omega arith)
+
+read-row-requires : tie.Need-read-row-requires Inv-loop μ-loop
+read-row-requires c κs = tt
+
+enum-known-next : tie.Need-enum-known-next Inv-loop μ-loop
+enum-known-next c = search needs
+
+add-rows : tie.Need-add-rows Inv-loop μ-loop
+add-rows c = let at-loop = c .before .before .before .before .before in omega (arith, at-loop .loop .inv .room)
+
+loop-less : tie.Need-loop-less Inv-loop μ-loop
+loop-less c = let read = row (c .before) in omega (arith, read .2)
+
+loop-again : tie.Need-loop-again Inv-loop μ-loop
+loop-again c =
+    let at-loop = c .before .before .before .before .before in
+    let bytes = now (at-loop .before .before .args .bytes) in
+    counted-more bytes (at-loop .loop .rows) (at-loop .loop .place) _ _ (at-loop .loop .inv) (omega arith) (row (c .before))
+
+enum-known-number : tie.Need-enum-known-number Inv-loop μ-loop
+enum-known-number c = search needs
+
+returns : tie.Need-returns Inv-loop μ-loop
+returns c =
+    let at-number = c .before in
+    let at-loop = at-number .before .before .before .before in
+    let bytes = now (at-loop .before .before .args .bytes) in
+    let judged = rw (at-number .number .given .1) at (at-number .before .before .read-row .ensures) in
+    (counted-refused bytes (at-loop .loop .rows) (at-loop .loop .place) _ (at-loop .loop .inv) (omega arith) judged, refl)
+
+returns-2 : tie.Need-returns-2 Inv-loop μ-loop
+returns-2 c =
+    let at-loop = c .before in
+    counted-end (now (at-loop .before .before .args .bytes)) (at-loop .loop .rows) (at-loop .loop .place) (at-loop .loop .inv) (c .loop-test .left)
+
+pub judge-rows-spec : {M : Type 1} → statement M
+judge-rows-spec =
+    tie.close
+    (tie.spec
+    Inv-loop
+    μ-loop
+    loop-holds
+    read-row-requires
+    enum-known-next
+    add-rows
+    loop-less
+    loop-again
+    enum-known-number
+    returns
+    returns-2)

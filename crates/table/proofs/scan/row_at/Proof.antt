@@ -1,0 +1,62 @@
+-- Where a row is whole, its body is the part behind the length field, and it is read as the row that it stands for.
+use native.Mathlib.Omega.{arith}
+use borrow.Author.Needs.{needs}
+use mathlib.Core.Path.{_≡_, ap, subst⁻¹, _∙_}
+use denote.Ref.{now}
+use Rattle.constraint.specs.Bytes.{Bytes}
+use Rattle.constraint.specs.Table.{bodyAt, WholeAt, RowAt}
+use Rattle.constraint.proofs.Judged.{passed, failed, free}
+use Rattle.table.specs.Rows.{constraintOf}
+use Rattle.table.proofs.Places.{row-at, part-body}
+use Rattle.table.proofs.scan.row_at.Statement.{statement}
+use Rattle.table.proofs.scan.row_at.Tie as tie
+
+whole : (c : tie.Else1) → WholeAt (now (c .before .before .before .args .bytes)) (c .before .before .before .args .place)
+whole c = passed (c .before .whole-at .result) (c .before .whole-at .ensures) (c .if1 .left)
+
+-- a slice of bytes holds bytes, so the row at the place is the one that the body is read as
+row : (c : tie.After-shared-slice-known)
+    → RowAt (now (c .before .args .bytes)) (c .before .args .place) (constraintOf (bodyAt (now (c .before .args .bytes)) (c .before .args .place)))
+unfolding Bytes
+row c = let a = c .before .args in row-at (now (a .bytes)) (a .place) (λ i h. omega (arith, c .shared-slice-known .given i))
+
+returns : tie.Need-returns
+returns c = let asked = c .before .before .whole-at in λ there. absurd (failed (asked .result) (asked .ensures) (c .before .if1 .taken) there)
+
+add-start : tie.Need-add-start
+add-start c = omega (arith, whole c)
+
+add-next : tie.Need-add-next
+add-next c = omega (arith, whole (c .before))
+
+sub-row-of : tie.Need-sub-row-of
+sub-row-of c = search needs
+
+part-row-of-start : tie.Need-part-row-of-start
+part-row-of-start c = search needs
+
+part-row-of-end : tie.Need-part-row-of-end
+part-row-of-end c = omega (arith, whole (c .before))
+
+returns-2 : tie.Need-returns-2
+returns-2 c =
+    let a = c .before .before .before .before .before .before .args in
+    let size = c .before .before .two-at in
+    let same = c .row-of2 .ensures ∙ ap constraintOf (part-body (now (a .bytes)) (a .place) (size .result) (size .ensures)) in
+    λ there. (subst⁻¹ (RowAt (now (a .bytes)) (a .place)) same (row (c .before .before .before .before .before)), omega (arith, size .ensures))
+
+pub row-at-spec : {M : Type 1} → statement M
+row-at-spec =
+    tie.close
+    (tie.spec
+    free
+    free
+    returns
+    add-start
+    free
+    add-next
+    sub-row-of
+    part-row-of-start
+    part-row-of-end
+    free
+    returns-2)

@@ -1,0 +1,37 @@
+-- What judging a table's bytes promises, and what reading the row at a place does.
+use Prim.Native.Nat.{ℕ, _+_, _≤_}
+use mathlib.Core.Path.{_≡_}
+use mathlib.Core.List.{List}
+use lib.ListN.{length}
+use Rattle.constraint.specs.Limits.{rowLimit}
+use Rattle.constraint.specs.Accepted.{Accepted}
+use Rattle.constraint.specs.Table.{TableRead, table-of, table-refused, lengthAt, WholeAt, RowAt, ReadsRows, ReadsTable}
+use Rattle.constraint.specs.declared.Constraint.{Constraint}
+use Rattle.table.specs.declared.ReadAnswer.{ReadAnswer}
+use Rattle.table.specs.declared.scan.Scan.{Scan}
+use Rattle.table.specs.declared.scan.Placed.{Placed}
+
+-- some rows that are read, as many as were counted
+pub record Counted (Reads : TableRead → Type 0) (count : ℕ) : Type 0 where
+  pub rows : List Constraint
+  pub reads : Reads (table-of rows)
+  pub counted : count ≡ length rows
+  pub room : length rows ≤ rowLimit
+  pub accepted : Accepted rows
+
+-- what an answer and a count say of what is read
+abbrev pub Says : (TableRead → Type 0) → ReadAnswer → ℕ → Type 0
+Says Reads ReadAnswer.Accepted count = Counted Reads count
+Says Reads (ReadAnswer.Refused n place) count = Reads (table-refused n place) × (count ≡ 0)
+
+-- of the rows behind the version byte
+abbrev pub CountsRows : List ℕ → Scan → Type 0
+CountsRows bytes r = Says (ReadsRows bytes 0 1) (r .answer) (r .rows)
+
+-- the promise of judging a table: its answer is what reading the bytes gives, and it counts the rows, and no row after a refusal
+abbrev pub Scans : List ℕ → Scan → Type 0
+Scans bytes r = Says (ReadsTable bytes) (r .answer) (r .rows)
+
+-- the promise of reading at a place: where a row is whole, it is the row there, and the next place is the one behind it
+abbrev pub PlacedAt : List ℕ → ℕ → Placed → Type 0
+PlacedAt bytes place r = WholeAt bytes place → RowAt bytes place (r .row) × (r .next ≡ place + 2 + lengthAt bytes place)

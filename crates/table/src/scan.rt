@@ -1,0 +1,73 @@
+// Reads a table row by row, with no table in memory: the bytes are judged, and then each row is read at its place.
+use super::ReadAnswer;
+use super::body::row_of;
+use super::reader::RowRead;
+use super::reader::read_row;
+use super::reader::whole_at;
+use constraint::Constraint;
+ghost use Prim.Native.Nat.{_<_};
+ghost use lib.ListN.{length};
+ghost use Rattle.table.specs.Scan.{CountsRows, Scans, PlacedAt};
+
+// The answer to a table's bytes, and how many rows they hold; after a refusal none.
+pub struct Scan {
+    pub answer: ReadAnswer,
+    pub rows: usize,
+}
+
+// The row at a place, and the place behind it.
+pub struct Placed {
+    pub row: Constraint,
+    pub next: usize,
+}
+
+// The rows behind the version byte, judged and counted.
+fn judge_rows(bytes: &[u8]) -> Scan
+    requires { ⌜ 0 < length (now bytes) ⌝ }
+    ensures { λ r. ⌜ CountsRows (now (bytes .entry)) r ⌝ }
+{
+    let mut rows = 0;
+    let mut place = 1;
+    while place < bytes.len() {
+        match read_row(bytes, place, rows) {
+            RowRead::Row(_, next) => {
+                rows += 1;
+                place = next;
+            }
+            RowRead::Refused(number) => {
+                let answer = ReadAnswer::Refused { number, place };
+                return Scan { answer, rows: 0 };
+            }
+        }
+    }
+    let answer = ReadAnswer::Accepted;
+    Scan { answer, rows }
+}
+
+// Judges a table's bytes: the number of its rows, or the first question answered "no" and the place.
+pub fn judge(bytes: &[u8]) -> Scan
+    ensures { λ r. ⌜ Scans (now (bytes .entry)) r ⌝ }
+{
+    if number::byte_at(bytes, 0) != 1 {
+        let answer = ReadAnswer::Refused {
+            number: 1,
+            place: 0,
+        };
+        return Scan { answer, rows: 0 };
+    }
+    judge_rows(bytes)
+}
+
+// The row at a place, and the place behind it. Where no whole row of a fitting shape stands, it is any row.
+pub fn row_at(bytes: &[u8], place: usize) -> Placed
+    ensures { λ r. ⌜ PlacedAt (now (bytes .entry)) place r ⌝ }
+{
+    if !whole_at(bytes, place) {
+        let row = row_of(bytes);
+        return Placed { row, next: place };
+    }
+    let start = place + 2;
+    let next = start + number::two_at(bytes, place);
+    let row = row_of(&bytes[start..next]);
+    Placed { row, next }
+}

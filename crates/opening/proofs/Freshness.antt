@@ -3,15 +3,19 @@ use Prim.Native.Nat.{ℕ, zero, suc, _+_, _-_, _<_, _≤_}
 use native.Mathlib.Numerals.{add-one}
 use native.Mathlib.Omega.{arith}
 use mathlib.Core.Path.{_≡_, refl, sym, _∙_, ap, ap₂, subst}
+use mathlib.Core.Bool.{cond}
 use mathlib.Core.List.{List, [], _++_, map}
+use lib.Dec.{eqb}
 use lib.ListN.{length, getD, set, replicate, length-map, List·getD-map, List·getD-append}
 use lib.Seq.{take-all}
-use Rattle.constraint.specs.Limits.{rowLimit, streamCount}
+use Rattle.constraint.specs.Limits.{rowLimit, streamCount, waitingLimit}
+use Rattle.constraint.specs.Rows.{filler}
 use Rattle.constraint.specs.Promise.{play}
 use Rattle.constraint.specs.Table.{ReadsTable, table-of}
 use Rattle.constraint.specs.declared.Constraint.{Constraint}
-use Rattle.constraint.proofs.Lists.{getD-within}
-use Rattle.machine.specs.Rule.{ruleOf}
+use Rattle.constraint.proofs.Lists.{split, getD-within}
+use Rattle.machine.specs.Rule.{ruleOf, wordsOf}
+use Rattle.machine.specs.declared.Rule.{Rule}
 use Rattle.row.specs.Machine.{rowOf}
 use Rattle.row.specs.Undo.{noBefore}
 use Rattle.row.specs.declared.Before.{Before}
@@ -20,7 +24,7 @@ use Rattle.monitor.specs.Machine.{noRow, noUndo, monitorOf}
 use Rattle.monitor.specs.Contract.{after}
 use Rattle.monitor.specs.declared.Monitor.{Monitor}
 use Rattle.monitor.proofs.Filled.{filled, filled-next}
-use Rattle.inplace.specs.Index.{listCount, listSize, rowAt, heldRows, enlisted, listsOf, Indexes}
+use Rattle.inplace.specs.Index.{listCount, listSize, rowAt, keptAt, heldRows, enlisted, listsOf, Roomy, Indexes}
 use Rattle.inplace.specs.declared.index.Indexed.{Indexed}
 use Rattle.inplace.proofs.Elem.{set-getD}
 use Rattle.inplace.proofs.Indexing.{indexes}
@@ -69,6 +73,10 @@ row-is rows i none there =
     let within : i < length (map rowOf rows) = subst (λ (n : ℕ). i < n) (sym (length-map rows rowOf)) there in
     List·getD-append (map rowOf rows) (replicate (rowLimit - length rows) noRow) noRow i within ∙ getD-within (map rowOf rows) i noRow (rowOf none) within ∙ List·getD-map rowOf rows i none
 
+kept-is : (rows : List Constraint) (i : ℕ) → keptAt (monitorOf rows) i ≡ noBefore
+unfolding monitorOf
+kept-is rows i = replicate-each noBefore rowLimit i
+
 rule-is : (c : Constraint) → rowOf c .rule ≡ ruleOf c
 unfolding rowOf
 rule-is c = refl
@@ -97,11 +105,27 @@ held-are : (rows : List Constraint) → length rows ≤ rowLimit → heldRows (m
 unfolding monitorOf
 held-are rows few = omega (arith, few)
 
+-- nothing waits in its rows, but for the words that a Reaction has from the start
+words-few : (rule : Rule) → wordsOf rule ≤ waitingLimit
+words-few rule = split (eqb (rule .form) 9) (λ b. cond b 16 0 ≤ waitingLimit) (λ _. omega arith) (λ _. omega arith)
+
+row-few : (c : Constraint) → rowOf c .now .len ≤ waitingLimit
+unfolding rowOf
+row-few c = words-few (ruleOf c)
+
+fresh-roomy : (rows : List Constraint) → length rows ≤ rowLimit → Roomy (monitorOf rows)
+fresh-roomy rows few =
+    record {
+      now-few = λ i below. subst (λ (r : Row). r .now .len ≤ waitingLimit) (sym (row-is rows i filler (omega (arith, below, held-are rows few)))) (row-few (getD rows i filler));
+      then-few = λ i below. subst (λ (b : Before). b .state .len ≤ waitingLimit) (sym (kept-is rows i)) (omega arith);
+    }
+
 -- the index is the monitor's
 indexed : (rows : List Constraint) → length rows ≤ rowLimit → Indexes (enteredTo rows (length rows))
 indexed rows few =
     indexes (enteredTo rows (length rows)) refl
     (sym (ap (λ (m : Monitor). listsOf m (heldRows m)) (all-made rows) ∙ ap (listsOf (monitorOf rows)) (held-are rows few)))
+    (subst Roomy (sym (all-made rows)) (fresh-roomy rows few))
 
 pub entered-all : (bytes : List ℕ) (rows : List Constraint) → ReadsTable bytes (table-of rows) → length rows ≤ rowLimit → FreshOver bytes (enteredTo rows (length rows))
 entered-all bytes rows reads few = record { rows = rows; reads = reads; made = all-made rows ∙ fresh-is rows; indexes = indexed rows few }

@@ -193,11 +193,14 @@ module _ (f g : Row → Row) (save keep : Row → Before → Before) (test : ℕ
       × (keptAt (visits f save h (numbers test n ++ cond b (n ∷ []) []) .monitor) j ≡ keptAt (h .monitor) j))
       (λ e.
       let x : Indexed = visits f save h (numbers test n) in
-      let last = visits-last f save (numbers test n) h n in
-      (ap (λ (y : Indexed). rowAt (y .monitor) j) last ∙ getD-set-other (x .monitor .rows) n j (f (rowAt (x .monitor) n)) noRow (λ same. omega (arith, same, l)) ∙ so-far .0,
-      ap (λ (y : Indexed). keptAt (y .monitor) j) last ∙ getD-set-other (x .monitor .before) n j (save (rowAt (x .monitor) n) (keptAt (x .monitor) n)) noBefore (λ same. omega (arith, same, l)) ∙ so-far .1))
-      (λ e. (ap (λ (l′ : List ℕ). rowAt (visits f save h l′ .monitor) j) (append-nil (numbers test n)) ∙ so-far .0,
-      ap (λ (l′ : List ℕ). keptAt (visits f save h l′ .monitor) j) (append-nil (numbers test n)) ∙ so-far .1))
+      let last = visits-last f save (numbers test n) h n in (
+        ap (λ (y : Indexed). rowAt (y .monitor) j) last ∙ getD-set-other (x .monitor .rows) n j (f (rowAt (x .monitor) n)) noRow (λ same. omega (arith, same, l)) ∙ so-far .0,
+        ap (λ (y : Indexed). keptAt (y .monitor) j) last ∙ getD-set-other (x .monitor .before) n j (save (rowAt (x .monitor) n) (keptAt (x .monitor) n)) noBefore (λ same. omega (arith, same, l)) ∙ so-far .1,
+      ))
+      (λ e. (
+        ap (λ (l′ : List ℕ). rowAt (visits f save h l′ .monitor) j) (append-nil (numbers test n)) ∙ so-far .0,
+        ap (λ (l′ : List ℕ). keptAt (visits f save h l′ .monitor) j) (append-nil (numbers test n)) ∙ so-far .1,
+      ))
 
   pub visits-same : (n : ℕ) → ((i : ℕ) → i < n → test i ≡ true
       → (f (rowAt (h .monitor) i) ≡ g (rowAt (h .monitor) i)) × (save (rowAt (h .monitor) i) (keptAt (h .monitor) i) ≡ keep (rowAt (h .monitor) i) (keptAt (h .monitor) i)))

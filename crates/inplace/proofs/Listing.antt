@@ -237,12 +237,15 @@ module _ (o : Occurrence) (number : ℕ) where
   heard-moved r concerned when-open =
       split (ltb 0 (r .now .broken))
       (λ z. ltb 0 (r .now .broken) ≡ z → (heardBy o number r ≡ moved r) × ((b : Before) → heardSaves o number r b ≡ saves r b))
-      (λ _ e. (ap (λ (z : Bool). cond z (heardRow r o number) r) (not-zero (r .now .broken) e) ∙ sym (broken-stays r o number e),
-      λ b. ap (λ (z : Bool). cond z (heardBefore r o number) b) (not-zero (r .now .broken) e) ∙ sym (broken-unsaved r o number b e)))
+      (λ _ e. (
+        ap (λ (z : Bool). cond z (heardRow r o number) r) (not-zero (r .now .broken) e) ∙ sym (broken-stays r o number e),
+        λ b. ap (λ (z : Bool). cond z (heardBefore r o number) b) (not-zero (r .now .broken) e) ∙ sym (broken-unsaved r o number b e),
+      ))
       (λ _ e.
-      let so = when-open e in
-      (ap (λ (z : Bool). cond z (heardRow r o number) r) (is-zero (r .now .broken) e) ∙ sym (step-heard r o number e (so .0) concerned (step-crowds r o number ∙ so .1)),
-      λ b. ap (λ (z : Bool). cond z (heardBefore r o number) b) (is-zero (r .now .broken) e) ∙ sym (saved-heard r o number e (so .0) concerned b))) refl
+      let so = when-open e in (
+        ap (λ (z : Bool). cond z (heardRow r o number) r) (is-zero (r .now .broken) e) ∙ sym (step-heard r o number e (so .0) concerned (step-crowds r o number ∙ so .1)),
+        λ b. ap (λ (z : Bool). cond z (heardBefore r o number) b) (is-zero (r .now .broken) e) ∙ sym (saved-heard r o number e (so .0) concerned b),
+      )) refl
 
   now-broken : (r : Row) → 0 < number → concerns (r .rule) (o .kind) ≡ true → ends r ≡ true → ltb 0 (moved r .now .broken) ≡ true
   unfolding endedState brokenRow

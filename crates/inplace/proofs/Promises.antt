@@ -6,7 +6,8 @@ use mathlib.Core.Bool.{_||_}
 use lib.ListN.{getD}
 use Rattle.constraint.specs.Limits.{streamCount, noLimit}
 use Rattle.row.specs.Undo.{noBefore}
-use Rattle.row.specs.Apart.{crowdedBy, endsBy, Ends, Hears}
+use Rattle.row.specs.Apart.{crowdedBy, endsBy, Ends, withChange, seenBy, keptOf}
+use Rattle.row.specs.Machine.{rowFrom}
 use Rattle.queue.specs.Ring.{putBack}
 use Rattle.monitor.specs.Machine.{noRow, noUndo, placeFor}
 use Rattle.monitor.specs.Parts.{rowsWithout}
@@ -15,7 +16,7 @@ use Rattle.inplace.specs.Store.{steppedFrom, askedOf, askedBy, answerOf,
 use Rattle.inplace.specs.Store.{withdrawalOf, withdrawalBy, rowBack, withUndo}
 use Rattle.inplace.specs.Index.{listSize, listFor, rowOf, listedOf, listedBy, crowdsRow, crowdedAt, listCrowded, heeded, hearAt, listHeard, endAt, passed, mayEnd, begun, Roomy, Indexes, Takes, soonestAfter, TakesBack}
 use Rattle.inplace.proofs.Plain.{truth, nothing}
-use Rattle.inplace.proofs.Types.{byte-type, word-type, call-type, rule-type, times-type, state-type, occurrence-type, before-type, moved-type, undo-type, monitor-type}
+use Rattle.inplace.proofs.Types.{byte-type, word-type, call-type, rule-type, times-type, state-type, occurrence-type, before-type, moved-type, change-type, seen-type, undo-type, monitor-type}
 use Rattle.inplace.proofs.Types.{asked-type, numbered-type, withdrawal-type, indexed-type, listed-type}
 use Rattle.inplace.proofs.Frame.{no-demand, demand, Promise}
 use Rattle.inplace.proofs.Calls.{Callee, Pure, mut-of, shr-of}
@@ -56,6 +57,15 @@ crowded-by =
       result = truth;
       asks = λ a. no-demand;
       gives = λ a r. r ≡ crowdedBy (a .0) (a .1 .0) (a .1 .1 .0);
+    }
+
+abbrev pub keep : Pure
+keep =
+    record {
+      front = state-type ∷ seen-type ∷ word-type ∷ [];
+      result = before-type;
+      asks = λ a. no-demand;
+      gives = λ a r. r ≡ keptOf (a .0) (a .1 .0) (a .1 .1 .0);
     }
 
 abbrev pub may-end : Pure
@@ -103,14 +113,14 @@ no-limit = record { front = []; result = word-type; asks = λ a. no-demand; give
 
 -- ---- functions that are lent a row's times
 
-abbrev pub hear : Callee (mut-of times-type)
-hear =
+abbrev pub with-change : Callee (mut-of times-type)
+with-change =
     record {
       front = rule-type ∷ state-type ∷ [];
-      back = occurrence-type ∷ word-type ∷ [];
-      result = moved-type;
+      back = change-type ∷ word-type ∷ [];
+      result = state-type;
       asks = λ κs a. no-demand;
-      gives = λ κs a r e. Hears (a .0) (a .1 .0) (a .1 .1 .0 .now) (a .1 .1 .1 .0) (a .1 .1 .1 .1 .0) (e .1 .1 .0 .now) r;
+      gives = λ κs a r e. rowFrom (a .0) (e .1 .1 .0 .now) r ≡ withChange (rowFrom (a .0) (a .1 .1 .0 .now) (a .1 .0)) (a .1 .1 .1 .0) (a .1 .1 .1 .1 .0);
     }
 
 abbrev pub put-back : Callee (mut-of times-type)
@@ -121,6 +131,16 @@ put-back =
       result = nothing;
       asks = λ κs a. no-demand;
       gives = λ κs a r e. e .0 .now ≡ putBack (a .1 .0) (a .1 .1 .0) (a .1 .1 .1 .0) (a .0 .now);
+    }
+
+abbrev pub see : Callee (shr-of times-type)
+see =
+    record {
+      front = rule-type ∷ state-type ∷ [];
+      back = occurrence-type ∷ [];
+      result = seen-type;
+      asks = λ κs a. no-demand;
+      gives = λ κs a r e. r ≡ seenBy (rowFrom (a .0) (a .1 .1 .0 .now) (a .1 .0)) (a .1 .1 .1 .0);
     }
 
 abbrev pub end : Callee (shr-of times-type)

@@ -30,6 +30,9 @@ use Rattle.row.proofs.Row.Laws as S′
 use Rattle.row.specs.Undo.{noBefore}
 use Rattle.row.specs.declared.Before.{Before}
 use Rattle.row.specs.declared.Moved.{Moved}
+use Rattle.row.specs.declared.Seen.{Seen}
+use Rattle.row.proofs.Seen as Q
+use Rattle.row.proofs.Seen.Laws as Q′
 use Rattle.row.proofs.Before as B
 use Rattle.row.proofs.Moved as N
 use Rattle.row.proofs.Moved.Laws as N′
@@ -41,7 +44,7 @@ use Rattle.monitor.proofs.Monitor as T
 use Rattle.monitor.proofs.Monitor.Laws as T′
 use Rattle.inplace.specs.Store.{withRow}
 use Rattle.inplace.proofs.Plain.{Known}
-use Rattle.inplace.proofs.Types.{word-type, rule-type, times-type, state-type, row-type, before-type, moved-type, undo-type, monitor-type}
+use Rattle.inplace.proofs.Types.{word-type, rule-type, times-type, state-type, row-type, before-type, moved-type, change-type, seen-type, undo-type, monitor-type}
 use Rattle.inplace.proofs.Frame.{Loan}
 use Rattle.inplace.proofs.Loans.{cell}
 use Rattle.inplace.proofs.Elem.{elem, as-val, Items, item-got, item-set, item-count, vals-count, item-within, item-known, items-set, Way, takes-out, puts-back}
@@ -188,6 +191,9 @@ module _ (new : Moved) (was : Known moved-type new) where
 
   pub new-before-known : Known before-type (new .before)
   new-before-known = LL.owed N.the-type N′.the-laws new _ was .1 .0
+
+pub change-known : (seen : Seen) → Known seen-type seen → Known change-type (seen .change)
+change-known seen was = LL.owed Q.the-type Q′.the-laws seen _ was .0
 
 module _ (b : Before) (was : Known before-type b) where
   pub state-known : Known state-type (b .state)

@@ -12,6 +12,10 @@ use Rattle.row.proofs.Row as Row
 use Rattle.row.proofs.Row.Laws as RowLaws
 use Rattle.row.proofs.Before as Before
 use Rattle.row.proofs.Before.Laws as BeforeLaws
+use Rattle.machine.proofs.Change as Change
+use Rattle.machine.proofs.Change.Laws as ChangeLaws
+use Rattle.row.proofs.Seen as Seen
+use Rattle.row.proofs.Seen.Laws as SeenLaws
 use Rattle.row.proofs.Moved as Moved
 use Rattle.row.proofs.Moved.Laws as MovedLaws
 use Rattle.monitor.proofs.calls.Undo as Undo
@@ -59,6 +63,12 @@ before-type = struct Before.the-type BeforeLaws.the-laws BeforeLaws.the-plain Be
 
 abbrev pub moved-type : Plain
 moved-type = struct Moved.the-type MovedLaws.the-laws MovedLaws.the-plain MovedLaws.the-copy
+
+abbrev pub change-type : Plain
+change-type = struct Change.the-type ChangeLaws.the-laws ChangeLaws.the-plain ChangeLaws.the-copy
+
+abbrev pub seen-type : Plain
+seen-type = struct Seen.the-type SeenLaws.the-laws SeenLaws.the-plain SeenLaws.the-copy
 
 abbrev pub undo-type : Plain
 undo-type = struct Undo.the-type UndoLaws.the-laws UndoLaws.the-plain UndoLaws.the-copy

@@ -103,7 +103,7 @@ pub row-small : (byte i : ℕ) → i ≡ rowOf byte → i < 32
 row-small byte i e = subst (λ (k : ℕ). k < 32) (sym e) (mod-lt byte {m = 32} (omega arith))
 
 pub list-small : (o : Occurrence) (k : ℕ) → k ≡ listFor o → k * listPlaces < listSize
-list-small o k e = subst (λ (n : ℕ). n * listPlaces < listSize) (sym e) 
+list-small o k e = subst (λ (n : ℕ). n * listPlaces < listSize) (sym e)
     (split (ltb noEvent (o .kind)) (λ b. cond b noEvent (o .kind) * listPlaces < listSize) (λ f. omega arith) (λ f. omega (arith, ltb-false noEvent (o .kind) f)))
 
 pub first-fits : (j : ℕ) → j < listSize → j < 2 ^ 64

@@ -88,11 +88,11 @@ fn row_hears(m: &mut Monitor, i: usize, o: Occurrence, number: u64)
 {
     let r = &mut m.rows[i];
     if r.now.broken == 0 {
-        let rule = r.rule;
-        let old = r.now;
-        let new = row::hear(rule, old, &mut r.times, o, number);
-        r.now = new.now;
-        m.before[i] = new.before;
+        let seen = row::see(r.rule, r.now, &r.times, o);
+        let kept = row::keep(r.now, seen, number);
+        m.before[i] = kept;
+        let now = row::with_change(r.rule, r.now, &mut r.times, seen.change, number);
+        r.now = now;
     }
 }
 

@@ -5,7 +5,7 @@ use mathlib.Core.Path.{_≡_}
 use mathlib.Core.Bool.{Bool, true, false, cond, _||_}
 use mathlib.Core.List.{List}
 use lib.Dec.{ltb, eqb}
-use Rattle.queue.specs.Ring.{ringOf, editPlace}
+use Rattle.queue.specs.Ring.{ringOf, timeAt, editPlace}
 use Rattle.machine.specs.declared.Rule.{Rule}
 use Rattle.machine.specs.declared.Marks.{Marks}
 use Rattle.machine.specs.declared.State.{State}
@@ -19,7 +19,8 @@ use Rattle.row.specs.declared.Before.{Before}
 use Rattle.row.specs.declared.Moved.{Moved}
 use Rattle.row.specs.declared.Occurrence.{Occurrence}
 use Rattle.row.specs.declared.Row.{Row}
-use Rattle.row.specs.Machine.{decide, concerns, rowFrom, itemsOf, brokenState, brokenRow, applied}
+use Rattle.row.specs.declared.Seen.{Seen}
+use Rattle.row.specs.Machine.{decide, concerns, itemsOf, brokenState, brokenRow, applied}
 use Rattle.row.specs.Undo.{savedFrom, savedAt}
 
 -- ---- the question for 64 (§8.12)
@@ -80,11 +81,18 @@ withChange r change number = cond (change .breaks) (brokenRow r number) (applied
 abbrev pub heardRow : Row → Occurrence → ℕ → Row
 heardRow r o number = withChange r (changeBy r o) number
 
--- what it was before
-abbrev pub heardBefore : Row → Occurrence → ℕ → Before
-heardBefore r o number = savedAt r (editPlace (changeBy r o .edit) (ringOf (r .times) (r .now .head) (r .now .len))) number
+-- where the event writes into the row's ring, and what an event sees of the row: the change, and the two words from there on
+abbrev pub writesAt : Row → Occurrence → ℕ
+writesAt r o = editPlace (changeBy r o .edit) (ringOf (r .times) (r .now .head) (r .now .len))
 
--- what the row's function promises of its words, before and after, what it keeps then, and what it was
-pub record Hears (rule : Rule) (old : State) (entry : List ℕ) (o : Occurrence) (number : ℕ) (exit : List ℕ) (result : Moved) : Type 0 where
-  pub hears : rowFrom rule exit (result .now) ≡ heardRow (rowFrom rule entry old) o number
-  pub saves : result .before ≡ heardBefore (rowFrom rule entry old) o number
+abbrev pub seenBy : Row → Occurrence → Seen
+seenBy r o =
+    record { change = changeBy r o; place = writesAt r o; first = timeAt (r .times) (writesAt r o) 0; second = timeAt (r .times) (writesAt r o) 1 }
+
+-- what is kept of the row beside it
+abbrev pub keptOf : State → Seen → ℕ → Before
+keptOf now seen number = record { state = now; place = seen .place; first = seen .first; second = seen .second; stamp = number }
+
+-- what it was before the event
+abbrev pub heardBefore : Row → Occurrence → ℕ → Before
+heardBefore r o number = savedAt r (writesAt r o) number

@@ -21,13 +21,13 @@ use spans::repeat;
 ghost use mathlib.Core.Path.{_≡_};
 ghost use mathlib.Core.List.{List};
 ghost use Prim.Native.Nat.{ℕ};
-ghost use mathlib.Core.Bool.{_&&_};
+ghost use mathlib.Core.Bool.{true, false, cond, _&&_};
 ghost use lib.Dec.{ltb, eqb};
 ghost use lib.ListN.{length};
 ghost use Rattle.constraint.specs.Limits.{waitingLimit};
 ghost use Rattle.queue.specs.Ring.{ring, changed};
 ghost use Rattle.row.specs.Undo.{savedFrom, movesBy, savedBy, backRow, rowWithout, keptWithout, noBefore, Edited, Moves};
-ghost use Rattle.row.specs.Apart.{fills, crowdedBy, endsBy, Ends, withChange, Hears};
+ghost use Rattle.row.specs.Apart.{fills, crowdedBy, endsBy, Ends, withChange, seenBy, keptOf};
 ghost use Rattle.row.specs.Machine.{decide, concerns, mark, rowFrom, rowOf, brokenState, applied, changedRow, rowStep};
 
 // A row with fewer waiting has room for two more words.
@@ -298,18 +298,26 @@ pub fn crowded_by(rule: Rule, now: State, o: Occurrence) -> bool
     false
 }
 
-// Whether the clock or the close alone goes to the row: an open one that is overdue, or that the close finds.
+// Whether no step broke the row, by the number of the one that did.
+fn unbroken(broken: u64) -> bool
+    ensures { λ r. ⌜ r ≡ cond (ltb 0 broken) false true ⌝ }
+{
+    if 0 < broken { false } else { true }
+}
+
+// Whether the clock or the close alone goes to the row: an open one that is overdue, or that the close finds. The due time is looked at first, as
+// a broken row has none.
 pub fn ends(rule: Rule, now: State, o: Occurrence) -> bool
     ensures { λ r. ⌜ r ≡ endsBy rule now o ⌝ }
 {
-    if 0 < now.broken {
-        return false;
-    }
     if now.due < o.time {
-        return true;
+        return unbroken(now.broken);
     }
     if o.closes {
-        return !concerns(rule, o.kind);
+        if concerns(rule, o.kind) {
+            return false;
+        }
+        return unbroken(now.broken);
     }
     false
 }
@@ -334,8 +342,14 @@ pub fn end(old: State, times: &[u64; SIZE], o: Occurrence, number: u64) -> Moved
     Moved { now: old, before }
 }
 
-// What the row keeps after a change that does not crowd it: broken, or with the change.
-fn with_change(rule: Rule, old: State, times: &mut [u64; SIZE], change: Change, number: u64) -> State
+// What the row keeps after a change that does not crowd it: broken, or with the change; its times are changed where they lie.
+pub fn with_change(
+    rule: Rule,
+    old: State,
+    times: &mut [u64; SIZE],
+    change: Change,
+    number: u64,
+) -> State
     ensures { λ r. ⌜ rowFrom rule (now (times .exit)) r ≡ withChange (rowFrom rule (now (times .entry)) old) change number ⌝ }
 {
     if change.breaks {
@@ -344,16 +358,40 @@ fn with_change(rule: Rule, old: State, times: &mut [u64; SIZE], change: Change, 
     apply(rule, old, times, change)
 }
 
-// What the row keeps after an event that concerns it, and what it was before; its times are changed where they lie.
-pub fn hear(rule: Rule, old: State, times: &mut [u64; SIZE], o: Occurrence, number: u64) -> Moved
-    ensures { λ r. ⌜ Hears rule old (now (times .entry)) o number (now (times .exit)) r ⌝ }
+// What an event makes of the row, and the two words of its ring from the place on where that writes.
+pub struct Seen {
+    pub change: Change,
+    pub place: usize,
+    pub first: u64,
+    pub second: u64,
+}
+
+// What an event that concerns the row makes of it, and what it overwrites.
+pub fn see(rule: Rule, old: State, times: &[u64; SIZE], o: Occurrence) -> Seen
+    ensures { λ r. ⌜ r ≡ seenBy (rowFrom rule (now (times .entry)) old) o ⌝ }
 {
     let change = decide(rule, old.marks, times, old.head, old.len, o.stream, o.time);
     let edit = change.edit;
     let place = queue::edit_place(old.head, old.len, edit);
-    let before = saved(old, times, place, number);
-    let now = with_change(rule, old, times, change, number);
-    Moved { now, before }
+    Seen {
+        change,
+        place,
+        first: queue::time_at(times, place, 0),
+        second: queue::time_at(times, place, 1),
+    }
+}
+
+// What is kept of the row beside it, before the step of that number overwrites it.
+pub fn keep(state: State, seen: Seen, number: u64) -> Before
+    ensures { λ r. ⌜ r ≡ keptOf state seen number ⌝ }
+{
+    Before {
+        state,
+        place: seen.place,
+        first: seen.first,
+        second: seen.second,
+        stamp: number,
+    }
 }
 
 // Whether what occurs would leave the row open with more than 64 waiting.

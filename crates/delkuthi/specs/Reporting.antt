@@ -16,7 +16,7 @@ pub data LeftBy (before : Indexed) (table recording : List ℕ) : ReadAnswer →
   used : (rows : List Constraint) (answer : ReadAnswer) (after : Indexed) → ReadsTable table (table-of rows)
       → RecordingTakenAs rows recording answer (after .monitor) → Indexes after → LeftBy before table recording answer after
 
--- §7.8 on a lent monitor: the number and the buffer are the report's, whatever lay in the monitor; and the monitor has been used, however short the buffer is
+-- §7.22: §7.8 on a lent monitor: the number and the buffer are the report's, whatever lay in the monitor; and the monitor has been used, however short the buffer is
 pub record ReportsOn (before : Indexed) (table recording buffer : List ℕ) (number : ℕ) (written : List ℕ) (after : Indexed) : Type 0 where
   pub reports : Reports table recording buffer number written
   pub answer : ReadAnswer

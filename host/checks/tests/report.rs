@@ -70,7 +70,7 @@ fn on_a_lent_monitor() {
             damaged_recording(&mut random, &rows, records / 4),
             refused_recording(&mut random, &rows, records),
         ];
-        let any = Monitor::from_words(std::array::from_fn(|_| random.next()));
+        let any = Monitor::from_words(std::array::from_fn(|_| random.number()));
         for recording in &recordings {
             for monitor in [&lent, &any] {
                 compare_on(monitor, &table, recording);

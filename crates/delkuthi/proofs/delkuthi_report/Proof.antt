@@ -20,7 +20,8 @@ returns c =
     let at-told = at-write .before .before in
     let args = at-told .before .before .before .before .args in
     let alone = at-told .told-alone .ensures in
-    writes-told (alone .before) (now (args .table)) (now (args .recording)) (at-told .told-alone .result) (alone .after) (now (args .buffer)) (at-write .write .result) _
+    writes-told (alone .before) (now (args .table)) (now (args .recording)) (at-told .told-alone .result) (alone .after) (now (args .buffer))
+    (at-write .write .result) _
     (alone .told-on) (at-write .write .ensures)
 
 pub delkuthi-report-spec : {M : Type 1} → statement M

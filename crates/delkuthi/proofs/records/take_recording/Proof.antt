@@ -1,5 +1,5 @@
--- The monitor is lent on to the call of each turn; what holds of the turn and of the monitor before a call holds of the next turn and of the monitor after it, and
--- each turn leaves fewer.
+-- The monitor is lent on to the call of each turn; what holds of the turn and of the monitor before a call holds of the next turn and of the
+-- monitor after it, and each turn leaves fewer.
 use mathlib.Core.Path.{refl}
 use Prim.Native.Nat.{ℕ}
 use mathlib.Core.Bool.{Bool}
@@ -39,7 +39,8 @@ use Rattle.delkuthi.specs.Taking.{left, Turns, NextAtStart, NextAfter}
 use Rattle.delkuthi.specs.declared.records.Turn.{Turn}
 use Rattle.delkuthi.proofs.Progress.{turns-over}
 use Rattle.delkuthi.proofs.Several.{Walk, machine, enters-several}
-use Rattle.delkuthi.proofs.Lending.{answer-type, take-recording, both-stay, both-spell, both-tell, both-go, both-lawful, loan-of, parts, whole}
+use Rattle.delkuthi.proofs.Lending.{answer-type, take-recording, both-stay, both-spell, both-tell, both-go, both-lawful, loan-of}
+use Rattle.delkuthi.proofs.Lending.{parts, whole}
 use Rattle.delkuthi.proofs.records.Turn as T
 use Rattle.delkuthi.proofs.records.Turn.Laws as T′
 use Rattle.delkuthi.proofs.records.first_turn.Symbol as first-def
@@ -72,13 +73,16 @@ next-turn =
     }
 
 module _
-    {M : Type 1} (𝓤 : URA M) (H : Heap 𝓤) (A : Atoms 𝓤) (W : Given 𝓤 H A) (𝓣 : Tables 𝓤 H) (cites-first : Triple 𝓤 (𝓣 .C #delkuthi·records·first-turn) (triple first-turn 𝓤 H A))
-    (cites-take : Triple 𝓤 (𝓣 .C #inplace·index·take) (lent-triple take-indexed 𝓤 H A)) (cites-next : Triple 𝓤 (𝓣 .C #delkuthi·records·next-turn) (triple next-turn 𝓤 H A)) where
+    {M : Type 1} (𝓤 : URA M) (H : Heap 𝓤) (A : Atoms 𝓤) (W : Given 𝓤 H A) (𝓣 : Tables 𝓤 H)
+    (cites-first : Triple 𝓤 (𝓣 .C #delkuthi·records·first-turn) (triple first-turn 𝓤 H A))
+    (cites-take : Triple 𝓤 (𝓣 .C #inplace·index·take) (lent-triple take-indexed 𝓤 H A)) (cites-next : Triple 𝓤 (𝓣 .C #delkuthi·records·next-turn)
+    (triple next-turn 𝓤 H A)) where
   walk : Walk take-recording both-stay both-spell 𝓤 H A W (𝓣 .C) (𝓣 .Λ) code.function
   walk κs qs a are indexes Kf ends bs =
       -- [the bytes; their token; the monitor's reference; its token; _0; …]: _i is at 4 + i
       parts ! κs qs x s $ move ! (2 ∷ 3 ∷ []) $
-      calls-bytes ! (fmOf 𝓤 H (W .laws) 𝓣) first-turn cites-first κ q s tt tt tt tt tt (and-then ! (copies ! 6 refl) (no-more !)) (λ turn ws turn-is begins.
+      calls-bytes ! (fmOf 𝓤 H (W .laws) 𝓣) first-turn cites-first κ q s tt tt tt tt tt (and-then ! (copies ! 6 refl) (no-more !))
+      (λ turn ws turn-is begins.
       lands-in ! 7 refl (typed 𝓤 H A W turn-type turn turn-is) $
       first ! $ blocks ! $ repeats 𝓤 H A W 𝓣 (env 𝓤 H (code.function .locals) bs) _ _ _ 5 State Good more size At 9 (record {
         test-typed = λ b. (tt, tt);
@@ -88,8 +92,10 @@ module _
         goes-on = λ y Q good there again.
             sets ! (addr ! (from ! (hop ! (look ! 5 refl) (stop !)))) 10 refl (tt, tt) $
             move ! (2 ∷ 3 ∷ []) $
-            calls-lent ! (fmOf 𝓤 H (W .laws) 𝓣) take-indexed cites-take L (y .1) (λ _. (y .0 .call, tt)) (λ _. (call-known (y .0) (good .0), tt)) (λ _. tt)
-            (λ α δ. and-then ! (copies ! 10 refl) (and-then ! (load ! (from ! (fld ! refl (stop !))) (look-in ! 7 (sub ! 1 refl (part !)))) (no-more !))) (λ κs′ n h′ n-is kept.
+            calls-lent ! (fmOf 𝓤 H (W .laws) 𝓣) take-indexed cites-take L (y .1) (λ _. (y .0 .call, tt)) (λ _. (call-known (y .0) (good .0), tt))
+            (λ _. tt)
+            (λ α δ. and-then ! (copies ! 10 refl) (and-then ! (load ! (from ! (fld ! refl (stop !))) (look-in ! 7 (sub ! 1 refl (part !))))
+            (no-more !))) (λ κs′ n h′ n-is kept.
             lands-in ! 8 refl (typed 𝓤 H A W byte-type n n-is) $
             move ! (2 ∷ 3 ∷ []) $
             calls-bytes-last ! (fmOf 𝓤 H (W .laws) 𝓣) next-turn cites-next κ q s tt (y .0, (n, tt)) tt (good .0, (n-is, tt)) tt
@@ -100,10 +106,12 @@ module _
             forget ! 8 refl $ forget ! 9 refl $ forget ! 10 refl $ by ! (again (turn′, h′) (turn′-is, (stepped .1, on .0)) (on .1))));
         ends = λ y good over.
             exec ! (𝓣 .C) (𝓣 .Λ) (env 𝓤 H (code.function .locals) bs) code-mir.t-3 (atRet (env 𝓤 H (code.function .locals) bs) Kf) $
-            sets ! (of-opd ! (load ! (from ! (fld ! refl (stop !))) (look-in ! 7 (sub ! 4 refl (part !))))) 4 refl (typed 𝓤 H A W answer-type (y .0 .answer) (answer-known (y .0) (good .0))) $
+            sets ! (of-opd ! (load ! (from ! (fld ! refl (stop !))) (look-in ! 7 (sub ! 4 refl (part !))))) 4 refl
+            (typed 𝓤 H A W answer-type (y .0 .answer) (answer-known (y .0) (good .0))) $
             move ! (3 ∷ 0 ∷ 1 ∷ []) $ group ! 3 $ move ! (1 ∷ 0 ∷ []) $
             leaves ! (code.function .locals) tt bs (answer-type .val (y .0 .answer)) refl (via 𝓤 _ (whole 𝓤 H A W κs qs x s (y .1))
-            (ends (y .0 .answer) (y .1, (tt, tt)) (answer-known (y .0) (good .0)) (tt, (tt, tt)) (turns-over (h .monitor) (s .now) (y .0) (y .1 .monitor) over (good .1 .1), good .1 .0)));
+            (ends (y .0 .answer) (y .1, (tt, tt)) (answer-known (y .0) (good .0)) (tt, (tt, tt))
+            (turns-over (h .monitor) (s .now) (y .0) (y .1 .monitor) over (good .1 .1), good .1 .0)));
       }) (turn, h) (turn-is, (indexes, begins (h .monitor))))
     where
       κ : Lft
@@ -157,6 +165,9 @@ take-recording-spec 𝓤 H 𝓜 𝓖 𝓡 =
     (both-lawful 𝓤 H (𝓖 .A) (givenOf 𝓤 H 𝓜 𝓖) κs) a
     (machine take-recording both-stay both-spell κs a) are)
     (walk 𝓤 H (𝓖 .A) (givenOf 𝓤 H 𝓜 𝓖) (tablesOf 𝓤 H 𝓜 (tables 𝓤 H 𝓜 𝓡 code.env))
-    (cited 𝓤 H (triple first-turn 𝓤 H (𝓖 .A)) 𝓜 𝓡 code.env #delkuthi·records·first-turn first-def.routine code.calls-delkuthi·records·first-turn (first-thm.met 𝓤 H 𝓜 𝓖 𝓡))
-    (cited 𝓤 H (lent-triple take-indexed 𝓤 H (𝓖 .A)) 𝓜 𝓡 code.env #inplace·index·take take-def.routine code.calls-inplace·index·take (take-thm.met 𝓤 H 𝓜 𝓖 𝓡))
-    (cited 𝓤 H (triple next-turn 𝓤 H (𝓖 .A)) 𝓜 𝓡 code.env #delkuthi·records·next-turn next-def.routine code.calls-delkuthi·records·next-turn (next-thm.met 𝓤 H 𝓜 𝓖 𝓡)))
+    (cited 𝓤 H (triple first-turn 𝓤 H (𝓖 .A)) 𝓜 𝓡 code.env #delkuthi·records·first-turn first-def.routine code.calls-delkuthi·records·first-turn
+    (first-thm.met 𝓤 H 𝓜 𝓖 𝓡))
+    (cited 𝓤 H (lent-triple take-indexed 𝓤 H (𝓖 .A)) 𝓜 𝓡 code.env #inplace·index·take take-def.routine code.calls-inplace·index·take
+    (take-thm.met 𝓤 H 𝓜 𝓖 𝓡))
+    (cited 𝓤 H (triple next-turn 𝓤 H (𝓖 .A)) 𝓜 𝓡 code.env #delkuthi·records·next-turn next-def.routine code.calls-delkuthi·records·next-turn
+    (next-thm.met 𝓤 H 𝓜 𝓖 𝓡)))

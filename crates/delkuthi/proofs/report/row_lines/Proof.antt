@@ -26,7 +26,8 @@ small at row e = subst (λ (k : ℕ). k < rowLimit) (sym e) (place-small row)
 
 abbrev Inv-loop : tie.InvT-loop
 Inv-loop told lines₀ row₀ lines row =
-    (m : Monitor) → Gathers m (told .answer) told → (rows : List Constraint) (steps : List Step) → Took rows steps m → LinesUpTo rows steps lines₀ row lines
+    (m : Monitor) → Gathers m (told .answer) told → (rows : List Constraint) (steps : List Step) → Took rows steps m
+    → LinesUpTo rows steps lines₀ row lines
 
 abbrev μ-loop : tie.MeasureT-loop
 μ-loop told lines₀ row₀ lines row = told .len - row
@@ -50,7 +51,8 @@ by-requires : tie.Need-by-requires Inv-loop μ-loop
 by-requires c κs = tt
 
 -- the row reads what is read off the numbers
-reads : (c : tie.After-by Inv-loop μ-loop) (m : Monitor) → Gathers m (c .before .before .before .before .before .args .t2 .answer) (c .before .before .before .before .before .args .t2)
+reads : (c : tie.After-by Inv-loop μ-loop) (m : Monitor) → Gathers m (c .before .before .before .before .before .args .t2 .answer)
+    (c .before .before .before .before .before .args .t2)
     → Reading m (c .before .before .before .before .loop .row) (verdictIn (c .by .result))
 reads c m gathers =
     let at-place = c .before .before in
@@ -77,7 +79,8 @@ returns c =
     record {
       means = λ m gathers rows steps took.
           lines-all rows steps (args .text) (at-loop .loop .row) (at-loop .loop .lines) (at-loop .loop .inv m gathers rows steps took)
-          (past-rows rows steps (at-loop .loop .row) (took-reads rows steps m took (at-loop .loop .row) _ (rw (c .enum-told .given .1) at (reads at-by m gathers))));
+          (past-rows rows steps (at-loop .loop .row) (took-reads rows steps m took (at-loop .loop .row) _
+          (rw (c .enum-told .given .1) at (reads at-by m gathers))));
     }
 
 add-row : tie.Need-add-row Inv-loop μ-loop

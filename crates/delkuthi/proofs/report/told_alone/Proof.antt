@@ -85,14 +85,16 @@ module _ {M : Type 1} (𝓤 : URA M) (H : Heap 𝓤) (A : Atoms 𝓤) (W : Given
 
   bytes-whole : (κs : Lfts 2) (qs : Shares 2) (s s′ : RefT (List ℕ))
       → ent 𝓤 (⋆ 𝓤 H A (‵ (bytes-at (κs .0) s) ∷ (‵ (flft (κs .0) (qs .0)) ⊛ ‵ (bytes-at (κs .1 .0) s′) ⊛ ‵ (flft (κs .1 .0) (qs .1 .0))) ∷ []))
-      (⋆ 𝓤 H A (raw (toks 𝓤 A 2 κs qs) ∷ ‵ (hasOf κs bytes-slots bytes-kept bytes-stay (s, (s′, tt)) (tt, (tt, tt)) (slice-vals s, (slice-vals s′, tt))) ∷ []))
+      (⋆ 𝓤 H A (raw (toks 𝓤 A 2 κs qs) ∷ ‵ (hasOf κs bytes-slots bytes-kept bytes-stay (s, (s′, tt)) (tt, (tt, tt))
+      (slice-vals s, (slice-vals s′, tt))) ∷ []))
   bytes-whole κs qs s s′ =
       qed W (‵ (bytes-at (κs .0) s) ∷ (‵ (flft (κs .0) (qs .0)) ⊛ ‵ (bytes-at (κs .1 .0) s′) ⊛ ‵ (flft (κs .1 .0) (qs .1 .0))) ∷ []) ∵
       move ! (1 ∷ []) $ split ! $ move ! (1 ∷ []) $ split ! $ nothing ! $ move ! (1 ∷ 0 ∷ []) $ fjoin ! $ move ! (3 ∷ 0 ∷ []) $ fjoin ! $
       nothing ! $ move ! (2 ∷ 0 ∷ []) $ join ! $ move ! (2 ∷ 0 ∷ []) $ join ! $ by ! (id⊢ 𝓤 _)
 
 module _
-    {M : Type 1} (𝓤 : URA M) (H : Heap 𝓤) (A : Atoms 𝓤) (W : Given 𝓤 H A) (𝓣 : Tables 𝓤 H) (cites-empty : Triple 𝓤 (𝓣 .C #inplace·index·empty) (pure-triple empty 𝓤 H A))
+    {M : Type 1} (𝓤 : URA M) (H : Heap 𝓤) (A : Atoms 𝓤) (W : Given 𝓤 H A) (𝓣 : Tables 𝓤 H)
+    (cites-empty : Triple 𝓤 (𝓣 .C #inplace·index·empty) (pure-triple empty 𝓤 H A))
     (cites-on : Triple 𝓤 (𝓣 .C #delkuthi·report·told-on) (promised told-on 𝓤 H A)) where
   walk : Walk told-alone bytes-stay bytes-spell 𝓤 H A W (𝓣 .C) (𝓣 .Λ) code.function
   walk κs qs a are free Kf ends bs =
@@ -106,7 +108,8 @@ module _
       move ! (7 ∷ []) $ lends-cell ! tt indexed-type (bs 3) 0 h h-is (λ α δ.
       move ! (0 ∷ 1 ∷ 3 ∷ 4 ∷ 5 ∷ 6 ∷ []) $ all-hands κ q s κ′ q′ s′ (bs 3) 0 h α δ !
       (calls-several ! (fmOf 𝓤 H (W .laws) 𝓣) told-on cites-on (α ∷ [], (κ, (κ′, tt))) (fullShare, (q, (q′, tt))) (ref-to (bs 3) 0 h δ, (s, (s′, tt)))
-      (vptr (bs 3) 0 ∷ [], (slice s ∷ [], (slice s′ ∷ [], tt))) tt (and-then ! (copies ! 8 refl) (and-then ! (copies ! 5 refl) (and-then ! (copies ! 6 refl) (no-more !)))) (λ told ws told-is said.
+      (vptr (bs 3) 0 ∷ [], (slice s ∷ [], (slice s′ ∷ [], tt))) tt (and-then ! (copies ! 8 refl)
+      (and-then ! (copies ! 5 refl) (and-then ! (copies ! 6 refl) (no-more !)))) (λ told ws told-is said.
       all-back κ q s κ′ q′ s′ (bs 3) 0 h α δ ! (ws .0) (move ! (0 ∷ 6 ∷ 1 ∷ []) $ ends-cell ! tt indexed-type (bs 3) 0 (ws .0) α δ (λ h′-is.
       move ! (1 ∷ 2 ∷ 3 ∷ 4 ∷ 5 ∷ 6 ∷ 7 ∷ 0 ∷ []) $
       lands-in ! 4 refl (typed 𝓤 H A W told-type told told-is) $
@@ -135,8 +138,12 @@ module _
 pub told-alone-spec : {M : Type 1} → stated.statement M
 unfolding code.routine tablesOf
 told-alone-spec 𝓤 H 𝓜 𝓖 𝓡 =
-    enters-several told-alone bytes-stay bytes-spell bytes-tell 𝓤 H 𝓜 𝓖 𝓡 code.env #delkuthi·report·told-alone code.function (code.unfolded 𝓤 H 𝓜 𝓡) (bytes-go 𝓤 H (𝓖 .A) (givenOf 𝓤 H 𝓜 𝓖))
-    (λ κs a are. all-typed 𝓤 H (𝓖 .A) (typesAt bytes-slots κs) (bytes-lawful 𝓤 H (𝓖 .A) (givenOf 𝓤 H 𝓜 𝓖) κs) a (machine told-alone bytes-stay bytes-spell κs a) are)
+    enters-several told-alone bytes-stay bytes-spell bytes-tell 𝓤 H 𝓜 𝓖 𝓡 code.env #delkuthi·report·told-alone code.function
+    (code.unfolded 𝓤 H 𝓜 𝓡) (bytes-go 𝓤 H (𝓖 .A) (givenOf 𝓤 H 𝓜 𝓖))
+    (λ κs a are. all-typed 𝓤 H (𝓖 .A) (typesAt bytes-slots κs) (bytes-lawful 𝓤 H (𝓖 .A) (givenOf 𝓤 H 𝓜 𝓖) κs) a
+    (machine told-alone bytes-stay bytes-spell κs a) are)
     (walk 𝓤 H (𝓖 .A) (givenOf 𝓤 H 𝓜 𝓖) (tablesOf 𝓤 H 𝓜 (tables 𝓤 H 𝓜 𝓡 code.env))
-    (cited 𝓤 H (pure-triple empty 𝓤 H (𝓖 .A)) 𝓜 𝓡 code.env #inplace·index·empty empty-def.routine code.calls-inplace·index·empty (empty-thm.met 𝓤 H 𝓜 𝓖 𝓡))
-    (cited 𝓤 H (promised told-on 𝓤 H (𝓖 .A)) 𝓜 𝓡 code.env #delkuthi·report·told-on on-def.routine code.calls-delkuthi·report·told-on (on-thm.met 𝓤 H 𝓜 𝓖 𝓡)))
+    (cited 𝓤 H (pure-triple empty 𝓤 H (𝓖 .A)) 𝓜 𝓡 code.env #inplace·index·empty empty-def.routine code.calls-inplace·index·empty
+    (empty-thm.met 𝓤 H 𝓜 𝓖 𝓡))
+    (cited 𝓤 H (promised told-on 𝓤 H (𝓖 .A)) 𝓜 𝓡 code.env #delkuthi·report·told-on on-def.routine code.calls-delkuthi·report·told-on
+    (on-thm.met 𝓤 H 𝓜 𝓖 𝓡)))

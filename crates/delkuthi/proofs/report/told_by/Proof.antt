@@ -2,7 +2,7 @@
 use mathlib.Core.Path.{_≡_, refl, sym, subst}
 use Prim.Native.Nat.{ℕ, _+_, _-_, _<_, _≤_, _^_}
 use native.Mathlib.Omega.{arith}
-use mathlib.Core.Bool.{Bool, true, false}
+use mathlib.Core.Bool.{Bool, false}
 use mathlib.Core.List.{[], _∷_, List}
 use mathlib.Core.Option.{none, some}
 use lib.ListN.{getD}
@@ -25,7 +25,6 @@ use Rattle.constraint.specs.Limits.{rowLimit}
 use Rattle.machine.proofs.State as S
 use Rattle.machine.proofs.State.Laws as S′
 use Rattle.monitor.specs.Machine.{noRow}
-use Rattle.inplace.specs.declared.index.Indexed.{Indexed}
 use Rattle.inplace.proofs.Plain.{Known, typed}
 use Rattle.inplace.proofs.Types.{word-type, row-type, indexed-type}
 use Rattle.inplace.proofs.Frame.{no-demand, demand, Walk, enters, fitting}
@@ -72,19 +71,25 @@ with-step =
     }
 
 module _
-    {M : Type 1} (𝓤 : URA M) (H : Heap 𝓤) (A : Atoms 𝓤) (W : Given 𝓤 H A) (𝓣 : Tables 𝓤 H) (cites-of : Triple 𝓤 (𝓣 .C #delkuthi·report·told-of) (pure-triple told-of 𝓤 H A))
+    {M : Type 1} (𝓤 : URA M) (H : Heap 𝓤) (A : Atoms 𝓤) (W : Given 𝓤 H A) (𝓣 : Tables 𝓤 H)
+    (cites-of : Triple 𝓤 (𝓣 .C #delkuthi·report·told-of) (pure-triple told-of 𝓤 H A))
     (cites-with : Triple 𝓤 (𝓣 .C #delkuthi·report·with-step) (pure-triple with-step 𝓤 H A)) where
   -- [the monitor's cell; what closes it; _0; …]: _i is at 2 + i
   walk : Walk told-by 𝓤 H A W (𝓣 .C) (𝓣 .Λ) code.function
   walk L h a a-is free Kf ends bs =
       opened ! tt indexed-type L h (λ was.
       let in-it = monitor-in h was in
-      sets ! (of-opd ! (load ! (from ! (hop ! (look ! 3 refl) (fld ! refl (fld ! refl (stop !))))) (look-in ! 0 (sub ! 3 refl (sub ! 0 refl (whole !)))))) 8 refl (typed 𝓤 H A W word-type (h .monitor .count) (count-known (h .monitor) in-it)) $
-      sets ! (of-opd ! (load ! (from ! (hop ! (look ! 3 refl) (fld ! refl (fld ! refl (stop !))))) (look-in ! 0 (sub ! 5 refl (sub ! 0 refl (whole !)))))) 9 refl (typed 𝓤 H A W word-type (h .monitor .len) (len-known (h .monitor) in-it)) $
-      sets ! (of-opd ! (load ! (from ! (hop ! (look ! 3 refl) (fld ! refl (fld ! refl (stop !))))) (look-in ! 0 (sub ! 4 refl (sub ! 0 refl (whole !)))))) 10 refl (typed 𝓤 H A W word-type (h .monitor .closed) (closed-known (h .monitor) in-it)) $
+      sets ! (of-opd ! (load ! (from ! (hop ! (look ! 3 refl) (fld ! refl (fld ! refl (stop !)))))
+      (look-in ! 0 (sub ! 3 refl (sub ! 0 refl (whole !)))))) 8 refl (typed 𝓤 H A W word-type (h .monitor .count) (count-known (h .monitor) in-it)) $
+      sets ! (of-opd ! (load ! (from ! (hop ! (look ! 3 refl) (fld ! refl (fld ! refl (stop !)))))
+      (look-in ! 0 (sub ! 5 refl (sub ! 0 refl (whole !)))))) 9 refl (typed 𝓤 H A W word-type (h .monitor .len) (len-known (h .monitor) in-it)) $
+      sets ! (of-opd ! (load ! (from ! (hop ! (look ! 3 refl) (fld ! refl (fld ! refl (stop !)))))
+      (look-in ! 0 (sub ! 4 refl (sub ! 0 refl (whole !)))))) 10 refl (typed 𝓤 H A W word-type (h .monitor .closed)
+      (closed-known (h .monitor) in-it)) $
       calls-plain ! (fmOf 𝓤 H (W .laws) 𝓣) told-of cites-of (a .0, (h .monitor .count, (h .monitor .len, (h .monitor .closed, tt))))
       (a-is .0, (count-known (h .monitor) in-it, (len-known (h .monitor) in-it, (closed-known (h .monitor) in-it, tt)))) tt
-      (and-then ! (copies ! 5 refl) (and-then ! (copies ! 9 refl) (and-then ! (copies ! 10 refl) (and-then ! (copies ! 11 refl) (no-more !))))) (λ told told-is told-e.
+      (and-then ! (copies ! 5 refl) (and-then ! (copies ! 9 refl) (and-then ! (copies ! 10 refl) (and-then ! (copies ! 11 refl) (no-more !)))))
+      (λ told told-is told-e.
       lands-in ! 5 refl (typed 𝓤 H A W told-type told told-is) $
       sets ! (of-opd ! (lit ! tt)) 6 refl (tt, record { fits = lit< tt }) $
       first ! $ blocks ! $ repeats 𝓤 H A W 𝓣 (env 𝓤 H (code.function .locals) bs) _ _ _ 9 State Good more size At 11 (record {
@@ -99,21 +104,40 @@ module _
             sets ! (bin ! (copies ! 6 refl) (lit ! tt) (record { fits = at-fits i small })) 12 refl (tt, record { fits = at-fits i small }) $
             sets ! (addr ! (from ! (hop ! (look ! 3 refl) (fld ! refl (fld ! refl (stop !)))))) 13 refl (tt, tt) $
             sets ! (bin ! (copies ! 13 refl) (copies ! 12 refl) tt) 14 refl (tt, tt) $
-            sets ! (of-opd ! (load ! (from ! (hop ! (look ! 14 refl) (fld ! refl (fld ! refl (stop !))))) (look-in ! 0 (sub ! 5 refl (sub ! 2 refl (as-val ! (got (h .monitor) i)
-            (elem ! (row-vals (h .monitor .rows)) i (row-type .val noRow) (within (h .monitor) in-it i small) (vals-32 (h .monitor) in-it) (sub ! 0 refl (sub ! 0 refl (whole !)))))))))) 7 refl
+            sets ! (of-opd ! (load ! (from ! (hop ! (look ! 14 refl) (fld ! refl (fld ! refl (stop !)))))
+            (look-in ! 0 (sub ! 5 refl (sub ! 2 refl (as-val ! (got (h .monitor) i)
+            (elem ! (row-vals (h .monitor .rows)) i (row-type .val noRow) (within (h .monitor) in-it i small) (vals-32 (h .monitor) in-it)
+            (sub ! 0 refl (sub ! 0 refl (whole !)))))))))) 7 refl
             (typed 𝓤 H A W word-type step (broken-known was i small)) $
-            calls-plain ! (fmOf 𝓤 H (W .laws) 𝓣) with-step cites-with (y .1, (i, (step, tt))) (good .1 .0, ((refl, fits i small), (broken-known was i small, tt))) small
+            calls-plain ! (fmOf 𝓤 H (W .laws) 𝓣) with-step cites-with (y .1, (i, (step, tt)))
+            (good .1 .0, ((refl, fits i small), (broken-known was i small, tt))) small
             (and-then ! (copies ! 6 refl) (and-then ! (copies ! 7 refl) (and-then ! (copies ! 8 refl) (no-more !)))) (λ t t-is e.
             land ! (from ! (stop !)) (store ! 5 refl (typed 𝓤 H A W told-type t t-is)) $
-            assigns-last ! (bin ! (copies ! 6 refl) (lit ! tt) (record { fits = fits-next i small })) (from ! (stop !)) (store ! 6 refl (tt, record { fits = fits-next i small })) $
+            assigns-last ! (bin ! (copies ! 6 refl) (lit ! tt) (record { fits = fits-next i small })) (from ! (stop !))
+            (store ! 6 refl (tt, record { fits = fits-next i small })) $
             forget ! 7 refl $ forget ! 11 refl $ forget ! 12 refl $ forget ! 13 refl $ forget ! 14 refl $
-            by ! (again (i + 1, t) (fewer i small, (t-is, subst (GathersUpTo (i + 1) (h .monitor) (a .0)) (sym e) (gathers-more (h .monitor) (a .0) i (y .1) small (good .1 .1)))) (less i small)));
+            by ! (again (i + 1, t) (
+              fewer i small,
+              (
+                t-is,
+                subst (GathersUpTo (i + 1) (h .monitor) (a .0)) (sym e)
+                    (gathers-more (h .monitor) (a .0) i (y .1) small (good .1 .1)),
+              ),
+            ) (less i small)));
         ends = λ y good over.
             exec ! (𝓣 .C) (𝓣 .Λ) (env 𝓤 H (code.function .locals) bs) code-mir.t-7 (atRet (env 𝓤 H (code.function .locals) bs) Kf) $
             sets ! (of-opd ! (copies ! 5 refl)) 2 refl (typed 𝓤 H A W told-type (y .1) (good .1 .0)) $
             closed ! tt indexed-type L h was $
-            leaves ! (code.function .locals) tt bs (told-type .val (y .1)) refl (ends (y .1) h (good .1 .0) (subst (λ (n : ℕ). GathersUpTo n (h .monitor) (a .0) (y .1)) (all-told (y .0) (good .0) over) (good .1 .1), refl));
-      }) (0, told) (none-yet, (told-is, subst (GathersUpTo 0 (h .monitor) (a .0)) (sym told-e) (gathers-none (h .monitor) (a .0) (whole-rows h was))))))
+            leaves ! (code.function .locals) tt bs (told-type .val (y .1)) refl (ends (y .1) h (good .1 .0)
+            (subst (λ (n : ℕ). GathersUpTo n (h .monitor) (a .0) (y .1)) (all-told (y .0) (good .0) over) (good .1 .1), refl));
+      }) (0, told) (
+        none-yet,
+        (
+          told-is,
+          subst (GathersUpTo 0 (h .monitor) (a .0)) (sym told-e)
+              (gathers-none (h .monitor) (a .0) (whole-rows h was)),
+        ),
+      )))
     where
       -- how many rows are told, and what is told
       State : Type 0
@@ -131,7 +155,8 @@ module _
       At : State → List (Item 𝓤)
       At y = ‵ (cell indexed-type L (indexed-type .val h)) ∷ ‵ (open-at indexed-type L (indexed-type .row .coded .code h))
           ∷ Frame 𝓤 H A W (code.function .locals) bs
-          (none ∷ some (vptr (L .block) (L .offset)) ∷ some (answer-type .val (a .0)) ∷ some (told-type .val (y .1)) ∷ some (vint w64 (y .0)) ∷ none ∷ some (vint w64 (h .monitor .count))
+          (none ∷ some (vptr (L .block) (L .offset)) ∷ some (answer-type .val (a .0)) ∷ some (told-type .val (y .1)) ∷ some (vint w64 (y .0))
+          ∷ none ∷ some (vint w64 (h .monitor .count))
           ∷ some (vint w64 (h .monitor .len)) ∷ some (vint w64 (h .monitor .closed)) ∷ [])
 
       none-yet : 0 ≤ 32
@@ -162,5 +187,7 @@ unfolding code.routine tablesOf
 told-by-spec 𝓤 H 𝓜 𝓖 𝓡 =
     enters told-by 𝓤 H 𝓜 𝓖 𝓡 code.env #delkuthi·report·told-by code.function (code.unfolded 𝓤 H 𝓜 𝓡) (fitting told-by 𝓤 H (𝓖 .A) (givenOf 𝓤 H 𝓜 𝓖))
     (walk 𝓤 H (𝓖 .A) (givenOf 𝓤 H 𝓜 𝓖) (tablesOf 𝓤 H 𝓜 (tables 𝓤 H 𝓜 𝓡 code.env))
-    (cited 𝓤 H (pure-triple told-of 𝓤 H (𝓖 .A)) 𝓜 𝓡 code.env #delkuthi·report·told-of of-def.routine code.calls-delkuthi·report·told-of (of-thm.met 𝓤 H 𝓜 𝓖 𝓡))
-    (cited 𝓤 H (pure-triple with-step 𝓤 H (𝓖 .A)) 𝓜 𝓡 code.env #delkuthi·report·with-step with-def.routine code.calls-delkuthi·report·with-step (with-thm.met 𝓤 H 𝓜 𝓖 𝓡)))
+    (cited 𝓤 H (pure-triple told-of 𝓤 H (𝓖 .A)) 𝓜 𝓡 code.env #delkuthi·report·told-of of-def.routine code.calls-delkuthi·report·told-of
+    (of-thm.met 𝓤 H 𝓜 𝓖 𝓡))
+    (cited 𝓤 H (pure-triple with-step 𝓤 H (𝓖 .A)) 𝓜 𝓡 code.env #delkuthi·report·with-step with-def.routine code.calls-delkuthi·report·with-step
+    (with-thm.met 𝓤 H 𝓜 𝓖 𝓡)))

@@ -71,8 +71,10 @@ refusal =
     }
 
 module _
-    {M : Type 1} (𝓤 : URA M) (H : Heap 𝓤) (A : Atoms 𝓤) (W : Given 𝓤 H A) (𝓣 : Tables 𝓤 H) (cites-fresh : Triple 𝓤 (𝓣 .C #delkuthi·lent·delkuthi-fresh) (promised fresh 𝓤 H A))
-    (cites-take : Triple 𝓤 (𝓣 .C #delkuthi·records·take-recording) (promised take-recording 𝓤 H A)) (cites-refusal : Triple 𝓤 (𝓣 .C #delkuthi·report·refusal-of) (promised refusal 𝓤 H A))
+    {M : Type 1} (𝓤 : URA M) (H : Heap 𝓤) (A : Atoms 𝓤) (W : Given 𝓤 H A) (𝓣 : Tables 𝓤 H)
+    (cites-fresh : Triple 𝓤 (𝓣 .C #delkuthi·lent·delkuthi-fresh) (promised fresh 𝓤 H A))
+    (cites-take : Triple 𝓤 (𝓣 .C #delkuthi·records·take-recording) (promised take-recording 𝓤 H A))
+    (cites-refusal : Triple 𝓤 (𝓣 .C #delkuthi·report·refusal-of) (promised refusal 𝓤 H A))
     (cites-by : Triple 𝓤 (𝓣 .C #delkuthi·report·told-by) (lent-triple told-by 𝓤 H A)) where
   walk : Walk told-on all-stay all-spell 𝓤 H A W (𝓣 .C) (𝓣 .Λ) code.function
   walk κs qs a are free Kf ends bs =
@@ -88,20 +90,28 @@ module _
       let is-zero : number ≡ 0 = eqb-true number 0 (holds (eqb number 0) zero) in
       sets ! (addr ! (from ! (hop ! (look ! 7 refl) (stop !)))) 15 refl (tt, tt) $
       move ! (0 ∷ 1 ∷ 4 ∷ 5 ∷ []) $
-      calls-on-bytes-last answer-type (λ g. demand (Indexes g)) TakesRecords L κ′ q′ s′ h₁ ! (fmOf 𝓤 H (W .laws) 𝓣) cites-take (begun-indexes (s .now) h number h₁ begins is-zero)
+      calls-on-bytes-last answer-type (λ g. demand (Indexes g)) TakesRecords L κ′ q′ s′ h₁ ! (fmOf 𝓤 H (W .laws) 𝓣) cites-take
+      (begun-indexes (s .now) h number h₁ begins is-zero)
       (λ α δ. and-then ! (copies ! 14 refl) (and-then ! (copies ! 8 refl) (no-more !))) (λ answer h₂ answer-is taken.
       move ! (0 ∷ 1 ∷ 4 ∷ 5 ∷ []) $
       land-last ! (from ! (stop !)) (init ! 14 refl (typed 𝓤 H A W answer-type answer answer-is)) $
       exec ! (𝓣 .C) (𝓣 .Λ) (env 𝓤 H (code.function .locals) bs) code-mir.t-5 (atRet (env 𝓤 H (code.function .locals) bs) Kf) $
-      forget ! 12 refl $ forget ! 13 refl $ forget ! 15 refl $ rest number answer h₂ answer-is (left-used (s .now) h (s′ .now) number h₁ begins is-zero answer h₂ taken)))
+      forget ! 12 refl $ forget ! 13 refl $ forget ! 15 refl $ rest number answer h₂ answer-is
+      (left-used (s .now) h (s′ .now) number h₁ begins is-zero answer h₂ taken)))
       (λ not-zero.
-      nothing ! $ owned ! (word-type .row) (Is (word-type .row)) (word-type .makes 𝓤 H A W) number _ number-is $ fjoin ! $ use0 W (raw (toks 𝓤 A 0 tt tt)) (id⊢ 𝓤 _) $
-      calls-several-last ! (fmOf 𝓤 H (W .laws) 𝓣) refusal cites-refusal tt tt (number, tt) (vint w64 number ∷ [], tt) tt (and-then ! (copies ! 11 refl) (no-more !)) (λ answer ws answer-is e.
+      nothing ! $ owned ! (word-type .row) (Is (word-type .row)) (word-type .makes 𝓤 H A W) number _ number-is $ fjoin ! $
+      use0 W (raw (toks 𝓤 A 0 tt tt)) (id⊢ 𝓤 _) $
+      calls-several-last ! (fmOf 𝓤 H (W .laws) 𝓣) refusal cites-refusal tt tt (number, tt) (
+        vint w64 number
+            ∷ [],
+        tt,
+      ) tt (and-then ! (copies ! 11 refl) (no-more !)) (λ answer ws answer-is e.
       drop ! $ drop ! $
       land-last ! (from ! (stop !)) (init ! 14 refl (typed 𝓤 H A W answer-type answer answer-is)) $
       exec ! (𝓣 .C) (𝓣 .Λ) (env 𝓤 H (code.function .locals) bs) code-mir.t-5 (atRet (env 𝓤 H (code.function .locals) bs) Kf) $
       forget ! 12 refl $ forget ! 13 refl $
-      rest number answer h₁ answer-is (subst (λ (r : ReadAnswer). LeftBy h (s .now) (s′ .now) r h₁) (sym e) (left-unused (s .now) h (s′ .now) number h₁ begins (eqb-false number 0 (fails (eqb number 0) not-zero)))))))
+      rest number answer h₁ answer-is (subst (λ (r : ReadAnswer). LeftBy h (s .now) (s′ .now) r h₁) (sym e)
+      (left-unused (s .now) h (s′ .now) number h₁ begins (eqb-false number 0 (fails (eqb number 0) not-zero)))))))
     where
       κ : Lft
       κ = κs .1 .0
@@ -133,7 +143,8 @@ module _
       -- what follows an answer
       rest : (number : ℕ) (answer : ReadAnswer) (h₂ : Indexed) → Known answer-type answer → LeftBy h (s .now) (s′ .now) answer h₂
           → Sq W (‵ (own-at indexed-type L h₂) ∷ ‵ (token L) ∷ two-bytes κ q s κ′ q′ s′ (Frame 𝓤 H A W (code.function .locals) bs
-          (none ∷ some (vptr (L .block) (L .offset)) ∷ some (slice s) ∷ some (slice s′) ∷ some (vint w64 number) ∷ none ∷ none ∷ none ∷ some (answer-type .val answer) ∷ [])))
+          (none ∷ some (vptr (L .block) (L .offset)) ∷ some (slice s) ∷ some (slice s′) ∷ some (vint w64 number) ∷ none ∷ none ∷ none
+          ∷ some (answer-type .val answer) ∷ [])))
           (runs (𝓣 .C) (𝓣 .Λ) (env 𝓤 H (code.function .locals) bs) code-mir.t-5 (atRet (env 𝓤 H (code.function .locals) bs) Kf))
       rest number answer h₂ answer-is left =
           sets ! (of-opd ! (copies ! 14 refl)) 11 refl (typed 𝓤 H A W answer-type answer answer-is) $
@@ -148,10 +159,16 @@ module _
 pub told-on-spec : {M : Type 1} → stated.statement M
 unfolding code.routine tablesOf
 told-on-spec 𝓤 H 𝓜 𝓖 𝓡 =
-    enters-several told-on all-stay all-spell all-tell 𝓤 H 𝓜 𝓖 𝓡 code.env #delkuthi·report·told-on code.function (code.unfolded 𝓤 H 𝓜 𝓡) (all-go 𝓤 H (𝓖 .A) (givenOf 𝓤 H 𝓜 𝓖))
-    (λ κs a are. all-typed 𝓤 H (𝓖 .A) (typesAt all-slots κs) (all-lawful 𝓤 H (𝓖 .A) (givenOf 𝓤 H 𝓜 𝓖) κs) a (machine told-on all-stay all-spell κs a) are)
+    enters-several told-on all-stay all-spell all-tell 𝓤 H 𝓜 𝓖 𝓡 code.env #delkuthi·report·told-on code.function (code.unfolded 𝓤 H 𝓜 𝓡)
+    (all-go 𝓤 H (𝓖 .A) (givenOf 𝓤 H 𝓜 𝓖))
+    (λ κs a are. all-typed 𝓤 H (𝓖 .A) (typesAt all-slots κs) (all-lawful 𝓤 H (𝓖 .A) (givenOf 𝓤 H 𝓜 𝓖) κs) a
+    (machine told-on all-stay all-spell κs a) are)
     (walk 𝓤 H (𝓖 .A) (givenOf 𝓤 H 𝓜 𝓖) (tablesOf 𝓤 H 𝓜 (tables 𝓤 H 𝓜 𝓡 code.env))
-    (cited 𝓤 H (promised fresh 𝓤 H (𝓖 .A)) 𝓜 𝓡 code.env #delkuthi·lent·delkuthi-fresh fresh-def.routine code.calls-delkuthi·lent·delkuthi-fresh (fresh-thm.met 𝓤 H 𝓜 𝓖 𝓡))
-    (cited 𝓤 H (promised take-recording 𝓤 H (𝓖 .A)) 𝓜 𝓡 code.env #delkuthi·records·take-recording take-def.routine code.calls-delkuthi·records·take-recording (take-thm.met 𝓤 H 𝓜 𝓖 𝓡))
-    (cited 𝓤 H (promised refusal 𝓤 H (𝓖 .A)) 𝓜 𝓡 code.env #delkuthi·report·refusal-of refusal-def.routine code.calls-delkuthi·report·refusal-of (refusal-thm.met 𝓤 H 𝓜 𝓖 𝓡))
-    (cited 𝓤 H (lent-triple told-by 𝓤 H (𝓖 .A)) 𝓜 𝓡 code.env #delkuthi·report·told-by by-def.routine code.calls-delkuthi·report·told-by (by-thm.met 𝓤 H 𝓜 𝓖 𝓡)))
+    (cited 𝓤 H (promised fresh 𝓤 H (𝓖 .A)) 𝓜 𝓡 code.env #delkuthi·lent·delkuthi-fresh fresh-def.routine code.calls-delkuthi·lent·delkuthi-fresh
+    (fresh-thm.met 𝓤 H 𝓜 𝓖 𝓡))
+    (cited 𝓤 H (promised take-recording 𝓤 H (𝓖 .A)) 𝓜 𝓡 code.env #delkuthi·records·take-recording take-def.routine
+    code.calls-delkuthi·records·take-recording (take-thm.met 𝓤 H 𝓜 𝓖 𝓡))
+    (cited 𝓤 H (promised refusal 𝓤 H (𝓖 .A)) 𝓜 𝓡 code.env #delkuthi·report·refusal-of refusal-def.routine code.calls-delkuthi·report·refusal-of
+    (refusal-thm.met 𝓤 H 𝓜 𝓖 𝓡))
+    (cited 𝓤 H (lent-triple told-by 𝓤 H (𝓖 .A)) 𝓜 𝓡 code.env #delkuthi·report·told-by by-def.routine code.calls-delkuthi·report·told-by
+    (by-thm.met 𝓤 H 𝓜 𝓖 𝓡)))

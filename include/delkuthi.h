@@ -87,6 +87,7 @@
  *   a report         at most 1,024 bytes  DELKUTHI_REPORT_LIMIT
  *   a page           at most 2,482 bytes  DELKUTHI_PAGE_LIMIT
  *   stack, report    at most 256 KiB      DELKUTHI_REPORT_STACK
+ *   stack, report_on at most 256 KiB      DELKUTHI_REPORT_ON_STACK
  *   stack, page      at most 2 KiB        DELKUTHI_PAGE_STACK
  *   stack, stamps    at most 16 KiB       DELKUTHI_STAMPS_STACK
  *   stack, join      at most 16 KiB       DELKUTHI_JOIN_STACK
@@ -299,6 +300,7 @@ extern "C" {
 #define DELKUTHI_REPORT_LIMIT  1024
 #define DELKUTHI_PAGE_LIMIT    2482
 #define DELKUTHI_REPORT_STACK  262144
+#define DELKUTHI_REPORT_ON_STACK 262144
 #define DELKUTHI_PAGE_STACK    2048
 #define DELKUTHI_STAMPS_STACK  16384
 #define DELKUTHI_JOIN_STACK    16384
@@ -762,6 +764,21 @@ size_t delkuthi_page(const delkuthi_monitor *monitor,
 size_t delkuthi_report(const uint8_t *table, size_t table_length,
                        const uint8_t *recording, size_t recording_length,
                        uint8_t *report, size_t report_length);
+
+/*
+ * The same report, on a monitor that is lent, whatever lies in it: no monitor
+ * is on the stack. If the table is refused, the monitor stays as it was.
+ * Otherwise it is made fresh over the table, and has then taken the records up
+ * to the first that was refused, or all of them and the close, and goes on as
+ * after those calls: delkuthi_row_verdict, say, tells what its rows read. This
+ * is so however short the buffer is.
+ *
+ * Returns what delkuthi_report returns, and writes what it writes.
+ */
+size_t delkuthi_report_on(delkuthi_monitor *monitor,
+                          const uint8_t *table, size_t table_length,
+                          const uint8_t *recording, size_t recording_length,
+                          uint8_t *report, size_t report_length);
 
 /*
  * Says what a Repeat row of span 1 reads at the close of a recording whose

@@ -64,4 +64,5 @@ void start(void)
     (void)delkuthi_row_step(&monitor, delkuthi_rows(&monitor));
     (void)delkuthi_page(&monitor, page, sizeof page);
     (void)delkuthi_report(bytes, sizeof bytes, bytes, sizeof bytes, report, sizeof report);
+    (void)delkuthi_report_on(&monitor, bytes, sizeof bytes, bytes, sizeof bytes, report, sizeof report);
 }

@@ -90,6 +90,13 @@ static void *whole_report(void *unused)
     return unused;
 }
 
+static void *report_on(void *unused)
+{
+    (void)delkuthi_report_on(&monitor, table.bytes, table.length, recording.bytes, recording.length, report,
+                             sizeof report);
+    return unused;
+}
+
 static void *late_stamps(void *unused)
 {
     (void)delkuthi_stamps(table.bytes, table.length, recording.bytes, recording.length, 0, 1);
@@ -159,6 +166,7 @@ int main(int argc, char **argv)
     well &= within(DELKUTHI_STEP_STACK, "close", close_it);
     well &= within(DELKUTHI_PAGE_STACK, "page", printed);
     well &= within(DELKUTHI_REPORT_STACK, "report", whole_report);
+    well &= within(DELKUTHI_REPORT_ON_STACK, "report_on", report_on);
     well &= within(DELKUTHI_STAMPS_STACK, "stamps", late_stamps);
     well &= within(DELKUTHI_JOIN_STACK, "join", join);
     well &= within(DELKUTHI_STRETCH_STACK, "stretch", short_stretch);

@@ -2,10 +2,14 @@
 pub mod Taking
 pub mod Progress
 pub mod RowLines
+pub mod Gathering
+pub mod Outcome
 pub mod Telling
 pub mod Refusals
 mod Numbers
 mod Walk
+mod Several
+mod Lending
 mod RowNumbers
 pub mod Printing
 pub mod RecordNumbers

@@ -161,6 +161,6 @@ module _ (fresh : Monitor) (bytes : List ℕ) where
   next-taken turn m m′ zero none there e (over taken) kept = never (cc)
 
   -- where there is no more, the recording is taken as the turn says
-  pub turns-over : (turn : Turn) (m : Monitor) → turn .more ≡ false → Turns fresh bytes turn m → TakesRecording fresh bytes (record { answer = turn .answer; monitor = m })
+  pub turns-over : (turn : Turn) (m : Monitor) → turn .more ≡ false → Turns fresh bytes turn m → TakesRecording fresh bytes (turn .answer) m
   turns-over turn m e (on call before) = never (cc)
   turns-over turn m e (over taken) = taken

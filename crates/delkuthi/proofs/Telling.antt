@@ -1,23 +1,27 @@
 -- The report's text goes by what reading the table and the recording gave, and there is room for all of it.
 use Prim.Native.Nat.{ℕ, _≤_}
-use mathlib.Core.Path.{_≡_, sym, subst}
+use mathlib.Core.Path.{_≡_, sym, ap, subst, _∙_}
 use mathlib.Core.List.{List, _∷_, [], _++_}
 use native.Mathlib.Omega.{arith}
 use lib.ListN.{length}
-use Rattle.constraint.specs.Steps.{close}
+use Rattle.constraint.specs.Steps.{Step, close}
 use Rattle.constraint.specs.Table.{ReadsTable, table-of}
-use Rattle.constraint.specs.Report.{rowLines, closedText, refusedText, ReportOf, no-table, no-recording, all-taken}
+use Rattle.constraint.specs.Report.{rowLines, closedText, refusedText, EachReads, ReportOf, Reports, no-table, no-recording, all-taken}
 use Rattle.constraint.specs.declared.Constraint.{Constraint}
-use Rattle.text.specs.Content.{emptyText, extended, Holds}
+use Rattle.constraint.specs.declared.Verdict.{Verdict}
+use Rattle.text.specs.Content.{emptyText, extended, Holds, Copied}
 use Rattle.text.specs.Lines.{closedLine}
 use Rattle.text.specs.declared.Text.{Text}
 use Rattle.text.proofs.Texts.{extended-append, holds-all}
 use Rattle.constraint.proofs.Accepted.{rows-room}
 use Rattle.table.proofs.AcceptedRows.{read-accepted}
-use Rattle.text.proofs.Reports.{closed-append, reportLimit, closed-length, refused-length}
+use Rattle.text.proofs.Reports.{closed-append, reportLimit, closed-length, refused-length, copied-reports}
 use Rattle.monitor.specs.declared.Monitor.{Monitor}
-use Rattle.delkuthi.specs.Taking.{RecordingTakenAs}
-use Rattle.delkuthi.specs.Telling.{Tells, TellsRows, TellsRecording}
+use Rattle.inplace.specs.declared.index.Indexed.{Indexed}
+use Rattle.delkuthi.specs.Taking.{Took, RecordingTakenAs}
+use Rattle.delkuthi.specs.Reporting.{LeftBy, unused, used, ReportsOn}
+use Rattle.delkuthi.specs.Telling.{Gathers, ToldOn, Tells, TellsRows, TellsRecording, TellsTold, WritesTold}
+use Rattle.delkuthi.specs.declared.report.Told.{Told}
 use Rattle.table.specs.declared.ReadAnswer.{ReadAnswer}
 use Rattle.table.specs.declared.ReadAnswer.the-variants.{Accepted, Refused}
 use Rattle.delkuthi.proofs.Taking.{took-follows}
@@ -27,14 +31,21 @@ pub tells-refusal : (n place : ℕ) (text : Text) → text ≡ extended (refused
 tells-refusal n place text e = subst (λ (t : Text). Holds t (refusedText n place)) (sym e) (holds-all (refusedText n place) (omega (arith, refused-length n place)))
 
 -- the line "closed N" and those of the rows
-pub tells-closed : (m : Monitor) (before text : Text) → before ≡ extended (closedLine (m .count)) emptyText → TellsRows m before text → TellsRecording Accepted m text
-tells-closed m before text line tells rows steps took =
-    let lines = tells .means rows steps took in
+closed-holds : (m : Monitor) (before text : Text) → before ≡ extended (closedLine (m .count)) emptyText → (rows : List Constraint) (steps : List Step) → Took rows steps m
+    → (verdicts : List Verdict) → EachReads steps rows verdicts → text ≡ extended (rowLines 0 verdicts) before → Holds text (closedText (length steps) verdicts)
+closed-holds m before text line rows steps took verdicts each lines =
     let follows = took-follows rows steps m took in
-    let whole : text ≡ extended (closedText (length steps) (lines .0)) emptyText =
-    rw (lines .2, line, ← extended-append (closedLine (m .count)) (rowLines 0 (lines .0)) emptyText, ← closed-append (m .count) (lines .0), follows .count-is) in
-    let short = closed-length (length steps) (lines .0) (omega (arith, each-length (lines .1), follows .few)) in
-    (lines .0, lines .1, subst (λ (t : Text). Holds t (closedText (length steps) (lines .0))) (sym whole) (holds-all (closedText (length steps) (lines .0)) (omega (arith, short))))
+    let whole : text ≡ extended (closedText (length steps) verdicts) emptyText =
+    rw (lines, line, ← extended-append (closedLine (m .count)) (rowLines 0 verdicts) emptyText, ← closed-append (m .count) verdicts, follows .count-is) in
+    let short = closed-length (length steps) verdicts (omega (arith, each-length each, follows .few)) in
+    subst (λ (t : Text). Holds t (closedText (length steps) verdicts)) (sym whole) (holds-all (closedText (length steps) verdicts) (omega (arith, short)))
+
+pub tells-closed : (told : Told) (before text : Text) → before ≡ extended (closedLine (told .count)) emptyText → TellsRows told before text
+    → (m : Monitor) → Gathers m (told .answer) told → TellsRecording Accepted m text
+tells-closed told before text line tells m gathers rows steps took =
+    let lines = tells .means m gathers rows steps took in
+    let counted : before ≡ extended (closedLine (m .count)) emptyText = line ∙ ap (λ (n : ℕ). extended (closedLine n) emptyText) (gathers .count-is) in
+    (lines .0, lines .1, closed-holds m before text counted rows steps took (lines .0) (lines .1) (lines .2))
 
 -- a table that was read, and what the recording gave under it
 pub tells-report : (table recording : List ℕ) (rows : List Constraint) (answer : ReadAnswer) (m : Monitor) (text : Text) → ReadsTable table (table-of rows)
@@ -44,6 +55,33 @@ tells-report table recording rows Accepted m text read (steps, reads, took) tell
     record { bytes = closedText (length (steps ++ (close ∷ []))) (told .0); said = all-taken rows steps (told .0) read reads (told .1); holds = told .2 }
 tells-report table recording rows (Refused n place) m text read (steps, before, took, reads) tells =
     record { bytes = refusedText n place; said = no-recording rows n place read reads; holds = tells }
+
+-- what is told is the report
+pub tells-told : (before : Indexed) (table recording : List ℕ) (told : Told) (after : Indexed) (text : Text) → ToldOn before table recording told after → TellsTold told text
+    → Tells (ReportOf table recording) text
+tells-told before table recording told after text told-on tells = of-left (told .answer) after (told-on .left-by) (tells (after .monitor) (told-on .gathers))
+  where
+    of-left : (answer : ReadAnswer) (after : Indexed) → LeftBy before table recording answer after → TellsRecording answer (after .monitor) text → Tells (ReportOf table recording) text
+    of-left answer after (unused n place read) said = record { bytes = refusedText n place; said = no-table n place read; holds = said }
+    of-left answer after (used rows _ _ read taken indexes) said = tells-report table recording rows answer (after .monitor) text read taken said
+
+-- and what is written of it
+pub writes-told : (before : Indexed) (table recording : List ℕ) (told : Told) (after : Indexed) (buffer : List ℕ) (number : ℕ) (written : List ℕ)
+    → ToldOn before table recording told after → WritesTold told buffer number written → Reports table recording buffer number written
+writes-told before table recording told after buffer number written told-on writes =
+    let tells = tells-told before table recording told after (writes .text) told-on (writes .tells) in
+    copied-reports table recording (tells .bytes) buffer number written (tells .said)
+    (subst (λ (l : List ℕ). Copied l buffer number written) (tells .holds .held) (writes .copied))
+
+-- on a lent monitor
+pub reports-on : (before : Indexed) (table recording : List ℕ) (told : Told) (after : Indexed) (buffer : List ℕ) (number : ℕ) (written : List ℕ)
+    → ToldOn before table recording told after → WritesTold told buffer number written → ReportsOn before table recording buffer number written after
+reports-on before table recording told after buffer number written told-on writes =
+    record {
+      reports = writes-told before table recording told after buffer number written told-on writes;
+      answer = told .answer;
+      left-by = told-on .left-by;
+    }
 
 -- a report has at most 1,024 bytes
 pub report-length : (table recording text : List ℕ) → ReportOf table recording text → length text ≤ reportLimit

@@ -1,5 +1,6 @@
 -- What the parts of the report and the calls from C promise.
 pub mod Taking
+pub mod Reporting
 pub mod Telling
 pub mod Lent
 pub mod Tables

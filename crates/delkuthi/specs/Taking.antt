@@ -16,9 +16,10 @@ use Rattle.constraint.specs.declared.Constraint.{Constraint}
 use Rattle.monitor.specs.Contract.{after, Recorded, Steps}
 use Rattle.monitor.specs.declared.Monitor.{Monitor}
 use Rattle.inplace.specs.Store.{steppedFrom}
+use Rattle.inplace.specs.Index.{Indexes}
+use Rattle.inplace.specs.declared.index.Indexed.{Indexed}
 use Rattle.recording.specs.Record.{CallAt}
 use Rattle.delkuthi.specs.declared.records.Turn.{Turn}
-use Rattle.delkuthi.specs.declared.records.RecordingTaken.{RecordingTaken}
 use Rattle.table.specs.declared.ReadAnswer.{ReadAnswer}
 
 -- a monitor over an accepted table after calls that have recorded just these steps
@@ -51,9 +52,13 @@ RecordingTakenAs rows bytes ReadAnswer.Accepted m =
 RecordingTakenAs rows bytes (ReadAnswer.Refused n place) m =
     (steps : List Step) × StepsBefore rows bytes place steps × Took rows steps m × ReadsRecording rows bytes (recording-refused n place)
 
--- a whole recording, put to a fresh monitor
-pub record TakesRecording (m : Monitor) (bytes : List ℕ) (result : RecordingTaken) : Type 0 where
-  pub means : (rows : List Constraint) → Took rows [] m → RecordingTakenAs rows bytes (result .answer) (result .monitor)
+-- a whole recording, put to a fresh monitor: the answer to it, and the monitor after the last step taken
+pub record TakesRecording (m : Monitor) (bytes : List ℕ) (answer : ReadAnswer) (m′ : Monitor) : Type 0 where
+  pub means : (rows : List Constraint) → Took rows [] m → RecordingTakenAs rows bytes answer m′
+
+-- the same where the monitor lies with its index, which stays the monitor's
+abbrev pub TakesRecords : Indexed → List ℕ → ReadAnswer → Indexed → Type 0
+TakesRecords h bytes answer h′ = TakesRecording (h .monitor) bytes answer (h′ .monitor) × Indexes h′
 
 -- ---- turn by turn
 
@@ -83,7 +88,7 @@ pub data TurnCall (bytes : List ℕ) : Call → ℕ → ℕ → Type 0 where
 pub data Turns (fresh : Monitor) (bytes : List ℕ) : Turn → Monitor → Type 0 where
   on : {call : Call} {place next : ℕ} {m : Monitor} → TurnCall bytes call place next → UpTo fresh bytes place m
       → Turns fresh bytes (goesOn call place next) m
-  over : {answer : ReadAnswer} {m : Monitor} → TakesRecording fresh bytes (record { answer = answer; monitor = m })
+  over : {answer : ReadAnswer} {m : Monitor} → TakesRecording fresh bytes answer m
       → Turns fresh bytes (endsWith answer) m
 
 -- what is next at the start (§9.4)

@@ -1,18 +1,12 @@
 // Takes a recording: call by call, those of its records and then the close, on one monitor where it lies.
 use constraint::Call;
 use inplace::index;
-use monitor::Monitor;
+use inplace::index::Indexed;
 use recording::Record;
 use table::ReadAnswer;
 ghost use mathlib.Core.Path.{_≡_};
-ghost use Rattle.delkuthi.specs.Taking.{goesOn, endsWith, NextAtStart, NextFrom, NextAfter, TakesRecording};
-
-// What a whole recording gives: the answer to it, which is accepted where every record was taken, and the close; and the monitor
-// after the last step taken.
-pub struct RecordingTaken {
-    pub answer: ReadAnswer,
-    pub monitor: Monitor,
-}
+ghost use Rattle.inplace.specs.Index.{Indexes};
+ghost use Rattle.delkuthi.specs.Taking.{goesOn, endsWith, NextAtStart, NextFrom, NextAfter, TakesRecords};
 
 // What is next in a recording: a call, the place of its record and the place behind it (the close's are both the end); or
 // nothing more, and the answer to the recording.
@@ -104,17 +98,16 @@ fn next_turn(bytes: &[u8], turn: Turn, number: u8) -> Turn
     turn_at(bytes, turn.next)
 }
 
-// What a fresh monitor gives to a whole recording; it takes each call where it lies.
-pub(crate) fn take_recording(fresh: Monitor, bytes: &[u8]) -> RecordingTaken
-    ensures { λ r. ⌜ TakesRecording fresh (now (bytes .entry)) r ⌝ }
+// Puts a whole recording to a fresh monitor that is lent, which takes each call where it lies: accepted where every record was
+// taken, and the close.
+pub(crate) fn take_recording(m: &mut Indexed, bytes: &[u8]) -> ReadAnswer
+    requires { ⌜ Indexes (now m) ⌝ }
+    ensures { λ r. ⌜ TakesRecords (now (m .entry)) (now (bytes .entry)) r (now (m .exit)) ⌝ }
 {
-    let mut indexed = index::over(fresh);
     let mut turn = first_turn(bytes);
     while turn.more {
-        let number = index::take(&mut indexed, turn.call);
+        let number = index::take(m, turn.call);
         turn = next_turn(bytes, turn, number);
     }
-    let answer = turn.answer;
-    let monitor = indexed.monitor;
-    RecordingTaken { answer, monitor }
+    turn.answer
 }

@@ -1,21 +1,100 @@
-// The text of a report.
-use crate::records::RecordingTaken;
+// The report on a recording: what it tells is gathered from the monitor where that lies, and then written.
+use crate::lent::delkuthi_fresh;
 use crate::records::take_recording;
-use monitor::Monitor;
+use inplace::index;
+use inplace::index::Indexed;
 use monitor::RowVerdict;
+use monitor::verdicts;
 use table::ReadAnswer;
 use text::Text;
+ghost use Prim.Native.Nat.{_<_};
+ghost use mathlib.Core.Path.{_≡_};
+ghost use Rattle.constraint.specs.Limits.{rowLimit};
 ghost use Rattle.constraint.specs.Report.{ReportOf};
-ghost use Rattle.delkuthi.specs.Telling.{Tells, TellsRows, TellsRecording};
+ghost use Rattle.delkuthi.specs.Telling.{refusalOf, toldOf, withStep, Gathers, Tells, TellsRows, TellsTold, ToldOn, ToldAlone, WritesTold};
 
-// The text with the lines of a monitor's rows behind it.
-fn row_lines(text: Text, m: Monitor) -> Text
-    ensures { λ r. ⌜ TellsRows m text r ⌝ }
+// What a report tells: the answer to the recording, and of the monitor that took it the numbers that the lines are made of.
+pub struct Told {
+    pub answer: ReadAnswer,
+    // the steps taken, the close included
+    pub count: u64,
+    // the number of rows
+    pub len: usize,
+    // 0: not closed
+    pub closed: u64,
+    // for each row the step that broke it; 0: none did
+    pub steps: [u64; 32],
+}
+
+// The refusal that a number other than 0 stands for.
+fn refusal_of(number: u64) -> ReadAnswer
+    ensures { λ r. ⌜ r ≡ refusalOf number ⌝ }
+{
+    ReadAnswer::Refused {
+        number: (number % 256) as u8,
+        place: (number / 256) as usize,
+    }
+}
+
+// An answer and a monitor's numbers, before its rows'.
+fn told_of(answer: ReadAnswer, count: u64, len: usize, closed: u64) -> Told
+    ensures { λ r. ⌜ r ≡ toldOf answer count len closed ⌝ }
+{
+    Told {
+        answer,
+        count,
+        len,
+        closed,
+        steps: [0u64; 32],
+    }
+}
+
+// The same with the step that broke row i.
+fn with_step(mut told: Told, i: usize, step: u64) -> Told
+    requires { ⌜ i < rowLimit ⌝ }
+    ensures { λ r. ⌜ r ≡ withStep told i step ⌝ }
+{
+    told.steps[i] = step;
+    told
+}
+
+// What a report tells of a monitor that is lent, and of an answer.
+fn told_by(m: &mut Indexed, answer: ReadAnswer) -> Told
+    ensures { λ r. ⌜ Gathers (now (m .entry) .monitor) answer r × (now (m .exit) ≡ now (m .entry)) ⌝ }
+{
+    let mut told = told_of(answer, m.monitor.count, m.monitor.len, m.monitor.closed);
+    let mut i = 0;
+    while i < 32 {
+        let step = m.monitor.rows[i].now.broken;
+        told = with_step(told, i, step);
+        i += 1;
+    }
+    told
+}
+
+// What the report on a recording under a table tells, on a monitor that is lent.
+pub(crate) fn told_on(m: &mut Indexed, table: &[u8], recording: &[u8]) -> Told
+    ensures { λ r. ⌜ ToldOn (now (m .entry)) (now (table .entry)) (now (recording .entry)) r (now (m .exit)) ⌝ }
+{
+    let number = delkuthi_fresh(m, table);
+    let answer = if number == 0 {
+        take_recording(m, recording)
+    } else {
+        refusal_of(number)
+    };
+    told_by(m, answer)
+}
+
+// The text with the lines of the rows behind it.
+fn row_lines(text: Text, told: Told) -> Text
+    ensures { λ r. ⌜ TellsRows told text r ⌝ }
 {
     let mut lines = text;
     let mut row = 0;
-    while row < m.len {
-        match m.verdict(row) {
+    while row < told.len {
+        let at = verdicts::place(row as u64);
+        let step = told.steps[at];
+        match verdicts::by(row as u64, told.len, told.closed, step) {
             RowVerdict::Reads(verdict) => {
                 lines = lines.row_line(row, verdict);
             }
@@ -28,29 +107,28 @@ fn row_lines(text: Text, m: Monitor) -> Text
     lines
 }
 
-// The text of the report on what a recording gave: "closed N" and the lines of the rows, or "refused N P".
-fn recording_text(taken: RecordingTaken) -> Text
-    ensures { λ r. ⌜ TellsRecording (taken .answer) (taken .monitor) r ⌝ }
+// The text of the report: "closed N" and the lines of the rows, or "refused N P".
+pub(crate) fn text_of(told: Told) -> Text
+    ensures { λ r. ⌜ TellsTold told r ⌝ }
 {
-    let answer = taken.answer;
-    let monitor = taken.monitor;
+    let answer = told.answer;
     match answer {
-        ReadAnswer::Accepted => row_lines(Text::new().closed_line(monitor.count), monitor),
+        ReadAnswer::Accepted => row_lines(Text::new().closed_line(told.count), told),
         ReadAnswer::Refused { number, place } => Text::new().refused_line(number, place),
     }
 }
 
-// The text of the report on a recording under a table.
-pub(crate) fn report_text(table: &[u8], recording: &[u8]) -> Text
-    ensures { λ r. ⌜ Tells (ReportOf (now (table .entry)) (now (recording .entry))) r ⌝ }
+// Writes the report to the front of a buffer and answers its length; where the buffer is too short, answers 0 and leaves it as it was.
+pub(crate) fn write(told: Told, buffer: &mut [u8]) -> usize
+    ensures { λ r. ⌜ WritesTold told (now (buffer .entry)) r (now (buffer .exit)) ⌝ }
 {
-    let reading = table::read(table);
-    let answer = reading.answer;
-    match answer {
-        ReadAnswer::Accepted => {
-            let fresh = Monitor::fresh(reading.table);
-            recording_text(take_recording(fresh.monitor, recording))
-        }
-        ReadAnswer::Refused { number, place } => Text::new().refused_line(number, place),
-    }
+    text_of(told).copy_to(buffer)
+}
+
+// What the report on a recording under a table tells, on a monitor of its own.
+pub(crate) fn told_alone(table: &[u8], recording: &[u8]) -> Told
+    ensures { λ r. ⌜ ToldAlone (now (table .entry)) (now (recording .entry)) r ⌝ }
+{
+    let mut m = index::empty();
+    told_on(&mut m, table, recording)
 }

@@ -9,10 +9,14 @@ use crate::row_asks;
 use crate::row_ends;
 use crate::row_hears;
 use constraint::Call;
+use constraint::Constraint;
 use constraint::NO_LIMIT;
 use machine::Rule;
 use monitor::Monitor;
+use monitor::calls;
+use row::Before;
 use row::Occurrence;
+use row::Row;
 use row::concerns;
 ghost use Prim.Native.Nat.{ℕ, _+_, _<_, _≤_, min};
 ghost use mathlib.Core.Path.{_≡_};
@@ -277,4 +281,28 @@ pub fn withdraw(m: &mut Indexed) -> u8
     let answer = crate::withdraw(&mut m.monitor);
     m.soonest = soonest_after(answer, m.soonest);
     answer
+}
+
+// A monitor over no rows with its index, before any step: what a place holds in which a monitor is made fresh.
+pub fn empty() -> Indexed
+    ensures { λ r. ⌜ Indexes r ⌝ }
+{
+    let monitor = Monitor {
+        rows: [Row::begin(Constraint::Order {
+            source: 0,
+            target: 0,
+        }); 32],
+        next: [0u64; 176],
+        clock: 0,
+        count: 0,
+        closed: 0,
+        len: 0,
+        before: [Before::none(); 32],
+        undo: calls::no_undo(),
+    };
+    Indexed {
+        monitor,
+        soonest: 0,
+        lists: [0u8; 2184],
+    }
 }

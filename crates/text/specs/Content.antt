@@ -17,9 +17,9 @@ pub record Spells (digits : Digits) (x : ℕ) : Type 0 where
   pub spelled : drop (digits .start) (digits .bytes) ≡ decimal x
   pub aligned : digits .bytes ≡ rightIn 20 (decimal x)
 
--- how many bytes a text holds at most, which is more than any report has
+-- how many bytes a text holds at most, which no report exceeds
 abbrev pub textLimit : ℕ
-textLimit = 2048
+textLimit = 1024
 
 -- what a text holds
 abbrev pub content : Text → List ℕ

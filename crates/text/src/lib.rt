@@ -5,8 +5,8 @@ ghost use Rattle.constraint.specs.Report.{decimal, refusedText};
 ghost use Rattle.text.specs.Content.{Spells, emptyText, pushed, extended, content, Copied};
 ghost use Rattle.text.specs.Lines.{closedLine, rowLine};
 
-// How many bytes a text holds at most, which is more than any report has.
-pub const TEXT_LIMIT: usize = 2048;
+// How many bytes a text holds at most, which no report exceeds.
+pub const TEXT_LIMIT: usize = 1024;
 // One blank stands between the parts of a line.
 const BLANK: u8 = 32;
 // Lines end in this byte.
@@ -14,7 +14,7 @@ const LINE_END: u8 = 10;
 
 // The text is the first len bytes. A full text takes no more.
 pub struct Text {
-    pub bytes: [u8; 2048],
+    pub bytes: [u8; 1024],
     pub len: usize,
 }
 
@@ -47,7 +47,7 @@ impl Text {
         ensures { λ r. ⌜ r ≡ emptyText ⌝ }
     {
         Text {
-            bytes: [0u8; 2048],
+            bytes: [0u8; 1024],
             len: 0,
         }
     }

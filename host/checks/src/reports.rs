@@ -1,7 +1,9 @@
 //! Reports of the library beside the model's.
 
-use delkuthi::report;
+use crate::beside::take;
+use delkuthi::{Monitor, report};
 use model::random::seen::Seen;
+use model::recording::read_record;
 use model::report_text;
 
 /// What a buffer is filled with, so that a byte written is noticed.
@@ -13,8 +15,20 @@ const FILL: u8 = b'#';
 /// # Panics
 /// If they are not.
 pub fn report_in(table: &[u8], recording: &[u8], length: usize) -> Option<Vec<u8>> {
+    written_in(length, |buffer| report(table, recording, buffer))
+}
+
+/// The same on a lent monitor.
+///
+/// # Panics
+/// As above.
+pub fn report_on(monitor: &mut Monitor, table: &[u8], recording: &[u8], length: usize) -> Option<Vec<u8>> {
+    written_in(length, |buffer| monitor.report_on(table, recording, buffer))
+}
+
+fn written_in(length: usize, write: impl FnOnce(&mut [u8]) -> Option<usize>) -> Option<Vec<u8>> {
     let mut memory = vec![FILL; length + 64];
-    let written = report(table, recording, &mut memory[32..32 + length]);
+    let written = write(&mut memory[32..32 + length]);
     let end = 32 + written.unwrap_or(0);
     assert!(
         memory[..32].iter().chain(&memory[end..]).all(|byte| *byte == FILL),
@@ -37,6 +51,42 @@ pub fn compare(table: &[u8], recording: &[u8], seen: &mut Seen) {
     if let Some(number) = refusal(&expected) {
         seen.refusal(number);
     }
+}
+
+/// Compares the report on a lent monitor with the model's, in buffers that are just long enough and one byte short; and
+/// what is left of the monitor: all as it was where the table is refused, and otherwise what the calls leave.
+///
+/// # Panics
+/// If one differs.
+pub fn compare_on(monitor: &Monitor, table: &[u8], recording: &[u8]) {
+    let expected = report_text(table, recording).into_bytes();
+    let left = left_by(monitor, table, recording);
+    let told = || format!("table {table:02x?}, recording {recording:02x?}");
+    for (length, written) in [(expected.len(), Some(&expected)), (expected.len() - 1, None), (0, None)] {
+        let mut lent = Monitor::from_words(*monitor.words());
+        assert_eq!(report_on(&mut lent, table, recording, length).as_ref(), written, "{}", told());
+        assert!(lent.words() == left.words(), "another monitor is left: {}", told());
+    }
+}
+
+/// The monitor that the calls of a report leave: fresh over the table, after the records up to the first that is refused,
+/// or after all of them and the close.
+fn left_by(monitor: &Monitor, table: &[u8], recording: &[u8]) -> Monitor {
+    let mut left = Monitor::from_words(*monitor.words());
+    let known = matches!(recording.first(), Some(1 | 2));
+    if left.restart(table).is_err() || !known {
+        return left;
+    }
+    let mut place = 1;
+    while place < recording.len() {
+        let Ok((step, size)) = read_record(recording[0], &recording[place..]) else { return left };
+        if take(&mut left, step).is_err() {
+            return left;
+        }
+        place += size;
+    }
+    left.close().expect("a close behind the last record");
+    left
 }
 
 /// The number in a report "refused N P".

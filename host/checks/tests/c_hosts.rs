@@ -314,7 +314,19 @@ fn the_stack() {
     let files = Files::new(&table_bytes(&rows), &recording(&mut Random::new(406), &rows, 100));
     let ran = host.run(&files.paths);
     println!("bytes of stack:\n{}", ran.printed);
-    assert_eq!((ran.status, ran.printed.lines().count()), (Some(0), 12));
+    assert_eq!((ran.status, ran.printed.lines().count()), (Some(0), 13));
+}
+
+/// A report on a lent monitor, on a stack of no more bytes than the header says.
+#[test]
+fn a_report_on_a_small_stack() {
+    let drive = String::from_utf8(example_bytes("report.txt")).expect("ASCII");
+    let empty = Files::new(&[], &[]);
+    for level in LEVELS {
+        let host = c_host("small_stack", level);
+        assert_eq!(host.run(&[example("table.bin"), example("recording.bin")]), Ran::new(0, &drive));
+        assert_eq!(host.run(&empty.paths), Ran::new(0, "refused 1 0\n"));
+    }
 }
 
 #[test]

@@ -1,7 +1,8 @@
 //! The report through the exported function, beside the model's, byte by byte.
 
 use checks::places::example_bytes;
-use checks::reports::{compare, report_in};
+use checks::reports::{compare, compare_on, report_in};
+use delkuthi::{Monitor, WORDS};
 use model::examples::{RECORDING, REPORT, TABLE};
 use model::notation::{delay, order, steps, strong_delay, synchronization};
 use model::random::Random;
@@ -53,6 +54,31 @@ fn thousands_of_tables_and_recordings() {
     }
     // 8 has no place in a recording: it is closed behind its last record
     seen.demand_refusals((1..=7).chain(9..=14).chain([18, 19]));
+}
+
+/// On a lent monitor: one that other calls have used, and one of any words at all.
+#[test]
+fn on_a_lent_monitor() {
+    let mut random = Random::new(204);
+    let mut lent = Monitor::from_words([0; WORDS]);
+    for _ in 0..400 {
+        let rows = any_table(&mut random);
+        let table = table_bytes(&rows);
+        let records = random.place(80);
+        let recordings = [
+            recording(&mut random, &rows, records),
+            damaged_recording(&mut random, &rows, records / 4),
+            refused_recording(&mut random, &rows, records),
+        ];
+        let any = Monitor::from_words(std::array::from_fn(|_| random.number()));
+        for recording in &recordings {
+            for monitor in [&lent, &any] {
+                compare_on(monitor, &table, recording);
+                compare_on(monitor, &damaged_table(&mut random), recording);
+            }
+            lent.report_on(&table, recording, &mut []);
+        }
+    }
 }
 
 /// Buffers of every length, to some bytes more than the report has.

@@ -27,6 +27,15 @@ unsafe extern "C" {
         report: *mut u8,
         report_length: usize,
     ) -> usize;
+    pub fn delkuthi_report_on(
+        monitor: &mut Monitor,
+        table: *const u8,
+        table_length: usize,
+        recording: *const u8,
+        recording_length: usize,
+        report: *mut u8,
+        report_length: usize,
+    ) -> usize;
     pub fn delkuthi_stamps(
         table: *const u8,
         table_length: usize,

@@ -25,7 +25,8 @@
 //!
 //! As compiled for x86-64 the library's calls behind [`Monitor::event`], [`Monitor::tick`], [`Monitor::close`] and
 //! [`Monitor::verdict`] use at most 2 KiB of stack each, that of a page too, that of [`stamped`] at most 16 KiB,
-//! that of [`shortest_stretch`] at most 32 KiB, and those of [`Monitor::fresh`] and [`report`] at most 256 KiB. These are the limits of `include/delkuthi.h`
+//! that of [`shortest_stretch`] at most 32 KiB, and those of [`Monitor::fresh`],
+//! [`Monitor::report_on`] and [`report`] at most 256 KiB. These are the limits of `include/delkuthi.h`
 //! (`DELKUTHI_STEP_STACK` and its like), to which a test holds what is measured.
 //!
 //! # Where the archive comes from

@@ -1,6 +1,7 @@
 //! The report on a whole recording.
 
 use crate::ffi;
+use crate::monitor::Monitor;
 
 /// No report is longer.
 pub const REPORT_LIMIT: usize = 1024;
@@ -28,4 +29,37 @@ pub fn report(table: &[u8], recording: &[u8], buffer: &mut [u8]) -> Option<usize
         )
     };
     if written == 0 { None } else { Some(written) }
+}
+
+impl Monitor {
+    /// The report on a recording under a table, as [`report`] writes it, on this monitor, whatever it was: no other is on
+    /// the stack. If the table is refused the monitor stays as it was. Otherwise it has then taken the records up to the
+    /// first that was refused, or all of them and the close, however short the buffer is.
+    ///
+    /// ```
+    /// use delkuthi::{Monitor, REPORT_LIMIT, Verdict, WORDS};
+    ///
+    /// let table = [1, 0, 19, 1, 0, 1, 0, 0, 0, 0, 0, 0, 0, 2, 0, 0, 0, 0, 0, 0, 0, 3];
+    /// let recording = [1, 0, 9, 0, 0, 0, 0, 0, 0, 0, 0, 10, 0, 8, 0, 0, 0, 0, 0, 0, 0, 14];
+    /// let mut monitor = Monitor::from_words([0; WORDS]);
+    /// let mut buffer = [0; REPORT_LIMIT];
+    /// let length = monitor.report_on(&table, &recording, &mut buffer).expect("a buffer of that length is long enough");
+    /// assert_eq!(&buffer[..length], b"closed 3\n0 broken 2\n");
+    /// assert_eq!(monitor.verdict(0), Ok(Verdict::Broken(2)));
+    /// ```
+    pub fn report_on(&mut self, table: &[u8], recording: &[u8], buffer: &mut [u8]) -> Option<usize> {
+        // SAFETY: the pointers and lengths are slices', and neither the buffer's memory nor the monitor's is that of the others.
+        let written = unsafe {
+            ffi::delkuthi_report_on(
+                self,
+                table.as_ptr(),
+                table.len(),
+                recording.as_ptr(),
+                recording.len(),
+                buffer.as_mut_ptr(),
+                buffer.len(),
+            )
+        };
+        if written == 0 { None } else { Some(written) }
+    }
 }

@@ -4,7 +4,7 @@ use borrow.Author.Needs.{needs}
 use borrow.Author.Tests.{ltb-true, ltb-false}
 use mathlib.Core.Logic.{⊎-elim}
 use Rattle.constraint.specs.Report.{too-large, fits}
-use Rattle.delkuthi.proofs.Telling.{tells-refusal}
+use Rattle.delkuthi.proofs.Telling.{tells-refusal, tells-told}
 use Rattle.delkuthi.proofs.program_text.Statement.{statement}
 use Rattle.delkuthi.proofs.program_text.Tie as tie
 
@@ -23,14 +23,19 @@ returns c =
       holds = tells-refusal 17 0 (c .refused-line .result) (rw (← c .before .new .ensures) (c .refused-line .ensures));
     }
 
-report-text-requires : tie.Need-report-text-requires
-report-text-requires c κs = search needs
+told-alone-requires : tie.Need-told-alone-requires
+told-alone-requires c κs = search needs
+
+text-of-requires : tie.Need-text-of-requires
+text-of-requires c κs = search needs
 
 returns-2 : tie.Need-returns-2
 returns-2 c =
-    let tells = c .report-text .ensures in
+    let at-told = c .before in
+    let alone = at-told .told-alone .ensures in
+    let tells = tells-told (alone .before) _ _ (at-told .told-alone .result) (alone .after) (c .text-of .result) (alone .told-on) (c .text-of .ensures) in
     record { bytes = tells .bytes; said = fits (omega arith) (omega (arith, ltb-false)) (tells .said); holds = tells .holds }
 
 pub program-text-spec : {M : Type 1} → statement M
 program-text-spec =
-    tie.close (tie.spec new-requires refused-line-requires returns report-text-requires returns-2)
+    tie.close (tie.spec new-requires refused-line-requires returns told-alone-requires text-of-requires returns-2)

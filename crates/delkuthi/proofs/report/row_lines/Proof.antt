@@ -1,27 +1,66 @@
 -- The loop puts line behind line: those of the rows before the row number are what these read.
 use native.Mathlib.Omega.{arith}
 use borrow.Author.Needs.{needs}
-use Prim.Native.Nat.{_-_}
+use Prim.Native.Nat.{ℕ, _-_, _<_}
+use mathlib.Core.Path.{_≡_, sym, ap, subst, _∙_}
 use mathlib.Core.List.{List}
+use lib.ListN.{getD}
+use Rattle.constraint.specs.Limits.{rowLimit}
 use Rattle.constraint.specs.Steps.{Step}
 use Rattle.constraint.specs.declared.Constraint.{Constraint}
+use Rattle.monitor.specs.Parts.{placeOf, verdictBy}
+use Rattle.monitor.specs.Contract.{verdictIn, Reading}
+use Rattle.monitor.specs.declared.Monitor.{Monitor}
+use Rattle.monitor.proofs.RowVerdicts.{place-small}
 use Rattle.delkuthi.specs.Taking.{Took}
+use Rattle.delkuthi.specs.Telling.{Gathers}
 use Rattle.delkuthi.proofs.Taking.{took-follows, took-reads}
+use Rattle.delkuthi.proofs.Gathering.{gathered-reads}
 use Rattle.delkuthi.proofs.RowLines.{LinesUpTo, past-rows, lines-none, lines-more, lines-all}
 use Rattle.delkuthi.proofs.report.row_lines.Statement.{statement}
 use Rattle.delkuthi.proofs.report.row_lines.Tie as tie
 
+-- the place of a row is one of 32
+small : (at row : ℕ) → at ≡ placeOf row → at < rowLimit
+small at row e = subst (λ (k : ℕ). k < rowLimit) (sym e) (place-small row)
+
 abbrev Inv-loop : tie.InvT-loop
-Inv-loop m lines₀ row₀ lines row = (rows : List Constraint) (steps : List Step) → Took rows steps m → LinesUpTo rows steps lines₀ row lines
+Inv-loop told lines₀ row₀ lines row =
+    (m : Monitor) → Gathers m (told .answer) told → (rows : List Constraint) (steps : List Step) → Took rows steps m
+    → LinesUpTo rows steps lines₀ row lines
 
 abbrev μ-loop : tie.MeasureT-loop
-μ-loop m lines₀ row₀ lines row = m .len - row
+μ-loop told lines₀ row₀ lines row = told .len - row
 
 loop-holds : tie.Need-loop-holds Inv-loop μ-loop
-loop-holds c = λ rows steps took. lines-none rows steps (c .args .text)
+loop-holds c = λ m gathers rows steps took. lines-none rows steps (c .args .text)
 
-verdict-requires : tie.Need-verdict-requires Inv-loop μ-loop
-verdict-requires c κs = tt
+place-requires : tie.Need-place-requires Inv-loop μ-loop
+place-requires c κs = tt
+
+placed : (c : tie.After-place Inv-loop μ-loop) → c .place .result < rowLimit
+placed c = small (c .place .result) (c .before .before .loop .row) (c .place .ensures)
+
+mul-step : tie.Need-mul-step Inv-loop μ-loop
+mul-step c = omega (arith, placed c)
+
+element-copy-out-step : tie.Need-element-copy-out-step Inv-loop μ-loop
+element-copy-out-step c = placed c
+
+by-requires : tie.Need-by-requires Inv-loop μ-loop
+by-requires c κs = tt
+
+-- the row reads what is read off the numbers
+reads : (c : tie.After-by Inv-loop μ-loop) (m : Monitor) → Gathers m (c .before .before .before .before .before .args .t2 .answer)
+    (c .before .before .before .before .before .args .t2)
+    → Reading m (c .before .before .before .before .loop .row) (verdictIn (c .by .result))
+reads c m gathers =
+    let at-place = c .before .before in
+    let at-loop = at-place .before .before in
+    let told = at-loop .before .args .t2 in
+    let row = at-loop .loop .row in
+    gathered-reads told m gathers row (c .by .result)
+    (c .by .ensures ∙ ap (λ (k : ℕ). verdictBy row (told .len) (told .closed) (getD (told .steps) k 0)) (at-place .place .ensures))
 
 enum-known-verdict : tie.Need-enum-known-verdict Inv-loop μ-loop
 enum-known-verdict c = search needs
@@ -34,13 +73,14 @@ enum-told c = search needs
 
 returns : tie.Need-returns Inv-loop μ-loop
 returns c =
-    let at-verdict = c .before .before in
-    let at-loop = at-verdict .before .before .before in
+    let at-by = c .before .before in
+    let at-loop = at-by .before .before .before .before in
     let args = at-loop .before .args in
     record {
-      means = λ rows steps took.
-          lines-all rows steps (args .text) (at-loop .loop .row) (at-loop .loop .lines) (at-loop .loop .inv rows steps took)
-          (past-rows rows steps (at-loop .loop .row) (took-reads rows steps (args .m) took (at-loop .loop .row) _ (rw (c .enum-told .given .1) at (at-verdict .verdict .ensures .reads))));
+      means = λ m gathers rows steps took.
+          lines-all rows steps (args .text) (at-loop .loop .row) (at-loop .loop .lines) (at-loop .loop .inv m gathers rows steps took)
+          (past-rows rows steps (at-loop .loop .row) (took-reads rows steps m took (at-loop .loop .row) _
+          (rw (c .enum-told .given .1) at (reads at-by m gathers))));
     }
 
 add-row : tie.Need-add-row Inv-loop μ-loop
@@ -52,22 +92,22 @@ loop-less c = omega arith
 loop-again : tie.Need-loop-again Inv-loop μ-loop
 loop-again c =
     let known = c .before .before in
-    let at-verdict = known .before .before in
-    let at-loop = at-verdict .before .before .before in
+    let at-by = known .before .before in
+    let at-loop = at-by .before .before .before .before in
     let args = at-loop .before .args in
-    λ rows steps took.
+    λ m gathers rows steps took.
     rw (c .row-line .ensures)
-    (lines-more rows steps (args .text) (at-loop .loop .row) (at-loop .loop .lines) (at-loop .loop .inv rows steps took) _
-    (took-reads rows steps (args .m) took (at-loop .loop .row) _ (rw (known .verdict2 .given .1) at (at-verdict .verdict .ensures .reads))))
+    (lines-more rows steps (args .text) (at-loop .loop .row) (at-loop .loop .lines) (at-loop .loop .inv m gathers rows steps took) _
+    (took-reads rows steps m took (at-loop .loop .row) _ (rw (known .verdict .given .1) at (reads at-by m gathers))))
 
 returns-2 : tie.Need-returns-2 Inv-loop μ-loop
 returns-2 c =
-    let at-loop = c .before .before in
+    let at-loop = c .before in
     let args = at-loop .before .args in
     record {
-      means = λ rows steps took.
-          lines-all rows steps (args .text) (at-loop .loop .row) (at-loop .loop .lines) (at-loop .loop .inv rows steps took)
-          (omega (arith, took-follows rows steps (args .m) took .len-is));
+      means = λ m gathers rows steps took.
+          lines-all rows steps (args .text) (at-loop .loop .row) (at-loop .loop .lines) (at-loop .loop .inv m gathers rows steps took)
+          (omega (arith, gathers .len-is, took-follows rows steps m took .len-is));
     }
 
 pub row-lines-spec : {M : Type 1} → statement M
@@ -77,7 +117,10 @@ row-lines-spec =
     Inv-loop
     μ-loop
     loop-holds
-    verdict-requires
+    place-requires
+    mul-step
+    element-copy-out-step
+    by-requires
     enum-known-verdict
     row-line-requires
     enum-told

@@ -1,8 +1,11 @@
 -- The lines are those of the answer, behind an empty text.
 use borrow.Author.Needs.{needs}
+use mathlib.Core.Path.{sym, subst}
+use Rattle.delkuthi.specs.Telling.{TellsRecording}
 use Rattle.delkuthi.proofs.Telling.{tells-refusal, tells-closed}
-use Rattle.delkuthi.proofs.report.recording_text.Statement.{statement}
-use Rattle.delkuthi.proofs.report.recording_text.Tie as tie
+use Rattle.table.specs.declared.ReadAnswer.{ReadAnswer}
+use Rattle.delkuthi.proofs.report.text_of.Statement.{statement}
+use Rattle.delkuthi.proofs.report.text_of.Tie as tie
 
 enum-told : tie.Need-enum-told
 enum-told c = search needs
@@ -26,20 +29,22 @@ refused-line-requires : tie.Need-refused-line-requires
 refused-line-requires c κs = search needs
 
 returns : tie.Need-returns
-returns c =
+returns c m gathers =
     let at-line = c .before in
-    let told = at-line .before .before in
-    rw (told .enum-told .given .1)
-    (tells-closed (told .before .before .before .args .taken .monitor) (at-line .closed-line .result) (c .row-lines .result)
-    (rw (← at-line .before .new .ensures) (at-line .closed-line .ensures)) (c .row-lines .ensures))
+    let at-answer = at-line .before .before in
+    let told = at-answer .before .before .args .told in
+    subst (λ (answer : ReadAnswer). TellsRecording answer m (c .row-lines .result)) (sym (at-answer .enum-told .given .1))
+    (tells-closed told (at-line .closed-line .result) (c .row-lines .result) (rw (← at-line .before .new .ensures) (at-line .closed-line .ensures))
+    (c .row-lines .ensures) m gathers)
 
 returns-2 : tie.Need-returns-2
-returns-2 c =
+returns-2 c m gathers =
     let at-answer = c .before .before .before in
-    rw (at-answer .answer .given .1) (tells-refusal _ _ (c .refused-line .result) (rw (← c .before .new2 .ensures) (c .refused-line .ensures)))
+    subst (λ (answer : ReadAnswer). TellsRecording answer m (c .refused-line .result)) (sym (at-answer .answer .given .1))
+    (tells-refusal _ _ (c .refused-line .result) (rw (← c .before .new2 .ensures) (c .refused-line .ensures)))
 
-pub recording-text-spec : {M : Type 1} → statement M
-recording-text-spec =
+pub text-of-spec : {M : Type 1} → statement M
+text-of-spec =
     tie.close
     (tie.spec
     enum-told

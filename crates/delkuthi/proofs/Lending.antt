@@ -40,7 +40,7 @@ use Rattle.table.proofs.ReadAnswer as R
 use Rattle.table.proofs.ReadAnswer.Laws as R′
 use Rattle.delkuthi.proofs.report.Told as T
 use Rattle.delkuthi.proofs.report.Told.Laws as T′
-use Rattle.delkuthi.specs.Lent.{Begins}
+use Rattle.opening.specs.Begins.{Begins}
 use Rattle.delkuthi.specs.Taking.{TakesRecords}
 use Rattle.delkuthi.specs.Telling.{Gathers, ToldOn}
 use Rattle.delkuthi.proofs.Several.{Several, promised, handed, calls-several, calls-several-last, kept-at, lends-loan, ends-loan}

@@ -11,7 +11,7 @@ use Rattle.monitor.specs.Contract.{after}
 use Rattle.table.proofs.AcceptedRows.{read-accepted}
 use Rattle.inplace.specs.Index.{Indexes}
 use Rattle.inplace.specs.declared.index.Indexed.{Indexed}
-use Rattle.delkuthi.specs.Lent.{Begins, begun, refused}
+use Rattle.opening.specs.Begins.{Begins, begun, refused}
 use Rattle.delkuthi.specs.Taking.{TakesRecords}
 use Rattle.delkuthi.specs.Reporting.{LeftBy, unused, used}
 use Rattle.delkuthi.specs.Telling.{refusalOf, Gathers, ToldOn}

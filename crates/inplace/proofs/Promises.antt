@@ -14,7 +14,7 @@ use Rattle.monitor.specs.Parts.{rowsWithout}
 use Rattle.monitor.specs.Contract.{Steps, Withdraws}
 use Rattle.inplace.specs.Store.{steppedFrom, askedOf, askedBy, answerOf, rowHeard, rowEnded, withNumbers}
 use Rattle.inplace.specs.Store.{withdrawalOf, withdrawalBy, rowBack, withUndo}
-use Rattle.inplace.specs.Index.{listSize, listFor, rowOf, listedOf, listedBy, crowdsRow, crowdedAt, listCrowded, heeded, hearAt, listHeard, endAt, passed, mayEnd, begun, Roomy, Indexes, Takes, soonestAfter, TakesBack}
+use Rattle.inplace.specs.Index.{listSize, listFor, rowOf, listedOf, listedBy, crowdsRow, crowdedAt, listCrowded, heeded, hearAt, listHeard, endAt, passed, mayEnd, begun, Takes, soonestAfter, TakesBack}
 use Rattle.inplace.proofs.Plain.{truth, nothing}
 use Rattle.inplace.proofs.Types.{byte-type, word-type, call-type, rule-type, times-type, state-type, occurrence-type, before-type, moved-type, change-type, seen-type, undo-type, monitor-type}
 use Rattle.inplace.proofs.Types.{asked-type, numbered-type, withdrawal-type, indexed-type, listed-type}
@@ -101,9 +101,6 @@ list-from =
 
 abbrev pub sooner : Pure
 sooner = record { front = word-type ∷ word-type ∷ []; result = word-type; asks = λ a. no-demand; gives = λ a r. r ≡ min (a .0) (a .1 .0) }
-
-abbrev pub indexed-over : Pure
-indexed-over = record { front = monitor-type ∷ []; result = indexed-type; asks = λ a. no-demand; gives = λ a r. (r .monitor ≡ a .0) × (Roomy (a .0) → Indexes r) }
 
 abbrev pub soonest-after : Pure
 soonest-after = record { front = byte-type ∷ word-type ∷ []; result = word-type; asks = λ a. no-demand; gives = λ a r. r ≡ soonestAfter (a .0) (a .1 .0) }

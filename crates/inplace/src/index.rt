@@ -21,7 +21,7 @@ use row::concerns;
 ghost use Prim.Native.Nat.{ℕ, _+_, _<_, _≤_, min};
 ghost use mathlib.Core.Path.{_≡_};
 ghost use Rattle.constraint.specs.Limits.{noLimit};
-ghost use Rattle.inplace.specs.Index.{listCount, heldRows, pushed, enlisted, listsOf, listFor, rowOf, Roomy, Indexes, listedOf, listedBy, crowdedAt, listCrowded, heeded, hearAt, listHeard, endAt, passed, mayEnd, begun, listSize, soonestAfter, Takes, TakesBack};
+ghost use Rattle.inplace.specs.Index.{listCount, pushed, enlisted, listFor, rowOf, Indexes, listedOf, listedBy, crowdedAt, listCrowded, heeded, hearAt, listHeard, endAt, passed, mayEnd, begun, listSize, soonestAfter, Takes, TakesBack};
 
 // The list for no event. Those below are the kinds'.
 const NO_EVENT: u64 = 65;
@@ -65,34 +65,6 @@ pub fn enlist(rule: Rule, i: u8, lists: &mut [u8; 2184])
         let so = concerns(rule, k as u64);
         push(lists, k, i, so);
         k += 1;
-    }
-}
-
-// The lists of a monitor's rows.
-fn lists_of(monitor: Monitor) -> [u8; 2184]
-    ensures { λ r. ⌜ r ≡ listsOf monitor (heldRows monitor) ⌝ }
-{
-    let len = asked_rows(0, monitor.len);
-    let mut lists = [0u8; 2184];
-    let mut i = 0;
-    while i < len {
-        let row = monitor.rows[i];
-        let rule = row.rule;
-        enlist(rule, i as u8, &mut lists);
-        i += 1;
-    }
-    lists
-}
-
-// A monitor with its index.
-pub fn over(monitor: Monitor) -> Indexed
-    ensures { λ r. ⌜ (r .monitor ≡ monitor) × (Roomy monitor → Indexes r) ⌝ }
-{
-    let lists = lists_of(monitor);
-    Indexed {
-        monitor,
-        soonest: 0,
-        lists,
     }
 }
 

@@ -32,7 +32,7 @@ use Rattle.inplace.proofs.Frame.{no-demand, demand, Loan, own-at, token}
 use Rattle.inplace.proofs.Locals.{Frame, env, leaves, copies, sets, lands-in, holds, fails}
 use Rattle.inplace.proofs.Calls.{lent-triple, calls-lent}
 use Rattle.inplace.proofs.Bytes.{slice}
-use Rattle.delkuthi.specs.Lent.{Begins}
+use Rattle.opening.specs.Begins.{Begins}
 use Rattle.delkuthi.specs.Taking.{TakesRecords}
 use Rattle.delkuthi.specs.Reporting.{LeftBy}
 use Rattle.delkuthi.specs.Telling.{refusalOf}

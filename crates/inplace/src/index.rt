@@ -255,9 +255,9 @@ pub fn withdraw(m: &mut Indexed) -> u8
     answer
 }
 
-// A monitor over no rows with its index, before any step: what a place holds in which a monitor is made fresh.
+// A monitor over no rows: what lies in a place before a monitor is made fresh there.
 pub fn empty() -> Indexed
-    ensures { λ r. ⌜ Indexes r ⌝ }
+    ensures { λ r. ⌜ r .monitor .len ≡ 0 ⌝ }
 {
     let monitor = Monitor {
         rows: [Row::begin(Constraint::Order {

@@ -9,7 +9,6 @@ use crate::row_asks;
 use crate::row_ends;
 use crate::row_hears;
 use constraint::Call;
-use constraint::Constraint;
 use constraint::NO_LIMIT;
 use machine::Rule;
 use monitor::Monitor;
@@ -255,15 +254,37 @@ pub fn withdraw(m: &mut Indexed) -> u8
     answer
 }
 
-// A monitor over no rows: what lies in a place before a monitor is made fresh there.
+// A row of zeros, which no table has.
+fn zero_row() -> Row
+    ensures { λ r. ⌜ r .rule .form ≡ 0 ⌝ }
+{
+    let before = Before::none();
+    let now = before.state;
+    let rule = Rule {
+        form: 0,
+        first: 0,
+        second: 0,
+        third: 0,
+        fourth: 0,
+        span: 0,
+        lower: 0,
+        upper: 0,
+        jitter: 0,
+        minimum: 0,
+    };
+    Row {
+        rule,
+        times: [0u64; 64],
+        now,
+    }
+}
+
+// A monitor over no rows: what lies in a place before a monitor is made fresh there. It is zeros alone, which the compiler puts there at once.
 pub fn empty() -> Indexed
     ensures { λ r. ⌜ r .monitor .len ≡ 0 ⌝ }
 {
     let monitor = Monitor {
-        rows: [Row::begin(Constraint::Order {
-            source: 0,
-            target: 0,
-        }); 32],
+        rows: [zero_row(); 32],
         next: [0u64; 176],
         clock: 0,
         count: 0,

@@ -305,18 +305,28 @@ fn unbroken(broken: u64) -> bool
     if 0 < broken { false } else { true }
 }
 
-// Whether the clock or the close alone goes to the row: an open one that is overdue, or that the close finds. The due time is looked at first, as
-// a broken row has none.
+// Whether the close alone goes to the row: to an open one that is overdue, or that it does not concern.
+fn ends_closed(rule: Rule, now: State, o: Occurrence) -> bool
+    ensures { λ r. ⌜ r ≡ cond (ltb 0 (now .broken)) false (cond (ltb (now .due) (o .time)) true (cond (concerns rule (o .kind)) false true)) ⌝ }
+{
+    if 0 < now.broken {
+        return false;
+    }
+    if now.due < o.time {
+        return true;
+    }
+    !concerns(rule, o.kind)
+}
+
+// Whether the clock or the close alone goes to the row: an open one that is overdue, or that the close finds. While the recording is open its due
+// time alone is looked at, as a broken row has none.
 pub fn ends(rule: Rule, now: State, o: Occurrence) -> bool
     ensures { λ r. ⌜ r ≡ endsBy rule now o ⌝ }
 {
-    if now.due < o.time {
-        return unbroken(now.broken);
-    }
     if o.closes {
-        if concerns(rule, o.kind) {
-            return false;
-        }
+        return ends_closed(rule, now, o);
+    }
+    if now.due < o.time {
         return unbroken(now.broken);
     }
     false

@@ -1,4 +1,4 @@
--- The tests are those of `endsBy`; that of the broken row comes last, and makes no difference where the others answer "no".
+-- By the test of the close; while the recording is open, an overdue row ends where it is not broken, and no other.
 use mathlib.Core.Path.{_≡_, refl}
 use mathlib.Core.Bool.{Bool, true, false, cond}
 use lib.Dec.{ltb}
@@ -14,25 +14,19 @@ no-matter false = refl
 
 returns : tie.Need-returns
 unfolding endsBy
-returns c = rw (lt-ltb _ _ (c .before .if1 .taken)) (c .unbroken .ensures)
+returns c = rw (c .before .if1 .taken) (c .ends-closed .ensures)
 
 returns-2 : tie.Need-returns-2
 unfolding endsBy
 returns-2 c =
-    let o = c .before .before in
-    rw (le-ltb _ _ (o .before .if1 .left), o .if2 .taken, ← c .before .concerns .ensures, c .if3 .taken)
-    (no-matter (ltb 0 (o .before .before .before .before .args .now .broken)))
+    let b = c .before in
+    rw (b .before .before .before .if1 .left, lt-ltb _ _ (b .if2 .taken)) (c .unbroken .ensures)
 
 returns-3 : tie.Need-returns-3
 unfolding endsBy
 returns-3 c =
-    let n = c .before in
-    let o = n .before .before in
-    rw (le-ltb _ _ (o .before .if1 .left), o .if2 .taken, ← n .before .concerns .ensures, n .if3 .left) (c .unbroken2 .ensures)
-
-returns-4 : tie.Need-returns-4
-unfolding endsBy
-returns-4 c = rw (le-ltb _ _ (c .before .if1 .left), c .if2 .left) (no-matter (ltb 0 (c .before .before .before .before .args .now .broken)))
+    let b = c .before .before .before in
+    rw (b .if1 .left, le-ltb _ _ (c .if2 .left)) (no-matter (ltb 0 (b .before .args .now .broken)))
 
 pub ends-spec : {M : Type 1} → statement M
-ends-spec = tie.close (tie.spec free returns free returns-2 free returns-3 returns-4)
+ends-spec = tie.close (tie.spec free returns free returns-2 returns-3)

@@ -6,13 +6,13 @@ use mathlib.Core.Bool.{_||_}
 use lib.ListN.{getD}
 use Rattle.constraint.specs.Limits.{streamCount, noLimit}
 use Rattle.row.specs.Undo.{noBefore}
-use Rattle.row.specs.Apart.{crowdedBy, endsBy, Ends, withChange, seenBy, keptOf}
+use Rattle.row.specs.Apart.{crowdedBy, endsBy, Ends, withChange, seenBy, keptOf, withWords}
 use Rattle.row.specs.Machine.{rowFrom}
 use Rattle.queue.specs.Ring.{putBack}
 use Rattle.monitor.specs.Machine.{noRow, noUndo, placeFor}
 use Rattle.monitor.specs.Parts.{rowsWithout}
 use Rattle.monitor.specs.Contract.{Steps, Withdraws}
-use Rattle.inplace.specs.Store.{steppedFrom, askedOf, askedBy, answerOf, rowHeard, rowEnded, withNumbers}
+use Rattle.inplace.specs.Store.{steppedFrom, askedOf, askedBy, answerOf, rowKept, rowChanged, rowHeard, rowEnded, withNumbers}
 use Rattle.inplace.specs.Store.{withdrawalOf, withdrawalBy, rowBack, withUndo}
 use Rattle.inplace.specs.Index.{listSize, listFor, rowOf, listedOf, listedBy, crowdsRow, crowdedAt, listCrowded, heeded, hearAt, listHeard, endAt, passed, mayEnd, begun, Takes, soonestAfter, TakesBack}
 use Rattle.inplace.proofs.Plain.{truth, nothing}
@@ -60,13 +60,10 @@ crowded-by =
     }
 
 abbrev pub keep : Pure
-keep =
-    record {
-      front = state-type ∷ seen-type ∷ word-type ∷ [];
-      result = before-type;
-      asks = λ a. no-demand;
-      gives = λ a r. r ≡ keptOf (a .0) (a .1 .0) (a .1 .1 .0);
-    }
+keep = record { front = state-type ∷ word-type ∷ []; result = before-type; asks = λ a. no-demand; gives = λ a r. r ≡ keptOf (a .0) (a .1 .0) }
+
+abbrev pub with-words : Pure
+with-words = record { front = before-type ∷ seen-type ∷ []; result = before-type; asks = λ a. no-demand; gives = λ a r. r ≡ withWords (a .0) (a .1 .0) }
 
 abbrev pub may-end : Pure
 may-end = record { front = word-type ∷ occurrence-type ∷ []; result = truth; asks = λ a. no-demand; gives = λ a r. r ≡ mayEnd (a .0) (a .1 .0) }
@@ -151,6 +148,12 @@ end =
     }
 
 -- ---- walks
+
+abbrev pub row-kept : Promise monitor-type (word-type ∷ word-type ∷ []) nothing
+row-kept = record { asks = λ κs h a. demand (a .0 < 32); gives = λ κs h a r h′. h′ ≡ rowKept h (a .0) (a .1 .0) }
+
+abbrev pub row-changes : Promise monitor-type (word-type ∷ occurrence-type ∷ word-type ∷ []) nothing
+row-changes = record { asks = λ κs h a. demand (a .0 < 32); gives = λ κs h a r h′. h′ ≡ rowChanged h (a .0) (a .1 .0) (a .1 .1 .0) }
 
 abbrev pub row-hears : Promise monitor-type (word-type ∷ occurrence-type ∷ word-type ∷ []) nothing
 row-hears = record { asks = λ κs h a. demand (a .0 < 32); gives = λ κs h a r h′. h′ ≡ rowHeard h (a .0) (a .1 .0) (a .1 .1 .0) }

@@ -47,7 +47,7 @@ use Rattle.inplace.proofs.Plain.{Known}
 use Rattle.inplace.proofs.Types.{word-type, rule-type, times-type, state-type, row-type, before-type, moved-type, change-type, seen-type, undo-type, monitor-type}
 use Rattle.inplace.proofs.Frame.{Loan}
 use Rattle.inplace.proofs.Loans.{cell}
-use Rattle.inplace.proofs.Elem.{elem, as-val, Items, item-got, item-set, item-count, vals-count, item-within, item-known, items-set, Way, takes-out, puts-back}
+use Rattle.inplace.proofs.Elem.{elem, as-val, set-getD, Items, item-got, item-set, item-count, vals-count, item-within, item-known, items-set, Way, takes-out, puts-back}
 
 -- ---- the machine's values
 
@@ -166,6 +166,15 @@ kept-got before i = item-got (B.the-field .row) (B.the-field .into) kept-tuple (
 
 pub kept-set : (before : List Before) (i : ℕ) (b : Before) → set (kept-vals before) i (before-type .val b) ≡ kept-vals (set before i b)
 kept-set before i b = item-set (B.the-field .row) (B.the-field .into) kept-tuple (B′.the-field-laws .tells) 32 before i b
+
+-- the monitor with what is kept of row i, and the row as it was
+abbrev pub with-before : Monitor → ℕ → Before → Monitor
+with-before h i b = withRows h (h .rows) (set (h .before) i b)
+
+pub with-before-known : (h : Monitor) → Known monitor-type h → (i : ℕ) → i < 32 → (b : Before) → Known before-type b → Known monitor-type (with-before h i b)
+with-before-known h was i small b b-is =
+    subst (λ (rows : List Row). Known monitor-type (withRows h rows (set (h .before) i b))) (set-getD (h .rows) i noRow)
+    (with-row-known h was i (getD (h .rows) i noRow) b (row-known h was i small) b-is)
 
 -- ---- a row's parts, and the row made of others
 module _ (r : Row) (was : Known row-type r) where

@@ -10,7 +10,7 @@ use Rattle.constraint.specs.declared.Call.{Call}
 use Rattle.machine.specs.Parts.{plus}
 use Rattle.row.specs.Machine.{rowFrom, rowStep}
 use Rattle.row.specs.Undo.{noBefore, savedAt, savedBy, rowWithout, keptWithout}
-use Rattle.row.specs.Apart.{endsBy, endedState, heardRow, heardBefore}
+use Rattle.row.specs.Apart.{endsBy, endedState, seenBy, keptOf, withWords, heardRow, heardBefore}
 use Rattle.row.specs.declared.Before.{Before}
 use Rattle.row.specs.declared.Occurrence.{Occurrence}
 use Rattle.row.specs.declared.Row.{Row}
@@ -71,7 +71,16 @@ answerOf (suc n) crowded = suc n
 abbrev pub withRow : Monitor → ℕ → Row → Before → Monitor
 withRow m i r b = withRows m (set (m .rows) i r) (set (m .before) i b)
 
--- the monitor with row i after an event that concerns it; a broken one stays as it is
+-- the monitor with what row i keeps kept beside it, before the step of that number
+abbrev pub rowKept : Monitor → ℕ → ℕ → Monitor
+rowKept m i number = withRows m (m .rows) (set (m .before) i (keptOf (getD (m .rows) i noRow .now) number))
+
+-- the monitor with row i after what an event makes of it, and the words that are overwritten kept beside it
+abbrev pub rowChanged : Monitor → ℕ → Occurrence → ℕ → Monitor
+rowChanged m i o number =
+    withRow m i (heardRow (getD (m .rows) i noRow) o number) (withWords (getD (m .before) i noBefore) (seenBy (getD (m .rows) i noRow) o))
+
+-- both: the monitor with row i after an event that concerns it; a broken one stays as it is
 abbrev pub heardBy : Occurrence → ℕ → Row → Row
 heardBy o number r = cond (eqb (r .now .broken) 0) (heardRow r o number) r
 

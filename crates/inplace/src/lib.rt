@@ -16,7 +16,7 @@ ghost use Rattle.row.specs.Apart.{crowdedBy};
 ghost use Rattle.monitor.specs.Machine.{noRow};
 ghost use Rattle.monitor.specs.Parts.{rowsWithout};
 ghost use Rattle.monitor.specs.Contract.{Steps, Withdraws};
-ghost use Rattle.inplace.specs.Store.{steppedFrom, askedRows, askedOf, askedBy, answerOf, rowHeard, rowEnded, withNumbers, mayAnswer, withdrawalOf, withdrawalBy, rowBack, withUndo};
+ghost use Rattle.inplace.specs.Store.{steppedFrom, askedRows, askedOf, askedBy, answerOf, rowKept, rowChanged, rowHeard, rowEnded, withNumbers, mayAnswer, withdrawalOf, withdrawalBy, rowBack, withUndo};
 
 pub mod index;
 
@@ -81,18 +81,37 @@ fn either(a: bool, b: bool) -> bool
     if a { true } else { b }
 }
 
-// Row i of a monitor that is lent, after an event that concerns it, where the row lies; a broken one stays as it is.
+// What row i of a monitor that is lent keeps is kept beside it, before the step of that number.
+fn row_kept(m: &mut Monitor, i: usize, number: u64)
+    requires { ⌜ i < 32 ⌝ }
+    ensures { λ _. ⌜ now (m .exit) ≡ rowKept (now (m .entry)) i number ⌝ }
+{
+    let kept = row::keep(m.rows[i].now, number);
+    m.before[i] = kept;
+}
+
+// Row i of a monitor that is lent, with what an event makes of it, where the row lies; the words that are overwritten are kept beside it.
+fn row_changes(m: &mut Monitor, i: usize, o: Occurrence, number: u64)
+    requires { ⌜ i < 32 ⌝ }
+    ensures { λ _. ⌜ now (m .exit) ≡ rowChanged (now (m .entry)) i o number ⌝ }
+{
+    let r = &mut m.rows[i];
+    let seen = row::see(r.rule, r.now, &r.times, o);
+    let kept = row::with_words(m.before[i], seen);
+    m.before[i] = kept;
+    let now = row::with_change(r.rule, r.now, &mut r.times, seen.change, number);
+    r.now = now;
+}
+
+// Row i of a monitor that is lent, after an event that concerns it; a broken one stays as it is.
 fn row_hears(m: &mut Monitor, i: usize, o: Occurrence, number: u64)
     requires { ⌜ i < 32 ⌝ }
     ensures { λ _. ⌜ now (m .exit) ≡ rowHeard (now (m .entry)) i o number ⌝ }
 {
-    let r = &mut m.rows[i];
-    if r.now.broken == 0 {
-        let seen = row::see(r.rule, r.now, &r.times, o);
-        let kept = row::keep(r.now, seen, number);
-        m.before[i] = kept;
-        let now = row::with_change(r.rule, r.now, &mut r.times, seen.change, number);
-        r.now = now;
+    let broken = m.rows[i].now.broken;
+    if broken == 0 {
+        row_kept(m, i, number);
+        row_changes(m, i, o, number);
     }
 }
 

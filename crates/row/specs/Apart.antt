@@ -89,9 +89,12 @@ abbrev pub seenBy : Row → Occurrence → Seen
 seenBy r o =
     record { change = changeBy r o; place = writesAt r o; first = timeAt (r .times) (writesAt r o) 0; second = timeAt (r .times) (writesAt r o) 1 }
 
--- what is kept of the row beside it
-abbrev pub keptOf : State → Seen → ℕ → Before
-keptOf now seen number = record { state = now; place = seen .place; first = seen .first; second = seen .second; stamp = number }
+-- what is kept of the row beside it: what it keeps, and then the words
+abbrev pub keptOf : State → ℕ → Before
+keptOf now number = record { state = now; place = 0; first = 0; second = 0; stamp = number }
+
+abbrev pub withWords : Before → Seen → Before
+withWords b seen = record { state = b .state; place = seen .place; first = seen .first; second = seen .second; stamp = b .stamp }
 
 -- what it was before the event
 abbrev pub heardBefore : Row → Occurrence → ℕ → Before

@@ -27,7 +27,7 @@ ghost use lib.ListN.{length};
 ghost use Rattle.constraint.specs.Limits.{waitingLimit};
 ghost use Rattle.queue.specs.Ring.{ring, changed};
 ghost use Rattle.row.specs.Undo.{savedFrom, movesBy, savedBy, backRow, rowWithout, keptWithout, noBefore, Edited, Moves};
-ghost use Rattle.row.specs.Apart.{fills, crowdedBy, endsBy, Ends, withChange, seenBy, keptOf};
+ghost use Rattle.row.specs.Apart.{fills, crowdedBy, endsBy, Ends, withChange, seenBy, keptOf, withWords};
 ghost use Rattle.row.specs.Machine.{decide, concerns, mark, rowFrom, rowOf, brokenState, applied, changedRow, rowStep};
 
 // A row with fewer waiting has room for two more words.
@@ -391,16 +391,30 @@ pub fn see(rule: Rule, old: State, times: &[u64; SIZE], o: Occurrence) -> Seen
     }
 }
 
-// What is kept of the row beside it, before the step of that number overwrites it.
-pub fn keep(state: State, seen: Seen, number: u64) -> Before
-    ensures { λ r. ⌜ r ≡ keptOf state seen number ⌝ }
+// What is kept of the row beside it, before the step of that number: what it keeps, and no words yet.
+pub fn keep(state: State, number: u64) -> Before
+    ensures { λ r. ⌜ r ≡ keptOf state number ⌝ }
 {
+    Before {
+        state,
+        place: 0,
+        first: 0,
+        second: 0,
+        stamp: number,
+    }
+}
+
+// The same with the words that the event overwrites.
+pub fn with_words(kept: Before, seen: Seen) -> Before
+    ensures { λ r. ⌜ r ≡ withWords kept seen ⌝ }
+{
+    let state = kept.state;
     Before {
         state,
         place: seen.place,
         first: seen.first,
         second: seen.second,
-        stamp: number,
+        stamp: kept.stamp,
     }
 }
 

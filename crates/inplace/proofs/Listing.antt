@@ -32,7 +32,7 @@ use Rattle.monitor.proofs.First.{zip-length}
 use Rattle.monitor.specs.Contract.{Steps}
 use Rattle.monitor.specs.declared.Monitor.{Monitor}
 use Rattle.inplace.specs.Store.{steppedFrom, askedRows, askedBy, answerOf, heardBy, heardSaves, endedBy, endedSaves, rowsStepped, rowsCrowded, withNumbers}
-use Rattle.inplace.specs.Index.{listCount, listPlaces, listSize, listFor, rowOf, entries, listAt, numbers, heldRows, rowAt, keptAt, isIn, Roomy, Indexes, listedBy, crowdsRow, crowdedAt, listCrowded, withMonitor, withSoonest, hearAt, listHeard, endAt, passed, mayEnd, begun, Takes}
+use Rattle.inplace.specs.Index.{listCount, listPlaces, listSize, listFor, rowOf, entries, listAt, numbers, heldRows, rowAt, keptAt, isIn, Roomy, Indexes, listedBy, crowdsRow, crowdedAt, listCrowded, withMonitor, withSoonest, hearAt, listHeard, endAt, passed, mayEnd, soonestOf, endedRows, begun, Takes}
 use Rattle.inplace.specs.declared.Asked.{Asked}
 use Rattle.inplace.specs.declared.index.Indexed.{Indexed}
 use Rattle.inplace.specs.declared.index.Listed.{Listed}
@@ -298,6 +298,13 @@ calm-by false false = refl
 calm : (r : Row) (o : Occurrence) → concerns (r .rule) (o .kind) ≡ false → crowds o r ≡ false
 calm r o e = rw e (calm-by (ltb 0 (r .now .broken)) (ltb (r .now .due) (o .time)))
 
+-- no row is due before the soonest due time
+soonest-least : (m : Monitor) (n i : ℕ) → i < n → soonestOf m n ≤ rowAt m i .now .due
+soonest-least m zero i l = absurd (omega (arith, l))
+soonest-least m (suc n) i l =
+    split (ltb i n) (λ b. ltb i n ≡ b → soonestOf m (suc n) ≤ rowAt m i .now .due) (λ _ e. omega (arith, soonest-least m n i (ltb-true i n e)))
+    (λ _ e. let same : n ≡ i = omega (arith, l, ltb-false i n e) in subst (λ (j : ℕ). soonestOf m (suc n) ≤ rowAt m j .now .due) same (omega arith)) refl
+
 pub same-numbers : (p r : ℕ → Bool) (n : ℕ) → ((i : ℕ) → i < n → p i ≡ r i) → numbers p n ≡ numbers r n
 same-numbers p r zero same = refl
 same-numbers p r (suc n) same =
@@ -444,15 +451,15 @@ module _ (h : Indexed) (call : Call) (whole : length (h .monitor .rows) ≡ 32) 
           lists-are = ap (λ (y : Indexed). y .lists) same-list ∙ visits-lists step save (numbers (isIn m (listFor o)) n) x ∙ same;
         }
 
-    -- the clock and the close can go to no row
-    not-late : mayEnd (h .soonest) o ≡ false → Stepped (list-heard stored)
-    not-late e =
-        list-steps stored (λ r. r) (λ r b. b) refl
+    -- the clock and the close can go to no row, as none is due before a time
+    not-late : (s : ℕ) → mayEnd s o ≡ false → ((i : ℕ) → i < n → s ≤ rowAt m i .now .due) → Stepped (list-heard (withSoonest stored s))
+    not-late s e least =
+        list-steps (withSoonest stored s) (λ r. r) (λ r b. b) refl
         (sym (ap (λ (rows : List Row). withRows (withNumbers m q) rows (zipFirst n (λ r b. b) (m .rows) (m .before))) (map-none n (m .rows)) ∙ ap (withRows (withNumbers m q) (m .rows)) (zip-nothing n (m .rows) (m .before))))
         (λ r. refl) (λ r b. refl)
         (λ i k out.
         let unmoved : movesBy (rowAt m i .rule) (rowAt m i .now) o ≡ false = unconcerned (rowAt m i) o (sym (in-list answered i) ∙ out) ∙ none-ends i k in
-        (still (rowAt m i) o (q .step) unmoved, (unsaved o (q .step) (rowAt m i) (keptAt m i) unmoved, ix .no-sooner i k)))
+        (still (rowAt m i) o (q .step) unmoved, (unsaved o (q .step) (rowAt m i) (keptAt m i) unmoved, least i k)))
         (λ i k is-own. heard-moved o (q .step) (rowAt m i) (sym (in-list answered i) ∙ is-own) (λ _. (in-time i k, room i k)))
       where
         by-test : (closes late : Bool) → cond closes true late ≡ false → (closes ≡ false) × (late ≡ false)
@@ -460,10 +467,10 @@ module _ (h : Indexed) (call : Call) (whole : length (h .monitor .rows) ≡ 32) 
         by-test false late x = (refl, x)
 
         in-time : (i : ℕ) → i < n → ltb (rowAt m i .now .due) (o .time) ≡ false
-        in-time i k = le-ltb (rowAt m i .now .due) (o .time) (omega (arith, ltb-false (h .soonest) (o .time) (by-test (o .closes) (ltb (h .soonest) (o .time)) e .1), ix .no-sooner i k))
+        in-time i k = le-ltb (rowAt m i .now .due) (o .time) (omega (arith, ltb-false s (o .time) (by-test (o .closes) (ltb s (o .time)) e .1), least i k))
 
         none-ends : (i : ℕ) → i < n → endsBy (rowAt m i .rule) (rowAt m i .now) o ≡ false
-        none-ends i k = no-ends (rowAt m i) o (by-test (o .closes) (ltb (h .soonest) (o .time)) e .0) (in-time i k)
+        none-ends i k = no-ends (rowAt m i) o (by-test (o .closes) (ltb s (o .time)) e .0) (in-time i k)
 
     -- the rows to which they go come first
     some-late : Stepped (list-heard (passed stored n o (q .step)))
@@ -480,8 +487,12 @@ module _ (h : Indexed) (call : Call) (whole : length (h .monitor .rows) ≡ 32) 
 
     all-stepped : Stepped taken
     all-stepped =
+        let s : ℕ = soonestOf (stored .monitor) n in
         subst (λ (k : ℕ). Stepped (list-heard (begun stored k o (q .step)))) (sym all-held)
-        (split (mayEnd (h .soonest) o) (λ b. mayEnd (h .soonest) o ≡ b → Stepped (list-heard (cond b (passed stored n o (q .step)) stored))) (λ _ e. some-late) (λ _ e. not-late e) refl)
+        (split (mayEnd (h .soonest) o) (λ b. mayEnd (h .soonest) o ≡ b → Stepped (list-heard (cond b (endedRows stored n o (q .step)) stored)))
+        (λ _ _. split (mayEnd s o) (λ b. mayEnd s o ≡ b → Stepped (list-heard (cond b (passed stored n o (q .step)) (withSoonest stored s))))
+        (λ _ _. some-late) (λ _ e. not-late s e (soonest-least (stored .monitor) n)) refl)
+        (λ _ e. not-late (h .soonest) e (ix .no-sooner)) refl)
 
     -- the index is that of the monitor after the call
     pub taken-indexes : Indexes taken

@@ -14,7 +14,7 @@ use Rattle.monitor.specs.Parts.{rowsWithout}
 use Rattle.monitor.specs.Contract.{Steps, Withdraws}
 use Rattle.inplace.specs.Store.{steppedFrom, askedOf, askedBy, answerOf, rowKept, rowChanged, rowHeard, rowEnded, withNumbers}
 use Rattle.inplace.specs.Store.{withdrawalOf, withdrawalBy, rowBack, withUndo}
-use Rattle.inplace.specs.Index.{listSize, listFor, rowOf, listedOf, listedBy, crowdsRow, crowdedAt, listCrowded, heeded, hearAt, listHeard, endAt, passed, mayEnd, begun, Takes, soonestAfter, TakesBack}
+use Rattle.inplace.specs.Index.{listSize, listFor, rowOf, rowAt, listedOf, listedBy, crowdsRow, crowdedAt, listCrowded, heeded, hearAt, listHeard, endAt, passed, mayEnd, soonestOf, endedRows, begun, Takes, soonestAfter, TakesBack}
 use Rattle.inplace.proofs.Plain.{truth, nothing}
 use Rattle.inplace.proofs.Types.{byte-type, word-type, call-type, rule-type, times-type, state-type, occurrence-type, before-type, moved-type, change-type, seen-type, undo-type, monitor-type}
 use Rattle.inplace.proofs.Types.{asked-type, numbered-type, withdrawal-type, indexed-type, listed-type}
@@ -222,6 +222,15 @@ ends-at = record { asks = λ κs h a. demand (a .0 < 32); gives = λ κs h a r h
 
 abbrev pub pass : Promise indexed-type (word-type ∷ occurrence-type ∷ word-type ∷ []) nothing
 pass = record { asks = λ κs h a. demand (a .0 ≤ 32); gives = λ κs h a r h′. h′ ≡ passed h (a .0) (a .1 .0) (a .1 .1 .0) }
+
+abbrev pub due-at : Promise indexed-type (word-type ∷ []) word-type
+due-at = record { asks = λ κs h a. demand (a .0 < 32); gives = λ κs h a r h′. (r ≡ rowAt (h .monitor) (a .0) .now .due) × (h′ ≡ h) }
+
+abbrev pub soonest-of : Promise indexed-type (word-type ∷ []) word-type
+soonest-of = record { asks = λ κs h a. demand (a .0 ≤ 32); gives = λ κs h a r h′. (r ≡ soonestOf (h .monitor) (a .0)) × (h′ ≡ h) }
+
+abbrev pub end-rows : Promise indexed-type (word-type ∷ occurrence-type ∷ word-type ∷ []) nothing
+end-rows = record { asks = λ κs h a. demand (a .0 ≤ 32); gives = λ κs h a r h′. h′ ≡ endedRows h (a .0) (a .1 .0) (a .1 .1 .0) }
 
 abbrev pub begin : Promise indexed-type (word-type ∷ occurrence-type ∷ word-type ∷ []) nothing
 begin = record { asks = λ κs h a. demand (a .0 ≤ 32); gives = λ κs h a r h′. h′ ≡ begun h (a .0) (a .1 .0) (a .1 .1 .0) }

@@ -158,9 +158,18 @@ passed h (suc n) o number = endAt (passed h n o number) n o number
 abbrev pub mayEnd : ℕ → Occurrence → Bool
 mayEnd soonest o = cond (o .closes) true (ltb soonest (o .time))
 
--- the rows to which the clock or the close alone goes among the first n, where there may be one
+-- the soonest due time of the first n rows
+abbrev pub soonestOf : Monitor → ℕ → ℕ
+soonestOf m zero = noLimit
+soonestOf m (suc n) = min (soonestOf m n) (rowAt m n .now .due)
+
+-- the rows to which the clock or the close alone goes among the first n; where by their due times there is none, these alone are heeded
+abbrev pub endedRows : Indexed → ℕ → Occurrence → ℕ → Indexed
+endedRows h n o number = cond (mayEnd (soonestOf (h .monitor) n) o) (passed h n o number) (withSoonest h (soonestOf (h .monitor) n))
+
+-- the same where there may be one
 abbrev pub begun : Indexed → ℕ → Occurrence → ℕ → Indexed
-begun h n o number = cond (mayEnd (h .soonest) o) (passed h n o number) h
+begun h n o number = cond (mayEnd (h .soonest) o) (endedRows h n o number) h
 
 -- ---- a call
 

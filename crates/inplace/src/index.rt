@@ -20,7 +20,7 @@ use row::concerns;
 ghost use Prim.Native.Nat.{ℕ, _+_, _<_, _≤_, min};
 ghost use mathlib.Core.Path.{_≡_};
 ghost use Rattle.constraint.specs.Limits.{noLimit};
-ghost use Rattle.inplace.specs.Index.{listCount, pushed, enlisted, listFor, rowOf, Indexes, listedOf, listedBy, crowdedAt, listCrowded, heeded, hearAt, listHeard, endAt, passed, mayEnd, begun, listSize, soonestAfter, Takes, TakesBack};
+ghost use Rattle.inplace.specs.Index.{listCount, pushed, enlisted, listFor, rowOf, rowAt, Indexes, listedOf, listedBy, crowdedAt, listCrowded, heeded, hearAt, listHeard, endAt, passed, mayEnd, soonestOf, endedRows, begun, listSize, soonestAfter, Takes, TakesBack};
 
 // The list for no event. Those below are the kinds'.
 const NO_EVENT: u64 = 65;
@@ -211,6 +211,43 @@ fn may_end(soonest: u64, o: Occurrence) -> bool
     if o.closes { true } else { soonest < o.time }
 }
 
+// The due time of row i.
+fn due_at(m: &mut Indexed, i: usize) -> u64
+    requires { ⌜ i < 32 ⌝ }
+    ensures { λ r. ⌜ (r ≡ rowAt (now (m .entry) .monitor) i .now .due) × (now (m .exit) ≡ now (m .entry)) ⌝ }
+{
+    m.monitor.rows[i].now.due
+}
+
+// The soonest due time of the first n rows.
+fn soonest_of(m: &mut Indexed, n: usize) -> u64
+    requires { ⌜ n ≤ 32 ⌝ }
+    ensures { λ r. ⌜ (r ≡ soonestOf (now (m .entry) .monitor) n) × (now (m .exit) ≡ now (m .entry)) ⌝ }
+{
+    let mut soonest = no_limit();
+    let mut i = 0;
+    while i < n {
+        let due = due_at(m, i);
+        soonest = sooner(soonest, due);
+        i += 1;
+    }
+    soonest
+}
+
+// The rows to which the clock or the close alone goes: where the due times say that there is none, they are only looked at.
+fn end_rows(m: &mut Indexed, n: usize, o: Occurrence, number: u64)
+    requires { ⌜ n ≤ 32 ⌝ }
+    ensures { λ _. ⌜ now (m .exit) ≡ endedRows (now (m .entry)) n o number ⌝ }
+{
+    let soonest = soonest_of(m, n);
+    let may = may_end(soonest, o);
+    if may {
+        pass(m, n, o, number);
+    } else {
+        m.soonest = soonest;
+    }
+}
+
 // The rows to which the clock or the close alone goes, if there can be one.
 fn begin(m: &mut Indexed, n: usize, o: Occurrence, number: u64)
     requires { ⌜ n ≤ 32 ⌝ }
@@ -218,7 +255,7 @@ fn begin(m: &mut Indexed, n: usize, o: Occurrence, number: u64)
 {
     let may = may_end(m.soonest, o);
     if may {
-        pass(m, n, o, number);
+        end_rows(m, n, o, number);
     }
 }
 

@@ -86,19 +86,20 @@
  *   a table          at most 1,153 bytes  DELKUTHI_TABLE_LIMIT
  *   a report         at most 1,024 bytes  DELKUTHI_REPORT_LIMIT
  *   a page           at most 2,482 bytes  DELKUTHI_PAGE_LIMIT
- *   stack, report    at most 256 KiB      DELKUTHI_REPORT_STACK
- *   stack, report_on at most 256 KiB      DELKUTHI_REPORT_ON_STACK
+ *   stack, report    at most 40 KiB       DELKUTHI_REPORT_STACK
+ *   stack, report_on at most 6 KiB        DELKUTHI_REPORT_ON_STACK
  *   stack, page      at most 2 KiB        DELKUTHI_PAGE_STACK
- *   stack, stamps    at most 16 KiB       DELKUTHI_STAMPS_STACK
+ *   stack, stamps    at most 20 KiB       DELKUTHI_STAMPS_STACK
  *   stack, join      at most 16 KiB       DELKUTHI_JOIN_STACK
  *   stack, stretch   at most 32 KiB       DELKUTHI_STRETCH_STACK
- *   stack, fresh     at most 256 KiB      DELKUTHI_MONITOR_STACK
- *   stack, steps     at most 2 KiB        DELKUTHI_STEP_STACK
+ *   stack, table     at most 12 KiB       DELKUTHI_TABLE_STACK
+ *   stack, fresh     at most 1 KiB        DELKUTHI_MONITOR_STACK
+ *   stack, steps     at most 1 KiB        DELKUTHI_STEP_STACK
  *
  * What waits in a row: sources that have no target yet (Delay, StrongDelay),
  * groups begun and not complete (StrongSynchronization). In other rows nothing
  * waits. The stack that a call uses is measured, not proved: a verdict uses no
- * more than a step may, a table that is made no more than fresh.
+ * more than a step may, and so does a withdrawal.
  *
  *
  * THE TABLE
@@ -299,14 +300,15 @@ extern "C" {
 #define DELKUTHI_TABLE_LIMIT   1153
 #define DELKUTHI_REPORT_LIMIT  1024
 #define DELKUTHI_PAGE_LIMIT    2482
-#define DELKUTHI_REPORT_STACK  262144
-#define DELKUTHI_REPORT_ON_STACK 262144
+#define DELKUTHI_REPORT_STACK  40960
+#define DELKUTHI_REPORT_ON_STACK 6144
 #define DELKUTHI_PAGE_STACK    2048
-#define DELKUTHI_STAMPS_STACK  16384
+#define DELKUTHI_STAMPS_STACK  20480
 #define DELKUTHI_JOIN_STACK    16384
 #define DELKUTHI_STRETCH_STACK 32768
-#define DELKUTHI_MONITOR_STACK 262144
-#define DELKUTHI_STEP_STACK    2048
+#define DELKUTHI_TABLE_STACK   12288
+#define DELKUTHI_MONITOR_STACK 1024
+#define DELKUTHI_STEP_STACK    1024
 
 /* The upper of a Delay, Repeat or Sporadic that has no upper limit. */
 #define DELKUTHI_NO_LIMIT UINT64_C(18446744073709551615)

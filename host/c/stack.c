@@ -157,7 +157,7 @@ int main(int argc, char **argv)
         || posix_memalign(&memory, 1 << 16, SIZE) != 0)
         return 3;
     stack = memory;
-    well &= within(DELKUTHI_MONITOR_STACK, "table", make_table);
+    well &= within(DELKUTHI_TABLE_STACK, "table", make_table);
     well &= within(DELKUTHI_MONITOR_STACK, "fresh", fresh);
     well &= within(DELKUTHI_STEP_STACK, "event", event);
     well &= within(DELKUTHI_STEP_STACK, "tick", tick);

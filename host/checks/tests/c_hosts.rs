@@ -317,7 +317,7 @@ fn the_stack() {
     assert_eq!((ran.status, ran.printed.lines().count()), (Some(0), 13));
 }
 
-/// A report on a lent monitor, on a stack of no more bytes than the header says.
+/// A report on a lent monitor, on a stack of 8,192 bytes.
 #[test]
 fn a_report_on_a_small_stack() {
     let drive = String::from_utf8(example_bytes("report.txt")).expect("ASCII");

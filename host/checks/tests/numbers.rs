@@ -138,6 +138,7 @@ fn every_number_of_the_header_is_the_crates() {
         "STAMPS_STACK",
         "JOIN_STACK",
         "STRETCH_STACK",
+        "TABLE_STACK",
         "MONITOR_STACK",
         "STEP_STACK",
     ]
@@ -149,7 +150,7 @@ fn every_number_of_the_header_is_the_crates() {
 #[test]
 fn every_limit_of_the_manual_is_the_headers() {
     let header = Header::read();
-    assert_eq!(header.limits.len(), 17, "{:?}", header.limits);
+    assert_eq!(header.limits.len(), 18, "{:?}", header.limits);
     for (name, limit) in &header.limits {
         assert_eq!(header.defined.get(name), Some(limit), "{name}");
     }

@@ -97,10 +97,10 @@ fn row_changes(m: &mut Monitor, i: usize, o: Occurrence, number: u64)
 {
     let r = &mut m.rows[i];
     let seen = row::see(r.rule, r.now, &r.times, o);
-    let kept = row::with_words(m.before[i], seen);
-    m.before[i] = kept;
     let now = row::with_change(r.rule, r.now, &mut r.times, seen.change, number);
     r.now = now;
+    let kept = row::with_words(m.before[i], seen);
+    m.before[i] = kept;
 }
 
 // Row i of a monitor that is lent, after an event that concerns it; a broken one stays as it is.

@@ -1,5 +1,5 @@
--- Row i is taken out of the monitor's cell, and its times are lent to be read, for what an event makes of it; the words that are overwritten are kept beside the row; then its
--- times are lent to be changed, and what it keeps then is stored.
+-- Row i is taken out of the monitor's cell; its times are lent to be read, for what an event makes of it, and then to be changed, and what it keeps is stored. The words that were
+-- overwritten are kept beside the row.
 use mathlib.Core.Path.{_≡_, refl, sym, _∙_, ap, ap₂, subst}
 use mathlib.Core.List.{List}
 use Prim.Native.Nat.{ℕ, _<_}
@@ -33,7 +33,7 @@ use Rattle.inplace.proofs.Locals.{env, leaves, copies, sets, lands-in, 
 use Rattle.inplace.proofs.Loans.{cell, opened, closed}
 use Rattle.inplace.proofs.Elem.{elem, as-val, set-getD}
 use Rattle.inplace.proofs.Calls.{triple, calls-mut, calls-shr, pure-triple, calls-plain}
-use Rattle.inplace.proofs.Rows.{kept-known, kept-got, with-before, with-before-known, kept-vals, with-kept, kept-fits, kept-within, kept-32, kept-set, change-known}
+use Rattle.inplace.proofs.Rows.{kept-known, kept-got, kept-vals, with-kept, kept-fits, kept-within, kept-32, kept-set, change-known}
 use Rattle.inplace.proofs.Rows.{at-fits, row-known, with-row-known, rule-known, times-known, now-known, row-from-known, row-cell, times-at, row-out, row-in, times-out, times-in}
 use Rattle.inplace.proofs.Promises.{see, with-words, with-change, row-changes}
 use Rattle.row.proofs.see.Symbol as see-def
@@ -80,52 +80,46 @@ module _
       (λ α δ. and-then ! (copies ! 17 refl) (and-then ! (copies ! 18 refl) (and-then ! (copies ! 19 refl) (and-then ! (copies ! 8 refl) (no-more !))))) (λ κs δ seen ws seen-is e.
       lands-in ! 10 refl (typed 𝓤 H A W seen-type seen seen-is) $
       times-in ! L i row (row .times) $
-      row-in ! L i h was row $
-      rewrite ! 0 (λ (rows : List Row). ‵ (cell monitor-type L (monitor-type .val (withRows h rows (h .before))))) (set-getD (h .rows) i noRow) refl $
-      -- the words that are overwritten are kept beside it
-      assigns ! (bin ! (copies ! 4 refl) (lit ! tt) (record { fits = kept-fits i small })) (from ! (stop !)) (store ! 11 refl (tt, record { fits = kept-fits i small })) $
-      sets ! (addr ! (from ! (hop ! (look ! 3 refl) (fld ! refl (stop !))))) 17 refl (tt, tt) $
-      sets ! (bin ! (copies ! 17 refl) (copies ! 11 refl) tt) 18 refl (tt, tt) $
-      sets ! (of-opd ! (load ! (from ! (hop ! (look ! 18 refl) (stop !))) (look-in ! 0 (as-val ! (kept-got (h .before) i)
-      (elem ! (kept-vals (h .before)) i (before-type .val noBefore) (kept-within h was i small) (kept-32 h was) (sub ! 6 refl (whole !))))))) 19 refl
-      (typed 𝓤 H A W before-type (getD (h .before) i noBefore) (kept-known h was i small)) $
-      calls-plain ! (fmOf 𝓤 H (W .laws) 𝓣) with-words cites-words (getD (h .before) i noBefore, (seen, tt)) (kept-known h was i small, (seen-is, tt)) tt
-      (and-then ! (copies ! 20 refl) (and-then ! (copies ! 9 refl) (no-more !))) (λ words words-is words-so.
-      let so : words ≡ kept′ = words-so ∙ ap (withWords (getD (h .before) i noBefore)) e in
-      let known′ : Known before-type kept′ = subst (Known before-type) so words-is in
-      let h₁ : Monitor = with-before h i kept′ in
-      let was₁ : Known monitor-type h₁ = with-before-known h was i small kept′ known′ in
-      lands-in ! 9 refl (typed 𝓤 H A W before-type words words-is) $
-      assigns ! (bin ! (copies ! 4 refl) (lit ! tt) (record { fits = kept-fits i small })) (from ! (stop !)) (store ! 11 refl (tt, record { fits = kept-fits i small })) $
-      sets ! (addr ! (from ! (hop ! (look ! 3 refl) (fld ! refl (stop !))))) 20 refl (tt, tt) $
-      sets ! (bin ! (copies ! 20 refl) (copies ! 11 refl) tt) 21 refl (tt, tt) $
-      assigns ! (of-opd ! (copies ! 9 refl)) (from ! (hop ! (look ! 21 refl) (stop !)))
-      (store-in ! 0 (elem ! (kept-vals (h .before)) i (before-type .val noBefore) (kept-within h was i small) (kept-32 h was) (sub ! 6 refl (whole !))) (typed 𝓤 H A W before-type words words-is)) $
-      rewrite ! 0 (λ (ks : List Val). ‵ (cell monitor-type L (with-kept h ks))) (kept-set (h .before) i words) refl $
-      rewrite ! 0 (λ (b : Before). ‵ (cell monitor-type L (monitor-type .val (with-before h i b)))) so refl $
       -- its times are lent to be changed, and what it keeps then is stored
-      row-out ! L i h₁ was₁ small $
       assigns ! (of-opd ! (load ! (from ! (hop ! (look ! 8 refl) (fld ! refl (stop !)))) (look-in ! 0 (sub ! 0 refl (whole !))))) (from ! (stop !))
       (store ! 15 refl (typed 𝓤 H A W rule-type (row .rule) (rule-known row row-is))) $
       assigns ! (of-opd ! (load ! (from ! (hop ! (look ! 8 refl) (fld ! refl (stop !)))) (look-in ! 0 (sub ! 2 refl (whole !))))) (from ! (stop !))
       (store ! 16 refl (typed 𝓤 H A W state-type (row .now) (now-known row row-is))) $
-      sets ! (addr ! (from ! (hop ! (look ! 8 refl) (fld ! refl (stop !))))) 23 refl (tt, tt) $
+      sets ! (addr ! (from ! (hop ! (look ! 8 refl) (fld ! refl (stop !))))) 18 refl (tt, tt) $
       times-out ! L i row $
       calls-mut ! (fmOf 𝓤 H (W .laws) 𝓣) times-type with-change cites (L .block) (times-at L i) (row .times) (times-known row row-is)
       (λ _. (row .rule, (row .now, tt))) (λ _. (rule-known row row-is, (now-known row row-is, tt)))
       (λ _. (seen .change, (number, tt))) (λ _. (change-known seen seen-is, (a-is .1 .1 .0, tt))) (λ _ δ. tt)
-      (λ α δ. and-then ! (copies ! 17 refl) (and-then ! (copies ! 18 refl) (and-then ! (copies ! 25 refl)
+      (λ α δ. and-then ! (copies ! 17 refl) (and-then ! (copies ! 18 refl) (and-then ! (copies ! 20 refl)
       (and-then ! (load ! (from ! (fld ! refl (stop !))) (look-in ! 11 (sub ! 0 refl (whole !)))) (and-then ! (copies ! 9 refl) (no-more !)))))) (λ κs₂ δ₂ now ws₂ now-is e₂ times-is.
       let changed : rowFrom (row .rule) (ws₂ .1 .1 .0) now ≡ row′ = e₂ ∙ ap (λ (s : Seen). withChange row (s .change) number) e in
-      lands-in ! 12 refl (typed 𝓤 H A W state-type now now-is) $
+      lands-in ! 11 refl (typed 𝓤 H A W state-type now now-is) $
       times-in ! L i row (ws₂ .1 .1 .0) $
-      assigns ! (of-opd ! (copies ! 11 refl)) (from ! (hop ! (look ! 8 refl) (fld ! refl (stop !))))
+      assigns ! (of-opd ! (copies ! 10 refl)) (from ! (hop ! (look ! 8 refl) (fld ! refl (stop !))))
       (store-in ! 0 (sub ! 2 refl (whole !)) (typed 𝓤 H A W state-type now now-is)) $
       rewrite ! 0 (λ (d : Row). ‵ (row-cell L i (row-type .val d))) changed refl $
-      row-in ! L i h₁ was₁ row′ $
+      row-in ! L i h was row′ $
+      -- the words that were overwritten are kept beside it
+      assigns ! (bin ! (copies ! 4 refl) (lit ! tt) (record { fits = kept-fits i small })) (from ! (stop !)) (store ! 11 refl (tt, record { fits = kept-fits i small })) $
+      sets ! (addr ! (from ! (hop ! (look ! 3 refl) (fld ! refl (stop !))))) 18 refl (tt, tt) $
+      sets ! (bin ! (copies ! 18 refl) (copies ! 11 refl) tt) 19 refl (tt, tt) $
+      sets ! (of-opd ! (load ! (from ! (hop ! (look ! 19 refl) (stop !))) (look-in ! 0 (as-val ! (kept-got (h .before) i)
+      (elem ! (kept-vals (h .before)) i (before-type .val noBefore) (kept-within h was i small) (kept-32 h was) (sub ! 6 refl (whole !))))))) 20 refl
+      (typed 𝓤 H A W before-type (getD (h .before) i noBefore) (kept-known h was i small)) $
+      calls-plain ! (fmOf 𝓤 H (W .laws) 𝓣) with-words cites-words (getD (h .before) i noBefore, (seen, tt)) (kept-known h was i small, (seen-is, tt)) tt
+      (and-then ! (copies ! 21 refl) (and-then ! (copies ! 9 refl) (no-more !))) (λ words words-is words-so.
+      let so : words ≡ kept′ = words-so ∙ ap (withWords (getD (h .before) i noBefore)) e in
+      lands-in ! 10 refl (typed 𝓤 H A W before-type words words-is) $
+      assigns ! (bin ! (copies ! 4 refl) (lit ! tt) (record { fits = kept-fits i small })) (from ! (stop !)) (store ! 11 refl (tt, record { fits = kept-fits i small })) $
+      sets ! (addr ! (from ! (hop ! (look ! 3 refl) (fld ! refl (stop !))))) 21 refl (tt, tt) $
+      sets ! (bin ! (copies ! 21 refl) (copies ! 11 refl) tt) 22 refl (tt, tt) $
+      assigns ! (of-opd ! (copies ! 10 refl)) (from ! (hop ! (look ! 22 refl) (stop !)))
+      (store-in ! 0 (elem ! (kept-vals (h .before)) i (before-type .val noBefore) (kept-within h was i small) (kept-32 h was) (sub ! 6 refl (whole !))) (typed 𝓤 H A W before-type words words-is)) $
+      rewrite ! 0 (λ (ks : List Val). ‵ (cell monitor-type L (with-kept (withRows h (set (h .rows) i row′) (h .before)) ks))) (kept-set (h .before) i words) refl $
+      rewrite ! 0 (λ (b : Before). ‵ (cell monitor-type L (monitor-type .val (withRow h i row′ b)))) so refl $
       sets ! (of-opd ! (unit-lit !)) 2 refl (tt, tt) $
       closed ! tt monitor-type L (withRow h i row′ kept′)
-      (with-row-known h was i row′ kept′ (subst (Known row-type) changed (row-from-known (row .rule) (ws₂ .1 .1 .0) now (rule-known row row-is) times-is now-is)) known′) $
+      (with-row-known h was i row′ kept′ (subst (Known row-type) changed (row-from-known (row .rule) (ws₂ .1 .1 .0) now (rule-known row row-is) times-is now-is)) (subst (Known before-type) so words-is)) $
       leaves ! (code.function .locals) tt bs vunit refl (ends tt (withRow h i row′ kept′) refl refl)))))
 
 pub row-changes-spec : {M : Type 1} → stated.statement M

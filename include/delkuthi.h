@@ -23,8 +23,8 @@
  *   - A broken row stays broken, at the same step, until a step is withdrawn:
  *     then the rows read what they would read had it never been taken.
  * A machine has checked this, not tests: the first point is the contract of
- * each call, the others are the theorems monitor-is-exact over all calls and
- * withdrawing-is-exact over calls and withdrawals.
+ * each call, the others are the theorem monitor-is-exact over all calls and
+ * withdrawals.
  * docs/DATASHEET.md has what they say, what they assume, and what is not
  * promised; docs/CONTRACT.md says all of it in words, in numbered clauses,
  * with examples to check a verdict by hand.

@@ -6,7 +6,7 @@ use native.Mathlib.Decide.{ℕ-discrete}
 use native.Mathlib.Omega.{arith}
 use mathlib.Core.Path.{_≡_, refl, ap, ap₂, _∙_, subst}
 use mathlib.Core.Bool.{Bool, true, false, cond}
-use mathlib.Core.List.{List, [], _∷_, _++_}
+use mathlib.Core.List.{List, [], _∷_, _++_, map}
 use mathlib.Core.Logic.{_⊎_, inl, inr, ⊎-elim, by-cases}
 use lib.ListN.{length, length-append}
 use Rattle.constraint.specs.Limits.{lastKind, firstColoured, lastColour, lastTime, lastCount, noLimit, rowLimit}
@@ -16,7 +16,7 @@ use Rattle.constraint.specs.Continuation.{EventInOrder}
 use Rattle.constraint.specs.Types.{kind, coloured, count, span, plain, lower, upper, upper-or-none, Field, byte, time, fieldsOf}
 use Rattle.constraint.specs.Accepted.{kinds, KindsFit, KindsSuit, FieldsInRange, InRange, LowerFirst, rowsQuestions, Accepted}
 use Rattle.constraint.specs.Questions.{Question, Judged}
-use Rattle.constraint.specs.Run.{stepFor, Room, questions, recorded, Run, done, call}
+use Rattle.constraint.specs.Run.{stepFor, Room, questions, asks, Left, noneLeft, leftBy, Run, done, request}
 use Rattle.constraint.specs.declared.Answer.{Answer}
 use Rattle.constraint.specs.declared.Answer.the-variants.{Taken, Refused}
 use Rattle.constraint.specs.declared.Call.{Call}
@@ -157,11 +157,11 @@ questionsBefore rows steps (Call.Tick t) =
 questionsBefore rows steps Call.Close = (8, closed steps ≡ false) ∷ []
 
 -- the calls one after the other then
-pub data RunBefore (rows : List Constraint) : List Step → List Call → List Answer → List Step → Type 0 where
-  done-before : {steps : List Step} → RunBefore rows steps [] [] steps
-  call-before : {steps end : List Step} {calls : List Call} {answers : List Answer} (c : Call) (a : Answer)
-      → Judged (questionsBefore rows steps c) a → RunBefore rows (recorded steps c a) calls answers end
-      → RunBefore rows steps (c ∷ calls) (a ∷ answers) end
+pub data RunBefore (rows : List Constraint) : Left → List Call → List Answer → Left → Type 0 where
+  done-before : {left : Left} → RunBefore rows left [] [] left
+  call-before : {left end : Left} {calls : List Call} {answers : List Answer} (c : Call) (a : Answer)
+      → Judged (questionsBefore rows (left .steps) c) a → RunBefore rows (leftBy left (asks c) a) calls answers end
+      → RunBefore rows left (c ∷ calls) (a ∷ answers) end
 
 -- none of the answers is 10
 abbrev pub NoneTooLate : List Answer → Type 0
@@ -195,17 +195,17 @@ module _ (rows : List Constraint) (steps : List Step) where
   clock-small Call.Close judged h = rw (clock-close steps) h
 
 -- calls none of which was answered 10 have the answers that they had, and leave the same steps, over which a row reads what it read (§2.4 to §2.6)
-run-from : {rows : List Constraint} {steps end : List Step} {calls : List Call} {answers : List Answer} → RunBefore rows steps calls answers end
-    → NoneTooLate answers → Valid steps → clock steps ≤ lastTimeBefore → Run rows steps calls answers end
+run-from : {rows : List Constraint} {left end : Left} {calls : List Call} {answers : List Answer} → RunBefore rows left calls answers end
+    → NoneTooLate answers → Valid (left .steps) → clock (left .steps) ≤ lastTimeBefore → Run rows left (map asks calls) answers end
 run-from done-before none v small = done
-run-from {rows = rows} (call-before {steps = steps} s Taken judged rest) none v small =
-    let now-taken = same-answer rows steps Taken (none .0) (count-before v small) s judged in
-    call s Taken now-taken
-    (run-from rest (none .1) (valid-more (stepFor s) v (accepts-taken rows steps s now-taken)) (clock-small rows steps s judged small))
-run-from {rows = rows} (call-before {steps = steps} s (Refused n) judged rest) none v small =
-    call s (Refused n) (same-answer rows steps (Refused n) (none .0) (count-before v small) s judged) (run-from rest (none .1) v small)
+run-from {rows = rows} (call-before {left = left} s Taken judged rest) none v small =
+    let now-taken = same-answer rows (left .steps) Taken (none .0) (count-before v small) s judged in
+    request (asks s) Taken now-taken
+    (run-from rest (none .1) (valid-more (stepFor s) v (accepts-taken rows (left .steps) s now-taken)) (clock-small rows (left .steps) s judged small))
+run-from {rows = rows} (call-before {left = left} s (Refused n) judged rest) none v small =
+    request (asks s) (Refused n) (same-answer rows (left .steps) (Refused n) (none .0) (count-before v small) s judged) (run-from rest (none .1) v small)
 
-pub run-still : {rows : List Constraint} {end : List Step} {calls : List Call} {answers : List Answer} → RunBefore rows [] calls answers end
-    → NoneTooLate answers → Run rows [] calls answers end
+pub run-still : {rows : List Constraint} {end : Left} {calls : List Call} {answers : List Answer} → RunBefore rows noneLeft calls answers end
+    → NoneTooLate answers → Run rows noneLeft (map asks calls) answers end
 unfolding clockFrom
 run-still before none = run-from before none valid-none (omega arith)

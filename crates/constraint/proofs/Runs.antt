@@ -10,9 +10,9 @@ use Rattle.constraint.specs.Limits.{streamCount, lastCount}
 use Rattle.constraint.specs.Streams.{stream}
 use Rattle.constraint.specs.Steps.{Step, event, closed}
 use Rattle.constraint.specs.Meets.{Meets}
-use Rattle.constraint.specs.Continuation.{Open, BrokenAt, Reads, reads-open, reads-kept, reads-broken}
+use Rattle.constraint.specs.Continuation.{Open, Reads, reads-open, reads-kept, reads-broken}
 use Rattle.constraint.specs.Questions.{Judged}
-use Rattle.constraint.specs.Run.{stepFor, eventQuestions, questions, Run, done, call}
+use Rattle.constraint.specs.Run.{stepFor, eventQuestions, questions, Request, asks, withdraws, Left, Run, done, request}
 use Rattle.constraint.specs.declared.Call.{Call}
 use Rattle.constraint.specs.declared.Answer.{Answer}
 use Rattle.constraint.specs.declared.Answer.the-variants.{Taken, Refused}
@@ -20,9 +20,10 @@ use Rattle.constraint.specs.declared.Constraint.{Constraint}
 use Rattle.constraint.specs.declared.Verdict.{Verdict}
 use Rattle.constraint.proofs.Lists.{both}
 use Rattle.constraint.proofs.Streams.{stream-below}
-use Rattle.constraint.proofs.History.{Accepts, Valid, valid-more}
+use Rattle.constraint.proofs.History.{Accepts, Valid, valid-none, valid-more}
+use Rattle.constraint.proofs.Withdrawals.{butLast, but-last}
 use Rattle.constraint.proofs.Continuations.{continues-closed}
-use Rattle.constraint.proofs.Verdicts.{broken-later, broken-shut, broken-once, open-of-meets}
+use Rattle.constraint.proofs.Verdicts.{broken-shut, broken-once, open-of-meets}
 use Rattle.constraint.proofs.Judged.{never, judged-all}
 
 -- ---- the steps that a list of calls accepts
@@ -56,16 +57,16 @@ accepts-taken rows steps (Call.Tick t) judged =
 accepts-taken rows steps Call.Close judged =
     let eight = judged-all 8 _ _ judged in record { not-closed = eight .0; counted = judged-all 24 _ _ (eight .1) .0 }
 
-pub run-valid : {rows : List Constraint} {steps end : List Step} {calls : List Call} {answers : List Answer} → Run rows steps calls answers end → Valid steps → Valid end
-run-valid done v = v
-run-valid {rows = rows} (call {steps = steps} s Taken judged rest) v = run-valid rest (valid-more (stepFor s) v (accepts-taken rows steps s judged))
-run-valid (call s (Refused n) judged rest) v = run-valid rest v
+-- without their last step they are in order too
+valid-less : {steps : List Step} → Valid steps → Valid (butLast steps)
+valid-less valid-none = valid-none
+valid-less (valid-more {steps = steps} s v a) = subst Valid (sym (but-last steps s)) v
 
--- what a list of calls leaves broken stays broken, at the same step
-pub run-broken : (c : Constraint) (n : ℕ) {rows : List Constraint} {steps end : List Step} {calls : List Call} {answers : List Answer} → Run rows steps calls answers end → BrokenAt c steps n → BrokenAt c end n
-run-broken c n done b = b
-run-broken c n (call {steps = steps} s Taken judged rest) b = run-broken c n rest (broken-later c steps (stepFor s) n b)
-run-broken c n (call {steps = steps} s (Refused k) judged rest) b = run-broken c n rest b
+pub run-valid : {rows : List Constraint} {left end : Left} {requests : List Request} {answers : List Answer} → Run rows left requests answers end → Valid (left .steps) → Valid (end .steps)
+run-valid done v = v
+run-valid {rows = rows} (request {left = left} (asks s) Taken judged rest) v = run-valid rest (valid-more (stepFor s) v (accepts-taken rows (left .steps) s judged))
+run-valid (request withdraws Taken judged rest) v = run-valid rest (valid-less v)
+run-valid (request r (Refused n) judged rest) v = run-valid rest v
 
 -- ---- what a row reads after them
 

@@ -1,4 +1,4 @@
--- What a reader would check first: a list of calls has one list of answers and one record, a row is open before any step, and each definition can be met and can be missed.
+-- What a reader would check first: a list of requests has one list of answers and leaves one list of steps, a row is open before any step, and each definition can be met and can be missed.
 use Prim.Native.Nat.{ℕ, zero, suc, _+_, _-_, _^_, _≤_, _<_}
 use native.Mathlib.Omega.{arith}
 use mathlib.Core.Path.{_≡_, refl, sym, ap, ap₂, subst}
@@ -17,7 +17,7 @@ use Rattle.constraint.specs.Meets.{MeetsStrongSynchronization, MeetsExec
 use Rattle.constraint.specs.Waiting.{answered}
 use Rattle.constraint.specs.Continuation.{BrokenAt}
 use Rattle.constraint.specs.Questions.{Question, Judged}
-use Rattle.constraint.specs.Run.{questions, recorded, Run, done, call}
+use Rattle.constraint.specs.Run.{questions, Request, Left, requestQuestions, leftBy, Run, done, request}
 use Rattle.constraint.specs.declared.Call.{Call}
 use Rattle.constraint.specs.declared.Answer.{Answer}
 use Rattle.constraint.specs.declared.Answer.the-variants.{Taken, Refused}
@@ -27,15 +27,16 @@ use Rattle.constraint.specs.declared.Constraint.the-variants.{ExecutionT
 use Rattle.constraint.proofs.Judged.{judged-yes, judged-no, judged-once}
 use Rattle.constraint.proofs.Verdicts.{open-of-meets}
 
--- ---- lists of calls
+-- ---- lists of requests
 
--- a list of calls has at most one list of answers, and one list of accepted steps
-pub run-once : (rows : List Constraint) {steps end end′ : List Step} {calls : List Call} {xs ys : List Answer} → Run rows steps calls xs end → Run rows steps calls ys end′ → (xs ≡ ys) × (end ≡ end′)
+-- a list of requests has at most one list of answers, and leaves one list of steps
+pub run-once : (rows : List Constraint) {left end end′ : Left} {requests : List Request} {xs ys : List Answer}
+    → Run rows left requests xs end → Run rows left requests ys end′ → (xs ≡ ys) × (end ≡ end′)
 run-once rows done done = (refl, refl)
-run-once rows (call {steps = steps} {end = e} {calls = calls} {answers = xs} s a j r) (call {end = f} {answers = ys} _ b k q) =
-    let same : a ≡ b = judged-once (questions rows steps s) a b j k in
-    let rest : (xs ≡ ys) × (e ≡ f) = run-once rows r (subst (λ x. Run rows (recorded steps s x) calls ys f) (sym same) q) in
-    (ap₂ (λ (x : Answer) (l : List Answer). x ∷ l) same (rest .0), rest .1)
+run-once rows (request {left = left} {end = e} {requests = requests} {answers = xs} r a j rest) (request {end = f} {answers = ys} _ b k other) =
+    let same : a ≡ b = judged-once (requestQuestions rows left r) a b j k in
+    let later : (xs ≡ ys) × (e ≡ f) = run-once rows rest (subst (λ x. Run rows (leftBy left r x) requests ys f) (sym same) other) in
+    (ap₂ (λ (x : Answer) (l : List Answer). x ∷ l) same (later .0), later .1)
 
 -- questions cannot fail to have an answer
 judged-some : (qs : List Question) → ¬ ¬ ((a : Answer) × Judged qs a)
@@ -54,12 +55,12 @@ full-refused rows steps open-still full (Call.ColouredEvent k c t) = judged-yes 
 full-refused rows steps open-still full (Call.Tick t) = judged-yes 8 _ _ _ open-still (judged-no 24 _ _ (λ h. omega (arith, full)))
 full-refused rows steps open-still full Call.Close = judged-yes 8 _ _ _ open-still (judged-no 24 _ _ (λ h. omega (arith, full)))
 
--- a list of calls cannot fail to have answers
-pub run-some : (rows : List Constraint) (calls : List Call) (steps : List Step) → ¬ ¬ ((answers : List Answer) × (end : List Step) × Run rows steps calls answers end)
-run-some rows [] steps none = none ([], steps, done)
-run-some rows (s ∷ calls) steps none =
-    judged-some (questions rows steps s) (λ found. run-some rows calls (recorded steps s (found .0))
-    (λ rest. none (found .0 ∷ rest .0, rest .1, call s (found .0) (found .1) (rest .2))))
+-- a list of requests cannot fail to have answers
+pub run-some : (rows : List Constraint) (requests : List Request) (left : Left) → ¬ ¬ ((answers : List Answer) × (end : Left) × Run rows left requests answers end)
+run-some rows [] left none = none ([], left, done)
+run-some rows (r ∷ requests) left none =
+    judged-some (requestQuestions rows left r) (λ found. run-some rows requests (leftBy left r (found .0))
+    (λ rest. none (found .0 ∷ rest .0, rest .1, request r (found .0) (found .1) (rest .2))))
 
 -- ---- before any step
 

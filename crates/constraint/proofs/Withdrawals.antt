@@ -1,60 +1,64 @@
--- A list of requests has one list of answers and leaves one list of steps; where it withdraws none of the first steps, what is left begins with them,
--- and a row that they broke stays broken at the same step.
-use Prim.Native.Nat.{ℕ, _<_}
+-- Where a list of requests withdraws none of the first steps, what is left begins with them, and a row that they broke stays broken at the same step.
+use Prim.Native.Nat.{ℕ, zero, suc, _-_, _≤_}
 use native.Mathlib.Omega.{arith}
-use mathlib.Core.Path.{_≡_, refl, sym, ap, ap₂, _∙_, subst}
-use mathlib.Core.List.{List, [], _∷_, _++_, append-assoc, append-nil}
-use lib.ListN.{length, length-append}
+use mathlib.Core.Path.{_≡_, refl, sym, ap, _∙_, subst}
+use mathlib.Core.List.{List, [], _∷_, _++_, map, append-assoc, append-nil}
+use lib.ListN.{length, take, length-append, length-take}
+use lib.Seq.{take-append-seam}
 use Rattle.constraint.specs.Steps.{Step}
 use Rattle.constraint.specs.Continuation.{BrokenAt}
-use Rattle.constraint.specs.Run.{stepFor}
-use Rattle.constraint.specs.Withdrawals.{Request, asks, withdraws, Left, requestQuestions, butLast, leftBy, RunRequests, done, request, Keeps, Begins}
+use Rattle.constraint.specs.Run.{stepFor, Request, asks, withdraws, Left, Run, done, request, Keeps}
 use Rattle.constraint.specs.declared.Answer.{Answer}
 use Rattle.constraint.specs.declared.Answer.the-variants.{Taken, Refused}
+use Rattle.constraint.specs.declared.Call.{Call}
 use Rattle.constraint.specs.declared.Constraint.{Constraint}
-use Rattle.constraint.proofs.Judged.{judged-once}
 use Rattle.constraint.proofs.Verdicts.{broken-later}
 
 -- ---- a list without its last
 
+abbrev pub butLast : List Step → List Step
+butLast steps = take (length steps - 1) steps
+
 pub but-last : (steps : List Step) (s : Step) → butLast (steps ++ (s ∷ [])) ≡ steps
-unfolding butLast
-but-last [] s = refl
-but-last (x ∷ []) s = refl
-but-last (x ∷ y ∷ steps) s = ap (λ (l : List Step). x ∷ l) (but-last (y ∷ steps) s)
+but-last steps s =
+    let less : length (steps ++ (s ∷ [])) - 1 ≡ length steps = omega (arith, length-append steps (s ∷ [])) in
+    ap (λ (n : ℕ). take n (steps ++ (s ∷ []))) less ∙ take-append-seam steps (s ∷ [])
 
-but-last-behind : (steps : List Step) (s : Step) (later : List Step) → butLast (steps ++ (s ∷ later)) ≡ steps ++ butLast (s ∷ later)
-unfolding butLast
-but-last-behind [] s later = refl
-but-last-behind (x ∷ []) s later = refl
-but-last-behind (x ∷ y ∷ steps) s later = ap (λ (l : List Step). x ∷ l) (but-last-behind (y ∷ steps) s later)
+-- one list of steps begins with another
+abbrev pub Begins : List Step → List Step → Type 0
+Begins steps all = (later : List Step) × (all ≡ steps ++ later)
 
--- ---- one list of answers, and one list left
-
-pub requests-once : (rows : List Constraint) {left end end′ : Left} {requests : List Request} {xs ys : List Answer}
-    → RunRequests rows left requests xs end → RunRequests rows left requests ys end′ → (xs ≡ ys) × (end ≡ end′)
-requests-once rows done done = (refl, refl)
-requests-once rows (request {left = left} {end = e} {requests = requests} {answers = xs} r a j rest) (request {end = f} {answers = ys} _ b k other) =
-    let same : a ≡ b = judged-once (requestQuestions rows left r) a b j k in
-    let later : (xs ≡ ys) × (e ≡ f) = requests-once rows rest (subst (λ x. RunRequests rows (leftBy left r x) requests ys f) (sym same) other) in
-    (ap₂ (λ (x : Answer) (l : List Answer). x ∷ l) same (later .0), later .1)
+-- the first so many of a list, and no fewer than its beginning has, begin with it
+take-begins : (n : ℕ) (first later : List Step) → length first ≤ n → Begins first (take n (first ++ later))
+take-begins n [] later h = (take n later, refl)
+take-begins zero (x ∷ first) later h = absurd (omega (arith, h))
+take-begins (suc n) (x ∷ first) later h =
+    let rest = take-begins n first later (omega (arith, h)) in (rest .0, ap (λ (l : List Step). x ∷ l) (rest .1))
 
 -- ---- what is left begins with the steps that are kept
 
 begins-more : (first steps : List Step) (s : Step) → Begins first steps → Begins first (steps ++ (s ∷ []))
 begins-more first steps s b = (b .0 ++ (s ∷ []), ap (λ (l : List Step). l ++ (s ∷ [])) (b .1) ∙ append-assoc first (b .0) (s ∷ []))
 
-begins-less : (first steps : List Step) → length first < length steps → Begins first steps → Begins first (butLast steps)
-begins-less first steps longer ([], e) = absurd (omega (arith, ap {A = List Step} length (e ∙ append-nil first)))
-begins-less first steps longer (s ∷ later, e) = (butLast (s ∷ later), ap butLast e ∙ but-last-behind first s later)
+begins-less : (first steps : List Step) (n : ℕ) → length first ≤ length (take n steps) → Begins first steps → Begins first (take n steps)
+begins-less first steps n enough b =
+    subst (λ (l : List Step). Begins first (take n l)) (sym (b .1)) (take-begins n first (b .0) (omega (arith, enough, length-take n steps)))
 
 pub keeps-begins : (first : List Step) {rows : List Constraint} {left end : Left} {requests : List Request} {answers : List Answer}
-    (run : RunRequests rows left requests answers end) → Keeps (length first) run → Begins first (left .steps) → Begins first (end .steps)
+    (run : Run rows left requests answers end) → Keeps (length first) run → Begins first (left .steps) → Begins first (end .steps)
 keeps-begins first done keeps b = b
-keeps-begins first (request {left = left} (asks call) Taken judged rest) keeps b = keeps-begins first rest keeps (begins-more first (left .steps) (stepFor call) b)
-keeps-begins first (request (asks call) (Refused n) judged rest) keeps b = keeps-begins first rest keeps b
-keeps-begins first (request {left = left} withdraws Taken judged rest) keeps b = keeps-begins first rest (keeps .1) (begins-less first (left .steps) (keeps .0) b)
-keeps-begins first (request withdraws (Refused n) judged rest) keeps b = keeps-begins first rest keeps b
+keeps-begins first (request {left = left} (asks call) Taken judged rest) keeps b = keeps-begins first rest (keeps .1) (begins-more first (left .steps) (stepFor call) b)
+keeps-begins first (request {left = left} withdraws Taken judged rest) keeps b = keeps-begins first rest (keeps .1) (begins-less first (left .steps) (length (left .steps) - 1) (keeps .0) b)
+keeps-begins first (request r (Refused n) judged rest) keeps b = keeps-begins first rest (keeps .1) b
+
+-- a list of calls withdraws nothing
+pub calls-keep : (n : ℕ) {rows : List Constraint} (calls : List Call) {left end : Left} {answers : List Answer}
+    (run : Run rows left (map asks calls) answers end) → n ≤ length (left .steps) → Keeps n run
+calls-keep n [] done h = tt
+calls-keep n (s ∷ calls) (request {left = left} _ Taken judged rest) h =
+    let more : n ≤ length (left .steps ++ (stepFor s ∷ [])) = omega (arith, h, length-append (left .steps) (stepFor s ∷ [])) in
+    (more, calls-keep n calls rest more)
+calls-keep n (s ∷ calls) (request _ (Refused k) judged rest) h = (h, calls-keep n calls rest h)
 
 -- a row that the first steps broke is broken after all of them, at the same step
 broken-behind : (c : Constraint) (n : ℕ) (steps later : List Step) → BrokenAt c steps n → BrokenAt c (steps ++ later) n

@@ -21,7 +21,6 @@ pub mod Accepted
 pub mod Rows
 pub mod Run
 pub mod Promise
-pub mod Withdrawals
 pub mod Bytes
 pub mod Table
 pub mod Recording

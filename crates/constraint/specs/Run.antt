@@ -1,10 +1,10 @@
--- Lists of calls: the answer to each, and the steps accepted (§3.1 to §3.3, §9.5).
-use Prim.Native.Nat.{ℕ, _≤_, _<_}
+-- Lists of calls and withdrawals: the answer to each, and the steps that are left (§3.1 to §3.3, §3.12 to §3.15, §8.21, §9.5).
+use Prim.Native.Nat.{ℕ, _-_, _≤_, _<_}
 use mathlib.Core.Path.{_≡_}
-use mathlib.Core.Bool.{false}
+use mathlib.Core.Bool.{Bool, true, false}
 use mathlib.Core.List.{List, [], _∷_, _++_}
 use mathlib.Core.Option.{some}
-use lib.ListN.{length, getElem?}
+use lib.ListN.{length, take, getElem?}
 use Rattle.constraint.specs.Limits.{lastKind, firstColoured, lastColour, lastTime, lastCount, waitingLimit}
 use Rattle.constraint.specs.Streams.{stream}
 use Rattle.constraint.specs.Steps.{Step, event, tick, close, clock, closed}
@@ -44,13 +44,40 @@ questions rows steps (Call.Tick t) =
     ∷ (12, Room rows (steps ++ (tick t ∷ []))) ∷ []
 questions rows steps Call.Close = (8, closed steps ≡ false) ∷ (24, length steps < lastCount) ∷ []
 
--- §3.3: the accepted steps once the call has its answer: one more where it is taken, the same where it is refused
-abbrev pub recorded : List Step → Call → Answer → List Step
-recorded steps c Taken = steps ++ (stepFor c ∷ [])
-recorded steps c (Refused n) = steps
+-- ---- withdrawals
 
--- §3.3: the calls one after the other, from the steps accepted before to those accepted in the end
-pub data Run (rows : List Constraint) : List Step → List Call → List Answer → List Step → Type 0 where
-  done : {steps : List Step} → Run rows steps [] [] steps
-  call : {steps end : List Step} {calls : List Call} {answers : List Answer} (c : Call) (a : Answer)
-      → Judged (questions rows steps c) a → Run rows (recorded steps c a) calls answers end → Run rows steps (c ∷ calls) (a ∷ answers) end
+-- §3.12: what a monitor is asked: a call, or to withdraw the last step
+pub data Request : Type 0 where
+  asks : Call → Request
+  withdraws : Request
+
+-- §3.12: the steps that are left, and whether the last of them may be withdrawn
+pub record Left : Type 0 where
+  pub steps : List Step
+  pub may : Bool
+
+abbrev pub noneLeft : Left
+noneLeft = record { steps = []; may = false }
+
+-- §9.5 over the steps that are left, and §8.21
+abbrev pub requestQuestions : List Constraint → Left → Request → List Question
+requestQuestions rows left (asks call) = questions rows (left .steps) call
+requestQuestions rows left withdraws = (21, left .may ≡ true) ∷ []
+
+-- §3.3, §3.12: what is left once the request has its answer. A refusal changes nothing; a step that is taken may be withdrawn; one that is
+-- withdrawn is struck out, and the one before it stays. `take n steps` are the first n
+abbrev pub leftBy : Left → Request → Answer → Left
+leftBy left r (Refused n) = left
+leftBy left (asks call) Taken = record { steps = left .steps ++ (stepFor call ∷ []); may = true }
+leftBy left withdraws Taken = record { steps = take (length (left .steps) - 1) (left .steps); may = false }
+
+-- §3.3, §3.13: the requests one after the other, from what was left before to what is left in the end
+pub data Run (rows : List Constraint) : Left → List Request → List Answer → Left → Type 0 where
+  done : {left : Left} → Run rows left [] [] left
+  request : {left end : Left} {requests : List Request} {answers : List Answer} (r : Request) (a : Answer)
+      → Judged (requestQuestions rows left r) a → Run rows (leftBy left r a) requests answers end → Run rows left (r ∷ requests) (a ∷ answers) end
+
+-- §3.15: none of the first n steps is withdrawn: so many are left after each request
+abbrev pub Keeps : ℕ → {rows : List Constraint} {left end : Left} {requests : List Request} {answers : List Answer} → Run rows left requests answers end → Type 0
+Keeps n done = Unit {0}
+Keeps n (request {left = left} r a judged rest) = (n ≤ length (leftBy left r a .steps)) × Keeps n rest

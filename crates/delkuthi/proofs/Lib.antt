@@ -16,3 +16,4 @@ pub mod RecordNumbers
 pub mod StampNumbers
 pub mod JoinNumbers
 pub mod StampWords
+pub mod LentExact

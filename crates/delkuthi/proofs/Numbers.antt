@@ -32,7 +32,7 @@ use Rattle.delkuthi.specs.Lent.{
 }
 use Rattle.monitor.specs.declared.Monitor.{Monitor}
 use Rattle.monitor.specs.declared.Stepped.{Stepped}
-use Rattle.monitor.proofs.Demand.{after-follows}
+use Rattle.monitor.proofs.Withdrawing.{after-follows}
 use Rattle.monitor.proofs.RowVerdicts.{verdict-by-is}
 use Rattle.monitor.proofs.Theorem.{step-kept as steps-kept, reading-kept}
 use Rattle.stamps.proofs.Answers.{within}
@@ -61,8 +61,8 @@ number-kept : (number : Option Verdict → ℕ) (m : Monitor) (i answer : ℕ) �
 number-kept number m i answer e =
     record {
       equals = e;
-      means = λ rows calls accepted after-calls.
-          let read = reading-kept m i refl .means rows calls accepted after-calls in
+      means = λ rows requests accepted after-requests.
+          let read = reading-kept m i refl .means rows requests accepted after-requests in
           (read .0, read .1, verdictOf m i, read .2, e);
     }
 
@@ -78,9 +78,9 @@ word-kept m i word full made =
     let e = number-read wordOf m i word full made in
     record {
       says = number-kept wordOf m i word e;
-      no-row = λ rows calls accepted after-calls.
-          let read = reading-kept m i refl .means rows calls accepted after-calls in
-          rw e (missing rows (read .0) i (verdictOf m i) (read .2));
+      no-row = λ rows requests accepted after-requests.
+          let read = reading-kept m i refl .means rows requests accepted after-requests in
+          rw e (missing rows (read .0 .steps) i (verdictOf m i) (read .2));
     }
 
 -- a verdict of the machine is broken exactly where its step is not 0
@@ -112,4 +112,4 @@ step-kept m i step full made =
 
 pub rows-kept : (m : Monitor) → NumberOfRows m (m .len)
 rows-kept m =
-    record { equals = refl; means = λ rows calls accepted e. ap (λ (x : Monitor). x .len) e ∙ after-follows engine rows calls accepted .2 .len-is }
+    record { equals = refl; means = λ rows requests accepted e. ap (λ (x : Monitor). x .len) e ∙ after-follows engine rows requests accepted .2 .len-is }

@@ -2,6 +2,7 @@
 -- told is told of either.
 use Prim.Native.Nat.{ℕ, _+_, _*_, _/_, _%_, _<_}
 use mathlib.Core.Path.{_≡_, refl, sym, ap, subst, _∙_}
+use mathlib.Core.Bool.{false}
 use mathlib.Core.List.{List, []}
 use native.Mathlib.Omega.{arith}
 use Rattle.constraint.specs.Run.{done}
@@ -38,7 +39,7 @@ module _ (table : List ℕ) (before : Indexed) where
         (taken .0 .means (over .0) (record {
           accepted = read-accepted table (over .0) (over .1);
           calls = [];
-          recorded = ([], done);
+          all-taken = (false, done);
           made = over .2;
         })) (taken .1)
 

@@ -20,7 +20,7 @@ use Rattle.constraint.specs.Continuation.{Reads, reads-open, reads-kept, reads-
 use Rattle.constraint.specs.Accepted.{Accepted}
 use Rattle.constraint.specs.Report.{EachReads, no-row, row-reads}
 use Rattle.constraint.specs.Page.{nameOf, verdictAt, pageText, PageOf, page-of, Pages, page-written, page-too-short, lineRead}
-use Rattle.constraint.specs.declared.Call.{Call}
+use Rattle.constraint.specs.Run.{Request, Left}
 use Rattle.constraint.specs.declared.Constraint.{Constraint}
 use Rattle.constraint.specs.declared.Constraint.the-variants.{Delay, StrongDelay, Repeat, Sporadic, Burst, Order}
 use Rattle.constraint.specs.declared.Constraint.the-variants.{StrongSynchronization2, StrongSynchronization3, StrongSynchronization4, ExecutionTime, Reaction, Repetition}
@@ -33,11 +33,11 @@ use Rattle.row.specs.Machine.{rowVerdict}
 use Rattle.row.specs.declared.Row.{Row}
 use Rattle.row.proofs.Engine.{engine}
 use Rattle.monitor.specs.Machine.{noRow, verdictOf}
-use Rattle.monitor.specs.Contract.{after, Recorded}
+use Rattle.monitor.specs.Contract.{after, Remains}
 use Rattle.monitor.specs.declared.Monitor.{Monitor}
 use Rattle.monitor.proofs.FittingRows.{FitRows}
 use Rattle.monitor.proofs.Following.{Follows}
-use Rattle.monitor.proofs.Demand.{after-follows}
+use Rattle.monitor.proofs.Withdrawing.{after-follows}
 use Rattle.monitor.proofs.Theorem.{row-reads as monitor-reads}
 use Rattle.page.specs.Sheet.{verdictOf as madeOf, verdictsOf, blankPage, withRow, textOf}
 use Rattle.page.specs.declared.Page.{Page}
@@ -164,41 +164,41 @@ row-in [] i h = absurd (omega arith)
 row-in (c ∷ rows) zero h = (c, refl)
 row-in (c ∷ rows) (suc i) h = row-in rows i (omega arith)
 
-module _ (rows : List Constraint) (calls : List Call) (accepted : Accepted rows) where
+module _ (rows : List Constraint) (requests : List Request) (accepted : Accepted rows) where
   abbrev m : Monitor
-  m = after rows calls
+  m = after rows requests
 
   abbrev v : ℕ → Verdict
   v i = madeOf (m .closed) (brokenIn m i)
 
-  abbrev followed : (steps : List Step) × Recorded rows calls steps × Follows engine rows steps m
-  followed = after-follows engine rows calls accepted
+  abbrev followed : (left : Left) × Remains rows requests left × Follows engine rows (left .steps) m
+  followed = after-follows engine rows requests accepted
 
   count-is : printedRows m ≡ length rows
   count-is = omega (arith, followed .2 .len-is, followed .2 .few)
 
   type-is : (i : ℕ) → i < length rows → typeIn m i ≡ at (map typeOf rows) i
-  type-is i h = types-fit (followed .0) rows (m .rows) (followed .2 .fit) i h
+  type-is i h = types-fit (followed .0 .steps) rows (m .rows) (followed .2 .fit) i h
 
   verdict-is : (i : ℕ) → i < length rows → verdictOf m i ≡ some (v i)
   verdict-is i h = verdict-made m i (omega (arith, followed .2 .len-is)) (omega (arith, followed .2 .few))
 
-  row-says : (i : ℕ) (c : Constraint) → getElem? rows i ≡ some c → Reads c (followed .0) (v i)
+  row-says : (i : ℕ) (c : Constraint) → getElem? rows i ≡ some c → Reads c (followed .0 .steps) (v i)
   row-says i c there =
-      let read = monitor-reads rows calls (followed .0) accepted (followed .1) i c there in
+      let read = monitor-reads rows requests (followed .0) accepted (followed .1) i c there in
       let same : some (read .0) ≡ some (v i) = sym (read .1) ∙ verdict-is i (within rows i c there) in
       let equal : read .0 ≡ v i = cc in
-      subst (λ (w : Verdict). Reads c (followed .0) w) equal (read .2)
+      subst (λ (w : Verdict). Reads c (followed .0 .steps) w) equal (read .2)
 
-  -- the page of a monitor that calls have made is that of what its rows read
-  printed-reads : (steps : List Step) × Recorded rows calls steps × PageOf rows steps (printed m)
+  -- the page of a monitor that requests have made is that of what its rows read
+  printed-reads : (left : Left) × Remains rows requests left × PageOf rows (left .steps) (printed m)
   printed-reads =
       let verdicts = listed v (length rows) in (
         followed .0,
         followed .1,
-        subst (λ (page : List ℕ). PageOf rows (followed .0) page)
+        subst (λ (page : List ℕ). PageOf rows (followed .0 .steps) page)
             (same-rows (at (map typeOf rows)) (typeIn m) (verdictAt verdicts) v (length rows) (λ i h. sym (type-is i h)) (listed-at v (length rows))
-            ∙ ap (pageText (typeIn m) v) (sym count-is)) (page-of verdicts (each-listed (followed .0) rows v row-says)),
+            ∙ ap (pageText (typeIn m) v) (sym count-is)) (page-of verdicts (each-listed (followed .0 .steps) rows v row-says)),
       )
 
   -- ---- what is read off
@@ -209,7 +209,7 @@ module _ (rows : List Constraint) (calls : List Call) (accepted : Accepted rows)
   printed-fits : (i : ℕ) → i < printedRows m → StepFits (v i)
   printed-fits i h =
       let there = row-in rows i (omega (arith, count-is)) in
-      reads-fits (there .0) (followed .0) (v i) (followed .2 .valid) (row-says i (there .0) (there .1))
+      reads-fits (there .0) (followed .0 .steps) (v i) (followed .2 .valid) (row-says i (there .0) (there .1))
 
   -- a row's line gives back its number, the name of its type, and what the call for its verdict answers
   pub printed-back : (i : ℕ) → i < length rows
@@ -219,18 +219,18 @@ module _ (rows : List Constraint) (calls : List Call) (accepted : Accepted rows)
       rw (← type-is i h, verdict-is i h) (page-reads-back (typeIn m) v (printedRows m) i printed-few there (printed-fits i there))
 
 -- two pages of the same bytes: as many rows, and the same verdict of each
-pub printed-alike : (rows others : List Constraint) (calls more : List Call) (accepted : Accepted rows) (accepted′ : Accepted others)
-    → printed (after rows calls) ≡ printed (after others more)
-    → (length rows ≡ length others) × ((i : ℕ) → i < length rows → verdictOf (after rows calls) i ≡ verdictOf (after others more) i)
-printed-alike rows others calls more accepted accepted′ e =
-    let m = after rows calls in
+pub printed-alike : (rows others : List Constraint) (requests more : List Request) (accepted : Accepted rows) (accepted′ : Accepted others)
+    → printed (after rows requests) ≡ printed (after others more)
+    → (length rows ≡ length others) × ((i : ℕ) → i < length rows → verdictOf (after rows requests) i ≡ verdictOf (after others more) i)
+printed-alike rows others requests more accepted accepted′ e =
+    let m = after rows requests in
     let n = after others more in
-    let alike = equal-pages (typeIn m) (typeIn n) (v rows calls accepted) (v others more accepted′) (printedRows m) (printedRows n)
-    (printed-few rows calls accepted) (printed-few others more accepted′) (printed-fits rows calls accepted) (printed-fits others more accepted′) e in
-    let one = count-is rows calls accepted in
+    let alike = equal-pages (typeIn m) (typeIn n) (v rows requests accepted) (v others more accepted′) (printedRows m) (printedRows n)
+    (printed-few rows requests accepted) (printed-few others more accepted′) (printed-fits rows requests accepted) (printed-fits others more accepted′) e in
+    let one = count-is rows requests accepted in
     let other = count-is others more accepted′ in (
       omega (arith, alike .0, one, other),
-      λ i h. verdict-is rows calls accepted i h ∙ ap some (alike .1 i (omega (arith, one)))
+      λ i h. verdict-is rows requests accepted i h ∙ ap some (alike .1 i (omega (arith, one)))
           ∙ sym (verdict-is others more accepted′ i (omega (arith, alike .0, one, other))),
     )
 
@@ -249,7 +249,7 @@ page-kept m before answer left copied =
     let equal = subst (λ (text : List ℕ). Copied text before answer left) (filled-text m) copied in
     record {
       equals = equal;
-      means = λ rows calls accepted made.
-          let said = printed-reads rows calls accepted in
-          (said .0, said .1, copied-pages rows (said .0) (printed m) before answer left (rw made (said .2)) equal);
+      means = λ rows requests accepted made.
+          let said = printed-reads rows requests accepted in
+          (said .0, said .1, copied-pages rows (said .0 .steps) (printed m) before answer left (rw made (said .2)) equal);
     }

@@ -10,7 +10,7 @@ use Rattle.constraint.specs.Limits.{lastCount}
 use Rattle.constraint.specs.Streams.{stream}
 use Rattle.constraint.specs.Steps.{Step, at, closed}
 use Rattle.constraint.specs.Questions.{Judged}
-use Rattle.constraint.specs.Run.{stepFor, questions}
+use Rattle.constraint.specs.Run.{stepFor, questions, asks}
 use Rattle.constraint.specs.Bytes.{numberAt}
 use Rattle.constraint.specs.Table.{lengthAt, bodyAt}
 use Rattle.constraint.specs.Recording.{VersionKnown, version-refused, colourIn, callOf, callAt, RecordAt, recordQuestions, recording-of, recording-refused, ReadsRecords, no-more, record-refused, record-taken, version-taken}
@@ -37,10 +37,10 @@ use Rattle.delkuthi.proofs.Taking.{took-judged, took-more}
 -- a step that is refused leaves the monitor as it was
 step-untouched : (m : Monitor) (s : Call) (result : Stepped) (n : ℕ) → result ≡ machineStep m s → result .answer ≡ Refused n → result .monitor ≡ m
 step-untouched m s result n e f =
-    ap (λ (r : Stepped). r .monitor) e ∙ monitor-is-exact .untouched m s n (sym (ap (λ (r : Stepped). r .answer) e) ∙ f)
+    ap (λ (r : Stepped). r .monitor) e ∙ monitor-is-exact .untouched m (asks s) n (sym (ap (λ (r : Stepped). r .answer) e) ∙ f)
 
 -- the answer to a record that stands for a step, which the monitor was given
-step-judged : (rows : List Constraint) (steps : List Step) (m : Monitor) (bytes : List ℕ) (place : ℕ) (s : Call) (size : ℕ) (result : Stepped) → CallAt (at bytes 0) bytes place s size → Steps m s result → Took rows steps m
+step-judged : (rows : List Constraint) (steps : List Step) (m : Monitor) (bytes : List ℕ) (place : ℕ) (s : Call) (size : ℕ) (result : Stepped) → CallAt (at bytes 0) bytes place s size → Steps m (asks s) result → Took rows steps m
     → Judged (recordQuestions rows steps bytes place) (result .answer)
 step-judged rows steps m bytes place s size result read kept took = record-judged rows steps bytes place s size (result .answer) read (took-judged rows steps m took s result kept)
 
@@ -69,7 +69,7 @@ module _ (rows : List Constraint) (bytes : List ℕ) where
 
   module _ (m : Monitor) (place : ℕ) (before : TakenUpTo rows bytes m place) where
     module _ (there : place < length bytes) where
-      module _ (s : Call) (size : ℕ) (read : CallAt (at bytes 0) bytes place s size) (result : Stepped) (kept : Steps m s result) where
+      module _ (s : Call) (size : ℕ) (read : CallAt (at bytes 0) bytes place s size) (result : Stepped) (kept : Steps m (asks s) result) where
         -- the record is taken
         pub up-to-more : result .answer ≡ Taken → TakenUpTo rows bytes (result .monitor) (place + size)
         up-to-more e =
@@ -107,7 +107,7 @@ module _ (rows : List Constraint) (bytes : List ℕ) where
       )
 
     -- the close is taken: the count has room, as each record has ten bytes at least
-    pub up-to-end : (result : Stepped) → VersionKnown bytes → length bytes ≤ lastCount → length bytes ≤ place → Steps m Call.Close result → RecordingTakenAs rows bytes ReadAnswer.Accepted (result .monitor)
+    pub up-to-end : (result : Stepped) → VersionKnown bytes → length bytes ≤ lastCount → length bytes ≤ place → Steps m (asks Call.Close) result → RecordingTakenAs rows bytes ReadAnswer.Accepted (result .monitor)
     unfolding questions Judged
     up-to-end result one fits end kept =
         let asked = took-judged rows (before .steps) m (before .took) Call.Close result kept in
@@ -137,14 +137,14 @@ module _ (fresh : Monitor) (bytes : List ℕ) where
     turn-none there not-there = over {answer = ReadAnswer.Refused 14 place} (record { means = λ rows took. up-to-none rows bytes m place (before .taken rows took) there (before .version) not-there })
 
   -- what follows a turn whose call was answered with a number: the close was taken; a record was refused; or a record was taken
-  pub next-closed : (turn : Turn) (m m′ : Monitor) (number : ℕ) → length bytes ≤ lastCount → length bytes ≤ turn .place → turn .more ≡ true → Turns fresh bytes turn m → Steps m (turn .call) (steppedFrom number m′)
+  pub next-closed : (turn : Turn) (m m′ : Monitor) (number : ℕ) → length bytes ≤ lastCount → length bytes ≤ turn .place → turn .more ≡ true → Turns fresh bytes turn m → Steps m (asks (turn .call)) (steppedFrom number m′)
       → Turns fresh bytes (endsWith ReadAnswer.Accepted) m′ × (left bytes (endsWith ReadAnswer.Accepted) < left bytes turn)
   next-closed turn m m′ number fits end e (on (of-record {place} call size there read) before) kept = never (omega (arith, there, end))
   next-closed turn m m′ number fits end e (on (of-close {place} end′) before) kept =
       (over {answer = ReadAnswer.Accepted} (record { means = λ rows took. up-to-end rows bytes m place (before .taken rows took) (steppedFrom number m′) (before .version) fits end kept }), omega arith)
   next-closed turn m m′ number fits end e (over taken) kept = never (cc)
 
-  pub next-refused : (turn : Turn) (m m′ : Monitor) (number : ℕ) → 0 < number → turn .place < length bytes → turn .more ≡ true → Turns fresh bytes turn m → Steps m (turn .call) (steppedFrom number m′)
+  pub next-refused : (turn : Turn) (m m′ : Monitor) (number : ℕ) → 0 < number → turn .place < length bytes → turn .more ≡ true → Turns fresh bytes turn m → Steps m (asks (turn .call)) (steppedFrom number m′)
       → Turns fresh bytes (endsWith (ReadAnswer.Refused number (turn .place))) m′ × (left bytes (endsWith (ReadAnswer.Refused number (turn .place))) < left bytes turn)
   next-refused turn m m′ zero above there e turns kept = never (omega (arith, above))
   next-refused turn m m′ (suc n) above there e (on (of-record {place} call size there′ read) before) kept =
@@ -152,7 +152,7 @@ module _ (fresh : Monitor) (bytes : List ℕ) where
   next-refused turn m m′ (suc n) above there e (on (of-close end) before) kept = never (omega (arith, there, end))
   next-refused turn m m′ (suc n) above there e (over taken) kept = never (cc)
 
-  pub next-taken : (turn : Turn) (m m′ : Monitor) (number : ℕ) → number ≤ 0 → turn .place < length bytes → turn .more ≡ true → Turns fresh bytes turn m → Steps m (turn .call) (steppedFrom number m′)
+  pub next-taken : (turn : Turn) (m m′ : Monitor) (number : ℕ) → number ≤ 0 → turn .place < length bytes → turn .more ≡ true → Turns fresh bytes turn m → Steps m (asks (turn .call)) (steppedFrom number m′)
       → UpTo fresh bytes (turn .next) m′ × (left bytes (goesOn Call.Close (turn .next) (turn .next)) < left bytes turn)
   next-taken turn m m′ (suc n) none there e turns kept = never (omega (arith, none))
   next-taken turn m m′ zero none there e (on (of-record {place} call size there′ read) before) kept =

@@ -4,14 +4,13 @@ use mathlib.Core.Path.{_≡_}
 use mathlib.Core.List.{List}
 use lib.ListN.{getD}
 use Rattle.constraint.specs.Limits.{rowLimit}
-use Rattle.constraint.specs.Steps.{Step}
+use Rattle.constraint.specs.Run.{Request, Left}
 use Rattle.constraint.specs.Accepted.{Accepted}
 use Rattle.constraint.specs.Page.{pageText, Pages}
-use Rattle.constraint.specs.declared.Call.{Call}
 use Rattle.constraint.specs.declared.Constraint.{Constraint}
 use Rattle.text.specs.Content.{Copied}
 use Rattle.monitor.specs.Machine.{noRow}
-use Rattle.monitor.specs.Contract.{after, Recorded}
+use Rattle.monitor.specs.Contract.{after, Remains}
 use Rattle.monitor.specs.declared.Monitor.{Monitor}
 use Rattle.page.specs.Sheet.{verdictOf, blankPage, withRow}
 use Rattle.page.specs.declared.Page.{Page}
@@ -36,9 +35,9 @@ filled m (suc i) = withRow (filled m i) i (typeIn m i) (brokenIn m i)
 abbrev pub printed : Monitor → List ℕ
 printed m = pageText (typeIn m) (λ i. verdictOf (m .closed) (brokenIn m i)) (printedRows m)
 
--- §7.14, §7.19: the page, or 0 in a buffer that is too short: of a monitor that calls have made, what each row reads after what they
--- have recorded
-pub record WritesPage (m : Monitor) (before : List ℕ) (answer : ℕ) (left : List ℕ) : Type 0 where
-  pub equals : Copied (printed m) before answer left
-  pub means : (rows : List Constraint) (calls : List Call) → Accepted rows → m ≡ after rows calls
-      → (steps : List Step) × Recorded rows calls steps × Pages rows steps before answer left
+-- §7.14, §7.19: the page, or 0 in a buffer that is too short: of a monitor that requests have made, what each row reads after the
+-- steps that they have left
+pub record WritesPage (m : Monitor) (before : List ℕ) (answer : ℕ) (written : List ℕ) : Type 0 where
+  pub equals : Copied (printed m) before answer written
+  pub means : (rows : List Constraint) (requests : List Request) → Accepted rows → m ≡ after rows requests
+      → (left : Left) × Remains rows requests left × Pages rows (left .steps) before answer written

@@ -2,7 +2,7 @@
 use Prim.Native.Nat.{ℕ, suc, _+_, _-_, _≤_, _<_}
 use mathlib.Core.Path.{_≡_}
 use mathlib.Core.Bool.{true, false, cond}
-use mathlib.Core.List.{List, [], _∷_, _++_}
+use mathlib.Core.List.{List, [], _∷_, _++_, map}
 use lib.ListN.{length}
 use Rattle.constraint.specs.Steps.{Step, close, at, closed}
 use Rattle.constraint.specs.Questions.{Judged}
@@ -10,10 +10,11 @@ use Rattle.constraint.specs.Accepted.{Accepted}
 use Rattle.constraint.specs.Table.{lengthAt}
 use Rattle.constraint.specs.Recording.{VersionKnown, callAt, recordQuestions, RecordingRead, recording-of, recording-refused, ReadsRecords, ReadsRecording}
 use Rattle.constraint.specs.declared.Answer.the-variants.{Taken}
-use Rattle.constraint.specs.Run.{stepFor}
+use Rattle.constraint.specs.Run.{stepFor, asks}
 use Rattle.constraint.specs.declared.Call.{Call}
 use Rattle.constraint.specs.declared.Constraint.{Constraint}
-use Rattle.monitor.specs.Contract.{after, Recorded, Steps}
+use Rattle.monitor.specs.Contract.{after, Steps}
+use Rattle.monitor.specs.Beside.{Takes}
 use Rattle.monitor.specs.declared.Monitor.{Monitor}
 use Rattle.inplace.specs.Store.{steppedFrom}
 use Rattle.inplace.specs.Index.{Indexes}
@@ -22,12 +23,12 @@ use Rattle.recording.specs.Record.{CallAt}
 use Rattle.delkuthi.specs.declared.records.Turn.{Turn}
 use Rattle.table.specs.declared.ReadAnswer.{ReadAnswer}
 
--- a monitor over an accepted table after calls that have recorded just these steps
+-- a monitor over an accepted table after calls that are all taken and have recorded just these steps
 pub record Took (rows : List Constraint) (steps : List Step) (m : Monitor) : Type 0 where
   pub accepted : Accepted rows
   pub calls : List Call
-  pub recorded : Recorded rows calls steps
-  pub made : m ≡ after rows calls
+  pub all-taken : Takes rows calls steps
+  pub made : m ≡ after rows (map asks calls)
 
 -- the steps of the records before a place: none before the version byte and before the first record, which stands behind it
 pub data StepsBefore (rows : List Constraint) (bytes : List ℕ) : ℕ → List Step → Type 0 where
@@ -103,5 +104,5 @@ NextFrom bytes place turn =
 -- what is next after a turn whose call a monitor answered with a number
 abbrev pub NextAfter : List ℕ → Turn → ℕ → Turn → Type 0
 NextAfter bytes before number turn =
-    (fresh m m′ : Monitor) → before .more ≡ true → Turns fresh bytes before m → Steps m (before .call) (steppedFrom number m′)
+    (fresh m m′ : Monitor) → before .more ≡ true → Turns fresh bytes before m → Steps m (asks (before .call)) (steppedFrom number m′)
     → Turns fresh bytes turn m′ × (left bytes turn < left bytes before)

@@ -10,7 +10,8 @@ ghost use mathlib.Core.Path.{_≡_};
 ghost use Rattle.constraint.specs.declared.Call.{Call};
 ghost use Rattle.monitor.specs.Contract.{verdictIn, stepIn};
 ghost use Rattle.monitor.specs.Parts.{verdictBy};
-ghost use Rattle.inplace.specs.Index.{Takes, TakesBack};
+ghost use Rattle.constraint.specs.Run.{asks, withdraws};
+ghost use Rattle.inplace.specs.Index.{Takes};
 ghost use Rattle.opening.specs.Begins.{Begins};
 ghost use Rattle.delkuthi.specs.Lent.{wordOf, WordOfVerdict, StepOfVerdict, NumberOfRows, version, monitorSize};
 
@@ -83,7 +84,7 @@ fn step_by(row: u64, len: usize, closed: u64, broken: u64) -> u64
 // An event of a kind at a time: 0 if it is taken, else the number of its refusal.
 #[no_mangle]
 pub extern "C" fn delkuthi_event(m: &mut Indexed, kind: u8, time: u64) -> u8
-    ensures { λ r. ⌜ Takes (now (m .entry)) (Call.Event kind time) r (now (m .exit)) ⌝ }
+    ensures { λ r. ⌜ Takes (now (m .entry)) (asks (Call.Event kind time)) r (now (m .exit)) ⌝ }
 {
     index::take(m, Call::Event { kind, time })
 }
@@ -91,7 +92,7 @@ pub extern "C" fn delkuthi_event(m: &mut Indexed, kind: u8, time: u64) -> u8
 // An event of a coloured kind and a colour at a time: 0 if it is taken, else the number of its refusal.
 #[no_mangle]
 pub extern "C" fn delkuthi_coloured_event(m: &mut Indexed, kind: u8, colour: u8, time: u64) -> u8
-    ensures { λ r. ⌜ Takes (now (m .entry)) (Call.ColouredEvent kind colour time) r (now (m .exit)) ⌝ }
+    ensures { λ r. ⌜ Takes (now (m .entry)) (asks (Call.ColouredEvent kind colour time)) r (now (m .exit)) ⌝ }
 {
     index::take(m, Call::ColouredEvent { kind, colour, time })
 }
@@ -99,7 +100,7 @@ pub extern "C" fn delkuthi_coloured_event(m: &mut Indexed, kind: u8, colour: u8,
 // A tick to a time: 0 if it is taken, else the number of its refusal.
 #[no_mangle]
 pub extern "C" fn delkuthi_tick(m: &mut Indexed, time: u64) -> u8
-    ensures { λ r. ⌜ Takes (now (m .entry)) (Call.Tick time) r (now (m .exit)) ⌝ }
+    ensures { λ r. ⌜ Takes (now (m .entry)) (asks (Call.Tick time)) r (now (m .exit)) ⌝ }
 {
     index::take(m, Call::Tick { time })
 }
@@ -107,7 +108,7 @@ pub extern "C" fn delkuthi_tick(m: &mut Indexed, time: u64) -> u8
 // The close: 0 if it is taken, else the number of its refusal.
 #[no_mangle]
 pub extern "C" fn delkuthi_close(m: &mut Indexed) -> u8
-    ensures { λ r. ⌜ Takes (now (m .entry)) Call.Close r (now (m .exit)) ⌝ }
+    ensures { λ r. ⌜ Takes (now (m .entry)) (asks Call.Close) r (now (m .exit)) ⌝ }
 {
     index::take(m, Call::Close)
 }
@@ -115,7 +116,7 @@ pub extern "C" fn delkuthi_close(m: &mut Indexed) -> u8
 // The last step is withdrawn: 0, or 21 where nothing may be withdrawn.
 #[no_mangle]
 pub extern "C" fn delkuthi_withdraw(m: &mut Indexed) -> u8
-    ensures { λ r. ⌜ TakesBack (now (m .entry)) r (now (m .exit)) ⌝ }
+    ensures { λ r. ⌜ Takes (now (m .entry)) withdraws r (now (m .exit)) ⌝ }
 {
     index::withdraw(m)
 }

@@ -1,5 +1,5 @@
 -- The contract's examples read as it says: the machine computes each verdict, with every call taken, and §3.6 makes it the definition's.
-use mathlib.Core.Path.{_≡_, refl, sym, _∙_, ap, subst}
+use mathlib.Core.Path.{_≡_, refl, sym, _∙_, ap, subst, subst₂}
 use mathlib.Core.Bool.{Bool, true, false, _&&_}
 use mathlib.Core.List.{List, [], _∷_, _++_, map, append-nil, append-assoc}
 use mathlib.Core.Option.{Option, none, some}
@@ -8,7 +8,7 @@ use borrow.Author.Tests.{eqb-true}
 use Rattle.constraint.specs.Limits.{noLimit}
 use Rattle.constraint.specs.Steps.{Step}
 use Rattle.constraint.specs.Continuation.{Reads}
-use Rattle.constraint.specs.Run.{stepFor, Run, done, call}
+use Rattle.constraint.specs.Run.{stepFor, asks, Left, noneLeft, Run, done, request}
 use Rattle.constraint.specs.Promise.{ReadsRow, row, play, Played}
 use Rattle.constraint.specs.Examples.{Example, examples, unlimited-delays, silences, execution-times, reactions, repetitions, long-clocks}
 use Rattle.constraint.specs.Examples.{crowdedRows, crowdedCalls, crowdedAnswers}
@@ -76,7 +76,7 @@ is-verdict (some (Broken m)) Kept e = both (sym e)
 
 -- the machine over the example's row alone, after its calls
 playOf : Example → Played Monitor
-playOf e = play step (monitorOf (e .constraint ∷ [])) (e .calls)
+playOf e = play step (monitorOf (e .constraint ∷ [])) (map asks (e .calls))
 
 -- the row is accepted, the machine takes every call, and reads the verdict
 computes : Example → Bool
@@ -117,12 +117,14 @@ long-clocks-computed = refl
 -- ---- so each reads by the definitions what the machine computes
 
 -- calls that are all taken are the steps accepted
-run-taken : {rows : List Constraint} {steps end : List Step} {calls : List Call} {answers : List Answer}
-    → Run rows steps calls answers end → allTaken answers ≡ true → end ≡ steps ++ map stepFor calls
+run-taken : {rows : List Constraint} (calls : List Call) {left end : Left} {answers : List Answer}
+    → Run rows left (map asks calls) answers end → allTaken answers ≡ true → (end .steps ≡ left .steps ++ map stepFor calls) × (answers ≡ map (λ call. Taken) calls)
 unfolding allTaken
-run-taken (done {steps = steps}) e = sym (append-nil steps)
-run-taken (call {steps = steps} {calls = calls} s Taken judged rest) e = run-taken rest e ∙ append-assoc steps (stepFor s ∷ []) (map stepFor calls)
-run-taken (call s (Refused n) judged rest) e = never (cc)
+run-taken [] (done {left = left}) e = (sym (append-nil (left .steps)), refl)
+run-taken (s ∷ calls) (request {left = left} _ Taken judged rest) e =
+    let later = run-taken calls rest e in
+    (later .0 ∙ append-assoc (left .steps) (stepFor s ∷ []) (map stepFor calls), ap (λ (l : List Answer). Taken ∷ l) (later .1))
+run-taken (s ∷ calls) (request _ (Refused n) judged rest) e = never (cc)
 
 only-row : (c : Constraint) (steps : List Step) (v : Verdict) → ReadsRow (c ∷ []) steps 0 (some v) → Reads c steps v
 only-row c steps v (row d w e r) = let same : d ≡ c = cc in subst (λ x. Reads x steps w) same r
@@ -134,12 +136,15 @@ reads-so e computed =
     let parts = and-true (fits (e .constraint)) _ computed in
     let later = and-true (allTaken (playOf e .answers)) _ (parts .1) in
     let reads : verdictOf (playOf e .monitor) 0 ≡ some (e .verdict) = is-verdict _ (e .verdict) (later .1) in
-    let exact = monitor-is-exact .exact rows (accepted-by (e .constraint) (parts .0)) (e .calls) in
-    let all = run-taken (exact .1) (later .0) in
-    let row-reads : ReadsRow rows (exact .0) 0 (some (e .verdict)) = subst (ReadsRow rows (exact .0) 0) reads (exact .2 0) in
+    let exact = monitor-is-exact .exact rows (accepted-by (e .constraint) (parts .0)) (map asks (e .calls)) in
+    let all = run-taken (e .calls) (exact .1) (later .0) in
+    let row-reads : ReadsRow rows (exact .0 .steps) 0 (some (e .verdict)) = subst (ReadsRow rows (exact .0 .steps) 0) reads (exact .2 0) in
     record {
-      taken = (playOf e .answers, subst (λ steps. Run rows [] (e .calls) (playOf e .answers) steps) all (exact .1));
-      defined = only-row (e .constraint) (stepsOf e) (e .verdict) (subst (λ steps. ReadsRow rows steps 0 (some (e .verdict))) all row-reads);
+      taken = (
+        exact .0 .may,
+        subst₂ (λ (answers : List Answer) (steps : List Step). Run rows noneLeft (map asks (e .calls)) answers (record { steps = steps; may = exact .0 .may })) (all .1) (all .0) (exact .1),
+      );
+      defined = only-row (e .constraint) (stepsOf e) (e .verdict) (subst (λ steps. ReadsRow rows steps 0 (some (e .verdict))) (all .0) row-reads);
       monitored = reads;
     }
 
@@ -180,18 +185,18 @@ long-clocks-hold = all-read long-clocks long-clocks-computed
 
 -- what the machine answers to calls over the crowded rows, and what these read then
 crowdedPlay : List Call → Played Monitor
-crowdedPlay calls = play step (monitorOf crowdedRows) calls
+crowdedPlay calls = play step (monitorOf crowdedRows) (map asks calls)
 
 both-read : (calls : List Call) (answers : List Answer) (first second : Verdict) → crowdedPlay calls .answers ≡ answers
     → verdictOf (crowdedPlay calls .monitor) 0 ≡ some first → verdictOf (crowdedPlay calls .monitor) 1 ≡ some second
     → BothRead crowdedRows calls answers first second
 unfolding crowdedPlay
 both-read calls answers first second answered one two =
-    let exact = monitor-is-exact .exact crowdedRows (accepted-both (Delay 0 1 0 noLimit) (Repeat 2 1 0 64) refl refl) calls in (
+    let exact = monitor-is-exact .exact crowdedRows (accepted-both (Delay 0 1 0 noLimit) (Repeat 2 1 0 64) refl refl) (map asks calls) in (
       exact .0,
-      subst (λ list. Run crowdedRows [] calls list (exact .0)) answered (exact .1),
-      subst (ReadsRow crowdedRows (exact .0) 0) one (exact .2 0),
-      subst (ReadsRow crowdedRows (exact .0) 1) two (exact .2 1),
+      subst (λ list. Run crowdedRows noneLeft (map asks calls) list (exact .0)) answered (exact .1),
+      subst (ReadsRow crowdedRows (exact .0 .steps) 0) one (exact .2 0),
+      subst (ReadsRow crowdedRows (exact .0 .steps) 1) two (exact .2 1),
     )
 
 -- §5.3.5

@@ -3,7 +3,7 @@ use mathlib.Core.Path.{_≡_}
 use mathlib.Core.List.{List, [], _∷_, _++_, map}
 use mathlib.Core.Option.{some}
 use Rattle.constraint.specs.Steps.{Step}
-use Rattle.constraint.specs.Run.{stepFor, Run}
+use Rattle.constraint.specs.Run.{stepFor, asks, Left, noneLeft, Run}
 use Rattle.constraint.specs.Continuation.{Reads}
 use Rattle.constraint.specs.Promise.{ReadsRow}
 use Rattle.constraint.specs.declared.Answer.{Answer}
@@ -15,7 +15,8 @@ use Rattle.constraint.specs.declared.Verdict.{Verdict}
 use Rattle.constraint.specs.declared.Verdict.the-variants.{Open, Broken}
 use Rattle.constraint.specs.Examples.{Example, crowdedRows, crowdedCalls, crowdedAnswers}
 use Rattle.monitor.specs.Machine.{verdictOf}
-use Rattle.monitor.specs.Contract.{after, Recorded}
+use Rattle.monitor.specs.Contract.{after}
+use Rattle.monitor.specs.Beside.{Takes}
 
 -- the steps of an example whose calls are all taken
 abbrev pub stepsOf : Example → List Step
@@ -23,9 +24,9 @@ stepsOf e = map stepFor (e .calls)
 
 -- the questions take every call; the row reads so by the definitions, and by the monitor
 pub record ReadsSo (e : Example) : Type 0 where
-  pub taken : Recorded (e .constraint ∷ []) (e .calls) (stepsOf e)
+  pub taken : Takes (e .constraint ∷ []) (e .calls) (stepsOf e)
   pub defined : Reads (e .constraint) (stepsOf e) (e .verdict)
-  pub monitored : verdictOf (after (e .constraint ∷ []) (e .calls)) 0 ≡ some (e .verdict)
+  pub monitored : verdictOf (after (e .constraint ∷ []) (map asks (e .calls))) 0 ≡ some (e .verdict)
 
 -- each example of a list
 abbrev pub AllRead : List Example → Type 0
@@ -35,7 +36,7 @@ AllRead (e ∷ later) = ReadsSo e × AllRead later
 -- calls over two rows get these answers, and the rows read so after them
 abbrev pub BothRead : List Constraint → List Call → List Answer → Verdict → Verdict → Type 0
 BothRead rows calls answers first second =
-    (steps : List Step) × Run rows [] calls answers steps × ReadsRow rows steps 0 (some first) × ReadsRow rows steps 1 (some second)
+    (left : Left) × Run rows noneLeft (map asks calls) answers left × ReadsRow rows (left .steps) 0 (some first) × ReadsRow rows (left .steps) 1 (some second)
 
 -- §5.3.5: a refused step breaks no row; the tick to its time breaks the one that fell silent
 pub record CrowdedSilence : Type 0 where

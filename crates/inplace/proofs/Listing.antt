@@ -9,6 +9,7 @@ use mathlib.Core.List.{List, [], _∷_, _++_}
 use lib.ListN.{length, getD}
 use lib.Dec.{ltb, leb, eqb}
 use borrow.Author.Tests.{lt-ltb, le-ltb, ltb-true, ltb-false, eq-eqb, ne-eqb}
+use Rattle.constraint.specs.Run.{asks}
 use Rattle.constraint.specs.Limits.{rowLimit, noLimit, waitingLimit, lastKind, firstColoured, lastColour, lastCount}
 use Rattle.queue.specs.Ring.{changed}
 use Rattle.constraint.specs.declared.Call.{Call}
@@ -519,7 +520,7 @@ module _ (h : Indexed) (call : Call) (whole : length (h .monitor .rows) ≡ 32) 
     crowd-known : Indexes h → (number : ℕ) → c ≡ rowsCrowded m (q .rows) o number
     crowd-known ix number = c-is ∙ crowd-same ix number
 
-    pub refused-takes : (answer ≡ 0 → ⊥) → Takes h call answer h
+    pub refused-takes : (answer ≡ 0 → ⊥) → Takes h (asks call) answer h
     refused-takes some-number = record { untouched = λ _. refl; steps = λ ix. (refused-steps m call whole c (crowd-known ix) some-number, ix) }
 
     zero-answer : (number : ℕ) (b : Bool) → answerOf number b ≡ 0 → number ≡ 0
@@ -531,14 +532,14 @@ module _ (h : Indexed) (call : Call) (whole : length (h .monitor .rows) ≡ 32) 
     no-crowd zero false e = refl
     no-crowd (suc number) b e = absurd (omega (arith, e))
 
-    pub taken-takes : answer ≡ 0 → Takes h call answer taken
+    pub taken-takes : answer ≡ 0 → Takes h (asks call) answer taken
     taken-takes none =
         record {
           untouched = λ some-number. absurd (some-number none);
           steps = λ ix.
               let answered = zero-answer (q .number) c none in
               let calm-all = sym (crowd-known ix 0) ∙ no-crowd (q .number) c none in (
-                subst (λ (y : Monitor). Steps m call (steppedFrom answer y)) (sym (taken-monitor ix answered calm-all)) (taken-steps m call whole c (crowd-known ix) none),
+                subst (λ (y : Monitor). Steps m (asks call) (steppedFrom answer y)) (sym (taken-monitor ix answered calm-all)) (taken-steps m call whole c (crowd-known ix) none),
                 taken-indexes ix answered calm-all,
               );
         }

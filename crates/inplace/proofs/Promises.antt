@@ -11,10 +11,11 @@ use Rattle.row.specs.Machine.{rowFrom}
 use Rattle.queue.specs.Ring.{putBack}
 use Rattle.monitor.specs.Machine.{noRow, noUndo, placeFor}
 use Rattle.monitor.specs.Parts.{rowsWithout}
-use Rattle.monitor.specs.Contract.{Steps, Withdraws}
+use Rattle.constraint.specs.Run.{asks as call-of, withdraws as withdrawal}
+use Rattle.monitor.specs.Contract.{Steps}
 use Rattle.inplace.specs.Store.{steppedFrom, askedOf, askedBy, answerOf, rowKept, rowChanged, rowHeard, rowEnded, withNumbers}
 use Rattle.inplace.specs.Store.{withdrawalOf, withdrawalBy, rowBack, withUndo}
-use Rattle.inplace.specs.Index.{listSize, listFor, rowOf, rowAt, listedOf, listedBy, crowdsRow, crowdedAt, listCrowded, heeded, hearAt, listHeard, endAt, passed, mayEnd, soonestOf, endedRows, begun, Takes, soonestAfter, TakesBack}
+use Rattle.inplace.specs.Index.{listSize, listFor, rowOf, rowAt, listedOf, listedBy, crowdsRow, crowdedAt, listCrowded, heeded, hearAt, listHeard, endAt, passed, mayEnd, soonestOf, endedRows, begun, Takes, soonestAfter}
 use Rattle.inplace.proofs.Plain.{truth, nothing}
 use Rattle.inplace.proofs.Types.{byte-type, word-type, call-type, rule-type, times-type, state-type, occurrence-type, before-type, moved-type, change-type, seen-type, undo-type, monitor-type}
 use Rattle.inplace.proofs.Types.{asked-type, numbered-type, withdrawal-type, indexed-type, listed-type}
@@ -79,7 +80,7 @@ withdrawal-of =
     record { front = undo-type ∷ word-type ∷ word-type ∷ []; result = withdrawal-type; asks = λ a. no-demand; gives = λ a r. r ≡ withdrawalOf (a .0) (a .1 .0) (a .1 .1 .0) }
 
 abbrev pub by-value : Pure
-by-value = record { front = monitor-type ∷ call-type ∷ []; result = numbered-type; asks = λ a. no-demand; gives = λ a r. Steps (a .0) (a .1 .0) (steppedFrom (r .number) (r .monitor)) }
+by-value = record { front = monitor-type ∷ call-type ∷ []; result = numbered-type; asks = λ a. no-demand; gives = λ a r. Steps (a .0) (call-of (a .1 .0)) (steppedFrom (r .number) (r .monitor)) }
 
 abbrev pub list-of : Pure
 list-of = record { front = occurrence-type ∷ []; result = word-type; asks = λ a. no-demand; gives = λ a r. r ≡ listFor (a .0) }
@@ -169,7 +170,7 @@ abbrev pub put-numbers : Promise monitor-type (asked-type ∷ []) nothing
 put-numbers = record { asks = λ κs h a. demand (a .0 .place < streamCount); gives = λ κs h a r h′. h′ ≡ withNumbers h (a .0) }
 
 abbrev pub take : Promise monitor-type (call-type ∷ []) byte-type
-take = record { asks = λ κs h a. no-demand; gives = λ κs h a r h′. Steps h (a .0) (steppedFrom r h′) }
+take = record { asks = λ κs h a. no-demand; gives = λ κs h a r h′. Steps h (call-of (a .0)) (steppedFrom r h′) }
 
 abbrev pub ask-back : Promise monitor-type [] withdrawal-type
 ask-back = record { asks = λ κs h a. no-demand; gives = λ κs h a r h′. (r ≡ withdrawalBy h) × (h′ ≡ h) }
@@ -184,7 +185,7 @@ abbrev pub put-undo : Promise monitor-type (undo-type ∷ []) nothing
 put-undo = record { asks = λ κs h a. demand (a .0 .place < streamCount); gives = λ κs h a r h′. h′ ≡ withUndo h (a .0) }
 
 abbrev pub withdraw : Promise monitor-type [] byte-type
-withdraw = record { asks = λ κs h a. no-demand; gives = λ κs h a r h′. Withdraws h (steppedFrom r h′) }
+withdraw = record { asks = λ κs h a. no-demand; gives = λ κs h a r h′. Steps h withdrawal (steppedFrom r h′) }
 
 abbrev pub row-ends : Promise monitor-type (word-type ∷ occurrence-type ∷ word-type ∷ []) nothing
 row-ends = record { asks = λ κs h a. demand (a .0 < 32); gives = λ κs h a r h′. h′ ≡ rowEnded h (a .0) (a .1 .0) (a .1 .1 .0) }
@@ -236,7 +237,7 @@ abbrev pub begin : Promise indexed-type (word-type ∷ occurrence-type ∷ word-
 begin = record { asks = λ κs h a. demand (a .0 ≤ 32); gives = λ κs h a r h′. h′ ≡ begun h (a .0) (a .1 .0) (a .1 .1 .0) }
 
 abbrev pub take-indexed : Promise indexed-type (call-type ∷ []) byte-type
-take-indexed = record { asks = λ κs h a. no-demand; gives = λ κs h a r h′. Takes h (a .0) r h′ }
+take-indexed = record { asks = λ κs h a. no-demand; gives = λ κs h a r h′. Takes h (call-of (a .0)) r h′ }
 
 abbrev pub withdraw-indexed : Promise indexed-type [] byte-type
-withdraw-indexed = record { asks = λ κs h a. no-demand; gives = λ κs h a r h′. TakesBack h r h′ }
+withdraw-indexed = record { asks = λ κs h a. no-demand; gives = λ κs h a r h′. Takes h withdrawal r h′ }

@@ -6,6 +6,7 @@ use mathlib.Core.Bool.{Bool, true, false, cond}
 use mathlib.Core.List.{List}
 use lib.ListN.{length, getD, set}
 use lib.Dec.{ltb}
+use Rattle.constraint.specs.Run.{asks, withdraws}
 use Rattle.constraint.specs.Limits.{rowLimit}
 use Rattle.constraint.specs.declared.Call.{Call}
 use Rattle.constraint.proofs.Lists.{split}
@@ -17,12 +18,12 @@ use Rattle.row.specs.declared.Row.{Row}
 use Rattle.monitor.specs.Machine.{noRow, mapFirst, zipFirst, withdrawn, withdrawOf}
 use Rattle.monitor.specs.Machine.{refuses, takes, crowds, nextFor, nextStep, refusalBy, takenCall, steppedBy, stepOf}
 use Rattle.monitor.specs.Parts.{withRows, steppedRows, rowsWithout}
-use Rattle.monitor.specs.Contract.{Steps, Withdraws}
+use Rattle.monitor.specs.Contract.{Steps}
 use Rattle.monitor.specs.declared.Monitor.{Monitor}
 use Rattle.monitor.specs.declared.Stepped.{Stepped}
 use Rattle.monitor.proofs.Answers.{refused-by}
 use Rattle.monitor.proofs.First.{map-behind, map-next, map-all, any-all, zip-next, zip-all, without-all}
-use Rattle.monitor.proofs.Theorem.{step-kept, withdraw-kept}
+use Rattle.monitor.proofs.Theorem.{step-kept}
 use Rattle.inplace.specs.Store.{answerFrom, numberOf, steppedFrom, askedRows, askedBy, answerOf, rowStepped, rowsStepped, rowsCrowded, withNumbers, mayAnswer, withdrawalBy, withUndo}
 use Rattle.inplace.specs.declared.Numbered.{Numbered}
 
@@ -45,9 +46,9 @@ unfolding stepOf
 step-told m call = told-by m call (refusalBy call (m .closed) (m .count) (m .clock) (nextFor m call))
 
 -- a step whose answer is said by a number keeps the contract of a step
-pub numbered-kept : (m : Monitor) (call : Call) (s : Stepped) (n : ℕ) → Steps m call s → n ≡ numberOf (s .answer) → Steps m call (steppedFrom n (s .monitor))
+pub numbered-kept : (m : Monitor) (call : Call) (s : Stepped) (n : ℕ) → Steps m (asks call) s → n ≡ numberOf (s .answer) → Steps m (asks call) (steppedFrom n (s .monitor))
 numbered-kept m call s n steps e =
-    step-kept m call
+    step-kept m (asks call)
     (ap (λ (k : ℕ). steppedFrom k (s .monitor)) e ∙ ap (λ (x : Stepped). steppedFrom (numberOf (x .answer)) (x .monitor)) (steps .equals)
     ∙ ap (λ a. record { answer = a; monitor = stepOf m call .monitor }) (step-told m call))
 
@@ -86,16 +87,16 @@ module _ (h : Monitor) (whole : length (h .rows) ≡ 32) (wide : length (h .befo
   by-may = refl
 
   -- nothing may be withdrawn, and nothing was changed
-  pub refused-back : (mayAnswer (h .undo .may) ≡ 0 → ⊥) → Withdraws h (steppedFrom (mayAnswer (h .undo .may)) h)
-  refused-back some-number = withdraw-kept h (by-test (ltb 0 (h .undo .may)) some-number ∙ by-may)
+  pub refused-back : (mayAnswer (h .undo .may) ≡ 0 → ⊥) → Steps h withdraws (steppedFrom (mayAnswer (h .undo .may)) h)
+  refused-back some-number = step-kept h withdraws (by-test (ltb 0 (h .undo .may)) some-number ∙ by-may)
     where
       by-test : (b : Bool) → (_≡_ {A = ℕ} (cond b 0 21) 0 → ⊥) → steppedFrom (cond b 0 21) h ≡ By b
       by-test true n = absurd (n refl)
       by-test false n = refl
 
   -- all was put back
-  pub taken-back : mayAnswer (h .undo .may) ≡ 0 → Withdraws h (steppedFrom (mayAnswer (h .undo .may)) back)
-  taken-back zero-answer = withdraw-kept h (by-test (ltb 0 (h .undo .may)) zero-answer ∙ by-may)
+  pub taken-back : mayAnswer (h .undo .may) ≡ 0 → Steps h withdraws (steppedFrom (mayAnswer (h .undo .may)) back)
+  taken-back zero-answer = step-kept h withdraws (by-test (ltb 0 (h .undo .may)) zero-answer ∙ by-may)
     where
       by-test : (b : Bool) → _≡_ {A = ℕ} (cond b 0 21) 0 → steppedFrom (cond b 0 21) back ≡ By b
       by-test true e = ap takes back-is
@@ -145,10 +146,10 @@ module _ (h : Monitor) (call : Call) (whole : length (h .rows) ≡ 32) (c : Bool
   step-is = refl
 
   -- nothing was changed
-  pub refused-steps : (answer ≡ 0 → ⊥) → Steps h call (steppedFrom answer h)
-  refused-steps some-number = step-kept h call (refused-is number c crowds-is some-number ∙ step-is)
+  pub refused-steps : (answer ≡ 0 → ⊥) → Steps h (asks call) (steppedFrom answer h)
+  refused-steps some-number = step-kept h (asks call) (refused-is number c crowds-is some-number ∙ step-is)
 
   -- all was stored
-  pub taken-steps : answer ≡ 0 → Steps h call (steppedFrom answer after)
+  pub taken-steps : answer ≡ 0 → Steps h (asks call) (steppedFrom answer after)
   taken-steps none =
-      let so = taken-is number c crowds-is none in step-kept h call (ap (λ (n : ℕ). steppedFrom n after) none ∙ ap takes (after-is (so .1)) ∙ so .0 ∙ step-is)
+      let so = taken-is number c crowds-is none in step-kept h (asks call) (ap (λ (n : ℕ). steppedFrom n after) none ∙ ap takes (after-is (so .1)) ∙ so .0 ∙ step-is)

@@ -13,11 +13,12 @@ use Rattle.row.specs.declared.Before.{Before}
 use Rattle.row.specs.declared.Row.{Row}
 use Rattle.row.proofs.Apart.{without-few, kept-few}
 use Rattle.monitor.specs.Machine.{noRow, zipFirst, refuses, takes, withdrawn, withdrawOf}
-use Rattle.monitor.specs.Contract.{Withdraws}
+use Rattle.constraint.specs.Run.{withdraws}
+use Rattle.monitor.specs.Contract.{Steps}
 use Rattle.monitor.specs.declared.Monitor.{Monitor}
 use Rattle.monitor.specs.declared.Stepped.{Stepped}
 use Rattle.inplace.specs.Store.{numberOf, steppedFrom}
-use Rattle.inplace.specs.Index.{numbers, heldRows, rowAt, isIn, keptAt, Roomy, Indexes, withMonitor, withSoonest, soonestAfter, TakesBack}
+use Rattle.inplace.specs.Index.{numbers, heldRows, rowAt, isIn, keptAt, Roomy, Indexes, withMonitor, withSoonest, soonestAfter, Takes}
 use Rattle.inplace.specs.declared.index.Indexed.{Indexed}
 use Rattle.inplace.proofs.Listing.{same-numbers}
 
@@ -87,13 +88,13 @@ back-by m zero m′ false e = let z : _≡_ {A = ℕ} 0 21 = ap (λ (s : Stepped
 back-by m (suc number) m′ true e = let z : suc number ≡ 0 = ap (λ (s : Stepped). numberOf (s .answer)) e in absurd (omega (arith, z))
 back-by m (suc number) m′ false e = record { refused = λ _. ap (λ (s : Stepped). s .monitor) e; taken = λ none. absurd (omega (arith, none)) }
 
-back : (m : Monitor) (number : ℕ) (m′ : Monitor) → Withdraws m (steppedFrom number m′) → Back m number m′
+back : (m : Monitor) (number : ℕ) (m′ : Monitor) → Steps m withdraws (steppedFrom number m′) → Back m number m′
 unfolding withdrawOf
 back m number m′ w = back-by m number m′ (ltb 0 (m .undo .may)) (w .equals)
 
 -- ---- the index
 
-module _ (h : Indexed) (number : ℕ) (m′ : Monitor) (w : Withdraws (h .monitor) (steppedFrom number m′)) where
+module _ (h : Indexed) (number : ℕ) (m′ : Monitor) (w : Steps (h .monitor) withdraws (steppedFrom number m′)) where
   abbrev pub back-after : Indexed
   back-after = withSoonest (withMonitor h m′) (soonestAfter number (h .soonest))
 
@@ -119,5 +120,5 @@ module _ (h : Indexed) (number : ℕ) (m′ : Monitor) (w : Withdraws (h .monito
   back-untouched zero e some-number = absurd (some-number refl)
   back-untouched (suc n) e some-number = ap (withMonitor h) (was-back .refused (λ none. absurd (omega (arith, none, e))))
 
-  pub back-takes : TakesBack h number back-after
-  back-takes = record { untouched = back-untouched number refl; withdraws = w; indexes = back-indexes number refl }
+  pub back-takes : Takes h withdraws number back-after
+  back-takes = record { untouched = back-untouched number refl; steps = λ ix. (w, back-indexes number refl ix) }

@@ -7,7 +7,6 @@ use mathlib.Core.List.{List, [], _∷_, _++_}
 use lib.ListN.{getD, set, replicate}
 use lib.Dec.{ltb}
 use Rattle.constraint.specs.Limits.{rowLimit, noLimit, waitingLimit}
-use Rattle.constraint.specs.declared.Call.{Call}
 use Rattle.machine.specs.declared.Rule.{Rule}
 use Rattle.row.specs.Machine.{concerns, noEvent}
 use Rattle.row.specs.Apart.{crowdedBy}
@@ -16,7 +15,8 @@ use Rattle.row.specs.declared.Before.{Before}
 use Rattle.row.specs.declared.Occurrence.{Occurrence}
 use Rattle.row.specs.declared.Row.{Row}
 use Rattle.monitor.specs.Machine.{noRow}
-use Rattle.monitor.specs.Contract.{Steps, Withdraws}
+use Rattle.constraint.specs.Run.{Request}
+use Rattle.monitor.specs.Contract.{Steps}
 use Rattle.monitor.specs.declared.Monitor.{Monitor}
 use Rattle.inplace.specs.Store.{steppedFrom, askedRows, rowHeard, rowEnded}
 use Rattle.inplace.specs.declared.index.Indexed.{Indexed}
@@ -171,23 +171,15 @@ endedRows h n o number = cond (mayEnd (soonestOf (h .monitor) n) o) (passed h n 
 abbrev pub begun : Indexed → ℕ → Occurrence → ℕ → Indexed
 begun h n o number = cond (mayEnd (h .soonest) o) (endedRows h n o number) h
 
--- ---- a call
-
--- a refusal changes nothing, whatever was lent; where the index is the monitor's, the call is the monitor's step, and the index is that
--- of the monitor after it
-pub record Takes (h : Indexed) (call : Call) (number : ℕ) (after : Indexed) : Type 0 where
-  pub untouched : ¬ (number ≡ 0) → after ≡ h
-  pub steps : Indexes h → Steps (h .monitor) call (steppedFrom number (after .monitor)) × Indexes after
-
--- ---- a withdrawal
-
 -- the soonest time after a withdrawal with that answer: where a step was withdrawn, a row may be due at any time
 abbrev pub soonestAfter : ℕ → ℕ → ℕ
 soonestAfter zero soonest = 0
 soonestAfter (suc answer) soonest = soonest
 
--- a refusal changes nothing; the step is withdrawn from the monitor; and an index that is the monitor's stays so
-pub record TakesBack (h : Indexed) (number : ℕ) (after : Indexed) : Type 0 where
+-- ---- a call or a withdrawal
+
+-- a refusal changes nothing, whatever was lent; where the index is the monitor's, the request is the monitor's, and the index is that of the
+-- monitor after it
+pub record Takes (h : Indexed) (r : Request) (number : ℕ) (after : Indexed) : Type 0 where
   pub untouched : ¬ (number ≡ 0) → after ≡ h
-  pub withdraws : Withdraws (h .monitor) (steppedFrom number (after .monitor))
-  pub indexes : Indexes h → Indexes after
+  pub steps : Indexes h → Steps (h .monitor) r (steppedFrom number (after .monitor)) × Indexes after

@@ -20,7 +20,8 @@ use row::concerns;
 ghost use Prim.Native.Nat.{ℕ, _+_, _<_, _≤_, min};
 ghost use mathlib.Core.Path.{_≡_};
 ghost use Rattle.constraint.specs.Limits.{noLimit};
-ghost use Rattle.inplace.specs.Index.{listCount, pushed, enlisted, listFor, rowOf, rowAt, Indexes, listedOf, listedBy, crowdedAt, listCrowded, heeded, hearAt, listHeard, endAt, passed, mayEnd, soonestOf, endedRows, begun, listSize, soonestAfter, Takes, TakesBack};
+ghost use Rattle.constraint.specs.Run.{asks, withdraws};
+ghost use Rattle.inplace.specs.Index.{listCount, pushed, enlisted, listFor, rowOf, rowAt, Indexes, listedOf, listedBy, crowdedAt, listCrowded, heeded, hearAt, listHeard, endAt, passed, mayEnd, soonestOf, endedRows, begun, listSize, soonestAfter, Takes};
 
 // The list for no event. Those below are the kinds'.
 const NO_EVENT: u64 = 65;
@@ -261,7 +262,7 @@ fn begin(m: &mut Indexed, n: usize, o: Occurrence, number: u64)
 
 // A call on an indexed monitor that is lent, in place: 0 if it is taken, else the number of its refusal.
 pub fn take(m: &mut Indexed, call: Call) -> u8
-    ensures { λ r. ⌜ Takes (now (m .entry)) call r (now (m .exit)) ⌝ }
+    ensures { λ r. ⌜ Takes (now (m .entry)) (asks call) r (now (m .exit)) ⌝ }
 {
     let q = ask_at(&mut m.monitor, call);
     let l = list_at(m, q.number, q.occurrence);
@@ -284,7 +285,7 @@ fn soonest_after(answer: u8, soonest: u64) -> u64
 
 // The last step of an indexed monitor that is lent is withdrawn, in place: 0, or 21 where nothing may be withdrawn.
 pub fn withdraw(m: &mut Indexed) -> u8
-    ensures { λ r. ⌜ TakesBack (now (m .entry)) r (now (m .exit)) ⌝ }
+    ensures { λ r. ⌜ Takes (now (m .entry)) withdraws r (now (m .exit)) ⌝ }
 {
     let answer = crate::withdraw(&mut m.monitor);
     m.soonest = soonest_after(answer, m.soonest);

@@ -15,7 +15,8 @@ ghost use Rattle.constraint.specs.Limits.{streamCount};
 ghost use Rattle.row.specs.Apart.{crowdedBy};
 ghost use Rattle.monitor.specs.Machine.{noRow};
 ghost use Rattle.monitor.specs.Parts.{rowsWithout};
-ghost use Rattle.monitor.specs.Contract.{Steps, Withdraws};
+ghost use Rattle.constraint.specs.Run.{asks, withdraws};
+ghost use Rattle.monitor.specs.Contract.{Steps};
 ghost use Rattle.inplace.specs.Store.{steppedFrom, askedRows, askedOf, askedBy, answerOf, rowKept, rowChanged, rowHeard, rowEnded, withNumbers, mayAnswer, withdrawalOf, withdrawalBy, rowBack, withUndo};
 
 pub mod index;
@@ -244,7 +245,7 @@ fn put_undo(m: &mut Monitor, u: Undo)
 
 // The last step of a monitor that is lent is withdrawn, in place: 0, or 21 where nothing may be withdrawn.
 pub fn withdraw(m: &mut Monitor) -> u8
-    ensures { λ r. ⌜ Withdraws (now (m .entry)) (steppedFrom r (now (m .exit))) ⌝ }
+    ensures { λ r. ⌜ Steps (now (m .entry)) withdraws (steppedFrom r (now (m .exit))) ⌝ }
 {
     let w = ask_back(m);
     let answer = w.answer;
@@ -263,7 +264,7 @@ pub struct Numbered {
 
 // A call, by value.
 fn by_value(m: Monitor, call: Call) -> Numbered
-    ensures { λ r. ⌜ Steps m call (steppedFrom (r .number) (r .monitor)) ⌝ }
+    ensures { λ r. ⌜ Steps m (asks call) (steppedFrom (r .number) (r .monitor)) ⌝ }
 {
     let stepped = m.step(call);
     let answer = stepped.answer;
@@ -276,7 +277,7 @@ fn by_value(m: Monitor, call: Call) -> Numbered
 
 // The same call by the step by value: the monitor is copied out, stepped, and stored whole.
 pub fn take_by_value(m: &mut Monitor, call: Call) -> u8
-    ensures { λ r. ⌜ Steps (now (m .entry)) call (steppedFrom r (now (m .exit))) ⌝ }
+    ensures { λ r. ⌜ Steps (now (m .entry)) (asks call) (steppedFrom r (now (m .exit))) ⌝ }
 {
     let s = by_value(*m, call);
     let n = s.monitor;

@@ -10,7 +10,7 @@ use lib.ListN.{length, take, getElem?, length-append}
 use Rattle.constraint.specs.Steps.{Step, event, tick, close, clock, closed}
 use Rattle.constraint.specs.Continuation.{Reads}
 use Rattle.constraint.specs.Questions.{Judged}
-use Rattle.constraint.specs.Run.{stepFor, Room, questions, Run, done, call}
+use Rattle.constraint.specs.Run.{stepFor, Room, questions, asks, Left, noneLeft, leftBy, Run, done, request}
 use Rattle.constraint.specs.declared.Answer.the-variants.{Taken}
 use Rattle.constraint.specs.declared.Call.{Call}
 use Rattle.constraint.specs.declared.Constraint.{Constraint}
@@ -33,28 +33,32 @@ use Rattle.monitor.specs.Beside.{OtherAt, Beside, same-event, others, cl
 -- ---- calls that are all taken
 
 -- their steps are those of the calls
-run-steps : (rows : List Constraint) (calls : List Call) (past end : List Step) → Run rows past calls (allTaken calls) end
-    → end ≡ past ++ map stepFor calls
-run-steps rows [] past end done = sym (append-nil past)
-run-steps rows (s ∷ calls) past end (call _ _ judged run) =
-    run-steps rows calls (past ++ (stepFor s ∷ [])) end run ∙ append-assoc past (stepFor s ∷ []) (map stepFor calls)
+run-steps : (rows : List Constraint) (calls : List Call) (left end : Left) → Run rows left (map asks calls) (allTaken calls) end
+    → end .steps ≡ left .steps ++ map stepFor calls
+run-steps rows [] left end done = sym (append-nil (left .steps))
+run-steps rows (s ∷ calls) left end (request _ _ judged run) =
+    run-steps rows calls (leftBy left (asks s) Taken) end run ∙ append-assoc (left .steps) (stepFor s ∷ []) (map stepFor calls)
+
+takes-steps : (rows : List Constraint) (calls : List Call) (steps : List Step) → Takes rows calls steps → steps ≡ map stepFor calls
+takes-steps rows calls steps taken = run-steps rows calls noneLeft (record { steps = steps; may = taken .0 }) (taken .1)
 
 -- so are the first n of them
-run-first : (rows : List Constraint) (n : ℕ) (calls : List Call) (past end : List Step) → Run rows past calls (allTaken calls) end
-    → Run rows past (take n calls) (allTaken (take n calls)) (past ++ take n (map stepFor calls))
-run-first rows zero calls past end run = subst (Run rows past [] []) (sym (append-nil past)) done
-run-first rows (suc n) [] past end run = subst (Run rows past [] []) (sym (append-nil past)) done
-run-first rows (suc n) (s ∷ calls) past end (call _ _ judged run) =
-    call s Taken judged
-    (subst (Run rows (past ++ (stepFor s ∷ [])) (take n calls) (allTaken (take n calls)))
-    (append-assoc past (stepFor s ∷ []) (take n (map stepFor calls)))
-    (run-first rows n calls (past ++ (stepFor s ∷ [])) end run))
+run-first : (rows : List Constraint) (n : ℕ) (calls : List Call) (left end : Left) → Run rows left (map asks calls) (allTaken calls) end
+    → (mid : Left) × Run rows left (map asks (take n calls)) (allTaken (take n calls)) mid × (mid .steps ≡ left .steps ++ take n (map stepFor calls))
+run-first rows zero calls left end run = (left, done, sym (append-nil (left .steps)))
+run-first rows (suc n) [] left end run = (left, done, sym (append-nil (left .steps)))
+run-first rows (suc n) (s ∷ calls) left end (request _ _ judged run) =
+    let rest = run-first rows n calls (leftBy left (asks s) Taken) end run in
+    (rest .0, request (asks s) Taken judged (rest .1), rest .2 ∙ append-assoc (left .steps) (stepFor s ∷ []) (take n (map stepFor calls)))
 
 pub takes-first : (rows : List Constraint) (n : ℕ) (calls : List Call) (steps : List Step) → Takes rows calls steps
     → Takes rows (take n calls) (take n steps)
 takes-first rows n calls steps taken =
-    subst (λ (all : List Step). Takes rows (take n calls) (take n all)) (sym (run-steps rows calls [] steps taken))
-    (run-first rows n calls [] steps taken)
+    let first = run-first rows n calls noneLeft (record { steps = steps; may = taken .0 }) (taken .1) in (
+      first .0 .may,
+      subst (λ (all : List Step). Run rows noneLeft (map asks (take n calls)) (allTaken (take n calls)) (record { steps = all; may = first .0 .may }))
+          (first .2 ∙ ap (take n) (sym (takes-steps rows calls steps taken))) (first .1),
+    )
 
 pub beside-first : (c : Constraint) (n : ℕ) {first second : List Step} → EachBeside c first second → EachBeside c (take n first) (take n second)
 beside-first c zero beside = no-more
@@ -171,19 +175,19 @@ module _ (c : Constraint) (sound : Sound c) where
           count-same = omega (arith, length-append past (stepFor s ∷ []), length-append past′ (stepFor s′ ∷ []), both .count-same);
         }
 
-    fits-runs : (past past′ : List Step) (r : Row) → FitsBoth past past′ r → (calls calls′ : List Call) (end end′ : List Step)
-        → Run rows past calls (allTaken calls) end → Run rows′ past′ calls′ (allTaken calls′) end′
-        → EachBeside c (map stepFor calls) (map stepFor calls′) → (last : Row) × FitsBoth end end′ last
-    fits-runs past past′ r both [] [] end end′ done done no-more = (r, both)
-    fits-runs past past′ r both (s ∷ calls) (s′ ∷ calls′) end end′ (call _ _ judged run) (call _ _ judged′ run′) (place beside later) =
-        fits-runs (past ++ (stepFor s ∷ [])) (past′ ++ (stepFor s′ ∷ [])) (moved past (stepFor s) r .row)
-        (fits-next past past′ r both s s′ judged judged′ beside) calls calls′ end end′ run run′ later
+    fits-runs : (left left′ : Left) (r : Row) → FitsBoth (left .steps) (left′ .steps) r → (calls calls′ : List Call) (end end′ : Left)
+        → Run rows left (map asks calls) (allTaken calls) end → Run rows′ left′ (map asks calls′) (allTaken calls′) end′
+        → EachBeside c (map stepFor calls) (map stepFor calls′) → (last : Row) × FitsBoth (end .steps) (end′ .steps) last
+    fits-runs left left′ r both [] [] end end′ done done no-more = (r, both)
+    fits-runs left left′ r both (s ∷ calls) (s′ ∷ calls′) end end′ (request _ _ judged run) (request _ _ judged′ run′) (place beside later) =
+        fits-runs (leftBy left (asks s) Taken) (leftBy left′ (asks s′) Taken) (moved (left .steps) (stepFor s) r .row)
+        (fits-next (left .steps) (left′ .steps) r both s s′ judged judged′ beside) calls calls′ end end′ run run′ later
 
     -- what the row reads after both
     pub read-both : (calls calls′ : List Call) (steps steps′ : List Step) → Takes rows calls steps → Takes rows′ calls′ steps′
         → EachBeside c steps steps′ → (v : Verdict) × Reads c steps v × Reads c steps′ v
     read-both calls calls′ steps steps′ taken taken′ beside =
-        let last = fits-runs [] [] (rowOf c) start calls calls′ steps steps′ taken taken′ of-calls in
+        let last = fits-runs noneLeft noneLeft (rowOf c) start calls calls′ (record { steps = steps; may = taken .0 }) (record { steps = steps′; may = taken′ .0 }) (taken .1) (taken′ .1) of-calls in
         let both = last .1 in (
           rowVerdict (last .0) (closed steps),
           fits-reads c exact steps (both .valid) (last .0) (both .fits),
@@ -204,4 +208,4 @@ module _ (c : Constraint) (sound : Sound c) where
             }
 
         of-calls : EachBeside c (map stepFor calls) (map stepFor calls′)
-        of-calls = subst₂ (EachBeside c) (run-steps rows calls [] steps taken) (run-steps rows′ calls′ [] steps′ taken′) beside
+        of-calls = subst₂ (EachBeside c) (takes-steps rows calls steps taken) (takes-steps rows′ calls′ steps′ taken′) beside

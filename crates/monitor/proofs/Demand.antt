@@ -1,11 +1,11 @@
--- §3.6: a fresh monitor follows the empty list of steps, and each call leaves it following the steps accepted so far, so after any list of
--- calls its rows read what the definitions say.
+-- §3.6: a refusal leaves the monitor as it was, a fresh monitor follows the empty list of steps, and the rows of one that follows some steps read what the
+-- definitions say.
 use Prim.Native.Nat.{ℕ, zero, suc, _+_, _-_, _≤_, _<_}
 use native.Mathlib.Decide.{decLt}
 use native.Mathlib.Omega.{arith}
-use mathlib.Core.Path.{_≡_, refl, sym, ap, _∙_, subst}
+use mathlib.Core.Path.{_≡_, refl, ap, subst}
 use mathlib.Core.Bool.{Bool, true, false, cond, _||_}
-use mathlib.Core.List.{List, [], _∷_, _++_}
+use mathlib.Core.List.{List, [], _∷_}
 use mathlib.Core.Logic.{_⊎_, inl, inr, ⊎-elim, by-cases}
 use mathlib.Core.Option.{Option, none, some}
 use lib.ListN.{length, getD, replicate, getElem?, getD-replicate, length-replicate}
@@ -16,8 +16,7 @@ use Rattle.constraint.specs.Steps.{Step, event, tick, close, times, clockFrom, 
 use Rattle.constraint.specs.Continuation.{BrokenAt, Reads, reads-broken}
 use Rattle.constraint.specs.Questions.{Judged}
 use Rattle.constraint.specs.Accepted.{rowsQuestions, Accepted}
-use Rattle.constraint.specs.Run.{Run, done, call, recorded}
-use Rattle.constraint.specs.Promise.{ReadsRow, row, no-row, play, Promise}
+use Rattle.constraint.specs.Promise.{ReadsRow, row, no-row}
 use Rattle.constraint.specs.declared.Answer.the-variants.{Taken, Refused}
 use Rattle.constraint.specs.declared.Call.{Call}
 use Rattle.constraint.specs.declared.Constraint.{Constraint}
@@ -25,15 +24,14 @@ use Rattle.constraint.specs.declared.Verdict.{Verdict}
 use Rattle.constraint.proofs.History.{Valid, valid-none}
 use Rattle.constraint.proofs.Counting.{nextFree}
 use Rattle.constraint.proofs.Judged.{never}
-use Rattle.constraint.proofs.Runs.{run-broken, reads-once}
+use Rattle.constraint.proofs.Runs.{reads-once}
 use Rattle.row.specs.Machine.{rowVerdict}
 use Rattle.row.proofs.Exact.{Sound, Exact}
 use Rattle.monitor.specs.Machine.{noRow, monitorOf, refuses, takes, crowds, refusalBy, nextFor, takenCall, stepOf, verdictOf}
-use Rattle.monitor.specs.Contract.{step, after, Recorded, Steps, Reading}
 use Rattle.monitor.specs.declared.Monitor.{Monitor}
 use Rattle.monitor.specs.declared.Stepped.{Stepped}
 use Rattle.monitor.proofs.FittingRows.{SoundRows, fit-start, fit-reads}
-use Rattle.monitor.proofs.Following.{Follows, step-answered}
+use Rattle.monitor.proofs.Following.{Follows}
 
 -- ---- a refusal leaves the monitor as it was
 
@@ -54,14 +52,6 @@ unfolding stepOf
 step-untouched m s =
     let number = refusalBy s (m .closed) (m .count) (m .clock) (nextFor m s) in
     untouched-or m number (ltb 0 number) (untouched-or m 12 (crowds m s) (untouched-taken m (takenCall m s)))
-
--- ---- lists of calls
-
--- calls in two parts
-play-append : (m : Monitor) (a b : List Call) → play step m (a ++ b) .monitor ≡ play step (play step m a .monitor) b .monitor
-unfolding play
-play-append m [] b = refl
-play-append m (s ∷ a) b = play-append (step m s .monitor) a b
 
 -- ---- fresh
 
@@ -123,16 +113,6 @@ module _ (engine : (c : Constraint) → Sound c → Exact c) where
         fit = fit-start engine rows (replicate (rowLimit - length rows) noRow) (accepted-sound 0 rows accepted .0);
       }
 
-  -- after any list of calls the monitor follows the steps accepted, and the answers are those of the questions
-  pub play-follows : (rows : List Constraint) (steps : List Step) (m : Monitor) → Follows engine rows steps m → (calls : List Call)
-      → (end : List Step) × Run rows steps calls (play step m calls .answers) end × Follows engine rows end (play step m calls .monitor)
-  unfolding play
-  play-follows rows steps m f [] = (steps, done, f)
-  play-follows rows steps m f (s ∷ calls) =
-      let answered = step-answered engine rows steps m f s in
-      let rest = play-follows rows (recorded steps s (stepOf m s .answer)) (stepOf m s .monitor) (answered .1) calls in
-      (rest .0, call s (stepOf m s .answer) (answered .0) (rest .1), rest .2)
-
   -- each row number reads what the definitions say
   pub verdict-reads : (rows : List Constraint) (steps : List Step) (m : Monitor) → Follows engine rows steps m → (i : ℕ) → ReadsRow rows steps i (verdictOf m i)
   unfolding verdictOf
@@ -142,37 +122,3 @@ module _ (engine : (c : Constraint) → Sound c → Exact c) where
       rw (f .len-is, lt-ltb i (length rows) h, lt-ltb i rowLimit (omega (arith, f .few)), f .closed-is)
       (row (found .0) (rowVerdict (getD (m .rows) i noRow) (closed steps)) (found .1) (fit-reads engine steps (f .valid) rows (m .rows) (f .fit) i (found .0) (found .1))))
       (λ h. rw (f .len-is, le-ltb i (length rows) (omega arith)) (no-row (has-none rows i (omega arith))))
-
-  final : (rows : List Constraint) → Accepted rows → (calls further : List Call) (i n : ℕ)
-      → verdictOf (play step (monitorOf rows) calls .monitor) i ≡ some (Verdict.Broken n) → verdictOf (play step (monitorOf rows) (calls ++ further) .monitor) i ≡ some (Verdict.Broken n)
-  final rows accepted calls further i n broken =
-      let m = monitorOf rows in
-      let a = play-follows rows [] m (start-follows rows accepted) calls in
-      let b = play-follows rows (a .0) (play step m calls .monitor) (a .2) further in
-      let c = broken-row rows (a .0) i n (subst (ReadsRow rows (a .0) i) broken (verdict-reads rows (a .0) (play step m calls .monitor) (a .2) i)) in
-      rw (play-append m calls further)
-      (reads-still rows (b .0) i n (c .0) (b .2 .valid) (c .1) (run-broken (c .0) n (b .1) (c .2)) (verdictOf (play step (play step m calls .monitor) further .monitor) i)
-      (verdict-reads rows (b .0) (play step (play step m calls .monitor) further .monitor) (b .2) i))
-
-  pub promise : Promise monitorOf step verdictOf
-  promise =
-      record {
-        exact = λ rows accepted calls.
-            let a = play-follows rows [] (monitorOf rows) (start-follows rows accepted) calls in
-            (a .0, a .1, verdict-reads rows (a .0) (play step (monitorOf rows) calls .monitor) (a .2));
-        untouched = λ m s n e. step-untouched m s .same n e;
-        final = final;
-      }
-
-  -- ---- the contracts
-
-  -- the monitor after a list of calls follows the steps that they have recorded
-  pub after-follows : (rows : List Constraint) (calls : List Call) → Accepted rows → (steps : List Step) × Recorded rows calls steps × Follows engine rows steps (after rows calls)
-  unfolding after
-  after-follows rows calls accepted =
-      let a = play-follows rows [] (monitorOf rows) (start-follows rows accepted) calls in
-      (a .0, (play step (monitorOf rows) calls .answers, a .1), a .2)
-
-  pub after-more : (rows : List Constraint) (calls : List Call) (s : Call) → stepOf (after rows calls) s .monitor ≡ after rows (calls ++ (s ∷ []))
-  unfolding after play
-  after-more rows calls s = sym (play-append (monitorOf rows) calls (s ∷ []))

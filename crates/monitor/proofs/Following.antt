@@ -16,7 +16,7 @@ use Rattle.constraint.specs.Streams.{stream}
 use Rattle.constraint.specs.Steps.{Step, event, tick, close, times, clock, closed}
 use Rattle.constraint.specs.Continuation.{EventInOrder}
 use Rattle.constraint.specs.Questions.{Question, Judged}
-use Rattle.constraint.specs.Run.{stepFor, Room, eventQuestions, questions, recorded}
+use Rattle.constraint.specs.Run.{stepFor, Room, eventQuestions, questions}
 use Rattle.constraint.specs.declared.Answer.{Answer}
 use Rattle.constraint.specs.declared.Answer.the-variants.{Taken, Refused}
 use Rattle.constraint.specs.declared.Call.{Call}
@@ -34,6 +34,11 @@ use Rattle.monitor.specs.declared.Monitor.{Monitor}
 use Rattle.monitor.specs.declared.Stepped.{Stepped}
 use Rattle.monitor.proofs.Answers.{stream-place}
 use Rattle.monitor.proofs.FittingRows.{FitRows, fit-step, fit-crowded, fit-calm, fit-room}
+
+-- the steps once a call has its answer: one more where it is taken, the same where it is refused
+abbrev pub recorded : List Step → Call → Answer → List Step
+recorded steps c Taken = steps ++ (stepFor c ∷ [])
+recorded steps c (Refused n) = steps
 
 module _ (engine : (c : Constraint) → Sound c → Exact c) where
   pub record Follows (rows : List Constraint) (steps : List Step) (m : Monitor) : Type 0 where

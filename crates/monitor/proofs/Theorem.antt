@@ -1,19 +1,18 @@
--- §3.6 to §3.8 for every row type: the promise over the machine, with the engine of every type put in.
+-- §3.6 to §3.8 and §3.13 to §3.15 for every row type: the promise over the machine, with the engine of every type put in.
 use Prim.Native.Nat.{ℕ, _+_, _≤_, _<_}
 use mathlib.Core.Path.{_≡_, refl, sym, subst}
 use mathlib.Core.Bool.{true, false}
-use mathlib.Core.List.{List, []}
+use mathlib.Core.List.{List, _++_, map}
 use mathlib.Core.Logic.{_↔_, Iff·trans}
 use mathlib.Core.Option.{Option, some}
 use lib.ListN.{length, getElem?}
 use Rattle.constraint.specs.Limits.{noLimit}
-use Rattle.constraint.specs.Steps.{Step, at, times, clock, closed}
+use Rattle.constraint.specs.Steps.{at, times, clock, closed}
 use Rattle.constraint.specs.Meets.{Meets}
 use Rattle.constraint.specs.Continuation.{Open, Reads}
 use Rattle.constraint.specs.Accepted.{Accepted}
-use Rattle.constraint.specs.Run.{Run}
+use Rattle.constraint.specs.Run.{Request, asks, Left}
 use Rattle.constraint.specs.Promise.{Promise, ReadsRow, row, no-row}
-use Rattle.constraint.specs.Withdrawals.{Request, Left, Withdrawing}
 use Rattle.constraint.specs.declared.Call.{Call}
 use Rattle.constraint.specs.declared.Constraint.{Constraint}
 use Rattle.constraint.specs.declared.Constraint.the-variants.{Delay, Repeat, Sporadic}
@@ -27,89 +26,86 @@ use Rattle.spans.proofs.Laws.Repeat.{silent-repeat-shut}
 use Rattle.points.proofs.Laws.Sporadic.{silent-sporadic-shut}
 use Rattle.row.proofs.Exact.{Sound}
 use Rattle.row.proofs.Engine.{engine}
-use Rattle.monitor.specs.Machine.{monitorOf, stepOf, withdrawOf, Same, verdictOf}
-use Rattle.monitor.specs.Beside.{allTaken}
-use Rattle.monitor.specs.Contract.{step, after, take, afterRequests, Remains, Recorded, Steps, Withdraws, Reading}
+use Rattle.monitor.specs.Machine.{monitorOf, Same, verdictOf}
+use Rattle.monitor.specs.Beside.{Takes}
+use Rattle.monitor.specs.Contract.{resultOf, step, after, Remains, Steps, Reading}
 use Rattle.monitor.specs.declared.Monitor.{Monitor}
 use Rattle.monitor.specs.declared.Stepped.{Stepped}
-use Rattle.monitor.proofs.Demand.{promise, accepted-sound}
+use Rattle.monitor.proofs.Demand.{accepted-sound}
 use Rattle.monitor.proofs.FittingRows.{sound-at}
-use Rattle.monitor.proofs.Withdrawing.{promise-requests, struck, withdraws-keep, steps-keep, reading-keeps}
+use Rattle.monitor.proofs.Withdrawing.{promise, stays, struck, steps-keep, reading-keeps}
 
--- over every table, every list of calls from a fresh monitor, and every row
+-- over every table, every list of calls and withdrawals from a fresh monitor, and every row
 pub monitor-is-exact : Promise monitorOf step verdictOf
 monitor-is-exact = promise engine
 
--- the same with withdrawals, over the steps that are left
-pub withdrawing-is-exact : Withdrawing monitorOf take verdictOf
-withdrawing-is-exact = promise-requests engine
+-- §3.7: a row that is broken stays so, at the same step, whatever calls follow: these withdraw nothing
+pub broken-stays : (rows : List Constraint) → Accepted rows → (requests : List Request) (calls : List Call) (i n : ℕ)
+    → verdictOf (after rows requests) i ≡ some (Verdict.Broken n) → verdictOf (after rows (requests ++ map asks calls)) i ≡ some (Verdict.Broken n)
+broken-stays = stays engine
 
 -- §3.14: after any requests over an accepted table the monitor is, but for what may be withdrawn, the one after the calls that are left
 pub struck-out : (rows : List Constraint) → Accepted rows → (requests : List Request)
-    → (left : Left) × Remains rows requests left × (calls : List Call) × Run rows [] calls (allTaken calls) (left .steps) × Same (afterRequests rows requests) (after rows calls)
+    → (left : Left) × Remains rows requests left × (calls : List Call) × Takes rows calls (left .steps) × Same (after rows requests) (after rows (map asks calls))
 struck-out = struck engine
 
--- what equals a withdrawal of the machine keeps the contract of a withdrawal
-pub withdraw-kept : (m : Monitor) {result : Stepped} → result ≡ withdrawOf m → Withdraws m result
-withdraw-kept m e = subst (Withdraws m) (sym e) (withdraws-keep engine m)
-
--- what equals a step of the machine keeps the contract of a step
-pub step-kept : (m : Monitor) (s : Call) {result : Stepped} → result ≡ stepOf m s → Steps m s result
-step-kept m s e = subst (Steps m s) (sym e) (steps-keep engine m s)
+-- what equals the machine's result for a request keeps the contract of a request
+pub step-kept : (m : Monitor) (r : Request) {result : Stepped} → result ≡ resultOf m r → Steps m r result
+step-kept m r e = subst (Steps m r) (sym e) (steps-keep engine m r)
 
 -- what equals a verdict of the machine keeps the contract of a verdict
 pub reading-kept : (m : Monitor) (i : ℕ) {verdict : Option Verdict} → verdict ≡ verdictOf m i → Reading m i verdict
 reading-kept m i e = subst (Reading m i) (sym e) (reading-keeps engine m i)
 
--- ---- in the buyer's words, after any list of calls over an accepted table
+-- ---- in the buyer's words, after any list of requests over an accepted table
 
-module _ (rows : List Constraint) (calls : List Call) (steps : List Step) (accepted : Accepted rows) (recorded : Recorded rows calls steps) (i : ℕ) (c : Constraint) (there : getElem? rows i ≡ some c) where
-  -- the row has a verdict, and it reads that after the steps recorded
-  pub row-reads : (v : Verdict) × (verdictOf (after rows calls) i ≡ some v) × Reads c steps v
+module _ (rows : List Constraint) (requests : List Request) (left : Left) (accepted : Accepted rows) (remains : Remains rows requests left) (i : ℕ) (c : Constraint) (there : getElem? rows i ≡ some c) where
+  -- the row has a verdict, and it reads that after the steps that are left
+  pub row-reads : (v : Verdict) × (verdictOf (after rows requests) i ≡ some v) × Reads c (left .steps) v
   row-reads =
-      let read = reading-keeps engine (after rows calls) i .means rows calls accepted refl in
-      of-row (verdictOf (after rows calls) i) (subst (λ (past : List Step). ReadsRow rows past i (verdictOf (after rows calls) i)) (run-once rows (read .1 .1) (recorded .1) .1) (read .2))
+      let read = reading-keeps engine (after rows requests) i .means rows requests accepted refl in
+      of-row (verdictOf (after rows requests) i) (subst (λ (x : Left). ReadsRow rows (x .steps) i (verdictOf (after rows requests) i)) (run-once rows (read .1 .1) (remains .1) .1) (read .2))
     where
-      of-row : (o : Option Verdict) → ReadsRow rows steps i o → (v : Verdict) × (o ≡ some v) × Reads c steps v
-      of-row o (row d v e r) = let same : d ≡ c = cc in (v, refl, subst (λ (x : Constraint). Reads x steps v) same r)
+      of-row : (o : Option Verdict) → ReadsRow rows (left .steps) i o → (v : Verdict) × (o ≡ some v) × Reads c (left .steps) v
+      of-row o (row d v e r) = let same : d ≡ c = cc in (v, refl, subst (λ (x : Constraint). Reads x (left .steps) v) same r)
       of-row o (no-row e) = never (cc)
 
-  same-verdict : (v : Verdict) → (verdictOf (after rows calls) i ≡ some v) ↔ (row-reads .0 ≡ v)
+  same-verdict : (v : Verdict) → (verdictOf (after rows requests) i ≡ some v) ↔ (row-reads .0 ≡ v)
   same-verdict v = let e = row-reads .1 in (λ p. cc, λ q. cc)
 
   -- at the close a row is kept exactly when the recorded events meet its definition
-  pub kept-at-the-close : closed steps ≡ true → (verdictOf (after rows calls) i ≡ some Verdict.Kept) ↔ Meets c steps
-  kept-at-the-close shut = Iff·trans (same-verdict Verdict.Kept) (kept-exactly c steps (run-valid (recorded .1) valid-none) shut (row-reads .0) (row-reads .2))
+  pub kept-at-the-close : closed (left .steps) ≡ true → (verdictOf (after rows requests) i ≡ some Verdict.Kept) ↔ Meets c (left .steps)
+  kept-at-the-close shut = Iff·trans (same-verdict Verdict.Kept) (kept-exactly c (left .steps) (run-valid (remains .1) valid-none) shut (row-reads .0) (row-reads .2))
 
   -- a row reads broken exactly when no continuation can still meet its definition
-  pub broken-while-it-runs : ((n : ℕ) × (verdictOf (after rows calls) i ≡ some (Verdict.Broken n))) ↔ (¬ Open c steps)
+  pub broken-while-it-runs : ((n : ℕ) × (verdictOf (after rows requests) i ≡ some (Verdict.Broken n))) ↔ (¬ Open c (left .steps))
   broken-while-it-runs =
-      let exactly = broken-exactly c steps (run-valid (recorded .1) valid-none) (row-reads .0) (row-reads .2) in
+      let exactly = broken-exactly c (left .steps) (run-valid (remains .1) valid-none) (row-reads .0) (row-reads .2) in
       (λ b. exactly .0 (b .0, same-verdict (Verdict.Broken (b .0)) .0 (b .1)), λ shut. let b = exactly .1 shut in (b .0, same-verdict (Verdict.Broken (b .0)) .1 (b .1)))
 
   -- §5.1.6: a Delay without an upper limit is not broken before the close
-  pub unlimited-delay-unbroken : (source target lower : ℕ) → c ≡ Delay source target lower noLimit → closed steps ≡ false
-      → (n : ℕ) → ¬ (verdictOf (after rows calls) i ≡ some (Verdict.Broken n))
+  pub unlimited-delay-unbroken : (source target lower : ℕ) → c ≡ Delay source target lower noLimit → closed (left .steps) ≡ false
+      → (n : ℕ) → ¬ (verdictOf (after rows requests) i ≡ some (Verdict.Broken n))
   unlimited-delay-unbroken source target lower is before n broken =
       let sound : Sound (Delay source target lower noLimit) = subst Sound is (sound-at rows (accepted-sound 0 rows accepted .0) i c there) in
       broken-while-it-runs .0 (n, broken)
-      (subst (λ (x : Constraint). Open x steps) (sym is)
-      (unlimited-delay-open source target lower sound (past-of (run-valid (recorded .1) valid-none)) before))
+      (subst (λ (x : Constraint). Open x (left .steps)) (sym is)
+      (unlimited-delay-open source target lower sound (past-of (run-valid (remains .1) valid-none)) before))
 
   -- §5.3.2, §5.4.4: the row reads broken
   abbrev pub ReadsBroken : Type 0
-  ReadsBroken = (n : ℕ) × (verdictOf (after rows calls) i ≡ some (Verdict.Broken n))
+  ReadsBroken = (n : ℕ) × (verdictOf (after rows requests) i ≡ some (Verdict.Broken n))
 
   -- where an event of a Repeat has none span places after it and is more than upper before the clock
   pub silent-repeat-broken : (kind span lower upper : ℕ) → c ≡ Repeat kind span lower upper → ¬ (upper ≡ noLimit) → (place : ℕ)
-      → place < length (times kind steps) → length (times kind steps) ≤ place + span → at (times kind steps) place + upper < clock steps → ReadsBroken
+      → place < length (times kind (left .steps)) → length (times kind (left .steps)) ≤ place + span → at (times kind (left .steps)) place + upper < clock (left .steps) → ReadsBroken
   silent-repeat-broken kind span lower upper is limit place there none silent =
       broken-while-it-runs .1
-      (λ o. silent-repeat-shut kind span lower upper steps limit place there none silent (subst (λ (x : Constraint). Open x steps) is o))
+      (λ o. silent-repeat-shut kind span lower upper (left .steps) limit place there none silent (subst (λ (x : Constraint). Open x (left .steps)) is o))
 
   -- and where the last event of a Sporadic is more than upper and jitter before the clock
   pub silent-sporadic-broken : (kind lower upper jitter minimum : ℕ) → c ≡ Sporadic kind lower upper jitter minimum → ¬ (upper ≡ noLimit)
-      → (place : ℕ) → place + 1 ≡ length (times kind steps) → at (times kind steps) place + upper + jitter < clock steps → ReadsBroken
+      → (place : ℕ) → place + 1 ≡ length (times kind (left .steps)) → at (times kind (left .steps)) place + upper + jitter < clock (left .steps) → ReadsBroken
   silent-sporadic-broken kind lower upper jitter minimum is limit place last silent =
       broken-while-it-runs .1
-      (λ o. silent-sporadic-shut kind lower upper jitter minimum steps limit place last silent (subst (λ (x : Constraint). Open x steps) is o))
+      (λ o. silent-sporadic-shut kind lower upper jitter minimum (left .steps) limit place last silent (subst (λ (x : Constraint). Open x (left .steps)) is o))

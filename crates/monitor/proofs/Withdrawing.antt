@@ -4,7 +4,7 @@ use Prim.Native.Nat.{ℕ, zero, suc, _+_, _≤_, _<_}
 use native.Mathlib.Omega.{arith}
 use mathlib.Core.Path.{_≡_, refl, sym, ap, ap₂, _∙_, subst}
 use mathlib.Core.Bool.{Bool, true, false, cond}
-use mathlib.Core.List.{List, [], _∷_, _++_, append-nil}
+use mathlib.Core.List.{List, [], _∷_, _++_, map, append-nil}
 use mathlib.Core.Logic.{_⊎_, inl, inr}
 use mathlib.Core.Option.{Option, some}
 use lib.ListN.{length, getD, set, replicate}
@@ -15,10 +15,8 @@ use Rattle.constraint.specs.Limits.{streamCount, rowLimit, lastCount}
 use Rattle.constraint.specs.Steps.{Step}
 use Rattle.constraint.specs.Questions.{Judged}
 use Rattle.constraint.specs.Accepted.{Accepted}
-use Rattle.constraint.specs.Run.{stepFor, questions, recorded, Run, done, call}
-use Rattle.constraint.specs.Promise.{ReadsRow, play}
-use Rattle.constraint.specs.Withdrawals.{Request, asks, withdraws, Left, noneLeft, requestQuestions, butLast, leftBy, RunRequests, Keeps, playRequests, Withdrawing}
-use Rattle.constraint.specs.Withdrawals as W
+use Rattle.constraint.specs.Run.{stepFor, questions, Request, asks, withdraws, Left, noneLeft, requestQuestions, leftBy, Run, done, request, Keeps}
+use Rattle.constraint.specs.Promise.{ReadsRow, play, Promise}
 use Rattle.constraint.specs.declared.Answer.{Answer}
 use Rattle.constraint.specs.declared.Answer.the-variants.{Taken, Refused}
 use Rattle.constraint.specs.declared.Call.{Call}
@@ -28,7 +26,8 @@ use Rattle.constraint.proofs.Lists.{split, both}
 use Rattle.constraint.proofs.Judged.{never}
 use Rattle.constraint.proofs.History.{counted-of}
 use Rattle.constraint.proofs.Runs.{accepts-taken}
-use Rattle.constraint.proofs.Withdrawals.{but-last, requests-once, keeps-begins, begins-broken}
+use Rattle.constraint.proofs.Sanity.{run-once}
+use Rattle.constraint.proofs.Withdrawals.{butLast, but-last, keeps-begins, calls-keep, begins-broken}
 use Rattle.row.specs.Machine.{rowStep}
 use Rattle.row.specs.Undo.{movesBy, noBefore, savedRow, savedBy, rowWithout, keptWithout}
 use Rattle.row.specs.declared.Before.{Before}
@@ -38,14 +37,14 @@ use Rattle.row.proofs.Exact.{Sound, Exact}
 use Rattle.row.proofs.Undo.{row-without}
 use Rattle.monitor.specs.Machine.{monitorOf, mapFirst, zipFirst, refuses, takes, nextStep, placeFor, freeAfter, nextFor, occurrenceOf, crowds, refusalBy}
 use Rattle.monitor.specs.Machine.{takenCall, stepOf, verdictOf, placeIn, withdrawn, withdrawOf, bare, Same}
-use Rattle.monitor.specs.Contract.{step, after, take, afterRequests, Remains, Steps, Withdraws, Reading}
-use Rattle.monitor.specs.Beside.{allTaken}
+use Rattle.monitor.specs.Contract.{resultOf, step, after, Remains, Steps, Reading}
+use Rattle.monitor.specs.Beside.{allTaken, Takes}
 use Rattle.monitor.specs.declared.Monitor.{Monitor}
 use Rattle.monitor.specs.declared.Stepped.{Stepped}
 use Rattle.monitor.proofs.Answers.{place-small}
 use Rattle.monitor.proofs.FittingRows.{FitRows}
-use Rattle.monitor.proofs.Following.{Follows, step-is, step-answered}
-use Rattle.monitor.proofs.Demand.{step-untouched, start-follows, after-follows, after-more, verdict-reads, broken-row, reads-still}
+use Rattle.monitor.proofs.Following.{recorded, Follows, step-is, step-answered}
+use Rattle.monitor.proofs.Demand.{step-untouched, start-follows, verdict-reads, broken-row, reads-still}
 
 -- ---- what may be withdrawn does not matter to a call
 
@@ -165,15 +164,31 @@ set-own (x ∷ list) (suc i) = ap (λ (l : List ℕ). x ∷ l) (set-own list i)
 
 -- ---- lists of calls that are all taken
 
-run-more : (rows : List Constraint) (calls : List Call) {steps end : List Step} (s : Call) → Run rows steps calls (allTaken calls) end
-    → Judged (questions rows end s) Taken → Run rows steps (calls ++ (s ∷ [])) (allTaken (calls ++ (s ∷ []))) (end ++ (stepFor s ∷ []))
-run-more rows [] s done judged = call s Taken judged done
-run-more rows (c ∷ calls) s (call _ _ j rest) judged = call c Taken j (run-more rows calls s rest judged)
+run-more : (rows : List Constraint) (calls : List Call) {left end : Left} (s : Call) → Run rows left (map asks calls) (allTaken calls) end
+    → Judged (questions rows (end .steps) s) Taken → Run rows left (map asks (calls ++ (s ∷ []))) (allTaken (calls ++ (s ∷ []))) (leftBy end (asks s) Taken)
+run-more rows [] s done judged = request (asks s) Taken judged done
+run-more rows (c ∷ calls) s (request _ _ j rest) judged = request (asks c) Taken j (run-more rows calls s rest judged)
 
-play-requests : (m : Monitor) (a b : List Request) → playRequests take m (a ++ b) .monitor ≡ playRequests take (playRequests take m a .monitor) b .monitor
-unfolding playRequests
-play-requests m [] b = refl
-play-requests m (r ∷ a) b = play-requests (take m r .monitor) a b
+play-append : (m : Monitor) (a b : List Request) → play step m (a ++ b) .monitor ≡ play step (play step m a .monitor) b .monitor
+unfolding play
+play-append m [] b = refl
+play-append m (r ∷ a) b = play-append (step m r .monitor) a b
+
+after-more : (rows : List Constraint) (requests : List Request) (r : Request) → resultOf (after rows requests) r .monitor ≡ after rows (requests ++ (r ∷ []))
+unfolding after play
+after-more rows requests r = sym (play-append (monitorOf rows) requests (r ∷ []))
+
+-- one call more, which is taken, and the monitor after it
+pub takes-more : (rows : List Constraint) (calls : List Call) (steps : List Step) (s : Call) → Takes rows calls steps → Judged (questions rows steps s) Taken
+    → Takes rows (calls ++ (s ∷ [])) (steps ++ (stepFor s ∷ []))
+takes-more rows calls steps s taken judged = (true, run-more rows calls s (taken .1) judged)
+
+asks-more : (calls : List Call) (s : Call) → map asks calls ++ (asks s ∷ []) ≡ map asks (calls ++ (s ∷ []))
+asks-more [] s = refl
+asks-more (c ∷ calls) s = ap (λ (l : List Request). asks c ∷ l) (asks-more calls s)
+
+pub after-call : (rows : List Constraint) (calls : List Call) (s : Call) → after rows (map asks calls ++ (asks s ∷ [])) ≡ after rows (map asks (calls ++ (s ∷ [])))
+after-call rows calls s = ap (after rows) (asks-more calls s)
 
 -- ---- what holds between the steps that are left and the monitor
 
@@ -216,8 +231,8 @@ module _ (engine : (c : Constraint) → Sound c → Exact c) (rows : List Constr
     pub follows : Follows engine rows steps m
     pub stamped : Stamped (length rows) (m .count + 1) (m .before)
     pub calls : List Call
-    pub taken : Run rows [] calls (allTaken calls) steps
-    pub same : Same m (after rows calls)
+    pub taken : Takes rows calls steps
+    pub same : Same m (after rows (map asks calls))
 
   -- and what may be withdrawn is there to be withdrawn
   abbrev Ready : Left → Monitor → Type 0
@@ -275,8 +290,9 @@ module _ (engine : (c : Constraint) → Sound c → Exact c) (rows : List Constr
                 subst (λ (k : ℕ). Stamped (length rows) (nextStep m + 1) (zipFirst k (savedBy (occurrenceOf m s) (nextStep m)) (m .rows) (m .before))) (sym (f .len-is))
                 (stamped-taken engine (occurrenceOf m s) (nextStep m) steps rows (m .rows) (m .before) (f .fit) stamped-next);
             calls = p .calls ++ (s ∷ []);
-            taken = run-more rows (p .calls) s (p .taken) (answered .0);
-            same = ap bare (sym (taken-monitor m s e)) ∙ same-step m (after rows (p .calls)) s (p .same) ∙ ap bare (after-more engine rows (p .calls) s);
+            taken = takes-more rows (p .calls) steps s (p .taken) (answered .0);
+            same = ap bare (sym (taken-monitor m s e)) ∙ same-step m (after rows (map asks (p .calls))) s (p .same)
+                ∙ ap bare (after-more rows (map asks (p .calls)) (asks s) ∙ after-call rows (p .calls) s);
           }
 
       stamped-less : Stamped (length rows) (nextStep m) (withdrawn (takenCall m s) .before)
@@ -300,7 +316,7 @@ module _ (engine : (c : Constraint) → Sound c → Exact c) (rows : List Constr
   -- ---- a request
 
   abbrev Answers : Left → Monitor → Request → Type 0
-  Answers left m r = Judged (requestQuestions rows left r) (take m r .answer) × Holds (leftBy left r (take m r .answer)) (take m r .monitor)
+  Answers left m r = Judged (requestQuestions rows left r) (step m r .answer) × Holds (leftBy left r (step m r .answer)) (step m r .monitor)
 
   call-holds : (left : Left) (m : Monitor) → Holds left m → (s : Call) → Answers left m (asks s)
   unfolding takenCall
@@ -340,52 +356,65 @@ module _ (engine : (c : Constraint) → Sound c → Exact c) (rows : List Constr
   -- ---- lists of requests
 
   requests-hold : (left : Left) (m : Monitor) → Holds left m → (requests : List Request)
-      → (end : Left) × RunRequests rows left requests (playRequests take m requests .answers) end × Holds end (playRequests take m requests .monitor)
-  unfolding playRequests
-  requests-hold left m h [] = (left, W.done, h)
+      → (end : Left) × Run rows left requests (play step m requests .answers) end × Holds end (play step m requests .monitor)
+  unfolding play
+  requests-hold left m h [] = (left, done, h)
   requests-hold left m h (r ∷ requests) =
       let now = request-holds left m h r in
-      let rest = requests-hold (leftBy left r (take m r .answer)) (take m r .monitor) (now .1) requests in
-      (rest .0, W.request r (take m r .answer) (now .0) (rest .1), rest .2)
+      let rest = requests-hold (leftBy left r (step m r .answer)) (step m r .monitor) (now .1) requests in
+      (rest .0, request r (step m r .answer) (now .0) (rest .1), rest .2)
 
   start-holds : Accepted rows → Holds noneLeft (monitorOf rows)
   unfolding monitorOf after play
   start-holds accepted =
       let f = start-follows engine rows accepted in
       record {
-        part = record { follows = f; stamped = stamped-none (length rows) rowLimit 1 (f .few) (omega arith); calls = []; taken = done; same = refl };
+        part = record { follows = f; stamped = stamped-none (length rows) rowLimit 1 (f .few) (omega arith); calls = []; taken = (false, done); same = refl };
         ready = inl (refl, refl);
       }
 
   -- what holds after any requests
-  pub held : Accepted rows → (requests : List Request) → (left : Left) × RunRequests rows noneLeft requests (playRequests take (monitorOf rows) requests .answers) left
-      × Holds left (playRequests take (monitorOf rows) requests .monitor)
+  pub held : Accepted rows → (requests : List Request) → (left : Left) × Run rows noneLeft requests (play step (monitorOf rows) requests .answers) left
+      × Holds left (play step (monitorOf rows) requests .monitor)
   held accepted requests = requests-hold noneLeft (monitorOf rows) (start-holds accepted) requests
 
   -- the monitor after some requests that leave these steps
-  held-at : Accepted rows → (requests : List Request) (answers : List Answer) (left : Left) → RunRequests rows noneLeft requests answers left
-      → Holds left (playRequests take (monitorOf rows) requests .monitor)
-  held-at accepted requests answers left run =
+  held-at : Accepted rows → (requests : List Request) {answers : List Answer} {left : Left} → Run rows noneLeft requests answers left
+      → Holds left (play step (monitorOf rows) requests .monitor)
+  held-at accepted requests run =
       let h = held accepted requests in
-      subst (λ (x : Left). Holds x (playRequests take (monitorOf rows) requests .monitor)) (requests-once rows (h .1) run .1) (h .2)
+      subst (λ (x : Left). Holds x (play step (monitorOf rows) requests .monitor)) (run-once rows (h .1) run .1) (h .2)
 
--- ---- demand 3 with withdrawals
+  -- it follows them
+  pub remains-follows : Accepted rows → (requests : List Request) {left : Left} → Remains rows requests left → Follows engine rows (left .steps) (after rows requests)
+  unfolding after
+  remains-follows accepted requests remains = held-at accepted requests (remains .1) .part .follows
+
+-- ---- demand 3
 
 module _ (engine : (c : Constraint) → Sound c → Exact c) where
-  final-requests : (rows : List Constraint) → Accepted rows → (requests further : List Request) (answers more : List Answer) (left end : Left)
-      → RunRequests rows noneLeft requests answers left → (run : RunRequests rows left further more end) → Keeps (length (left .steps)) run
-      → (i n : ℕ) → verdictOf (playRequests take (monitorOf rows) requests .monitor) i ≡ some (Verdict.Broken n)
-      → verdictOf (playRequests take (monitorOf rows) (requests ++ further) .monitor) i ≡ some (Verdict.Broken n)
-  final-requests rows accepted requests further answers more left end first run keeps i n broken =
-      let m = playRequests take (monitorOf rows) requests .monitor in
-      let a = held-at engine rows accepted requests answers left first in
+  final : (rows : List Constraint) → Accepted rows → (requests further : List Request) {answers more : List Answer} {left end : Left}
+      → Run rows noneLeft requests answers left → (run : Run rows left further more end) → Keeps (length (left .steps)) run
+      → (i n : ℕ) → verdictOf (play step (monitorOf rows) requests .monitor) i ≡ some (Verdict.Broken n)
+      → verdictOf (play step (monitorOf rows) (requests ++ further) .monitor) i ≡ some (Verdict.Broken n)
+  final rows accepted requests further {left = left} {end = end} first run keeps i n broken =
+      let m = play step (monitorOf rows) requests .monitor in
+      let a = held-at engine rows accepted requests first in
       let b = requests-hold engine rows left m a further in
-      let last = subst (λ (x : Left). Holds engine rows x (playRequests take m further .monitor)) (requests-once rows (b .1) run .1) (b .2) in
+      let last = subst (λ (x : Left). Holds engine rows x (play step m further .monitor)) (run-once rows (b .1) run .1) (b .2) in
       let c = broken-row rows (left .steps) i n (subst (ReadsRow rows (left .steps) i) broken (verdict-reads engine rows (left .steps) m (a .part .follows) i)) in
       let later = begins-broken (c .0) n (left .steps) (end .steps) (keeps-begins (left .steps) run keeps ([], sym (append-nil (left .steps)))) (c .2) in
-      ap (λ (x : Monitor). verdictOf x i) (play-requests (monitorOf rows) requests further)
-      ∙ reads-still rows (end .steps) i n (c .0) (last .part .follows .valid) (c .1) later (verdictOf (playRequests take m further .monitor) i)
-      (verdict-reads engine rows (end .steps) (playRequests take m further .monitor) (last .part .follows) i)
+      ap (λ (x : Monitor). verdictOf x i) (play-append (monitorOf rows) requests further)
+      ∙ reads-still rows (end .steps) i n (c .0) (last .part .follows .valid) (c .1) later (verdictOf (play step m further .monitor) i)
+      (verdict-reads engine rows (end .steps) (play step m further .monitor) (last .part .follows) i)
+
+  pub stays : (rows : List Constraint) → Accepted rows → (requests : List Request) (calls : List Call) (i n : ℕ)
+      → verdictOf (after rows requests) i ≡ some (Verdict.Broken n) → verdictOf (after rows (requests ++ map asks calls)) i ≡ some (Verdict.Broken n)
+  unfolding after
+  stays rows accepted requests calls i n broken =
+      let h = held engine rows accepted requests in
+      let later = requests-hold engine rows (h .0) (play step (monitorOf rows) requests .monitor) (h .2) (map asks calls) in
+      final rows accepted requests (map asks calls) (h .1) (later .1) (calls-keep (length (h .0 .steps)) calls (later .1) (omega arith)) i n broken
 
   withdrawal-untouched : (m : Monitor) (n : ℕ) → withdrawOf m .answer ≡ Refused n → withdrawOf m .monitor ≡ m
   unfolding withdrawOf
@@ -395,72 +424,54 @@ module _ (engine : (c : Constraint) → Sound c → Exact c) where
       by-test true e = never (cc)
       by-test false e = refl
 
-  untouched : (m : Monitor) (r : Request) (n : ℕ) → take m r .answer ≡ Refused n → take m r .monitor ≡ m
+  untouched : (m : Monitor) (r : Request) (n : ℕ) → step m r .answer ≡ Refused n → step m r .monitor ≡ m
   untouched m (asks s) n e = step-untouched m s .same n e
   untouched m withdraws n e = withdrawal-untouched m n e
 
-  pub promise-requests : Withdrawing monitorOf take verdictOf
-  promise-requests =
+  pub promise : Promise monitorOf step verdictOf
+  promise =
       record {
         exact = λ rows accepted requests.
             let h = held engine rows accepted requests in
-            (h .0, h .1, verdict-reads engine rows (h .0 .steps) (playRequests take (monitorOf rows) requests .monitor) (h .2 .part .follows));
+            (h .0, h .1, verdict-reads engine rows (h .0 .steps) (play step (monitorOf rows) requests .monitor) (h .2 .part .follows));
         untouched = untouched;
-        final = final-requests;
+        final = final;
       }
 
   -- after any requests the monitor is the one after calls that are all taken and that record what is left, but for what may be withdrawn
   pub struck : (rows : List Constraint) → Accepted rows → (requests : List Request)
-      → (left : Left) × Remains rows requests left × (calls : List Call) × Run rows [] calls (allTaken calls) (left .steps) × Same (afterRequests rows requests) (after rows calls)
-  unfolding afterRequests
+      → (left : Left) × Remains rows requests left × (calls : List Call) × Takes rows calls (left .steps) × Same (after rows requests) (after rows (map asks calls))
+  unfolding after
   struck rows accepted requests =
       let h = held engine rows accepted requests in
-      (h .0, (playRequests take (monitorOf rows) requests .answers, h .1), h .2 .part .calls, h .2 .part .taken, h .2 .part .same)
+      (h .0, (play step (monitorOf rows) requests .answers, h .1), h .2 .part .calls, h .2 .part .taken, h .2 .part .same)
 
-  pub withdraws-keep : (m : Monitor) → Withdraws m (withdrawOf m)
-  unfolding afterRequests playRequests
-  withdraws-keep m =
+  -- ---- the contracts
+
+  -- the monitor after a list of requests follows the steps that they have left
+  pub after-follows : (rows : List Constraint) (requests : List Request) → Accepted rows → (left : Left) × Remains rows requests left × Follows engine rows (left .steps) (after rows requests)
+  unfolding after
+  after-follows rows requests accepted =
+      let h = held engine rows accepted requests in (h .0, (play step (monitorOf rows) requests .answers, h .1), h .2 .part .follows)
+
+  pub steps-keep : (m : Monitor) (r : Request) → Steps m r (resultOf m r)
+  unfolding after
+  steps-keep m r =
       record {
         equals = refl;
         means = λ rows requests accepted e.
             let h = held engine rows accepted requests in
-            let judged = request-holds engine rows (h .0) (afterRequests rows requests) (h .2) withdraws .0 in (
-              (h .0, (playRequests take (monitorOf rows) requests .answers, h .1), subst (λ (x : Monitor). Judged (requestQuestions rows (h .0) withdraws) (withdrawOf x .answer)) (sym e) judged),
-              ap (λ (x : Monitor). withdrawOf x .monitor) e ∙ sym (play-requests (monitorOf rows) requests (withdraws ∷ [])),
-            );
-      }
-
-  -- ---- the contracts of a call and of a verdict
-
-  pub steps-keep : (m : Monitor) (s : Call) → Steps m s (stepOf m s)
-  unfolding afterRequests playRequests
-  steps-keep m s =
-      record {
-        equals = refl;
-        means = λ rows calls accepted e.
-            let a = after-follows engine rows calls accepted in
-            ((a .0, a .1, step-answered engine rows (a .0) m (subst (Follows engine rows (a .0)) (sym e) (a .2)) s .0), ap (λ (x : Monitor). stepOf x s .monitor) e ∙ after-more engine rows calls s);
-        goes-on = λ rows requests accepted e.
-            let h = held engine rows accepted requests in
-            let judged = request-holds engine rows (h .0) (afterRequests rows requests) (h .2) (asks s) .0 in (
-              (h .0, (playRequests take (monitorOf rows) requests .answers, h .1), subst (λ (x : Monitor). Judged (requestQuestions rows (h .0) (asks s)) (stepOf x s .answer)) (sym e) judged),
-              ap (λ (x : Monitor). stepOf x s .monitor) e ∙ sym (play-requests (monitorOf rows) requests (asks s ∷ [])),
+            let judged = request-holds engine rows (h .0) (after rows requests) (h .2) r .0 in (
+              (h .0, (play step (monitorOf rows) requests .answers, h .1), subst (λ (x : Monitor). Judged (requestQuestions rows (h .0) r) (resultOf x r .answer)) (sym e) judged),
+              ap (λ (x : Monitor). resultOf x r .monitor) e ∙ after-more rows requests r,
             );
       }
 
   pub reading-keeps : (m : Monitor) (i : ℕ) → Reading m i (verdictOf m i)
-  unfolding afterRequests
   reading-keeps m i =
       record {
         equals = refl;
-        means = λ rows calls accepted e.
-            let a = after-follows engine rows calls accepted in
-            (a .0, a .1, subst (λ (x : Monitor). ReadsRow rows (a .0) i (verdictOf x i)) (sym e) (verdict-reads engine rows (a .0) (after rows calls) (a .2) i));
-        goes-on = λ rows requests accepted e.
-            let h = held engine rows accepted requests in (
-              h .0,
-              (playRequests take (monitorOf rows) requests .answers, h .1),
-              subst (λ (x : Monitor). ReadsRow rows (h .0 .steps) i (verdictOf x i)) (sym e)
-                  (verdict-reads engine rows (h .0 .steps) (afterRequests rows requests) (h .2 .part .follows) i),
-            );
+        means = λ rows requests accepted e.
+            let a = after-follows rows requests accepted in
+            (a .0, a .1, subst (λ (x : Monitor). ReadsRow rows (a .0 .steps) i (verdictOf x i)) (sym e) (verdict-reads engine rows (a .0 .steps) (after rows requests) (a .2) i));
       }

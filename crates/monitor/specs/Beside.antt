@@ -1,11 +1,12 @@
 -- Lists of steps that one row cannot tell apart (§3.10, §3.11).
 use Prim.Native.Nat.{ℕ, _<_}
 use mathlib.Core.Path.{_≡_}
+use mathlib.Core.Bool.{Bool}
 use mathlib.Core.List.{List, [], _∷_, map}
 use lib.ListN.{length}
 use Rattle.constraint.specs.Steps.{Step, event, tick, close, at}
 use Rattle.constraint.specs.Accepted.{streams}
-use Rattle.constraint.specs.Run.{Run}
+use Rattle.constraint.specs.Run.{asks, noneLeft, Run}
 use Rattle.constraint.specs.Promise.{play}
 use Rattle.constraint.specs.declared.Answer.{Answer}
 use Rattle.constraint.specs.declared.Answer.the-variants.{Taken, Refused}
@@ -41,11 +42,11 @@ allTaken calls = map (λ call. Taken) calls
 
 -- an "accepted list" over a table: the questions take every call, and these are the steps
 abbrev pub Takes : List Constraint → List Call → List Step → Type 0
-Takes rows calls steps = Run rows [] calls (allTaken calls) steps
+Takes rows calls steps = (may : Bool) × Run rows noneLeft (map asks calls) (allTaken calls) (record { steps = steps; may = may })
 
 -- the answers that a monitor, fresh over the rows, gives to a list of calls
 abbrev pub answersTo : List Constraint → List Call → List Answer
-answersTo rows calls = play step (monitorOf rows) calls .answers
+answersTo rows calls = play step (monitorOf rows) (map asks calls) .answers
 
 -- no call is refused for a row's 64
 abbrev pub NoneFull : List Answer → Type 0

@@ -1,20 +1,17 @@
--- What the monitor's functions promise, in the buyer's words: over every accepted table and every list of calls.
+-- What the monitor's functions promise, in the buyer's words: over every accepted table and every list of calls and withdrawals.
 use Prim.Native.Nat.{ℕ, _<_}
 use mathlib.Core.Path.{_≡_}
 use mathlib.Core.List.{List, [], _∷_, _++_}
 use mathlib.Core.Option.{Option, none, some}
 use lib.ListN.{length, getD}
 use Rattle.constraint.specs.Limits.{rowLimit}
-use Rattle.constraint.specs.Steps.{Step}
 use Rattle.constraint.specs.Questions.{Judged}
 use Rattle.constraint.specs.Accepted.{rowsQuestions, Accepted}
 use Rattle.constraint.specs.Rows.{rowsOf}
-use Rattle.constraint.specs.Run.{questions, Run}
+use Rattle.constraint.specs.Run.{Request, asks, withdraws, Left, noneLeft, requestQuestions, Run}
 use Rattle.constraint.specs.Promise.{ReadsRow, play}
-use Rattle.constraint.specs.Withdrawals.{Request, asks, withdraws, Left, noneLeft, requestQuestions, RunRequests, playRequests}
 use Rattle.constraint.specs.declared.Answer.{Answer}
 use Rattle.constraint.specs.declared.Answer.the-variants.{Taken, Refused}
-use Rattle.constraint.specs.declared.Call.{Call}
 use Rattle.constraint.specs.declared.Constraint.{Constraint}
 use Rattle.constraint.specs.declared.Table.{Table}
 use Rattle.constraint.specs.declared.Verdict.{Verdict}
@@ -23,32 +20,22 @@ use Rattle.monitor.specs.declared.Monitor.{Monitor}
 use Rattle.monitor.specs.declared.RowVerdict.{RowVerdict}
 use Rattle.monitor.specs.declared.Stepped.{Stepped}
 
--- a call as demand 3 takes it
-abbrev pub step : Monitor → Call → Rattle.constraint.specs.Promise.Stepped Monitor
-step m s = record { answer = stepOf m s .answer; monitor = stepOf m s .monitor }
-
--- §3.4: the monitor after a list of calls, from a fresh one over the rows
-unfoldable pub after : List Constraint → List Call → Monitor
-after rows calls = play step (monitorOf rows) calls .monitor
-
--- the list of calls has accepted these steps
-abbrev pub Recorded : List Constraint → List Call → List Step → Type 0
-Recorded rows calls steps = (answers : List Answer) × Run rows [] calls answers steps
-
--- ---- with withdrawals
+-- what the machine gives for a request
+abbrev pub resultOf : Monitor → Request → Stepped
+resultOf m (asks s) = stepOf m s
+resultOf m withdraws = withdrawOf m
 
 -- a request as demand 3 takes it
-abbrev pub take : Monitor → Request → Rattle.constraint.specs.Promise.Stepped Monitor
-take m (asks s) = step m s
-take m withdraws = record { answer = withdrawOf m .answer; monitor = withdrawOf m .monitor }
+abbrev pub step : Monitor → Request → Rattle.constraint.specs.Promise.Stepped Monitor
+step m r = record { answer = resultOf m r .answer; monitor = resultOf m r .monitor }
 
--- §3.13: the monitor after a list of requests, from a fresh one over the rows
-unfoldable pub afterRequests : List Constraint → List Request → Monitor
-afterRequests rows requests = playRequests take (monitorOf rows) requests .monitor
+-- §3.4, §3.13: the monitor after a list of requests, from a fresh one over the rows
+unfoldable pub after : List Constraint → List Request → Monitor
+after rows requests = play step (monitorOf rows) requests .monitor
 
 -- the list of requests has left these steps
 abbrev pub Remains : List Constraint → List Request → Left → Type 0
-Remains rows requests left = (answers : List Answer) × RunRequests rows noneLeft requests answers left
+Remains rows requests left = (answers : List Answer) × Run rows noneLeft requests answers left
 
 -- ---- the contracts
 
@@ -58,29 +45,16 @@ pub record Freshly (table : Table) (answer : Answer) (m : Monitor) : Type 0 wher
   pub made : answer ≡ Taken → m ≡ after (rowsOf table) []
   pub refused : (n : ℕ) → answer ≡ Refused n → m ≡ after [] []
 
--- a call: the answer that its questions give over what the calls have recorded, and the monitor after the longer list of calls
-pub record Steps (m : Monitor) (s : Call) (result : Stepped) : Type 0 where
-  pub equals : result ≡ stepOf m s
-  pub means : (rows : List Constraint) (calls : List Call) → Accepted rows → m ≡ after rows calls
-      → ((steps : List Step) × Recorded rows calls steps × Judged (questions rows steps s) (result .answer)) × (result .monitor ≡ after rows (calls ++ (s ∷ [])))
-  -- §3.13: and where steps were withdrawn, over those that are left
-  pub goes-on : (rows : List Constraint) (requests : List Request) → Accepted rows → m ≡ afterRequests rows requests
-      → ((left : Left) × Remains rows requests left × Judged (requestQuestions rows left (asks s)) (result .answer))
-      × (result .monitor ≡ afterRequests rows (requests ++ (asks s ∷ [])))
+-- a request: the answer that its questions give over what the requests have left, and the monitor after the longer list of requests
+pub record Steps (m : Monitor) (r : Request) (result : Stepped) : Type 0 where
+  pub equals : result ≡ resultOf m r
+  pub means : (rows : List Constraint) (requests : List Request) → Accepted rows → m ≡ after rows requests
+      → ((left : Left) × Remains rows requests left × Judged (requestQuestions rows left r) (result .answer)) × (result .monitor ≡ after rows (requests ++ (r ∷ [])))
 
--- §3.12, §8.21: a withdrawal: the answer that its question gives over what the requests have left, and the monitor after the longer list of requests
-pub record Withdraws (m : Monitor) (result : Stepped) : Type 0 where
-  pub equals : result ≡ withdrawOf m
-  pub means : (rows : List Constraint) (requests : List Request) → Accepted rows → m ≡ afterRequests rows requests
-      → ((left : Left) × Remains rows requests left × Judged (requestQuestions rows left withdraws) (result .answer)) × (result .monitor ≡ afterRequests rows (requests ++ (withdraws ∷ [])))
-
--- §3.6: the verdict of a row number: what the row reads after what the calls have recorded, or none where there is no such row
+-- §3.6, §3.13: the verdict of a row number: what the row reads after the steps that the requests have left, or none where there is no such row
 pub record Reading (m : Monitor) (i : ℕ) (verdict : Option Verdict) : Type 0 where
   pub equals : verdict ≡ verdictOf m i
-  pub means : (rows : List Constraint) (calls : List Call) → Accepted rows → m ≡ after rows calls
-      → (steps : List Step) × Recorded rows calls steps × ReadsRow rows steps i verdict
-  -- §3.13: and where steps were withdrawn, after those that are left
-  pub goes-on : (rows : List Constraint) (requests : List Request) → Accepted rows → m ≡ afterRequests rows requests
+  pub means : (rows : List Constraint) (requests : List Request) → Accepted rows → m ≡ after rows requests
       → (left : Left) × Remains rows requests left × ReadsRow rows (left .steps) i verdict
 
 -- the verdict in an answer: none in a refusal

@@ -8,9 +8,10 @@ use machine::parts::plus;
 use row::Before;
 use row::Row;
 ghost use mathlib.Core.Path.{_≡_};
+ghost use Rattle.constraint.specs.Run.{asks, withdraws};
 ghost use Rattle.constraint.specs.declared.Call.{Call};
 ghost use Rattle.monitor.specs.Machine.{refuses, takes};
-ghost use Rattle.monitor.specs.Contract.{Freshly, Steps, Withdraws, VerdictOf, BrokenSteps};
+ghost use Rattle.monitor.specs.Contract.{Freshly, Steps, VerdictOf, BrokenSteps};
 
 pub mod calls;
 mod rows;
@@ -75,7 +76,7 @@ impl Monitor {
 
     // The monitor after a call, or the refusal: questions 8 to 12, 19 and 24.
     pub fn step(self, call: Call) -> Stepped
-        ensures { λ r. ⌜ Steps self call r ⌝ }
+        ensures { λ r. ⌜ Steps self (asks call) r ⌝ }
     {
         let at = calls::place(call);
         let next = self.next[at];
@@ -100,7 +101,7 @@ impl Monitor {
 
     // The monitor without its last step, or the refusal: question 21.
     pub fn withdraw(self) -> Stepped
-        ensures { λ r. ⌜ Withdraws self r ⌝ }
+        ensures { λ r. ⌜ Steps self withdraws r ⌝ }
     {
         let undo = self.undo;
         if undo.may == 0 {
@@ -118,28 +119,28 @@ impl Monitor {
 
     // The monitor after an event of a kind at a time, or the refusal.
     pub fn event(self, kind: u8, time: u64) -> Stepped
-        ensures { λ r. ⌜ Steps self (Call.Event kind time) r ⌝ }
+        ensures { λ r. ⌜ Steps self (asks (Call.Event kind time)) r ⌝ }
     {
         self.step(Call::Event { kind, time })
     }
 
     // The monitor after an event of a coloured kind and a colour at a time, or the refusal.
     pub fn coloured_event(self, kind: u8, colour: u8, time: u64) -> Stepped
-        ensures { λ r. ⌜ Steps self (Call.ColouredEvent kind colour time) r ⌝ }
+        ensures { λ r. ⌜ Steps self (asks (Call.ColouredEvent kind colour time)) r ⌝ }
     {
         self.step(Call::ColouredEvent { kind, colour, time })
     }
 
     // The monitor after a tick to a time, or the refusal.
     pub fn tick(self, time: u64) -> Stepped
-        ensures { λ r. ⌜ Steps self (Call.Tick time) r ⌝ }
+        ensures { λ r. ⌜ Steps self (asks (Call.Tick time)) r ⌝ }
     {
         self.step(Call::Tick { time })
     }
 
     // The monitor after the close, or the refusal.
     pub fn close(self) -> Stepped
-        ensures { λ r. ⌜ Steps self Call.Close r ⌝ }
+        ensures { λ r. ⌜ Steps self (asks Call.Close) r ⌝ }
     {
         self.step(Call::Close)
     }

@@ -4,23 +4,21 @@ use Prim.Native.Nat.{ℕ, _+_, _≤_, _<_}
 use native.Mathlib.Omega.{arith}
 use mathlib.Core.Path.{_≡_, refl, sym, ap, subst, _∙_}
 use mathlib.Core.Bool.{Bool, true, false, cond}
-use mathlib.Core.List.{List, [], _∷_, _++_}
+use mathlib.Core.List.{List, [], _∷_, _++_, map}
 use lib.ListN.{length, getD, set, replicate}
 use lib.Dec.{ltb}
 use borrow.Author.Tests.{lt-ltb, le-ltb}
 use Rattle.constraint.specs.Steps.{Step, at, clock}
 use Rattle.constraint.specs.Questions.{Judged}
 use Rattle.constraint.specs.Accepted.{rowsQuestions, Accepted}
-use Rattle.constraint.specs.Run.{stepFor, questions, Run, done, call}
+use Rattle.constraint.specs.Run.{stepFor, questions, asks, Left, done}
 use Rattle.constraint.specs.Promise.{play}
 use Rattle.constraint.specs.Limits.{streamCount}
 use Rattle.constraint.specs.Table.{lengthAt}
 use Rattle.constraint.specs.Recording.{callAt, RecordAt, recordQuestions, RecordingRead, recording-of, recording-refused, ReadsRecords, no-more, record-refused, record-taken}
 use Rattle.constraint.specs.Recording.{VersionKnown, ReadsInOrder, version-taken}
-use Rattle.constraint.specs.declared.Answer.{Answer}
 use Rattle.constraint.specs.declared.Answer.the-variants.{Taken, Refused}
 use Rattle.constraint.specs.declared.Call.{Call}
-use Rattle.constraint.specs.declared.Constraint.{Constraint}
 use Rattle.constraint.proofs.Judged.{judged-none}
 use Rattle.constraint.proofs.History.{Valid, valid-none}
 use Rattle.constraint.proofs.Runs.{run-valid}
@@ -28,12 +26,12 @@ use Rattle.constraint.proofs.Sanity.{run-once}
 use Rattle.machine.specs.Parts.{plus}
 use Rattle.row.proofs.Engine.{engine}
 use Rattle.monitor.specs.Machine.{monitorOf, anyFirst, refuses, takes, placeFor, refusalBy, occurrenceBy, freeAfter, closedAfter, crowds, takenCall, steppedBy, stepOf}
-use Rattle.monitor.specs.Contract.{step, after, Recorded, Steps}
+use Rattle.monitor.specs.Contract.{after, Steps}
+use Rattle.monitor.specs.Beside.{allTaken}
 use Rattle.monitor.specs.declared.Monitor.{Monitor}
 use Rattle.monitor.specs.declared.Stepped.{Stepped}
 use Rattle.monitor.proofs.Following.{Follows}
-use Rattle.monitor.proofs.Demand.{start-follows, play-follows}
-use Rattle.monitor.proofs.Withdrawing.{steps-keep}
+use Rattle.monitor.proofs.Withdrawing.{takes-more, after-call, remains-follows, steps-keep}
 use Rattle.recording.specs.Record.{CallAt}
 use Rattle.recording.proofs.Records.{record-judged, record-refused as record-not-there}
 use Rattle.order.specs.Order.{orderOf, After, Takes, refusedRead, AsksCall, ReadsNext}
@@ -66,16 +64,9 @@ none-accepted : Accepted []
 unfolding rowsQuestions
 none-accepted = judged-none
 
--- one call more, which is taken
-pub run-more : {rows : List Constraint} {steps end : List Step} {calls : List Call} {answers : List Answer} (s : Call)
-    → Run rows steps calls answers end → Judged (questions rows end s) Taken
-    → Run rows steps (calls ++ (s ∷ [])) (answers ++ (Taken ∷ [])) (end ++ (stepFor s ∷ []))
-run-more s done judged = call s Taken judged done
-run-more s (call t a earlier rest) judged = call t a earlier (run-more s rest judged)
-
 pub starts : After [] (record { clock = 0; count = 0; next = replicate streamCount 0; closed = 0 })
 unfolding after play monitorOf
-starts = record { calls = []; recorded = ([], done); is = refl }
+starts = record { calls = []; all-taken = (false, done); is = refl }
 
 -- with no row none is crowded
 taken-step : (m : Monitor) (s : Call) (number : ℕ) → m .len ≡ 0 → number ≡ 0 → steppedBy m s number ≡ takes (takenCall m s)
@@ -87,31 +78,29 @@ refused-step m s number h = rw (lt-ltb 0 number h)
 
 module _ (steps : List Step) (o : Order) (before : After steps o) where
   m : Monitor
-  m = after [] (before .calls)
+  m = after [] (map asks (before .calls))
 
   follows : Follows engine [] steps m
-  unfolding after m
-  follows =
-      let played = play-follows engine [] [] (monitorOf []) (start-follows engine [] none-accepted) (before .calls) in
-      subst (λ (past : List Step). Follows engine [] past (play step (monitorOf []) (before .calls) .monitor)) (run-once [] (played .1) (before .recorded .1) .1) (played .2)
+  unfolding m
+  follows = remains-follows engine [] none-accepted (map asks (before .calls)) (allTaken (before .calls), before .all-taken .1)
 
   -- the clock is that of the steps, which could all be taken
   pub after-valid : Valid steps
-  after-valid = run-valid (before .recorded .1) valid-none
+  after-valid = run-valid (before .all-taken .1) valid-none
 
   pub after-clock : o .clock ≡ clock steps
   unfolding m
   after-clock = ap (λ (x : Order). x .clock) (before .is) ∙ follows .clock-is
 
   module _ (s : Call) where
-    kept : Steps m s (stepOf m s)
-    kept = steps-keep engine m s
+    kept : Steps m (asks s) (stepOf m s)
+    kept = steps-keep engine m (asks s)
 
     judged : Judged (questions [] steps s) (stepOf m s .answer)
     unfolding m
     judged =
-        let means = kept .means [] (before .calls) none-accepted refl .0 in
-        subst (λ (past : List Step). Judged (questions [] past s) (stepOf m s .answer)) (run-once [] (means .1 .1) (before .recorded .1) .1) (means .2)
+        let means = kept .means [] (map asks (before .calls)) none-accepted refl .0 in
+        subst (λ (left : Left). Judged (questions [] (left .steps) s) (stepOf m s .answer)) (run-once [] (means .1 .1) (before .all-taken .1) .1) (means .2)
 
     same-number : refusalOf o s ≡ refusalOf (orderOf m) s
     unfolding m
@@ -135,10 +124,10 @@ module _ (steps : List Step) (o : Order) (before : After steps o) where
           yes-all,
           record {
             calls = before .calls ++ (s ∷ []);
-            recorded = (before .recorded .0 ++ (Taken ∷ []), run-more s (before .recorded .1) yes-all);
+            all-taken = takes-more [] (before .calls) steps s (before .all-taken) yes-all;
             is = ap (λ (x : Order). orderAfter x s) (before .is)
                 ∙ ap (λ (x : Stepped). orderOf (x .monitor)) (sym (stepped e))
-                ∙ ap orderOf (kept .means [] (before .calls) none-accepted refl .1);
+                ∙ ap orderOf (kept .means [] (map asks (before .calls)) none-accepted refl .1 ∙ after-call [] (before .calls) s);
           },
         )
 
@@ -172,15 +161,15 @@ module _ (bytes : List ℕ) (place : ℕ) (o : Order) where
       }
 
   pub read-call : (s : Call) (size : ℕ) (r : RecordRead) → CallAt (at bytes 0) bytes place s size → AsksCall o s (place + size) r → ReadsNext bytes place o r
-  read-call s size r read asks =
+  read-call s size r read answered =
       record {
-        taken = λ e steps before. let given = asks .takes .taken e steps before in (
+        taken = λ e steps before. let given = answered .takes .taken e steps before in (
           record-judged [] steps bytes place s size Taken read (given .0),
-          subst (λ (x : Call). After (steps ++ (stepFor x ∷ [])) (r .order)) (sym (asks .call-is)) (given .1),
+          subst (λ (x : Call). After (steps ++ (stepFor x ∷ [])) (r .order)) (sym (answered .call-is)) (given .1),
         );
-        call-is = λ e. read .call-read ∙ sym (asks .call-is);
-        next-is = λ e. (omega (arith, asks .next-is, read .size-read), omega (arith, asks .next-is, read .size-read, read .there .0 .1));
-        refused = λ more steps before. record-judged [] steps bytes place s size (Refused (r .number)) read (asks .takes .refused more steps before);
+        call-is = λ e. read .call-read ∙ sym (answered .call-is);
+        next-is = λ e. (omega (arith, answered .next-is, read .size-read), omega (arith, answered .next-is, read .size-read, read .there .0 .1));
+        refused = λ more steps before. record-judged [] steps bytes place s size (Refused (r .number)) read (answered .takes .refused more steps before);
       }
 
 -- ---- record by record

@@ -1,16 +1,17 @@
 -- The order of a recording: the questions of its records and steps without 12.
 use Prim.Native.Nat.{ℕ, _+_, _<_, _≤_}
 use mathlib.Core.Path.{_≡_}
-use mathlib.Core.List.{List, [], _∷_, _++_}
+use mathlib.Core.List.{List, [], _∷_, _++_, map}
 use lib.ListN.{length}
 use Rattle.constraint.specs.Steps.{Step, clock}
 use Rattle.constraint.specs.Questions.{Judged}
-use Rattle.constraint.specs.Run.{stepFor, questions}
+use Rattle.constraint.specs.Run.{stepFor, questions, asks}
 use Rattle.constraint.specs.Table.{lengthAt}
 use Rattle.constraint.specs.Recording.{callAt, recordQuestions}
 use Rattle.constraint.specs.declared.Answer.the-variants.{Taken, Refused}
 use Rattle.constraint.specs.declared.Call.{Call}
-use Rattle.monitor.specs.Contract.{after, Recorded}
+use Rattle.monitor.specs.Contract.{after}
+use Rattle.monitor.specs.Beside.{Takes as TakesAll}
 use Rattle.monitor.specs.declared.Monitor.{Monitor}
 use Rattle.order.specs.declared.Order.{Order}
 use Rattle.order.specs.declared.RecordRead.{RecordRead}
@@ -20,11 +21,11 @@ use Rattle.order.specs.declared.Answered.{Answered}
 abbrev pub orderOf : Monitor → Order
 orderOf m = record { clock = m .clock; count = m .count; next = m .next; closed = m .closed }
 
--- the order after these steps: that of a monitor over no rows, after calls that have recorded them
+-- the order after these steps: that of a monitor over no rows, after calls that are all taken and have recorded them
 pub record After (steps : List Step) (o : Order) : Type 0 where
   pub calls : List Call
-  pub recorded : Recorded [] calls steps
-  pub is : o ≡ orderOf (after [] calls)
+  pub all-taken : TakesAll [] calls steps
+  pub is : o ≡ orderOf (after [] (map asks calls))
 
 -- the order before any step
 abbrev pub Starts : Order → Type 0

@@ -14,6 +14,7 @@ use sound.WpLaws.{fmOf}
 use denote.Triple.Statement.{Triple}
 use denote.Triple.Table.{cited}
 use Rattle.constraint.specs.declared.Call.{Call}
+use Rattle.constraint.specs.Run.{asks as call-of}
 use Rattle.inplace.specs.Index.{Takes}
 use Rattle.inplace.proofs.Plain.{typed}
 use Rattle.inplace.proofs.Types.{byte-type, word-type, call-type, indexed-type}
@@ -30,7 +31,7 @@ use Rattle.delkuthi.proofs.lent.delkuthi_coloured_event.Statement as st
 use Rattle.delkuthi.proofs.lent.delkuthi_coloured_event.Code as code
 
 abbrev promise : Promise indexed-type (byte-type ∷ byte-type ∷ word-type ∷ []) byte-type
-promise = record { asks = λ κs h a. no-demand; gives = λ κs h a r h′. Takes h (Call.ColouredEvent (a .0) (a .1 .0) (a .1 .1 .0)) r h′ }
+promise = record { asks = λ κs h a. no-demand; gives = λ κs h a r h′. Takes h (call-of (Call.ColouredEvent (a .0) (a .1 .0) (a .1 .1 .0))) r h′ }
 
 module _ {M : Type 1} (𝓤 : URA M) (H : Heap 𝓤) (A : Atoms 𝓤) (W : Given 𝓤 H A) (𝓣 : Tables 𝓤 H) (cites : Triple 𝓤 (𝓣 .C #inplace·index·take) (lent-triple take-indexed 𝓤 H A)) where
   -- [the reference; its token; _0; …]: _i is at 2 + i

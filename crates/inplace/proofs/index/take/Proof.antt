@@ -21,6 +21,7 @@ use denote.Triple.Table.{cited}
 use Rattle.monitor.specs.declared.Monitor.{Monitor}
 use Rattle.monitor.proofs.Answers.{place-small}
 use Rattle.inplace.specs.Store.{askedBy, withNumbers}
+use Rattle.constraint.specs.Run.{asks as call-of}
 use Rattle.inplace.specs.Index.{withMonitor, listedBy, begun, Takes}
 use Rattle.inplace.specs.declared.Asked.{Asked}
 use Rattle.inplace.specs.declared.index.Indexed.{Indexed}
@@ -129,14 +130,14 @@ module _
       exec ! (𝓣 .C) (𝓣 .Λ) (env 𝓤 H (code.function .locals) bs) code-mir.t-10 (atRet (env 𝓤 H (code.function .locals) bs) Kf) $
       sets ! (of-opd ! (copies ! 8 refl)) 2 refl (typed 𝓤 H A W byte-type n n-is) $
       leaves ! (code.function .locals) tt bs (vint w8 n) refl
-      (ends n (taken h (a .0) (whole-rows h was) (whole-kept h was)) n-is (subst (λ (k : ℕ). Takes h (a .0) k (taken h (a .0) (whole-rows h was) (whole-kept h was))) (sym answered)
+      (ends n (taken h (a .0) (whole-rows h was) (whole-kept h was)) n-is (subst (λ (k : ℕ). Takes h (call-of (a .0)) k (taken h (a .0) (whole-rows h was) (whole-kept h was))) (sym answered)
       (taken-takes h (a .0) (whole-rows h was) (whole-kept h was) c (crowded .0) (sym answered ∙ eqb-true n 0 (holds (eqb n 0) yes-zero)))))))))
       -- refused: nothing was changed
       (λ no-zero. skips ! $
       exec ! (𝓣 .C) (𝓣 .Λ) (env 𝓤 H (code.function .locals) bs) code-mir.t-10 (atRet (env 𝓤 H (code.function .locals) bs) Kf) $
       sets ! (of-opd ! (copies ! 8 refl)) 2 refl (typed 𝓤 H A W byte-type n n-is) $
       leaves ! (code.function .locals) tt bs (vint w8 n) refl
-      (ends n h n-is (subst (λ (k : ℕ). Takes h (a .0) k h) (sym answered)
+      (ends n h n-is (subst (λ (k : ℕ). Takes h (call-of (a .0)) k h) (sym answered)
       (refused-takes h (a .0) (whole-rows h was) (whole-kept h was) c (crowded .0) (λ none. eqb-false n 0 (fails (eqb n 0) no-zero) (answered ∙ none)))))))))))
 
 pub take-spec : {M : Type 1} → stated.statement M

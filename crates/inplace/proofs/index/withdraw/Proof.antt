@@ -13,7 +13,8 @@ use types.Part.{whole, sub, look-in, store-in}
 use sound.WpLaws.{fmOf}
 use denote.Triple.Statement.{Triple}
 use denote.Triple.Table.{cited}
-use Rattle.inplace.specs.Index.{TakesBack, withMonitor, withSoonest}
+use Rattle.constraint.specs.Run.{withdraws as withdrawal}
+use Rattle.inplace.specs.Index.{Takes, withMonitor, withSoonest}
 use Rattle.inplace.proofs.Plain.{typed}
 use Rattle.inplace.proofs.Types.{byte-type, word-type, indexed-type}
 use Rattle.inplace.proofs.Frame.{token, Walk, enters, fitting}
@@ -51,7 +52,7 @@ module _
       assigns ! (of-opd ! (copies ! 6 refl)) (from ! (hop ! (look ! 3 refl) (fld ! refl (stop !)))) (store-in ! 0 (sub ! 1 refl (whole !)) (typed 𝓤 H A W word-type s s-is)) $
       sets ! (of-opd ! (copies ! 4 refl)) 2 refl (typed 𝓤 H A W byte-type n n-is) $
       closed ! tt indexed-type L (withSoonest (withMonitor h m) s) (with-soonest-known (withMonitor h m) was s s-is) $
-      leaves ! (code.function .locals) tt bs (vint w8 n) refl (ends n (withSoonest (withMonitor h m) s) n-is (subst (λ (t : ℕ). TakesBack h n (withSoonest (withMonitor h m) t)) (sym e) (back-takes h n m back))))))
+      leaves ! (code.function .locals) tt bs (vint w8 n) refl (ends n (withSoonest (withMonitor h m) s) n-is (subst (λ (t : ℕ). Takes h withdrawal n (withSoonest (withMonitor h m) t)) (sym e) (back-takes h n m back))))))
 
 pub withdraw-spec : {M : Type 1} → stated.statement M
 unfolding code.routine tablesOf

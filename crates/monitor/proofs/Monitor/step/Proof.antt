@@ -3,6 +3,7 @@ use native.Mathlib.Omega.{arith}
 use borrow.Author.Needs.{needs}
 use mathlib.Core.Path.{_≡_, sym, ap, _∙_}
 use mathlib.Core.Bool.{true, false}
+use Rattle.constraint.specs.Run.{asks}
 use Rattle.monitor.specs.Machine.{refusalBy, nextFor, crowds, takenCall, takes, steppedBy, stepOf}
 use Rattle.monitor.proofs.Answers.{place-small, refused-by, crowded-by, taken-by}
 use Rattle.monitor.proofs.Theorem.{step-kept}
@@ -45,7 +46,7 @@ returns : tie.Need-returns
 returns c =
     let asked = c .before .before in
     let args = start asked .args in
-    step-kept (args .t1) (args .call) (c .refused .ensures ∙ refused-by (args .t1) (args .call) (asked .refusal .result) (c .before .if1 .taken) ∙ by-number asked)
+    step-kept (args .t1) (asks (args .call)) (c .refused .ensures ∙ refused-by (args .t1) (args .call) (asked .refusal .result) (c .before .if1 .taken) ∙ by-number asked)
 
 occurrence-requires : tie.Need-occurrence-requires
 occurrence-requires c κs = search needs
@@ -64,7 +65,7 @@ returns-2 c =
     let stepped = c .before .before in
     let args = start (asked stepped) .args in
     let number = asked stepped .refusal .result in
-    step-kept (args .t1) (args .call)
+    step-kept (args .t1) (asks (args .call))
     (c .refused2 .ensures ∙ crowded-by (args .t1) (args .call) number (stepped .before .before .before .if1 .left) (crowds-is stepped ∙ c .before .if2 .taken)
     ∙ by-number (asked stepped))
 
@@ -95,7 +96,7 @@ returns-3 c =
     let number = asked stepped .refusal .result in
     let calm = c .before .before .before .before .before .if2 .left in
     let none-full : crowds (args .t1) (args .call) ≡ false = crowds-is stepped ∙ calm in
-    step-kept (args .t1) (args .call)
+    step-kept (args .t1) (asks (args .call))
     (simp (
       c .taken .ensures,
       ← by-number (asked stepped),

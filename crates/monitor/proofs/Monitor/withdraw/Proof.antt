@@ -5,10 +5,11 @@ use mathlib.Core.Path.{_≡_, sym, ap, _∙_}
 use mathlib.Core.Bool.{true, false, cond}
 use lib.Dec.{ltb}
 use borrow.Author.Tests.{lt-ltb, le-ltb}
+use Rattle.constraint.specs.Run.{withdraws}
 use Rattle.queue.proofs.Shared.{cond-true, cond-false}
 use Rattle.monitor.specs.Machine.{takes, refuses, withdrawn, withdrawOf}
 use Rattle.monitor.proofs.Answers.{place-in-small}
-use Rattle.monitor.proofs.Theorem.{withdraw-kept}
+use Rattle.monitor.proofs.Theorem.{step-kept}
 use Rattle.monitor.proofs.Monitor.withdraw.Statement.{statement}
 use Rattle.monitor.proofs.Monitor.withdraw.Tie as tie
 
@@ -19,7 +20,7 @@ returns : tie.Need-returns
 unfolding withdrawOf
 returns c =
     let m = c .before .before .before .before .args .self in
-    withdraw-kept m (c .refused .ensures ∙ sym (cond-false (ltb 0 (m .undo .may)) (takes (withdrawn m)) (refuses 21 m) (le-ltb 0 (m .undo .may) (omega (arith, c .before .if1 .taken)))))
+    step-kept m withdraws (c .refused .ensures ∙ sym (cond-false (ltb 0 (m .undo .may)) (takes (withdrawn m)) (refuses 21 m) (le-ltb 0 (m .undo .may) (omega (arith, c .before .if1 .taken)))))
 
 place-in-requires : tie.Need-place-in-requires
 place-in-requires c κs = search needs
@@ -45,7 +46,7 @@ returns-2 c =
     let backed = c .before .before in
     let placed = backed .before in
     let m = placed .before .before .before .before .args .self in
-    withdraw-kept m
+    step-kept m withdraws
     (simp (c .taken .ensures, c .before .no-undo .ensures, backed .back .ensures, placed .place-in .ensures)
     (sym (cond-true (ltb 0 (m .undo .may)) (takes (withdrawn m)) (refuses 21 m) (lt-ltb 0 (m .undo .may) (omega (arith, placed .before .if1 .left))))))
 

@@ -7,3 +7,4 @@ pub mod Sums
 pub mod Oldest
 pub mod Spans
 pub mod Tests
+pub mod Stored

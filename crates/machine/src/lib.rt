@@ -3,6 +3,7 @@ use queue::Edit;
 
 pub mod numbers;
 pub mod parts;
+pub mod words;
 
 // The constraint's fields as numbers. A field that a type does not have is 0; a kind that it does not have is 64.
 #[repr(C)]

@@ -1,0 +1,22 @@
+-- What the row is becomes its past, and its state that of a broken row.
+use Prim.Native.Nat.{ℕ}
+use mathlib.Core.Path.{refl, ap, _∙_}
+use mathlib.Core.List.{List, []}
+use lib.ListN.{getD, set}
+use Rattle.machine.specs.Words.{rowWords, pastOf}
+use borrow.Author.Needs.{needs}
+use Rattle.machine.proofs.words.break_at.Statement.{statement}
+use Rattle.machine.proofs.words.break_at.Tie as tie
+
+returns : tie.Need-returns
+unfolding rowWords
+returns c rule times state past e =
+    let k = c .before .before in
+    let a = k .before .before .args in
+    let kept = k .keep .ensures rule times state past e in
+    let done = c .break-numbers .ensures rule state (pastOf times state (a .place) (a .number)) (ap (λ m. getD m 1 []) kept) in
+    ap (λ (w : List ℕ). set (k .keep .last .0) 1 w) done ∙ rw kept refl
+
+pub break-at-spec : {M : Type 1} → statement M
+break-at-spec =
+    tie.close (tie.spec (λ c κs. search needs) (λ c. search needs) (λ c κs. search needs) returns)

@@ -1,0 +1,15 @@
+-- Each number of the state is stored as the definition of a broken row has it.
+use mathlib.Core.Path.{refl}
+use Rattle.machine.specs.Words.{numberWords}
+use borrow.Author.Needs.{needs}
+use Rattle.machine.proofs.words.break_numbers.Statement.{statement}
+use Rattle.machine.proofs.words.break_numbers.Tie as tie
+
+returns : tie.Need-returns
+unfolding numberWords
+returns c rule state past e = rw e refl
+
+pub break-numbers-spec : {M : Type 1} → statement M
+break-numbers-spec =
+    tie.close (tie.spec (λ c. search needs) (λ c. search needs) (λ c. search needs) (λ c. search needs) (λ c. search needs) (λ c. search needs) (λ
+    c. search needs) (λ c. search needs) (λ c. search needs) (λ c. search needs) returns)

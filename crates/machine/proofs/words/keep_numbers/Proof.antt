@@ -1,0 +1,17 @@
+-- Ten numbers are read before the first is stored, so each stands ten places on; the last four are stored as they are given.
+use borrow.Author.Needs.{needs}
+use mathlib.Core.Path.{refl}
+use Rattle.machine.specs.Words.{numberWords}
+use Rattle.machine.proofs.words.keep_numbers.Statement.{statement}
+use Rattle.machine.proofs.words.keep_numbers.Tie as tie
+
+returns : tie.Need-returns
+unfolding numberWords
+returns c rule state past e = rw e refl
+
+pub keep-numbers-spec : {M : Type 1} → statement M
+keep-numbers-spec =
+    tie.close (tie.spec (λ c. search needs) (λ c. search needs) (λ c. search needs) (λ c. search needs) (λ c. search needs) (λ c. search needs) (λ
+    c. search needs) (λ c. search needs) (λ c. search needs) (λ c. search needs) (λ c. search needs) (λ c. search needs) (λ c. search needs) (λ c.
+    search needs) (λ c. search needs) (λ c. search needs) (λ c. search needs) (λ c. search needs) (λ c. search needs) (λ c. search needs) (λ c.
+    search needs) (λ c. search needs) (λ c. search needs) (λ c. search needs) returns)

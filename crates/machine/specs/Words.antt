@@ -1,0 +1,111 @@
+-- The words of a row where it lies: two arrays of 64. The one is the ring of its times; the other has its constraint's numbers, what it keeps, what
+-- it kept before its last step, and what that step overwrote in the ring (§3.13).
+use Prim.Native.Nat.{ℕ}
+use mathlib.Core.Path.{_≡_}
+use mathlib.Core.Bool.{Bool, cond}
+use mathlib.Core.List.{List, [], _∷_}
+use lib.ListN.{getD, replicate}
+use Rattle.constraint.specs.Limits.{noLimit}
+use Rattle.queue.specs.Ring.{Ring, ringOf, ring, edited, editPlace, timeAt}
+use Rattle.machine.specs.Parts.{noMarks}
+use Rattle.machine.specs.declared.Rule.{Rule}
+use Rattle.machine.specs.declared.Marks.{Marks}
+use Rattle.machine.specs.declared.State.{State}
+use Rattle.machine.specs.declared.Change.{Change}
+
+-- ---- where each number stands
+
+-- the places after the last number are 0
+abbrev pub spare : List ℕ
+spare = replicate 30 0
+
+-- what a row was before its last step: what it kept, where the step wrote into its ring and the two words there, and the number of that step
+pub record Past : Type 0 where
+  pub state : State
+  pub place : ℕ
+  pub first : ℕ
+  pub second : ℕ
+  pub stamp : ℕ
+
+unfoldable pub numberWords : Rule → State → Past → List ℕ
+numberWords rule state past =
+    rule .form ∷ rule .first ∷ rule .second ∷ rule .third ∷ rule .fourth ∷ rule .span ∷ rule .lower ∷ rule .upper ∷ rule .jitter ∷ rule .minimum
+    ∷ state .marks .last ∷ state .marks .first ∷ state .marks .second ∷ state .marks .third ∷ state .marks .fourth
+    ∷ state .head ∷ state .len ∷ state .due ∷ state .kept ∷ state .broken
+    ∷ past .state .marks .last ∷ past .state .marks .first ∷ past .state .marks .second ∷ past .state .marks .third ∷ past .state .marks .fourth
+    ∷ past .state .head ∷ past .state .len ∷ past .state .due ∷ past .state .kept ∷ past .state .broken
+    ∷ past .place ∷ past .first ∷ past .second ∷ past .stamp ∷ spare
+
+unfoldable pub rowWords : Rule → List ℕ → State → Past → List (List ℕ)
+rowWords rule times state past = times ∷ numberWords rule state past ∷ []
+
+-- the numbers of a constraint, and the marks, read off their places
+abbrev pub ruleAt : List ℕ → Rule
+ruleAt w =
+    record {
+      form = getD w 0 0;
+      first = getD w 1 0;
+      second = getD w 2 0;
+      third = getD w 3 0;
+      fourth = getD w 4 0;
+      span = getD w 5 0;
+      lower = getD w 6 0;
+      upper = getD w 7 0;
+      jitter = getD w 8 0;
+      minimum = getD w 9 0;
+    }
+
+abbrev pub marksAt : List ℕ → Marks
+marksAt w = record { last = getD w 10 0; first = getD w 11 0; second = getD w 12 0; third = getD w 13 0; fourth = getD w 14 0 }
+
+-- ---- what an event makes of them
+
+-- what is kept of a row before a step that writes from a place on
+abbrev pub pastOf : List ℕ → State → ℕ → ℕ → Past
+pastOf times state place number =
+    record { state = state; place = place; first = timeAt times place 0; second = timeAt times place 1; stamp = number }
+
+-- a row that is broken at a step keeps the step, and nothing waits in it
+abbrev pub brokenAt : ℕ → State
+brokenAt number = record { marks = noMarks; head = 0; len = 0; due = noLimit; kept = 0; broken = number }
+
+-- what a row keeps with other marks
+abbrev pub withMarks : State → Marks → State
+withMarks state marks =
+    record { marks = marks; head = state .head; len = state .len; due = state .due; kept = state .kept; broken = state .broken }
+
+-- what a row keeps that goes on
+abbrev pub goingOn : Ring → Marks → ℕ → Bool → State
+goingOn q marks due kept = record { marks = marks; head = q .head; len = q .len; due = due; kept = cond kept 1 0; broken = 0 }
+
+-- the row's words after a change that does not crowd it, made by the step of that number
+unfoldable pub changedWords : Rule → List ℕ → State → Change → ℕ → List (List ℕ)
+changedWords rule times state change number =
+    cond (change .breaks)
+    (rowWords rule times (brokenAt number) (pastOf times state (editPlace (change .edit) (ringOf times (state .head) (state .len))) number))
+    (rowWords rule (edited (change .edit) (ringOf times (state .head) (state .len)) .times)
+    (goingOn (edited (change .edit) (ringOf times (state .head) (state .len))) (change .marks) (change .due) (change .kept))
+    (pastOf times state (editPlace (change .edit) (ringOf times (state .head) (state .len))) number))
+
+-- ---- what functions on a row's words promise, whatever row they are
+
+abbrev pub Keeps : List (List ℕ) → ℕ → ℕ → List (List ℕ) → Type 0
+Keeps entry place number exit =
+    (rule : Rule) (times : List ℕ) (state : State) (past : Past) → entry ≡ rowWords rule times state past
+    → exit ≡ rowWords rule times state (pastOf times state place number)
+
+abbrev pub Breaks : List (List ℕ) → ℕ → ℕ → List (List ℕ) → Type 0
+Breaks entry place number exit =
+    (rule : Rule) (times : List ℕ) (state : State) (past : Past) → entry ≡ rowWords rule times state past
+    → exit ≡ rowWords rule times (brokenAt number) (pastOf times state place number)
+
+abbrev pub Changes : List (List ℕ) → Change → ℕ → List (List ℕ) → Type 0
+Changes entry change number exit =
+    (rule : Rule) (times : List ℕ) (state : State) (past : Past) → entry ≡ rowWords rule times state past
+    → exit ≡ changedWords rule times state change number
+
+-- the function of a row type: its machine's change is made where the words lie
+abbrev pub Applies : (Rule → Marks → List ℕ → ℕ → ℕ → Change) → List (List ℕ) → ℕ → ℕ → ℕ → List (List ℕ) → Type 0
+Applies machine entry stream t number exit =
+    (rule : Rule) (times : List ℕ) (state : State) (past : Past) → entry ≡ rowWords rule times state past
+    → exit ≡ changedWords rule times state (machine rule (state .marks) (ring times (state .head) (state .len)) stream t) number

@@ -1,0 +1,215 @@
+// A row where it lies, in two arrays of 64 words: the ring of its times, and its numbers. What every row type does to them.
+use crate::Change;
+use crate::Marks;
+use crate::Rule;
+use constraint::NO_LIMIT;
+use queue::Edit;
+use queue::SIZE;
+use queue::edit_place;
+use queue::edit_ring;
+use queue::time_at;
+ghost use Prim.Native.Nat.{ℕ};
+ghost use mathlib.Core.Path.{_≡_};
+ghost use mathlib.Core.List.{List};
+ghost use mathlib.Core.Bool.{cond};
+ghost use Rattle.queue.specs.Ring.{ringOf};
+ghost use Rattle.machine.specs.declared.Rule.{Rule};
+ghost use Rattle.machine.specs.declared.Marks.{Marks};
+ghost use Rattle.machine.specs.declared.State.{State};
+ghost use Rattle.machine.specs.Words.{Past, numberWords, ruleAt, marksAt, brokenAt, withMarks, goingOn, Keeps, Breaks, Changes};
+
+// The constraint's numbers.
+pub const FORM: usize = 0;
+
+pub const FIRST: usize = 1;
+
+pub const SECOND: usize = 2;
+
+pub const THIRD: usize = 3;
+
+pub const FOURTH: usize = 4;
+
+pub const SPAN: usize = 5;
+
+pub const LOWER: usize = 6;
+
+pub const UPPER: usize = 7;
+
+pub const JITTER: usize = 8;
+
+pub const MINIMUM: usize = 9;
+
+// What the row keeps.
+pub const LAST: usize = 10;
+
+pub const ONE: usize = 11;
+
+pub const TWO: usize = 12;
+
+pub const THREE: usize = 13;
+
+pub const FOUR: usize = 14;
+
+pub const HEAD: usize = 15;
+
+pub const LEN: usize = 16;
+
+pub const DUE: usize = 17;
+
+pub const KEPT: usize = 18;
+
+pub const BROKEN: usize = 19;
+
+// What it kept before its last step, and what that step overwrote.
+pub const PAST: usize = 20;
+
+pub const PLACE: usize = 30;
+
+pub const OLD: usize = 31;
+
+pub const OTHER: usize = 32;
+
+pub const STAMP: usize = 33;
+
+// The constraint's numbers as a rule.
+pub fn rule_at(w: &[u64; SIZE]) -> Rule
+    ensures { λ r. ⌜ r ≡ ruleAt (now (w .entry)) ⌝ }
+{
+    Rule {
+        form: w[FORM],
+        first: w[FIRST],
+        second: w[SECOND],
+        third: w[THIRD],
+        fourth: w[FOURTH],
+        span: w[SPAN],
+        lower: w[LOWER],
+        upper: w[UPPER],
+        jitter: w[JITTER],
+        minimum: w[MINIMUM],
+    }
+}
+
+// The marks.
+pub fn marks_at(w: &[u64; SIZE]) -> Marks
+    ensures { λ r. ⌜ r ≡ marksAt (now (w .entry)) ⌝ }
+{
+    Marks {
+        last: w[LAST],
+        first: w[ONE],
+        second: w[TWO],
+        third: w[THREE],
+        fourth: w[FOUR],
+    }
+}
+
+// What the row keeps is kept as its past, before the step of that number, which overwrites two words from a place on.
+fn keep_numbers(w: &mut [u64; SIZE], place: usize, old: u64, other: u64, number: u64)
+    ensures { λ _. ⌜ ((rule : Rule) (state : State) (past : Past) → now (w .entry) ≡ numberWords rule state past → now (w .exit) ≡ numberWords rule state (record { state = state; place = place; first = old; second = other; stamp = number })) ⌝ }
+{
+    let last = w[LAST];
+    let one = w[ONE];
+    let two = w[TWO];
+    let three = w[THREE];
+    let four = w[FOUR];
+    let head = w[HEAD];
+    let len = w[LEN];
+    let due = w[DUE];
+    let kept = w[KEPT];
+    let broken = w[BROKEN];
+    w[20] = last;
+    w[21] = one;
+    w[22] = two;
+    w[23] = three;
+    w[24] = four;
+    w[25] = head;
+    w[26] = len;
+    w[27] = due;
+    w[28] = kept;
+    w[29] = broken;
+    w[PLACE] = place as u64;
+    w[OLD] = old;
+    w[OTHER] = other;
+    w[STAMP] = number;
+}
+
+// A row's state is that of one that is broken at a step.
+fn break_numbers(w: &mut [u64; SIZE], number: u64)
+    ensures { λ _. ⌜ ((rule : Rule) (state : State) (past : Past) → now (w .entry) ≡ numberWords rule state past → now (w .exit) ≡ numberWords rule (brokenAt number) past) ⌝ }
+{
+    w[LAST] = 0;
+    w[ONE] = 0;
+    w[TWO] = 0;
+    w[THREE] = 0;
+    w[FOUR] = 0;
+    w[HEAD] = 0;
+    w[LEN] = 0;
+    w[DUE] = NO_LIMIT;
+    w[KEPT] = 0;
+    w[BROKEN] = number;
+}
+
+// A row's state is that of one that goes on, with these marks.
+fn mark_numbers(w: &mut [u64; SIZE], marks: Marks)
+    ensures { λ _. ⌜ ((rule : Rule) (state : State) (past : Past) → now (w .entry) ≡ numberWords rule state past → now (w .exit) ≡ numberWords rule (withMarks state marks) past) ⌝ }
+{
+    w[LAST] = marks.last;
+    w[ONE] = marks.first;
+    w[TWO] = marks.second;
+    w[THREE] = marks.third;
+    w[FOUR] = marks.fourth;
+}
+
+// A row's state is that of one that goes on, its marks being new: where its ring begins and how many times it holds, its due time, and whether it is
+// kept if the recording is closed now.
+pub fn go_on(w: &mut [u64; SIZE], head: usize, len: usize, due: u64, kept: bool)
+    ensures { λ _. ⌜ ((rule : Rule) (state : State) (past : Past) → now (w .entry) ≡ numberWords rule state past → (times : List ℕ) → now (w .exit) ≡ numberWords rule (goingOn (ringOf times head len) (state .marks) due kept) past) ⌝ }
+{
+    w[HEAD] = head as u64;
+    w[LEN] = len as u64;
+    w[DUE] = due;
+    w[KEPT] = one_if(kept);
+    w[BROKEN] = 0;
+}
+
+// What the row is becomes its past, before the step of that number, which overwrites two words from a place on.
+pub fn keep(row: &mut [[u64; SIZE]; 2], place: usize, number: u64)
+    ensures { λ _. ⌜ Keeps (now (row .entry)) place number (now (row .exit)) ⌝ }
+{
+    let old = time_at(&row[0], place, 0);
+    let other = time_at(&row[0], place, 1);
+    keep_numbers(&mut row[1], place, old, other, number);
+}
+
+// The row breaks at the step of that number, which overwrites two words from a place on.
+pub fn break_at(row: &mut [[u64; SIZE]; 2], place: usize, number: u64)
+    ensures { λ _. ⌜ Breaks (now (row .entry)) place number (now (row .exit)) ⌝ }
+{
+    keep(row, place, number);
+    break_numbers(&mut row[1], number);
+}
+
+// A change is made where the row lies, by the step of that number.
+pub fn apply(row: &mut [[u64; SIZE]; 2], change: Change, number: u64)
+    ensures { λ _. ⌜ Changes (now (row .entry)) change number (now (row .exit)) ⌝ }
+{
+    let head = row[1][HEAD] as usize;
+    let len = row[1][LEN] as usize;
+    let edit = change.edit;
+    let place = edit_place(head, len, edit);
+    if change.breaks {
+        break_at(row, place, number);
+        return;
+    }
+    keep(row, place, number);
+    let ends = edit_ring(&mut row[0], head, len, edit);
+    let marks = change.marks;
+    mark_numbers(&mut row[1], marks);
+    go_on(&mut row[1], ends.head, ends.len, change.due, change.kept);
+}
+
+// 1 where something is so, else 0.
+fn one_if(so: bool) -> u64
+    ensures { λ r. ⌜ r ≡ cond so 1 0 ⌝ }
+{
+    if so { 1 } else { 0 }
+}

@@ -8,3 +8,4 @@ pub mod Undo
 pub mod Crowding
 pub mod Apart
 mod Dispatch
+pub mod Laid

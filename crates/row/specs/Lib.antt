@@ -2,3 +2,4 @@
 pub mod Machine
 pub mod Undo
 pub mod Apart
+pub mod Stored

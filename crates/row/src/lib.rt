@@ -30,6 +30,8 @@ ghost use Rattle.row.specs.Undo.{savedFrom, movesBy, savedBy, backRow, r
 ghost use Rattle.row.specs.Apart.{fills, crowdedBy, endsBy, Ends, withChange, seenBy, keptOf, withWords};
 ghost use Rattle.row.specs.Machine.{decide, concerns, mark, rowFrom, rowOf, brokenState, applied, changedRow, rowStep};
 
+pub mod stored;
+
 // A row with fewer waiting has room for two more words.
 const ROOMY: usize = WAITING_LIMIT - 1;
 

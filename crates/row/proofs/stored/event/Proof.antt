@@ -1,0 +1,29 @@
+-- A row that is not broken takes what its type makes of the event; a broken one stays.
+use mathlib.Core.Path.{_≡_, sym, ap, _∙_}
+use mathlib.Core.List.{[]}
+use lib.ListN.{getD}
+use borrow.Author.Tests.{eq-eqb, ne-eqb}
+use Rattle.machine.specs.Words.{rowWords, numberWords}
+use Rattle.row.specs.Apart.{changeBy}
+use Rattle.row.specs.Machine.{eventAt}
+use Rattle.row.specs.Stored.{pastOf, wordsOf}
+use Rattle.row.proofs.Laid.{changed-words}
+use borrow.Author.Needs.{needs}
+use Rattle.row.proofs.stored.event.Statement.{statement}
+use Rattle.row.proofs.stored.event.Tie as tie
+
+returns : tie.Need-returns
+unfolding wordsOf rowWords numberWords
+returns c r b e =
+    let i = c .before .before in
+    let a = i .before .before .args in
+    rw (eq-eqb _ _ (sym (ap (λ m. getD (getD m 1 []) 19 0) e) ∙ i .if1 .taken))
+    (c .change .ensures (r .rule) (r .times) (r .now) (pastOf b) e ∙ changed-words r (changeBy r (eventAt (a .stream) (a .t))) (a .number))
+
+returns-2 : tie.Need-returns-2
+unfolding wordsOf rowWords numberWords
+returns-2 c r b e = rw (ne-eqb _ _ (λ z. c .if1 .left (ap (λ m. getD (getD m 1 []) 19 0) e ∙ z))) e
+
+pub event-spec : {M : Type 1} → statement M
+event-spec =
+    tie.close (tie.spec (λ c. search needs) (λ c. search needs) (λ c κs. search needs) returns returns-2)

@@ -1,0 +1,33 @@
+-- Where the past is of that step, its two words and its state are put back; else nothing is done.
+use mathlib.Core.Path.{_≡_, refl, sym, ap, _∙_}
+use Prim.Native.Nat.{ℕ}
+use mathlib.Core.List.{List, []}
+use lib.ListN.{getD, set}
+use denote.Ref.{now}
+use borrow.Author.Tests.{eq-eqb, ne-eqb}
+use Rattle.machine.specs.Words.{rowWords, numberWords}
+use Rattle.row.specs.Undo.{rowWithout, keptWithout, backRow}
+use Rattle.row.specs.Stored.{pastOf, wordsOf}
+use borrow.Author.Needs.{needs}
+use Rattle.row.proofs.stored.without.Statement.{statement}
+use Rattle.row.proofs.stored.without.Tie as tie
+
+returns : tie.Need-returns
+unfolding wordsOf rowWords numberWords rowWithout keptWithout
+returns c r b e = rw (ne-eqb _ _ (λ z. c .if1 .taken (ap (λ m. getD (getD m 1 []) 33 0) e ∙ z))) e
+
+returns-2 : tie.Need-returns-2
+unfolding wordsOf rowWords numberWords rowWithout keptWithout backRow
+returns-2 c r b e =
+    let p = c .before .before in
+    let i = p .before .before .before .before .before in
+    let a = i .before .before .args in
+    let x = p .put-back .last .0 in
+    let numbers = c .restore .ensures (r .rule) (r .now) (pastOf b) (ap (λ m. getD (set m 0 x) 1 []) e) in
+    rw (eq-eqb _ _ (sym (ap (λ m. getD (getD m 1 []) 33 0) e) ∙ i .if1 .left))
+    (ap (λ (w : List ℕ). set (set (now (a .row)) 0 x) 1 w) numbers ∙ rw (p .put-back .ensures, e) refl)
+
+pub without-spec : {M : Type 1} → statement M
+without-spec =
+    tie.close (tie.spec (λ c. search needs) (λ c. search needs) returns (λ c. search needs) (λ c. search needs) (λ c. search needs) (λ c. search
+    needs) (λ c. search needs) (λ c. search needs) (λ c. search needs) (λ c κs. search needs) (λ c. search needs) (λ c κs. search needs) returns-2)

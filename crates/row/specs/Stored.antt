@@ -1,0 +1,62 @@
+-- A row where it lies: the words that it is, with what is kept of it, and what a step, a withdrawal and a fresh start make of them.
+use Prim.Native.Nat.{ℕ}
+use mathlib.Core.Path.{_≡_}
+use mathlib.Core.Bool.{Bool, true, false, cond}
+use mathlib.Core.List.{List}
+use lib.ListN.{getD}
+use lib.Dec.{ltb, eqb}
+use Rattle.machine.specs.declared.Rule.{Rule}
+use Rattle.machine.specs.declared.State.{State}
+use Rattle.machine.specs.Words.{Past, rowWords, marksAt}
+use Rattle.row.specs.declared.Before.{Before}
+use Rattle.row.specs.declared.Occurrence.{Occurrence}
+use Rattle.row.specs.declared.Row.{Row}
+use Rattle.row.specs.Machine.{rowFrom}
+use Rattle.row.specs.Undo.{noBefore, savedAt}
+use Rattle.row.specs.Apart.{endsBy, endedState, heardRow, heardBefore}
+
+-- what is kept of a row, as its words have it
+abbrev pub pastOf : Before → Past
+pastOf b = record { state = b .state; place = b .place; first = b .first; second = b .second; stamp = b .stamp }
+
+-- a row that no step has changed has none
+abbrev pub nothing : Past
+nothing = pastOf noBefore
+
+unfoldable pub wordsOf : Row → Before → List (List ℕ)
+wordsOf r b = rowWords (r .rule) (r .times) (r .now) (pastOf b)
+
+-- what a row keeps, read off its numbers
+abbrev pub stateAt : List ℕ → State
+stateAt w =
+    record { marks = marksAt w; head = getD w 15 0; len = getD w 16 0; due = getD w 17 0; kept = getD w 18 0; broken = getD w 19 0 }
+
+-- ---- what an event makes of a row that it concerns: a broken one stays as it is
+
+abbrev pub eventRow : Occurrence → ℕ → Row → Row
+eventRow o number r = cond (eqb (r .now .broken) 0) (heardRow r o number) r
+
+abbrev pub eventSaves : Occurrence → ℕ → Row → Before → Before
+eventSaves o number r b = cond (eqb (r .now .broken) 0) (heardBefore r o number) b
+
+-- ---- what the clock or the close alone makes of it
+
+abbrev pub endedRow : Occurrence → ℕ → Row → Row
+endedRow o number r = cond (endsBy (r .rule) (r .now) o) (rowFrom (r .rule) (r .times) (endedState (r .now) o number)) r
+
+abbrev pub endedSaves : Occurrence → ℕ → Row → Before → Before
+endedSaves o number r b = cond (endsBy (r .rule) (r .now) o) (savedAt r 0 number) b
+
+-- ---- until when nothing but an event of its own can change a row, and none can crowd it
+
+-- a row is looked at before each step where 63 or more times are kept, unless these are all that a Repeat or Burst keeps; else from its due time on
+abbrev pub keepsSpan : Rule → ℕ → Bool
+keepsSpan rule len = cond (ltb len (rule .span)) false (cond (eqb (rule .form) 3) true (cond (eqb (rule .form) 5) true false))
+
+abbrev pub lookTime : Rule → State → ℕ
+lookTime rule state = cond (ltb (state .len) 63) (state .due) (cond (keepsSpan rule (state .len)) (state .due) 0)
+
+-- ---- what a function on a row's words promises, whatever row they are
+
+abbrev pub Becomes : List (List ℕ) → (Row → Row) → (Row → Before → Before) → List (List ℕ) → Type 0
+Becomes entry step saves exit = (r : Row) (b : Before) → entry ≡ wordsOf r b → exit ≡ wordsOf (step r) (saves r b)

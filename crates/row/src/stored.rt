@@ -1,0 +1,218 @@
+// A row where it lies: its two arrays of words after an event, the clock, the close and a withdrawal, and before any step.
+use crate::Occurrence;
+use crate::concerns;
+use crate::crowded_by;
+use crate::decide;
+use constraint::Constraint;
+use constraint::NO_LIMIT;
+use machine::Rule;
+use machine::State;
+use machine::numbers::rule_of;
+use machine::numbers::words_of;
+use machine::words;
+use machine::words::marks_at;
+use machine::words::rule_at;
+use queue::SIZE;
+use queue::put_back;
+ghost use Prim.Native.Nat.{ℕ};
+ghost use mathlib.Core.Path.{_≡_};
+ghost use mathlib.Core.Bool.{true, false, cond};
+ghost use lib.Dec.{ltb, eqb};
+ghost use Rattle.machine.specs.Words.{Applies, Past, numberWords};
+ghost use Rattle.machine.specs.declared.Rule.{Rule};
+ghost use Rattle.machine.specs.declared.State.{State};
+ghost use Rattle.row.specs.Undo.{noBefore, rowWithout, keptWithout};
+ghost use Rattle.row.specs.Apart.{crowdedBy};
+ghost use Rattle.row.specs.Machine.{decide, eventAt, freshState, rowOf};
+ghost use Rattle.row.specs.declared.Before.{Before};
+ghost use Rattle.row.specs.declared.Row.{Row};
+ghost use Rattle.row.specs.Stored.{wordsOf, eventRow, eventSaves, endedRow, endedSaves, lookTime, Becomes, stateAt, nothing};
+
+// What the row keeps.
+fn state_at(w: &[u64; SIZE]) -> State
+    ensures { λ r. ⌜ r ≡ stateAt (now (w .entry)) ⌝ }
+{
+    State {
+        marks: marks_at(w),
+        head: w[words::HEAD] as usize,
+        len: w[words::LEN] as usize,
+        due: w[words::DUE],
+        kept: w[words::KEPT],
+        broken: w[words::BROKEN],
+    }
+}
+
+// What an event of one of its streams makes of the row, by its type.
+fn change(row: &mut [[u64; SIZE]; 2], stream: u64, t: u64, number: u64)
+    ensures { λ _. ⌜ Applies decide (now (row .entry)) stream t number (now (row .exit)) ⌝ }
+{
+    let rule = rule_at(&row[1]);
+    let marks = marks_at(&row[1]);
+    let head = row[1][words::HEAD] as usize;
+    let len = row[1][words::LEN] as usize;
+    let change = decide(rule, marks, &row[0], head, len, stream, t);
+    words::apply(row, change, number);
+}
+
+// The row after an event that concerns it, which is the step of that number.
+pub fn event(row: &mut [[u64; SIZE]; 2], stream: u64, t: u64, number: u64)
+    ensures { λ _. ⌜ Becomes (now (row .entry)) (eventRow (eventAt stream t) number) (eventSaves (eventAt stream t) number) (now (row .exit)) ⌝ }
+{
+    if row[1][words::BROKEN] == 0 {
+        change(row, stream, t, number);
+    }
+}
+
+// The row where the clock or the close alone goes to it, which is the step of that number.
+pub fn end(row: &mut [[u64; SIZE]; 2], o: Occurrence, number: u64)
+    ensures { λ _. ⌜ Becomes (now (row .entry)) (endedRow o number) (endedSaves o number) (now (row .exit)) ⌝ }
+{
+    if 0 < row[1][words::BROKEN] {
+        return;
+    }
+    if row[1][words::DUE] < o.time {
+        words::break_at(row, 0, number);
+        return;
+    }
+    if !o.closes {
+        return;
+    }
+    if concerns(rule_at(&row[1]), o.kind) {
+        return;
+    }
+    if row[1][words::KEPT] == 0 {
+        words::break_at(row, 0, number);
+        return;
+    }
+    words::keep(row, 0, number);
+}
+
+// The state of a row is that of its past, and it has no past.
+fn restore(w: &mut [u64; SIZE])
+    ensures { λ _. ⌜ ((rule : Rule) (state : State) (past : Past) → now (w .entry) ≡ numberWords rule state past → now (w .exit) ≡ numberWords rule (past .state) nothing) ⌝ }
+{
+    let last = w[20];
+    let one = w[21];
+    let two = w[22];
+    let three = w[23];
+    let four = w[24];
+    let head = w[25];
+    let len = w[26];
+    let due = w[27];
+    let kept = w[28];
+    let broken = w[29];
+    w[words::LAST] = last;
+    w[words::ONE] = one;
+    w[words::TWO] = two;
+    w[words::THREE] = three;
+    w[words::FOUR] = four;
+    w[words::HEAD] = head;
+    w[words::LEN] = len;
+    w[words::DUE] = due;
+    w[words::KEPT] = kept;
+    w[words::BROKEN] = broken;
+    forget(w);
+}
+
+// A row has no past.
+fn forget(w: &mut [u64; SIZE])
+    ensures { λ _. ⌜ ((rule : Rule) (state : State) (past : Past) → now (w .entry) ≡ numberWords rule state past → now (w .exit) ≡ numberWords rule state nothing) ⌝ }
+{
+    w[20] = 0;
+    w[21] = 0;
+    w[22] = 0;
+    w[23] = 0;
+    w[24] = 0;
+    w[25] = 0;
+    w[26] = 0;
+    w[27] = 0;
+    w[28] = 0;
+    w[29] = 0;
+    w[words::PLACE] = 0;
+    w[words::OLD] = 0;
+    w[words::OTHER] = 0;
+    w[words::STAMP] = 0;
+}
+
+// The row without the step of that number, by what is kept of it.
+pub fn without(row: &mut [[u64; SIZE]; 2], number: u64)
+    ensures { λ _. ⌜ ((r : Row) (b : Before) → now (row .entry) ≡ wordsOf r b → now (row .exit) ≡ wordsOf (rowWithout number r b) (keptWithout number b)) ⌝ }
+{
+    if row[1][words::STAMP] != number {
+        return;
+    }
+    let place = row[1][words::PLACE] as usize;
+    let old = row[1][words::OLD];
+    let other = row[1][words::OTHER];
+    put_back(&mut row[0], place, old, other);
+    restore(&mut row[1]);
+}
+
+// Whether what occurs crowds the row, in which at most 64 wait.
+pub fn crowds(row: &[[u64; SIZE]; 2], o: Occurrence) -> bool
+    ensures { λ r. ⌜ ((w : Row) (b : Before) → now (row .entry) ≡ wordsOf w b → r ≡ crowdedBy (w .rule) (w .now) o) ⌝ }
+{
+    let rule = rule_at(&row[1]);
+    let state = state_at(&row[1]);
+    crowded_by(rule, state, o)
+}
+
+// Whether a Repeat or Burst keeps all the times that it ever keeps.
+fn keeps_span(form: u64, span: u64, len: u64) -> bool
+    ensures { λ r. ⌜ r ≡ cond (ltb len span) false (cond (eqb form 3) true (cond (eqb form 5) true false)) ⌝ }
+{
+    if len < span {
+        return false;
+    }
+    if form == 3 {
+        return true;
+    }
+    if form == 5 {
+        return true;
+    }
+    false
+}
+
+// From when on the row is looked at before a step.
+pub fn look(row: &[[u64; SIZE]; 2]) -> u64
+    ensures { λ r. ⌜ ((w : Row) (b : Before) → now (row .entry) ≡ wordsOf w b → r ≡ lookTime (w .rule) (w .now)) ⌝ }
+{
+    let len = row[1][words::LEN];
+    if len < 63 {
+        return row[1][words::DUE];
+    }
+    if keeps_span(row[1][words::FORM], row[1][words::SPAN], len) {
+        return row[1][words::DUE];
+    }
+    0
+}
+
+// The numbers of a row before any step.
+fn start(w: &mut [u64; SIZE], rule: Rule)
+    ensures { λ _. ⌜ now (w .exit) ≡ numberWords rule (freshState rule) nothing ⌝ }
+{
+    let len = words_of(rule);
+    *w = [0u64; SIZE];
+    w[words::FORM] = rule.form;
+    w[words::FIRST] = rule.first;
+    w[words::SECOND] = rule.second;
+    w[words::THIRD] = rule.third;
+    w[words::FOURTH] = rule.fourth;
+    w[words::SPAN] = rule.span;
+    w[words::LOWER] = rule.lower;
+    w[words::UPPER] = rule.upper;
+    w[words::JITTER] = rule.jitter;
+    w[words::MINIMUM] = rule.minimum;
+    w[words::LEN] = len as u64;
+    w[words::DUE] = NO_LIMIT;
+    w[words::KEPT] = 1;
+}
+
+// The row is that of a constraint before any step.
+pub fn begin(row: &mut [[u64; SIZE]; 2], c: Constraint)
+    ensures { λ _. ⌜ now (row .exit) ≡ wordsOf (rowOf c) noBefore ⌝ }
+{
+    let rule = rule_of(c);
+    *row = [[0u64; SIZE]; 2];
+    start(&mut row[1], rule);
+}

@@ -37,7 +37,7 @@ returns-3 c r b e =
     let s = j .before .before in
     let goes = ap (λ m. ltb 0 (at 19 m)) (sym e) ∙ le-ltb _ _ (s .before .if1 .left) in
     let early = ap (λ m. ltb (at 17 m) (s .before .before .before .args .o .time)) (sym e) ∙ le-ltb _ _ (j .if2 .left) in
-    rw (goes, early, not-true _ (c .if3 .taken)) e
+    rw (goes, early, not-true (s .before .before .before .args .o .closes) (c .if3 .taken)) e
 
 returns-4 : tie.Need-returns-4
 unfolding wordsOf rowWords numberWords endsBy
@@ -51,7 +51,7 @@ returns-4 c r b e =
     let early = ap (λ m. ltb (at 17 m) (s .before .before .before .args .o .time)) (sym e) ∙ le-ltb _ _ (j .if2 .left) in
     let own = ap (λ m. concerns (ruleAt (getD m 1 [])) (s .before .before .before .args .o .kind)) (sym e)
     ∙ ap (λ w. concerns w (s .before .before .before .args .o .kind)) (sym (u .rule-at .ensures)) ∙ sym (k .concerns .ensures) ∙ c .if4 .taken in
-    rw (goes, early, not-false _ (t .if3 .left), own) e
+    rw (goes, early, not-false (s .before .before .before .args .o .closes) (t .if3 .left), own) e
 
 returns-5 : tie.Need-returns-5
 unfolding wordsOf rowWords numberWords endsBy endedState
@@ -68,7 +68,7 @@ returns-5 c r b e =
     let own = ap (λ m. concerns (ruleAt (getD m 1 [])) (s .before .before .before .args .o .kind)) (sym e)
     ∙ ap (λ w. concerns w (s .before .before .before .args .o .kind)) (sym (u .rule-at .ensures)) ∙ sym (k .concerns .ensures) ∙ x .if4 .left in
     let unkept = ap (λ m. eqb (at 18 m) 0) (sym e) ∙ eq-eqb _ _ (f .if5 .taken) in
-    rw (goes, early, not-false _ (t .if3 .left), own, unkept) (c .break-at2 .ensures (r .rule) (r .times) (r .now) (pastOf b) e)
+    rw (goes, early, not-false (s .before .before .before .args .o .closes) (t .if3 .left), own, unkept) (c .break-at2 .ensures (r .rule) (r .times) (r .now) (pastOf b) e)
 
 returns-6 : tie.Need-returns-6
 unfolding wordsOf rowWords numberWords endsBy endedState
@@ -85,7 +85,7 @@ returns-6 c r b e =
     let own = ap (λ m. concerns (ruleAt (getD m 1 [])) (s .before .before .before .args .o .kind)) (sym e)
     ∙ ap (λ w. concerns w (s .before .before .before .args .o .kind)) (sym (u .rule-at .ensures)) ∙ sym (k .concerns .ensures) ∙ x .if4 .left in
     let kept = ap (λ m. eqb (at 18 m) 0) (sym e) ∙ ne-eqb _ _ (f .if5 .left) in
-    rw (goes, early, not-false _ (t .if3 .left), own, kept) (c .keep .ensures (r .rule) (r .times) (r .now) (pastOf b) e)
+    rw (goes, early, not-false (s .before .before .before .args .o .closes) (t .if3 .left), own, kept) (c .keep .ensures (r .rule) (r .times) (r .now) (pastOf b) e)
 
 pub end-spec : {M : Type 1} → statement M
 end-spec =

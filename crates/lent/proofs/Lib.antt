@@ -1,0 +1,3 @@
+-- Why a call on a lent monitor is the monitor's.
+pub mod Blocks
+pub mod Parts

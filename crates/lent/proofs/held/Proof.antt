@@ -1,0 +1,24 @@
+-- The number of rows stands at its place, and is cut at 32.
+use Prim.Native.Nat.{ℕ, min}
+use mathlib.Core.Path.{_≡_, refl, sym, ap, _∙_}
+use mathlib.Core.List.{List, []}
+use lib.ListN.{getD}
+use native.Mathlib.Omega.{arith}
+use Rattle.lent.proofs.Parts.{numbers-read}
+use borrow.Author.Needs.{needs}
+use Rattle.lent.proofs.held.Statement.{statement}
+use Rattle.lent.proofs.held.Tie as tie
+
+returns : tie.Need-returns
+returns c h e s =
+    let n = ap (λ m. getD (getD (getD m 32 []) 0 []) 3 0) e ∙ ap (λ (b : List (List ℕ)). getD (getD b 0 []) 3 0) (numbers-read h s) in
+    omega (arith, n, c .if1 .taken)
+
+returns-2 : tie.Need-returns-2
+returns-2 c h e s =
+    let n = ap (λ m. getD (getD (getD m 32 []) 0 []) 3 0) e ∙ ap (λ (b : List (List ℕ)). getD (getD b 0 []) 3 0) (numbers-read h s) in
+    omega (arith, n, c .if1 .left)
+
+pub held-spec : {M : Type 1} → statement M
+held-spec =
+    tie.close (tie.spec (λ c. search needs) (λ c. search needs) (λ c. search needs) returns returns-2)

@@ -1,0 +1,65 @@
+-- Row after row: before the turn of number i the first i are without the step.
+use Prim.Native.Nat.{ℕ, _+_, _-_, _≤_, _<_}
+use mathlib.Core.Path.{_≡_, refl, sym, ap, _∙_}
+use native.Mathlib.Omega.{arith}
+use native.Mathlib.Numerals.{add-one}
+use Rattle.row.specs.Undo.{rowWithout, keptWithout}
+use Rattle.lent.specs.Layout.{Lent, wordsOf, Shaped, rowAt, keptAt}
+use Rattle.lent.specs.Steps.{backed}
+use Rattle.lent.proofs.Blocks.{row-lies, row-stored}
+use Rattle.lent.proofs.Parts.{shaped-backed}
+use borrow.Author.Needs.{needs}
+use Rattle.lent.proofs.rows.back.Statement.{statement}
+use Rattle.lent.proofs.rows.back.Tie as tie
+
+abbrev Inv-loop : tie.InvT-loop
+Inv-loop m₀ n number i₀ m i = (i ≤ n) × ((h : Lent) → m₀ ≡ wordsOf h → Shaped h → m ≡ wordsOf (backed h i number))
+
+abbrev μ-loop : tie.MeasureT-loop
+μ-loop m₀ n number i₀ m i = n - i
+
+loop-holds : tie.Need-loop-holds Inv-loop μ-loop
+loop-holds c = (omega arith, λ h e s. e)
+
+mul-without : tie.Need-mul-without Inv-loop μ-loop
+mul-without c = omega arith
+
+index-1-without : tie.Need-index-1-without Inv-loop μ-loop
+index-1-without c = omega arith
+
+without-requires : tie.Need-without-requires Inv-loop μ-loop
+without-requires c κs = tt
+
+add-i : tie.Need-add-i Inv-loop μ-loop
+add-i c = omega arith
+
+loop-less : tie.Need-loop-less Inv-loop μ-loop
+loop-less c = omega arith
+
+loop-again : tie.Need-loop-again Inv-loop μ-loop
+loop-again c =
+    let l = c .before .before in
+    let a = l .before .before .args in
+    let i = l .before .loop .i in
+    let m = l .before .loop .m in
+    (omega arith, λ h e s.
+    let so-far = l .before .loop .inv .1 h e s in
+    let h′ = backed h i (a .number) in
+    let there : i < 32 = omega arith in
+    let r = rowAt (h′ .monitor) i in
+    let b = keptAt (h′ .monitor) i in
+    let wide = shaped-backed h i (a .number) s in
+    let row = c .without .ensures r b (row-lies h′ wide m so-far i there) in
+    row-stored h′ wide m so-far i there (c .without .last .0) (rowWithout (a .number) r b) (keptWithout (a .number) b) row
+    ∙ ap (λ (k : ℕ). wordsOf (backed h k (a .number))) (sym (add-one i)))
+
+returns : tie.Need-returns Inv-loop μ-loop
+returns c h e s =
+    let l = c .before .loop in
+    let a = c .before .before .args in
+    let at-end : l .i ≡ a .n = omega arith in
+    l .inv .1 h e s ∙ ap (λ (k : ℕ). wordsOf (backed h k (a .number))) at-end
+
+pub back-spec : {M : Type 1} → statement M
+back-spec =
+    tie.close (tie.spec Inv-loop μ-loop loop-holds mul-without index-1-without without-requires add-i loop-less loop-again returns)

@@ -1,0 +1,76 @@
+-- Entry after entry: before the turn of number j it is known of the rows of the first j.
+use Prim.Native.Nat.{ℕ, _+_, _-_, _≤_, _<_}
+use mathlib.Core.Path.{_≡_, refl, sym, ap, _∙_}
+use native.Mathlib.Omega.{arith}
+use native.Mathlib.Numerals.{add-one}
+use mathlib.Core.Path.{ap₂}
+use mathlib.Core.Bool.{Bool, _||_}
+use denote.Ref.{now}
+use Rattle.row.specs.Apart.{crowdedBy}
+use Rattle.lent.specs.Layout.{Lent, wordsOf, Shaped, rowNamed, rowAt, keptAt}
+use Rattle.lent.specs.Steps.{crowdedAt, crowded}
+use Rattle.lent.proofs.Blocks.{row-lies}
+use borrow.Author.Needs.{needs}
+use Rattle.lent.proofs.rows.crowds.Statement.{statement}
+use Rattle.lent.proofs.rows.crowds.Tie as tie
+
+abbrev Inv-loop : tie.InvT-loop
+Inv-loop m first n o any₀ j₀ any j = (j ≤ n) × ((h : Lent) → m ≡ wordsOf h → Shaped h → any ≡ crowded h first j o)
+
+abbrev μ-loop : tie.MeasureT-loop
+μ-loop m first n o any₀ j₀ any j = n - j
+
+loop-holds : tie.Need-loop-holds Inv-loop μ-loop
+loop-holds c = (omega arith, λ h e s. refl)
+
+add-named : tie.Need-add-named Inv-loop μ-loop
+add-named c = omega arith
+
+named-requires : tie.Need-named-requires Inv-loop μ-loop
+named-requires c κs = omega arith
+
+mul-crowds : tie.Need-mul-crowds Inv-loop μ-loop
+mul-crowds c = omega (arith, c .named .ensures .0)
+
+index-1-crowds : tie.Need-index-1-crowds Inv-loop μ-loop
+index-1-crowds c = omega (arith, c .named .ensures .0)
+
+crowds-requires : tie.Need-crowds-requires Inv-loop μ-loop
+crowds-requires c κs = tt
+
+either-requires : tie.Need-either-requires Inv-loop μ-loop
+either-requires c κs = tt
+
+add-j : tie.Need-add-j Inv-loop μ-loop
+add-j c = omega arith
+
+loop-less : tie.Need-loop-less Inv-loop μ-loop
+loop-less c = omega arith
+
+loop-again : tie.Need-loop-again Inv-loop μ-loop
+loop-again c =
+    let w = c .before in
+    let d = w .before .before in
+    let l = d .before in
+    let a = l .before .before .args in
+    let j = l .before .loop .j in
+    (omega arith, λ h e s.
+    let so-far = l .before .loop .inv .1 h e s in
+    let i = d .named .result in
+    let row : i ≡ rowNamed h (a .first + j) = d .named .ensures .1 h e s in
+    let crowds : w .crowds .result ≡ crowdedAt h i (a .o) =
+        w .crowds .ensures (rowAt (h .monitor) i) (keptAt (h .monitor) i) (row-lies h s (now (a .m)) e i (d .named .ensures .0)) in
+    c .either .ensures ∙ ap₂ (λ (x y : Bool). x || y) so-far (crowds ∙ ap (λ (k : ℕ). crowdedAt h k (a .o)) row)
+    ∙ ap (λ (k : ℕ). crowded h (a .first) k (a .o)) (sym (add-one j)))
+
+returns : tie.Need-returns Inv-loop μ-loop
+returns c h e s =
+    let l = c .before .loop in
+    let a = c .before .before .args in
+    let at-end : l .j ≡ a .n = omega arith in
+    l .inv .1 h e s ∙ ap (λ (k : ℕ). crowded h (a .first) k (a .o)) at-end
+
+pub crowds-spec : {M : Type 1} → statement M
+crowds-spec =
+    tie.close (tie.spec Inv-loop μ-loop loop-holds add-named named-requires mul-crowds index-1-crowds crowds-requires either-requires add-j
+    loop-less loop-again returns)

@@ -1,0 +1,65 @@
+-- Row after row: before the turn of number i the first i have taken it.
+use Prim.Native.Nat.{ℕ, _+_, _-_, _≤_, _<_}
+use mathlib.Core.Path.{_≡_, refl, sym, ap, _∙_}
+use native.Mathlib.Omega.{arith}
+use native.Mathlib.Numerals.{add-one}
+use Rattle.row.specs.Stored.{endedRow, endedSaves}
+use Rattle.lent.specs.Layout.{Lent, wordsOf, Shaped, rowAt, keptAt}
+use Rattle.lent.specs.Steps.{ended}
+use Rattle.lent.proofs.Blocks.{row-lies, row-stored}
+use Rattle.lent.proofs.Parts.{shaped-ended}
+use borrow.Author.Needs.{needs}
+use Rattle.lent.proofs.rows.ends.Statement.{statement}
+use Rattle.lent.proofs.rows.ends.Tie as tie
+
+abbrev Inv-loop : tie.InvT-loop
+Inv-loop m₀ n o number i₀ m i = (i ≤ n) × ((h : Lent) → m₀ ≡ wordsOf h → Shaped h → m ≡ wordsOf (ended h i o number))
+
+abbrev μ-loop : tie.MeasureT-loop
+μ-loop m₀ n o number i₀ m i = n - i
+
+loop-holds : tie.Need-loop-holds Inv-loop μ-loop
+loop-holds c = (omega arith, λ h e s. e)
+
+mul-end : tie.Need-mul-end Inv-loop μ-loop
+mul-end c = omega arith
+
+index-1-end : tie.Need-index-1-end Inv-loop μ-loop
+index-1-end c = omega arith
+
+end-requires : tie.Need-end-requires Inv-loop μ-loop
+end-requires c κs = tt
+
+add-i : tie.Need-add-i Inv-loop μ-loop
+add-i c = omega arith
+
+loop-less : tie.Need-loop-less Inv-loop μ-loop
+loop-less c = omega arith
+
+loop-again : tie.Need-loop-again Inv-loop μ-loop
+loop-again c =
+    let l = c .before .before in
+    let a = l .before .before .args in
+    let i = l .before .loop .i in
+    let m = l .before .loop .m in
+    (omega arith, λ h e s.
+    let so-far = l .before .loop .inv .1 h e s in
+    let h′ = ended h i (a .o) (a .number) in
+    let there : i < 32 = omega arith in
+    let r = rowAt (h′ .monitor) i in
+    let b = keptAt (h′ .monitor) i in
+    let wide = shaped-ended h i (a .o) (a .number) s in
+    let row = c .end .ensures r b (row-lies h′ wide m so-far i there) in
+    row-stored h′ wide m so-far i there (c .end .last .0) (endedRow (a .o) (a .number) r) (endedSaves (a .o) (a .number) r b) row
+    ∙ ap (λ (k : ℕ). wordsOf (ended h k (a .o) (a .number))) (sym (add-one i)))
+
+returns : tie.Need-returns Inv-loop μ-loop
+returns c h e s =
+    let l = c .before .loop in
+    let a = c .before .before .args in
+    let at-end : l .i ≡ a .n = omega arith in
+    l .inv .1 h e s ∙ ap (λ (k : ℕ). wordsOf (ended h k (a .o) (a .number))) at-end
+
+pub ends-spec : {M : Type 1} → statement M
+ends-spec =
+    tie.close (tie.spec Inv-loop μ-loop loop-holds mul-end index-1-end end-requires add-i loop-less loop-again returns)

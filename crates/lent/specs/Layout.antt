@@ -1,0 +1,115 @@
+-- The words of a lent monitor: 35 blocks of two arrays of 64. Block i below 32 is row i; the last three have the numbers beside the rows, the list of
+-- rows for each kind, and the first free times of the coloured streams.
+use Prim.Native.Nat.{ℕ, zero, suc, _+_, _-_, _<_, _≤_, _/_, _%_, min}
+use mathlib.Core.Path.{_≡_}
+use mathlib.Core.Bool.{Bool, cond}
+use mathlib.Core.List.{List, [], _∷_, _++_}
+use lib.ListN.{length, getD, take, drop}
+use lib.Dec.{ltb}
+use Rattle.constraint.specs.Limits.{rowLimit, streamCount, waitingLimit}
+use Rattle.row.specs.Undo.{noBefore}
+use Rattle.row.specs.Machine.{concerns}
+use Rattle.row.specs.Stored.{lookTime}
+use Rattle.row.specs.Stored as Stored
+use Rattle.row.specs.declared.Before.{Before}
+use Rattle.row.specs.declared.Row.{Row}
+use Rattle.monitor.specs.Machine.{noRow}
+use Rattle.monitor.specs.declared.Monitor.{Monitor}
+
+-- a monitor, a time before which no row has to be looked at, and for each kind where its rows end among the entries
+pub record Lent : Type 0 where
+  pub monitor : Monitor
+  pub soonest : ℕ
+  pub ends : List ℕ
+  pub entries : List ℕ
+
+-- ---- the words
+
+abbrev pub Words : Type 0
+Words = List (List (List ℕ))
+
+unfoldable pub rowBlocks : List Row → List Before → Words
+rowBlocks [] kept = []
+rowBlocks (r ∷ rows) [] = []
+rowBlocks (r ∷ rows) (b ∷ kept) = Stored.wordsOf r b ∷ rowBlocks rows kept
+
+-- the numbers beside the rows, and the first free times of the plain kinds behind them; the word for "open" is 0 once the recording is closed, so that
+-- memory of zeros reads as closed
+abbrev pub numberArray : Monitor → ℕ → List ℕ → List ℕ
+numberArray m soonest plain =
+    m .clock ∷ m .count ∷ (1 - m .closed) ∷ m .len ∷ soonest ∷ m .undo .may ∷ m .undo .place ∷ m .undo .next ∷ m .undo .clock ∷ m .undo .count
+    ∷ m .undo .closed ∷ 0 ∷ 0 ∷ 0 ∷ 0 ∷ 0 ∷ plain
+
+abbrev pub halves : List ℕ → List (List ℕ)
+halves l = take 64 l ∷ drop 64 l ∷ []
+
+abbrev pub numberBlock : Lent → List (List ℕ)
+numberBlock h = numberArray (h .monitor) (h .soonest) (take 48 (h .monitor .next)) ∷ h .ends ∷ []
+
+abbrev pub lastBlocks : Lent → Words
+lastBlocks h = numberBlock h ∷ halves (h .entries) ∷ halves (drop 48 (h .monitor .next)) ∷ []
+
+unfoldable pub wordsOf : Lent → Words
+wordsOf h = rowBlocks (h .monitor .rows) (h .monitor .before) ++ lastBlocks h
+
+-- each part has its size
+pub record Shaped (h : Lent) : Type 0 where
+  pub rows-there : length (h .monitor .rows) ≡ rowLimit
+  pub kept-there : length (h .monitor .before) ≡ rowLimit
+  pub next-there : length (h .monitor .next) ≡ streamCount
+  pub ends-there : length (h .ends) ≡ 64
+  pub entries-there : length (h .entries) ≡ 128
+
+-- ---- the rows of a kind
+
+-- where the rows of a kind begin and end among the entries, whatever the words say
+abbrev pub endOf : Lent → ℕ → ℕ
+endOf h kind = min (getD (h .ends) kind 0) 128
+
+abbrev pub startOf : Lent → ℕ → ℕ
+startOf h zero = 0
+startOf h (suc kind) = endOf h kind
+
+-- the row that an entry names
+abbrev pub rowNamed : Lent → ℕ → ℕ
+rowNamed h place = getD (h .entries) place 0 % 32
+
+-- the rows that n entries name, from one on
+abbrev pub named : List ℕ → ℕ → ℕ → List ℕ
+named entries first zero = []
+named entries first (suc n) = named entries first n ++ (getD entries (first + n) 0 % 32 ∷ [])
+
+abbrev pub rowsOf : Lent → ℕ → List ℕ
+rowsOf h kind = named (h .entries) (startOf h kind) (endOf h kind - startOf h kind)
+
+-- the numbers below n that pass a test, in their order
+abbrev pub numbers : (ℕ → Bool) → ℕ → List ℕ
+numbers test zero = []
+numbers test (suc n) = numbers test n ++ cond (test n) (n ∷ []) []
+
+-- how many rows a monitor has, whatever its record says
+abbrev pub heldRows : Monitor → ℕ
+heldRows m = min (m .len) rowLimit
+
+abbrev pub rowAt : Monitor → ℕ → Row
+rowAt m i = getD (m .rows) i noRow
+
+abbrev pub keptAt : Monitor → ℕ → Before
+keptAt m i = getD (m .before) i noBefore
+
+-- a kind concerns row i of a monitor
+abbrev pub isIn : Monitor → ℕ → ℕ → Bool
+isIn m kind i = concerns (rowAt m i .rule) kind
+
+-- from when on row i is looked at before a step
+abbrev pub lookAt : Monitor → ℕ → ℕ
+lookAt m i = lookTime (rowAt m i .rule) (rowAt m i .now)
+
+-- ---- the lists and the time are the monitor's
+
+pub record Indexed (h : Lent) : Type 0 where
+  pub shaped : Shaped h
+  pub listed : (kind : ℕ) → kind < 64 → rowsOf h kind ≡ numbers (isIn (h .monitor) kind) (heldRows (h .monitor))
+  pub no-sooner : (i : ℕ) → i < heldRows (h .monitor) → h .soonest ≤ lookAt (h .monitor) i
+  pub few : (i : ℕ) → i < heldRows (h .monitor) → rowAt (h .monitor) i .now .len ≤ waitingLimit
+  pub then-few : (i : ℕ) → i < heldRows (h .monitor) → keptAt (h .monitor) i .state .len ≤ waitingLimit

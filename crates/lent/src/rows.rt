@@ -1,0 +1,134 @@
+// The rows of a lent monitor, one after the other: those of a kind after an event, all of them after the clock, the close and a withdrawal.
+use crate::ENTRIES;
+use crate::NUMBERS;
+use crate::SOONEST;
+use crate::Words;
+use constraint::NO_LIMIT;
+use machine::parts::smaller;
+use row::Occurrence;
+use row::stored;
+ghost use Prim.Native.Nat.{_+_, _<_, _≤_, min};
+ghost use mathlib.Core.Path.{_≡_};
+ghost use mathlib.Core.Bool.{_||_};
+ghost use Rattle.row.specs.Machine.{eventAt};
+ghost use Rattle.lent.specs.Layout.{Lent, wordsOf, Shaped, lookAt, rowNamed, startOf, endOf};
+ghost use Rattle.lent.specs.Steps.{withSoonest, visitAt, visited, ended, soonestOf, crowded, backed};
+
+// The row that an entry names, whatever the word is.
+fn named(m: &Words, place: usize) -> usize
+    requires { ⌜ place < 128 ⌝ }
+    ensures { λ r. ⌜ ((r < 32) × ((h : Lent) → now (m .entry) ≡ wordsOf h → Shaped h → r ≡ rowNamed h place)) ⌝ }
+{
+    m[ENTRIES][place / 64][place % 64] as usize % 32
+}
+
+// Where the rows of a kind end among the entries.
+pub fn end_of(m: &Words, kind: usize) -> usize
+    requires { ⌜ kind < 64 ⌝ }
+    ensures { λ r. ⌜ ((r ≤ 128) × ((h : Lent) → now (m .entry) ≡ wordsOf h → Shaped h → r ≡ endOf h kind)) ⌝ }
+{
+    let end = m[NUMBERS][1][kind];
+    if end < 128 { end as usize } else { 128 }
+}
+
+// Where they begin.
+pub fn start_of(m: &Words, kind: usize) -> usize
+    requires { ⌜ kind < 64 ⌝ }
+    ensures { λ r. ⌜ ((r ≤ 128) × ((h : Lent) → now (m .entry) ≡ wordsOf h → Shaped h → r ≡ startOf h kind)) ⌝ }
+{
+    if kind == 0 {
+        return 0;
+    }
+    end_of(m, kind - 1)
+}
+
+// The soonest time to look is not after row i's.
+fn sooner(m: &mut Words, i: usize)
+    requires { ⌜ i < 32 ⌝ }
+    ensures { λ _. ⌜ ((h : Lent) → now (m .entry) ≡ wordsOf h → Shaped h → now (m .exit) ≡ wordsOf (withSoonest h (min (h .soonest) (lookAt (h .monitor) i)))) ⌝ }
+{
+    let look = stored::look(&m[i]);
+    m[NUMBERS][0][SOONEST] = smaller(m[NUMBERS][0][SOONEST], look);
+}
+
+// Row i after an event that concerns it, which is the step of that number.
+fn visit(m: &mut Words, i: usize, stream: u64, t: u64, number: u64)
+    requires { ⌜ i < 32 ⌝ }
+    ensures { λ _. ⌜ ((h : Lent) → now (m .entry) ≡ wordsOf h → Shaped h → now (m .exit) ≡ wordsOf (visitAt h i (eventAt stream t) number)) ⌝ }
+{
+    stored::event(&mut m[i], stream, t, number);
+    sooner(m, i);
+}
+
+// The rows that n entries name, from one on, after an event that concerns them.
+pub fn visits(m: &mut Words, first: usize, n: usize, stream: u64, t: u64, number: u64)
+    requires { ⌜ first + n ≤ 128 ⌝ }
+    ensures { λ _. ⌜ ((h : Lent) → now (m .entry) ≡ wordsOf h → Shaped h → now (m .exit) ≡ wordsOf (visited h first n (eventAt stream t) number)) ⌝ }
+{
+    let mut j = 0;
+    while j < n {
+        let i = named(m, first + j);
+        visit(m, i, stream, t, number);
+        j += 1;
+    }
+}
+
+// Whether what occurs crowds one of the rows that n entries name, from one on.
+pub fn crowds(m: &Words, first: usize, n: usize, o: Occurrence) -> bool
+    requires { ⌜ first + n ≤ 128 ⌝ }
+    ensures { λ r. ⌜ ((h : Lent) → now (m .entry) ≡ wordsOf h → Shaped h → r ≡ crowded h first n o) ⌝ }
+{
+    let mut any = false;
+    let mut j = 0;
+    while j < n {
+        let i = named(m, first + j);
+        any = either(any, stored::crowds(&m[i], o));
+        j += 1;
+    }
+    any
+}
+
+// One or the other.
+fn either(a: bool, b: bool) -> bool
+    ensures { λ r. ⌜ r ≡ (a || b) ⌝ }
+{
+    if a { true } else { b }
+}
+
+// The soonest time to look at one of the first n rows.
+pub fn soonest(m: &Words, n: usize) -> u64
+    requires { ⌜ n ≤ 32 ⌝ }
+    ensures { λ r. ⌜ ((h : Lent) → now (m .entry) ≡ wordsOf h → Shaped h → r ≡ soonestOf (h .monitor) n) ⌝ }
+{
+    let mut time = NO_LIMIT;
+    let mut i = 0;
+    while i < n {
+        time = smaller(time, stored::look(&m[i]));
+        i += 1;
+    }
+    time
+}
+
+// The first n rows, where the clock or the close alone goes to them.
+pub fn ends(m: &mut Words, n: usize, o: Occurrence, number: u64)
+    requires { ⌜ n ≤ 32 ⌝ }
+    ensures { λ _. ⌜ ((h : Lent) → now (m .entry) ≡ wordsOf h → Shaped h → now (m .exit) ≡ wordsOf (ended h n o number)) ⌝ }
+{
+    let mut i = 0;
+    while i < n {
+        stored::end(&mut m[i], o, number);
+        i += 1;
+    }
+}
+
+// The first n rows without the step of that number.
+pub fn back(m: &mut Words, n: usize, number: u64)
+    requires { ⌜ n ≤ 32 ⌝ }
+    ensures { λ _. ⌜ ((h : Lent) → now (m .entry) ≡ wordsOf h → Shaped h → now (m .exit) ≡ wordsOf (backed h n number)) ⌝ }
+{
+    let mut i = 0;
+    while i < n {
+        stored::without(&mut m[i], number);
+        i += 1;
+    }
+}

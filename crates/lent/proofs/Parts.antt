@@ -1,19 +1,21 @@
 -- The words beside the rows, read and written: each stands at a place of the last three blocks, and a store there is a store in one part of the record.
 use Prim.Native.Nat.{ℕ, zero, suc, _+_, _-_, _<_, _≤_, _/_, _%_, min}
 use native.Mathlib.Omega.{arith}
+use native.Mathlib.Nat.{suc-add, zero-add}
 use mathlib.Core.Path.{_≡_, refl, sym, ap, ap₂, subst, _∙_}
 use mathlib.Core.Bool.{true, false}
 use mathlib.Core.List.{List, [], _∷_, _++_}
 use lib.ListN.{length, getD, set, take, drop, length-set}
-use lib.Seq.{getD-take, getD-drop}
+use lib.Seq.{getD-take, getD-drop, getD-append-add, take-set-lt, take-set-le, drop-set-lt, drop-set-add}
 use lib.Dec.{ltb}
 use borrow.Author.Tests.{ltb-true, ltb-false}
 use Rattle.constraint.proofs.Lists.{split}
 use Rattle.row.specs.declared.Before.{Before}
 use Rattle.row.specs.declared.Occurrence.{Occurrence}
 use Rattle.row.specs.declared.Row.{Row}
-use Rattle.lent.specs.Layout.{Lent, Words, halves, numberBlock, lastBlocks, wordsOf, rowBlocks, Shaped, rowNamed}
-use Rattle.lent.specs.Steps.{withRow, withSoonest, visited, ended, backed}
+use Rattle.monitor.specs.declared.Monitor.{Monitor}
+use Rattle.lent.specs.Layout.{Lent, Words, halves, numberArray, numberBlock, lastBlocks, wordsOf, rowBlocks, Shaped, rowNamed}
+use Rattle.lent.specs.Steps.{withRow, withSoonest, withNext, visited, ended, backed}
 use Rattle.lent.proofs.Blocks.{last-read, last-written}
 
 -- ---- two halves
@@ -29,6 +31,38 @@ half-read l j small =
     let high : j / 64 ≡ 1 = omega (arith, ltb-false j 64 e, small) in
     let place : 64 + j % 64 ≡ j = omega (arith, ltb-false j 64 e, small) in
     ap (λ (a : ℕ). getD (getD (halves l) a []) (j % 64) 0) high ∙ getD-drop 64 l (j % 64) 0 ∙ ap (λ (k : ℕ). getD l k 0) place)
+
+pub half-written : (l : List ℕ) (j v : ℕ) → j < 128
+    → set (halves l) (j / 64) (set (getD (halves l) (j / 64) []) (j % 64) v) ≡ halves (set l j v)
+half-written l j v small =
+    split (ltb j 64) (λ _. set (halves l) (j / 64) (set (getD (halves l) (j / 64) []) (j % 64) v) ≡ halves (set l j v))
+    (λ e.
+    let low : j / 64 ≡ 0 = omega (arith, ltb-true j 64 e) in
+    let same : j % 64 ≡ j = omega (arith, ltb-true j 64 e) in
+    ap₂ (λ (a b : ℕ). set (halves l) a (set (getD (halves l) a []) b v)) low same
+    ∙ ap₂ (λ (x y : List ℕ). x ∷ y ∷ []) (sym (take-set-lt 64 l j v (ltb-true j 64 e))) (sym (drop-set-lt 64 l j v (ltb-true j 64 e))))
+    (λ e.
+    let high : j / 64 ≡ 1 = omega (arith, ltb-false j 64 e, small) in
+    let place : 64 + j % 64 ≡ j = omega (arith, ltb-false j 64 e, small) in
+    ap (λ (a : ℕ). set (halves l) a (set (getD (halves l) a []) (j % 64) v)) high
+    ∙ ap₂ (λ (x y : List ℕ). x ∷ y ∷ []) (sym (take-set-le 64 l (64 + j % 64) v (omega arith))) (sym (drop-set-add 64 l (j % 64) v))
+    ∙ ap (λ (k : ℕ). halves (set l k v)) place)
+
+-- ---- behind the numbers
+
+written-behind : (front rest : List ℕ) (n i v : ℕ) → length front ≡ n → set (front ++ rest) (n + i) v ≡ front ++ set rest i v
+written-behind [] rest zero i v e = ap (λ (k : ℕ). set rest k v) (zero-add i)
+written-behind [] rest (suc n) i v e = absurd (omega (arith, e))
+written-behind (x ∷ front) rest zero i v e = absurd (omega (arith, e))
+written-behind (x ∷ front) rest (suc n) i v e =
+    ap (λ (k : ℕ). set (x ∷ (front ++ rest)) k v) (suc-add n i) ∙ ap {B = List ℕ} (λ l. x ∷ l) (written-behind front rest n i v (omega (arith, e)))
+
+module _ (m : Monitor) (soonest : ℕ) (plain : List ℕ) where
+  pub behind-numbers : (i : ℕ) → getD (numberArray m soonest plain) (16 + i) 0 ≡ getD plain i 0
+  behind-numbers i = getD-append-add (numberArray m soonest []) plain i 0
+
+  pub numbers-behind : (i v : ℕ) → set (numberArray m soonest plain) (16 + i) v ≡ numberArray m soonest (set plain i v)
+  numbers-behind i v = written-behind (numberArray m soonest []) plain 16 i v refl
 
 -- ---- what stands in the last blocks
 
@@ -50,7 +84,61 @@ module _ (h : Lent) (s : Shaped h) where
       ap (λ (b : List (List ℕ)). set (wordsOf h) 32 (set b 0 (set (getD b 0 []) 4 time))) numbers-read
       ∙ last-written h s 0 (set (numberBlock h) 0 (set (getD (numberBlock h) 0 []) 4 time))
 
+  -- the first free time of a stream
+  pub plain-free : (i : ℕ) → i < 48 → getD (getD (getD (wordsOf h) 32 []) 0 []) (16 + i) 0 ≡ getD (h .monitor .next) i 0
+  plain-free i l =
+      ap (λ (b : List (List ℕ)). getD (getD b 0 []) (16 + i) 0) numbers-read
+      ∙ behind-numbers (h .monitor) (h .soonest) (take 48 (h .monitor .next)) i ∙ getD-take 48 (h .monitor .next) i 0 l
+
+  pub coloured-free : (i : ℕ) → i < 128 → getD (getD (getD (wordsOf h) 34 []) (i / 64) []) (i % 64) 0 ≡ getD (h .monitor .next) (48 + i) 0
+  coloured-free i l =
+      ap (λ (b : List (List ℕ)). getD (getD b (i / 64) []) (i % 64) 0) coloured-read
+      ∙ half-read (drop 48 (h .monitor .next)) i l ∙ getD-drop 48 (h .monitor .next) i 0
+
+  -- and a store of it
+  pub plain-written : (i v : ℕ) → i < 48
+      → set (wordsOf h) 32 (set (getD (wordsOf h) 32 []) 0 (set (getD (getD (wordsOf h) 32 []) 0 []) (16 + i) v)) ≡ wordsOf (withNext h (set (h .monitor .next) i v))
+  unfolding wordsOf
+  plain-written i v l =
+      ap (λ (b : List (List ℕ)). set (wordsOf h) 32 (set b 0 (set (getD b 0 []) (16 + i) v))) numbers-read
+      ∙ last-written h s 0 (set (numberBlock h) 0 (set (getD (numberBlock h) 0 []) (16 + i) v))
+      ∙ ap₂ (λ (x c : List ℕ). rowBlocks (h .monitor .rows) (h .monitor .before) ++ ((x ∷ h .ends ∷ []) ∷ halves (h .entries) ∷ halves c ∷ []))
+      (numbers-behind (h .monitor) (h .soonest) (take 48 (h .monitor .next)) i v
+      ∙ ap (numberArray (h .monitor) (h .soonest)) (sym (take-set-lt 48 (h .monitor .next) i v l)))
+      (sym (drop-set-lt 48 (h .monitor .next) i v l))
+
+  pub coloured-written : (i v : ℕ) → i < 128
+      → set (wordsOf h) 34 (set (getD (wordsOf h) 34 []) (i / 64) (set (getD (getD (wordsOf h) 34 []) (i / 64) []) (i % 64) v))
+      ≡ wordsOf (withNext h (set (h .monitor .next) (48 + i) v))
+  unfolding wordsOf
+  coloured-written i v l =
+      ap (λ (b : List (List ℕ)). set (wordsOf h) 34 (set b (i / 64) (set (getD b (i / 64) []) (i % 64) v))) coloured-read
+      ∙ last-written h s 2 (set (halves (drop 48 (h .monitor .next))) (i / 64) (set (getD (halves (drop 48 (h .monitor .next))) (i / 64) []) (i % 64) v))
+      ∙ ap₂ (λ (x : List ℕ) (c : List (List ℕ)). rowBlocks (h .monitor .rows) (h .monitor .before)
+      ++ ((numberArray (h .monitor) (h .soonest) x ∷ h .ends ∷ []) ∷ halves (h .entries) ∷ c ∷ []))
+      (sym (take-set-le 48 (h .monitor .next) (48 + i) v (omega arith)))
+      (half-written (drop 48 (h .monitor .next)) i v l ∙ ap halves (sym (drop-set-add 48 (h .monitor .next) i v)))
+
+  -- a store of the block of numbers, all else being as it was
+  pub block-written : (x : Lent) → rowBlocks (x .monitor .rows) (x .monitor .before) ≡ rowBlocks (h .monitor .rows) (h .monitor .before)
+      → x .entries ≡ h .entries → x .monitor .next ≡ h .monitor .next → set (wordsOf h) 32 (numberBlock x) ≡ wordsOf x
+  unfolding wordsOf
+  block-written x rows entries next =
+      last-written h s 0 (numberBlock x)
+      ∙ sym (λ k. rows k ++ (numberBlock x ∷ halves (entries k) ∷ halves (drop 48 (next k)) ∷ []))
+
 -- ---- each part keeps its size
+
+pub shaped-next : (h : Lent) (i v : ℕ) → Shaped h → Shaped (withNext h (set (h .monitor .next) i v))
+shaped-next h i v s =
+    record {
+      rows-there = s .rows-there;
+      kept-there = s .kept-there;
+      next-there = length-set (h .monitor .next) i v ∙ s .next-there;
+      ends-there = s .ends-there;
+      entries-there = s .entries-there;
+    }
+
 
 pub shaped-soonest : (h : Lent) (time : ℕ) → Shaped h → Shaped (withSoonest h time)
 shaped-soonest h time s =

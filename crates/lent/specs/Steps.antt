@@ -4,12 +4,11 @@ use mathlib.Core.Path.{_≡_}
 use mathlib.Core.Bool.{Bool, true, false, cond, _||_}
 use mathlib.Core.List.{List}
 use lib.ListN.{getD, set}
-use lib.Dec.{ltb, leb}
-use Rattle.constraint.specs.Limits.{rowLimit, noLimit}
+use lib.Dec.{ltb}
+use Rattle.constraint.specs.Limits.{noLimit}
 use Rattle.constraint.specs.declared.Answer.{Answer}
 use Rattle.constraint.specs.declared.Answer.the-variants.{Taken, Refused}
-use Rattle.constraint.specs.declared.Call.{Call}
-use Rattle.constraint.specs.Run.{Request, asks, withdraws}
+use Rattle.constraint.specs.Run.{Request}
 use Rattle.machine.specs.Parts.{plus}
 use Rattle.row.specs.Apart.{crowdedBy}
 use Rattle.row.specs.Undo.{rowWithout, keptWithout}
@@ -17,8 +16,9 @@ use Rattle.row.specs.Stored.{eventRow, eventSaves, endedRow, endedSaves}
 use Rattle.row.specs.declared.Before.{Before}
 use Rattle.row.specs.declared.Occurrence.{Occurrence}
 use Rattle.row.specs.declared.Row.{Row}
-use Rattle.monitor.specs.Machine.{noUndo, placeFor, refusalBy, occurrenceBy, freeAfter, closedAfter, undoBy, placeIn, nextFor}
-use Rattle.monitor.specs.Parts.{withRows, rowsWithout}
+use Rattle.row.specs.Machine.{eventAt, tickAt, closeAt}
+use Rattle.monitor.specs.Machine.{noUndo, placeIn}
+use Rattle.monitor.specs.Parts.{withRows}
 use Rattle.monitor.specs.Contract.{Steps}
 use Rattle.monitor.specs.declared.Monitor.{Monitor}
 use Rattle.monitor.specs.declared.Stepped.{Stepped}
@@ -83,20 +83,100 @@ abbrev pub crowded : Lent → ℕ → ℕ → Occurrence → Bool
 crowded h first zero o = false
 crowded h first (suc n) o = crowded h first n o || crowdedAt h (rowNamed h (first + n)) o
 
--- ---- the numbers beside the rows after a call that is taken
+-- ---- the numbers beside the rows after a step
 
-abbrev pub counted : Lent → Call → Lent
-counted h call =
+abbrev pub withNext : Lent → List ℕ → Lent
+withNext h next =
     withMonitor h (record {
       rows = h .monitor .rows;
-      next = set (h .monitor .next) (placeFor call) (freeAfter call (nextFor (h .monitor) call));
-      clock = occurrenceBy call (h .monitor .clock) .time;
-      count = plus (h .monitor .count) 1;
-      closed = closedAfter call (h .monitor .closed);
+      next = next;
+      clock = h .monitor .clock;
+      count = h .monitor .count;
+      closed = h .monitor .closed;
       len = h .monitor .len;
       before = h .monitor .before;
-      undo = undoBy call (h .monitor .closed) (h .monitor .clock) (nextFor (h .monitor) call) (h .monitor .count);
+      undo = h .monitor .undo;
     })
+
+-- one step more, to a time: the numbers as they were may be put back, with the first free time of a stream
+abbrev pub countedMonitor : Monitor → ℕ → ℕ → ℕ → ℕ → Monitor
+countedMonitor m stream free time closed =
+    record {
+      rows = m .rows;
+      next = m .next;
+      clock = time;
+      count = plus (m .count) 1;
+      closed = closed;
+      len = m .len;
+      before = m .before;
+      undo = record { may = 1; place = stream; next = free; clock = m .clock; count = m .count; closed = m .closed };
+    }
+
+-- after an event of a stream, a tick, and the close
+abbrev pub countedOn : Lent → ℕ → ℕ → Lent
+countedOn h stream time =
+    withMonitor h (countedMonitor (withNext h (set (h .monitor .next) stream (plus time 1)) .monitor) stream (getD (h .monitor .next) stream 0) time (h .monitor .closed))
+
+abbrev pub countedTo : Lent → ℕ → ℕ → Lent
+countedTo h time closed = withMonitor h (countedMonitor (h .monitor) 0 (getD (h .monitor .next) 0 0) time closed)
+
+abbrev pub nextNumber : Lent → ℕ
+nextNumber h = plus (h .monitor .count) 1
+
+-- ---- an event of a stream that is answered with no number but 12
+
+abbrev pub rowCount : Lent → ℕ → ℕ
+rowCount h kind = endOf h kind - startOf h kind
+
+abbrev pub lookAll : Lent → ℕ
+lookAll h = soonestOf (h .monitor) (heldRows (h .monitor))
+
+abbrev pub visitedBy : Lent → Lent → ℕ → ℕ → ℕ → Lent
+visitedBy h x kind stream time = visited x (startOf h kind) (rowCount h kind) (eventAt stream time) (nextNumber h)
+
+-- the rows to which the clock goes come first
+abbrev pub endedFirst : Lent → ℕ → ℕ → Lent
+endedFirst h stream time = withSoonest (ended (countedOn h stream time) (heldRows (h .monitor)) (eventAt stream time) (nextNumber h)) 0
+
+abbrev pub answerOn : Lent → ℕ → ℕ → ℕ → ℕ
+answerOn h kind stream time =
+    cond (ltb time (h .soonest)) 0
+    (cond (ltb time (lookAll h)) 0 (cond (crowded h (startOf h kind) (rowCount h kind) (eventAt stream time)) 12 0))
+
+abbrev pub leftOn : Lent → ℕ → ℕ → ℕ → Lent
+leftOn h kind stream time =
+    cond (ltb time (h .soonest)) (visitedBy h (countedOn h stream time) kind stream time)
+    (cond (ltb time (lookAll h)) (visitedBy h (withSoonest (countedOn h stream time) (lookAll h)) kind stream time)
+    (cond (crowded h (startOf h kind) (rowCount h kind) (eventAt stream time)) h (visitedBy h (endedFirst h stream time) kind stream time)))
+
+-- ---- a tick and the close that are taken
+
+abbrev pub leftAfterTick : Lent → ℕ → Lent
+leftAfterTick h time =
+    cond (ltb (h .soonest) time)
+    (cond (ltb (lookAll h) time)
+    (withSoonest (ended (countedTo h time (h .monitor .closed)) (heldRows (h .monitor)) (tickAt time) (nextNumber h)) 0)
+    (withSoonest (countedTo h time (h .monitor .closed)) (lookAll h)))
+    (countedTo h time (h .monitor .closed))
+
+abbrev pub leftAfterClose : Lent → Lent
+leftAfterClose h =
+    withSoonest (ended (countedTo h (h .monitor .clock) 1) (heldRows (h .monitor)) (closeAt (h .monitor .clock)) (nextNumber h)) 0
+
+-- ---- a withdrawal that is taken
+
+abbrev pub leftAfterWithdrawal : Lent → Lent
+leftAfterWithdrawal h =
+    withSoonest (withMonitor h (record {
+      rows = backed h (heldRows (h .monitor)) (h .monitor .count) .monitor .rows;
+      next = set (h .monitor .next) (placeIn (h .monitor .undo .place)) (h .monitor .undo .next);
+      clock = h .monitor .undo .clock;
+      count = h .monitor .undo .count;
+      closed = h .monitor .undo .closed;
+      len = h .monitor .len;
+      before = backed h (heldRows (h .monitor)) (h .monitor .count) .monitor .before;
+      undo = noUndo;
+    })) 0
 
 -- ---- what a call answers and leaves
 

@@ -2,6 +2,7 @@
 ghost use mathlib.Core.Path.{_≡_};
 ghost use Rattle.lent.specs.Layout.{Lent, wordsOf, Shaped, heldRows};
 
+mod numbers;
 mod rows;
 
 // The words of a monitor.

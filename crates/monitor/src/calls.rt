@@ -101,7 +101,7 @@ pub fn place(call: Call) -> usize
 }
 
 // Questions 10 and 11 for an event, over the clock and the first free time of its stream: the number of the first "no", or 0.
-fn time_refusal(time: u64, clock: u64, next: u64) -> u8
+pub fn time_refusal(time: u64, clock: u64, next: u64) -> u8
     ensures { λ r. ⌜ r ≡ timeRefusal time clock next ⌝ }
 {
     if LAST_TIME < time {

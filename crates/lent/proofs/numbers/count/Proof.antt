@@ -1,0 +1,15 @@
+-- Each number is stored at its place; the first free times behind them stay.
+use mathlib.Core.Path.{refl}
+use borrow.Author.Needs.{needs}
+use Rattle.lent.proofs.numbers.count.Statement.{statement}
+use Rattle.lent.proofs.numbers.count.Tie as tie
+
+returns : tie.Need-returns
+returns c m soonest plain ends e going = rw (c .plus .ensures, e, going) refl
+
+pub count-spec : {M : Type 1} → statement M
+count-spec =
+    tie.close (tie.spec (λ c. search needs) (λ c. search needs) (λ c. search needs) (λ c. search needs) (λ c. search needs) (λ c. search needs) (λ c
+    κs. search needs) (λ c. search needs) (λ c. search needs) (λ c. search needs) (λ c. search needs) (λ c. search needs) (λ c. search needs) (λ c.
+    search needs) (λ c. search needs) (λ c. search needs) (λ c. search needs) (λ c. search needs) (λ c. search needs) (λ c. search needs) (λ c.
+    search needs) returns)

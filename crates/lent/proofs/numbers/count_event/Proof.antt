@@ -1,0 +1,33 @@
+-- The first free time of the stream is stored, and then the numbers are counted on.
+use Prim.Native.Nat.{ℕ}
+use mathlib.Core.Path.{_≡_, refl, sym, ap, ap₂, _∙_}
+use mathlib.Core.List.{List, [], _∷_}
+use lib.ListN.{getD, set, take}
+use Rattle.machine.specs.Parts.{plus}
+use Rattle.lent.specs.Layout.{Words, wordsOf, numberArray}
+use Rattle.lent.specs.Steps.{withMonitor, withNext, countedMonitor}
+use Rattle.lent.proofs.Parts.{numbers-read, block-written, shaped-next}
+use borrow.Author.Needs.{needs}
+use Rattle.lent.proofs.numbers.count_event.Statement.{statement}
+use Rattle.lent.proofs.numbers.count_event.Tie as tie
+
+returns : tie.Need-returns
+returns c h e s going =
+    let p = c .before .before in
+    let v = p .before in
+    let f = v .before .before in
+    let a = f .before .before .args in
+    let h₁ = withNext h (set (h .monitor .next) (a .stream) (plus (a .time) 1)) in
+    let stored = p .put-free .ensures h e s ∙ ap (λ (t : ℕ). wordsOf (withNext h (set (h .monitor .next) (a .stream) t))) (v .plus .ensures) in
+    let wide = shaped-next h (a .stream) (plus (a .time) 1) s in
+    let block = ap (λ m. getD m 32 []) stored ∙ numbers-read h₁ wide in
+    let counted = c .count .ensures (h₁ .monitor) (h₁ .soonest) (take 48 (h₁ .monitor .next)) (h₁ .ends) block going in
+    let free = f .free-at .ensures h e s in
+    ap₂ (λ (m : Words) (b : List (List ℕ)). set m 32 b) stored counted
+    ∙ ap (λ (k : ℕ). set (wordsOf h₁) 32 (numberArray (countedMonitor (h₁ .monitor) (a .stream) k (a .time) 0) (h .soonest) (take 48 (h₁ .monitor .next)) ∷ h .ends ∷ [])) free
+    ∙ block-written h₁ wide (withMonitor h (countedMonitor (h₁ .monitor) (a .stream) (getD (h .monitor .next) (a .stream) 0) (a .time) 0)) refl refl refl
+    ∙ ap (λ (k : ℕ). wordsOf (withMonitor h (countedMonitor (h₁ .monitor) (a .stream) (getD (h .monitor .next) (a .stream) 0) (a .time) k))) (sym going)
+
+pub count-event-spec : {M : Type 1} → statement M
+count-event-spec =
+    tie.close (tie.spec (λ c κs. search needs) (λ c κs. search needs) (λ c κs. search needs) (λ c. search needs) (λ c κs. search needs) returns)

@@ -1,0 +1,28 @@
+-- The numbers are counted on, with the first free time of stream 0 as it is.
+use Prim.Native.Nat.{ℕ}
+use mathlib.Core.Path.{_≡_, refl, ap, ap₂, _∙_}
+use mathlib.Core.List.{List, [], _∷_}
+use lib.ListN.{getD, set, take}
+use denote.Ref.{now}
+use native.Mathlib.Omega.{arith}
+use Rattle.lent.specs.Layout.{Words, wordsOf, numberArray}
+use Rattle.lent.specs.Steps.{countedMonitor, countedTo}
+use Rattle.lent.proofs.Parts.{numbers-read, block-written}
+use borrow.Author.Needs.{needs}
+use Rattle.lent.proofs.numbers.count_tick.Statement.{statement}
+use Rattle.lent.proofs.numbers.count_tick.Tie as tie
+
+returns : tie.Need-returns
+returns c h e s going =
+    let f = c .before .before in
+    let a = f .before .before .args in
+    let block = ap (λ m. getD m 32 []) e ∙ numbers-read h s in
+    let counted = c .count .ensures (h .monitor) (h .soonest) (take 48 (h .monitor .next)) (h .ends) block going in
+    let free = f .free-at .ensures h e s in
+    ap₂ (λ (m : Words) (b : List (List ℕ)). set m 32 b) e counted
+    ∙ ap (λ (k : ℕ). set (wordsOf h) 32 (numberArray (countedMonitor (h .monitor) 0 k (a .time) 0) (h .soonest) (take 48 (h .monitor .next)) ∷ h .ends ∷ [])) free
+    ∙ block-written h s (countedTo h (a .time) 0) refl refl refl
+
+pub count-tick-spec : {M : Type 1} → statement M
+count-tick-spec =
+    tie.close (tie.spec (λ c κs. search needs) (λ c. search needs) (λ c κs. search needs) returns)

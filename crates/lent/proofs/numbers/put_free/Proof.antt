@@ -1,0 +1,31 @@
+-- A store at the stream’s place is a store in the list of first free times.
+use Prim.Native.Nat.{ℕ, _+_, _-_, _<_, _/_, _%_}
+use mathlib.Core.Path.{_≡_, ap, _∙_}
+use native.Mathlib.Omega.{arith}
+use mathlib.Core.List.{List, []}
+use lib.ListN.{getD, set}
+use Rattle.lent.specs.Layout.{wordsOf}
+use Rattle.lent.specs.Steps.{withNext}
+use Rattle.lent.proofs.Parts.{plain-written, coloured-written}
+use borrow.Author.Needs.{needs}
+use Rattle.lent.proofs.numbers.put_free.Statement.{statement}
+use Rattle.lent.proofs.numbers.put_free.Tie as tie
+
+returns : tie.Need-returns
+returns c h e s =
+    let a = c .before .args in
+    ap (λ m. set m 32 (set (getD m 32 []) 0 (set (getD (getD m 32 []) 0 []) (16 + a .stream) (a .time)))) e ∙ plain-written h s (a .stream) (a .time) (c .if1 .taken)
+
+returns-2 : tie.Need-returns-2
+returns-2 c h e s =
+    let a = c .before .args in
+    let p = a .stream - 48 in
+    let small : p < 128 = omega (arith, c .if1 .left, c .before .pre) in
+    let place : 48 + p ≡ a .stream = omega (arith, c .if1 .left) in
+    ap (λ m. set m 34 (set (getD m 34 []) (p / 64) (set (getD (getD m 34 []) (p / 64) []) (p % 64) (a .time)))) e
+    ∙ coloured-written h s p (a .time) small ∙ ap (λ (k : ℕ). wordsOf (withNext h (set (h .monitor .next) k (a .time)))) place
+
+pub put-free-spec : {M : Type 1} → statement M
+put-free-spec =
+    tie.close (tie.spec (λ c. search needs) (λ c. search needs) (λ c. search needs) (λ c. search needs) (λ c. search needs) returns (λ c. search
+    needs) (λ c. search needs) (λ c. search needs) (λ c. search needs) (λ c. search needs) returns-2)

@@ -1,0 +1,113 @@
+// The numbers of a lent monitor beside its rows: the questions that they answer, and what a step stores.
+use crate::CLOCK;
+use crate::CLOSED;
+use crate::COLOURED;
+use crate::COUNT;
+use crate::COUNTED;
+use crate::FREE;
+use crate::MAY;
+use crate::NUMBERS;
+use crate::OPEN;
+use crate::PLACE;
+use crate::PLAIN;
+use crate::SOONEST;
+use crate::THEN;
+use crate::Words;
+use constraint::FIRST_COLOURED;
+use constraint::LAST_COLOUR;
+use constraint::LAST_COUNT;
+use constraint::LAST_KIND;
+use constraint::LAST_TIME;
+use machine::parts::plus;
+use monitor::calls::time_refusal;
+ghost use Prim.Native.Nat.{ℕ, _+_, _*_, _-_, _<_, _≤_};
+ghost use mathlib.Core.Path.{_≡_};
+ghost use mathlib.Core.Bool.{cond};
+ghost use mathlib.Core.List.{List, [], _∷_};
+ghost use lib.ListN.{getD, set};
+ghost use lib.Dec.{ltb, leb};
+ghost use Rattle.constraint.specs.Limits.{lastCount};
+ghost use Rattle.constraint.specs.declared.Call.{Call};
+ghost use Rattle.monitor.specs.Machine.{refusalBy, nextFor};
+ghost use Rattle.monitor.specs.declared.Monitor.{Monitor};
+ghost use Rattle.lent.specs.Layout.{Lent, wordsOf, Shaped, numberArray};
+ghost use Rattle.lent.specs.Steps.{withSoonest, withNext, countedMonitor, countedOn, countedTo};
+
+// The first free time of a stream.
+fn free_at(m: &Words, stream: usize) -> u64
+    requires { ⌜ stream < 176 ⌝ }
+    ensures { λ r. ⌜ ((h : Lent) → now (m .entry) ≡ wordsOf h → Shaped h → r ≡ getD (h .monitor .next) stream 0) ⌝ }
+{
+    if stream < 48 {
+        return m[NUMBERS][0][PLAIN + stream];
+    }
+    let place = stream - 48;
+    m[COLOURED][place / 64][place % 64]
+}
+
+// Another first free time of a stream.
+fn put_free(m: &mut Words, stream: usize, time: u64)
+    requires { ⌜ stream < 176 ⌝ }
+    ensures { λ _. ⌜ ((h : Lent) → now (m .entry) ≡ wordsOf h → Shaped h → now (m .exit) ≡ wordsOf (withNext h (set (h .monitor .next) stream time))) ⌝ }
+{
+    if stream < 48 {
+        m[NUMBERS][0][PLAIN + stream] = time;
+        return;
+    }
+    let place = stream - 48;
+    m[COLOURED][place / 64][place % 64] = time;
+}
+
+// Questions 8 and 24, which every call is asked first: the number of the first "no", or 0.
+pub fn first_refusal(m: &Words) -> u8
+    ensures { λ r. ⌜ ((h : Lent) → now (m .entry) ≡ wordsOf h → Shaped h → r ≡ cond (ltb 0 (h .monitor .closed)) 8 (cond (leb lastCount (h .monitor .count)) 24 0)) ⌝ }
+{
+    if m[NUMBERS][0][OPEN] == 0 {
+        return 8;
+    }
+    if LAST_COUNT <= m[NUMBERS][0][COUNT] {
+        return 24;
+    }
+    0
+}
+
+// Another soonest time to look.
+pub fn put_soonest(m: &mut Words, time: u64)
+    ensures { λ _. ⌜ ((h : Lent) → now (m .entry) ≡ wordsOf h → Shaped h → now (m .exit) ≡ wordsOf (withSoonest h time)) ⌝ }
+{
+    m[NUMBERS][0][SOONEST] = time;
+}
+
+// One step more, to a time, with a stream and its first free time as they were.
+fn count(n: &mut [[u64; 64]; 2], stream: u64, free: u64, time: u64)
+    ensures { λ _. ⌜ ((m : Monitor) (soonest : ℕ) (plain ends : List ℕ) → now (n .entry) ≡ numberArray m soonest plain ∷ ends ∷ [] → m .closed ≡ 0 → now (n .exit) ≡ numberArray (countedMonitor m stream free time 0) soonest plain ∷ ends ∷ []) ⌝ }
+{
+    let clock = n[0][CLOCK];
+    let count = n[0][COUNT];
+    n[0][CLOCK] = time;
+    n[0][COUNT] = plus(count, 1);
+    n[0][MAY] = 1;
+    n[0][PLACE] = stream;
+    n[0][FREE] = free;
+    n[0][THEN] = clock;
+    n[0][COUNTED] = count;
+    n[0][CLOSED] = 0;
+}
+
+// The numbers after an event of a stream.
+pub fn count_event(m: &mut Words, stream: usize, time: u64)
+    requires { ⌜ stream < 176 ⌝ }
+    ensures { λ _. ⌜ ((h : Lent) → now (m .entry) ≡ wordsOf h → Shaped h → h .monitor .closed ≡ 0 → now (m .exit) ≡ wordsOf (countedOn h stream time)) ⌝ }
+{
+    let free = free_at(m, stream);
+    put_free(m, stream, plus(time, 1));
+    count(&mut m[NUMBERS], stream as u64, free, time);
+}
+
+// The numbers after a tick.
+pub fn count_tick(m: &mut Words, time: u64)
+    ensures { λ _. ⌜ ((h : Lent) → now (m .entry) ≡ wordsOf h → Shaped h → h .monitor .closed ≡ 0 → now (m .exit) ≡ wordsOf (countedTo h time 0)) ⌝ }
+{
+    let free = free_at(m, 0);
+    count(&mut m[NUMBERS], 0, free, time);
+}

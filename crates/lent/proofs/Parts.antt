@@ -13,9 +13,10 @@ use Rattle.constraint.proofs.Lists.{split}
 use Rattle.row.specs.declared.Before.{Before}
 use Rattle.row.specs.declared.Occurrence.{Occurrence}
 use Rattle.row.specs.declared.Row.{Row}
+use Rattle.machine.specs.Parts.{plus}
 use Rattle.monitor.specs.declared.Monitor.{Monitor}
 use Rattle.lent.specs.Layout.{Lent, Words, halves, numberArray, numberBlock, lastBlocks, wordsOf, rowBlocks, Shaped, rowNamed}
-use Rattle.lent.specs.Steps.{withRow, withSoonest, withNext, visited, ended, backed}
+use Rattle.lent.specs.Steps.{withRow, withSoonest, withNext, countedOn, countedTo, visited, ended, backed}
 use Rattle.lent.proofs.Blocks.{last-read, last-written}
 
 -- ---- two halves
@@ -75,6 +76,11 @@ module _ (h : Lent) (s : Shaped h) where
 
   pub coloured-read : getD (wordsOf h) 34 [] ≡ halves (drop 48 (h .monitor .next))
   coloured-read = last-read h s 2
+
+  -- a number of words that are the monitor's
+  pub number-at : (m : Words) → m ≡ wordsOf h → (k : ℕ)
+      → getD (getD (getD m 32 []) 0 []) k 0 ≡ getD (numberArray (h .monitor) (h .soonest) (take 48 (h .monitor .next))) k 0
+  number-at m is k = ap (λ (w : Words). getD (getD (getD w 32 []) 0 []) k 0) is ∙ ap (λ (b : List (List ℕ)). getD (getD b 0 []) k 0) numbers-read
 
   -- a store of the soonest time
   pub soonest-written : (time : ℕ)
@@ -170,3 +176,17 @@ shaped-backed h (suc n) number s = shaped-row (backed h n number) _ _ _ (shaped-
 pub visited-named : (h : Lent) (first n : ℕ) (o : Occurrence) (number place : ℕ) → rowNamed (visited h first n o number) place ≡ rowNamed h place
 visited-named h first zero o number place = refl
 visited-named h first (suc n) o number place = visited-named h first n o number place
+
+pub shaped-counted : (h : Lent) (stream time : ℕ) → Shaped h → Shaped (countedOn h stream time)
+shaped-counted h stream time s =
+    record {
+      rows-there = s .rows-there;
+      kept-there = s .kept-there;
+      next-there = length-set (h .monitor .next) stream (plus time 1) ∙ s .next-there;
+      ends-there = s .ends-there;
+      entries-there = s .entries-there;
+    }
+
+pub shaped-to : (h : Lent) (time closed : ℕ) → Shaped h → Shaped (countedTo h time closed)
+shaped-to h time closed s =
+    record { rows-there = s .rows-there; kept-there = s .kept-there; next-there = s .next-there; ends-there = s .ends-there; entries-there = s .entries-there }

@@ -8,21 +8,23 @@ use lib.Dec.{ltb}
 use Rattle.constraint.specs.Limits.{noLimit}
 use Rattle.constraint.specs.declared.Answer.{Answer}
 use Rattle.constraint.specs.declared.Answer.the-variants.{Taken, Refused}
-use Rattle.constraint.specs.Run.{Request}
+use Rattle.constraint.specs.Streams.{stream}
+use Rattle.constraint.specs.declared.Call.{Call}
+use Rattle.constraint.specs.Run.{Request, asks, withdraws}
 use Rattle.machine.specs.Parts.{plus}
 use Rattle.row.specs.Apart.{crowdedBy}
 use Rattle.row.specs.Undo.{rowWithout, keptWithout}
-use Rattle.row.specs.Stored.{eventRow, eventSaves, endedRow, endedSaves}
+use Rattle.row.specs.Stored.{lookTime, eventRow, eventSaves, endedRow, endedSaves}
 use Rattle.row.specs.declared.Before.{Before}
 use Rattle.row.specs.declared.Occurrence.{Occurrence}
 use Rattle.row.specs.declared.Row.{Row}
 use Rattle.row.specs.Machine.{eventAt, tickAt, closeAt}
-use Rattle.monitor.specs.Machine.{noUndo, placeIn}
+use Rattle.monitor.specs.Machine.{noRow, noUndo, placeIn, refusalBy, nextFor}
 use Rattle.monitor.specs.Parts.{withRows}
 use Rattle.monitor.specs.Contract.{Steps}
 use Rattle.monitor.specs.declared.Monitor.{Monitor}
 use Rattle.monitor.specs.declared.Stepped.{Stepped}
-use Rattle.lent.specs.Layout.{Lent, Words, wordsOf, Indexed, rowNamed, startOf, endOf, heldRows, rowAt, keptAt, lookAt}
+use Rattle.lent.specs.Layout.{Lent, Words, wordsOf, Shaped, Indexed, rowNamed, startOf, endOf, heldRows, rowAt, keptAt, lookAt}
 
 -- ---- parts of the record
 
@@ -60,9 +62,9 @@ ended h zero o number = h
 ended h (suc n) o number = endAt (ended h n o number) n o number
 
 -- the soonest time to look at one of the first n rows
-abbrev pub soonestOf : Monitor → ℕ → ℕ
-soonestOf m zero = noLimit
-soonestOf m (suc n) = min (soonestOf m n) (lookAt m n)
+abbrev pub soonestOf : List Row → ℕ → ℕ
+soonestOf rows zero = noLimit
+soonestOf rows (suc n) = min (soonestOf rows n) (lookTime (getD rows n noRow .rule) (getD rows n noRow .now))
 
 -- ---- a withdrawal goes to all rows
 
@@ -93,6 +95,19 @@ withNext h next =
       clock = h .monitor .clock;
       count = h .monitor .count;
       closed = h .monitor .closed;
+      len = h .monitor .len;
+      before = h .monitor .before;
+      undo = h .monitor .undo;
+    })
+
+abbrev pub withClosed : Lent → ℕ → Lent
+withClosed h closed =
+    withMonitor h (record {
+      rows = h .monitor .rows;
+      next = h .monitor .next;
+      clock = h .monitor .clock;
+      count = h .monitor .count;
+      closed = closed;
       len = h .monitor .len;
       before = h .monitor .before;
       undo = h .monitor .undo;
@@ -129,7 +144,7 @@ abbrev pub rowCount : Lent → ℕ → ℕ
 rowCount h kind = endOf h kind - startOf h kind
 
 abbrev pub lookAll : Lent → ℕ
-lookAll h = soonestOf (h .monitor) (heldRows (h .monitor))
+lookAll h = soonestOf (h .monitor .rows) (heldRows (h .monitor))
 
 abbrev pub visitedBy : Lent → Lent → ℕ → ℕ → ℕ → Lent
 visitedBy h x kind stream time = visited x (startOf h kind) (rowCount h kind) (eventAt stream time) (nextNumber h)
@@ -149,15 +164,28 @@ leftOn h kind stream time =
     (cond (ltb time (lookAll h)) (visitedBy h (withSoonest (countedOn h stream time) (lookAll h)) kind stream time)
     (cond (crowded h (startOf h kind) (rowCount h kind) (eventAt stream time)) h (visitedBy h (endedFirst h stream time) kind stream time)))
 
+-- what the functions on words promise of it
+pub record Late (entry : Words) (first n rows stream time number : ℕ) (exit : Words) : Type 0 where
+  pub untouched : ¬ (number ≡ 0) → exit ≡ entry
+  pub stores : (h : Lent) → entry ≡ wordsOf h → Shaped h → h .monitor .closed ≡ 0
+      → (number ≡ cond (crowded h first n (eventAt stream time)) 12 0)
+      × (exit ≡ wordsOf (cond (crowded h first n (eventAt stream time)) h
+      (visited (withSoonest (ended (countedOn h stream time) rows (eventAt stream time) (nextNumber h)) 0) first n (eventAt stream time) (nextNumber h))))
+
+pub record OnStream (entry : Words) (kind stream time number : ℕ) (exit : Words) : Type 0 where
+  pub untouched : ¬ (number ≡ 0) → exit ≡ entry
+  pub stores : (h : Lent) → entry ≡ wordsOf h → Shaped h → h .monitor .closed ≡ 0
+      → (number ≡ answerOn h kind stream time) × (exit ≡ wordsOf (leftOn h kind stream time))
+
 -- ---- a tick and the close that are taken
 
+-- the rows after a tick to a time at which one may be overdue, the numbers being counted
+abbrev pub passed : Lent → ℕ → Lent
+passed h time =
+    cond (ltb (lookAll h) time) (withSoonest (ended h (heldRows (h .monitor)) (tickAt time) (h .monitor .count)) 0) (withSoonest h (lookAll h))
+
 abbrev pub leftAfterTick : Lent → ℕ → Lent
-leftAfterTick h time =
-    cond (ltb (h .soonest) time)
-    (cond (ltb (lookAll h) time)
-    (withSoonest (ended (countedTo h time (h .monitor .closed)) (heldRows (h .monitor)) (tickAt time) (nextNumber h)) 0)
-    (withSoonest (countedTo h time (h .monitor .closed)) (lookAll h)))
-    (countedTo h time (h .monitor .closed))
+leftAfterTick h time = cond (ltb (h .soonest) time) (passed (countedTo h time 0) time) (countedTo h time 0)
 
 abbrev pub leftAfterClose : Lent → Lent
 leftAfterClose h =
@@ -165,18 +193,62 @@ leftAfterClose h =
 
 -- ---- a withdrawal that is taken
 
-abbrev pub leftAfterWithdrawal : Lent → Lent
-leftAfterWithdrawal h =
-    withSoonest (withMonitor h (record {
-      rows = backed h (heldRows (h .monitor)) (h .monitor .count) .monitor .rows;
-      next = set (h .monitor .next) (placeIn (h .monitor .undo .place)) (h .monitor .undo .next);
-      clock = h .monitor .undo .clock;
-      count = h .monitor .undo .count;
-      closed = h .monitor .undo .closed;
-      len = h .monitor .len;
-      before = backed h (heldRows (h .monitor)) (h .monitor .count) .monitor .before;
+-- the numbers as they were
+abbrev pub uncountedMonitor : Monitor → Monitor
+uncountedMonitor m =
+    record {
+      rows = m .rows;
+      next = m .next;
+      clock = m .undo .clock;
+      count = m .undo .count;
+      closed = m .undo .closed;
+      len = m .len;
+      before = m .before;
       undo = noUndo;
-    })) 0
+    }
+
+abbrev pub backRows : Lent → Lent
+backRows h = backed h (heldRows (h .monitor)) (h .monitor .count)
+
+abbrev pub withFree : Lent → Lent
+withFree h = withNext h (set (h .monitor .next) (placeIn (h .monitor .undo .place)) (h .monitor .undo .next))
+
+abbrev pub uncounted : Lent → Lent
+uncounted h = withSoonest (withMonitor h (uncountedMonitor (h .monitor))) 0
+
+abbrev pub withdrawnLent : Lent → Lent
+withdrawnLent h = uncounted (withFree (backRows h))
+
+-- ---- a call: its number, and what it leaves
+
+abbrev pub refusalOf : Lent → Call → ℕ
+refusalOf h call = refusalBy call (h .monitor .closed) (h .monitor .count) (h .monitor .clock) (nextFor (h .monitor) call)
+
+abbrev pub answerTo : Lent → Call → ℕ
+answerTo h (Call.Event kind time) = answerOn h kind kind time
+answerTo h (Call.ColouredEvent kind colour time) = answerOn h kind (stream kind colour) time
+answerTo h (Call.Tick time) = 0
+answerTo h Call.Close = 0
+
+abbrev pub leftAfter : Lent → Call → Lent
+leftAfter h (Call.Event kind time) = leftOn h kind kind time
+leftAfter h (Call.ColouredEvent kind colour time) = leftOn h kind (stream kind colour) time
+leftAfter h (Call.Tick time) = leftAfterTick h time
+leftAfter h Call.Close = leftAfterClose h
+
+-- a request of either kind
+abbrev pub numberOf : Lent → Request → ℕ
+numberOf h (asks call) = cond (ltb 0 (refusalOf h call)) (refusalOf h call) (answerTo h call)
+numberOf h withdraws = cond (ltb 0 (h .monitor .undo .may)) 0 21
+
+abbrev pub leaves : Lent → Request → Lent
+leaves h (asks call) = cond (ltb 0 (refusalOf h call)) h (leftAfter h call)
+leaves h withdraws = cond (ltb 0 (h .monitor .undo .may)) (withdrawnLent h) h
+
+-- the number, and each word that is left, whatever was lent
+pub record Stores (entry : Words) (r : Request) (number : ℕ) (exit : Words) : Type 0 where
+  pub untouched : ¬ (number ≡ 0) → exit ≡ entry
+  pub stores : (h : Lent) → entry ≡ wordsOf h → Shaped h → (number ≡ numberOf h r) × (exit ≡ wordsOf (leaves h r))
 
 -- ---- what a call answers and leaves
 

@@ -1,7 +1,9 @@
 // A monitor lent by its owner: 35 blocks of two arrays of 64 words, stepped where they lie.
+ghost use Prim.Native.Nat.{_≤_};
 ghost use mathlib.Core.Path.{_≡_};
 ghost use Rattle.lent.specs.Layout.{Lent, wordsOf, Shaped, heldRows};
 
+pub mod calls;
 mod numbers;
 mod rows;
 
@@ -29,7 +31,7 @@ pub const COLOURED: usize = 34;
 
 // How many rows there are.
 pub fn held(m: &Words) -> usize
-    ensures { λ r. ⌜ ((h : Lent) → now (m .entry) ≡ wordsOf h → Shaped h → r ≡ heldRows (h .monitor)) ⌝ }
+    ensures { λ r. ⌜ ((r ≤ 32) × ((h : Lent) → now (m .entry) ≡ wordsOf h → Shaped h → r ≡ heldRows (h .monitor))) ⌝ }
 {
     let n = m[NUMBERS][0][ROWS];
     if n < 32 { n as usize } else { 32 }

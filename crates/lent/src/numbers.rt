@@ -13,28 +13,22 @@ use crate::PLAIN;
 use crate::SOONEST;
 use crate::THEN;
 use crate::Words;
-use constraint::FIRST_COLOURED;
-use constraint::LAST_COLOUR;
 use constraint::LAST_COUNT;
-use constraint::LAST_KIND;
-use constraint::LAST_TIME;
 use machine::parts::plus;
-use monitor::calls::time_refusal;
-ghost use Prim.Native.Nat.{ℕ, _+_, _*_, _-_, _<_, _≤_};
+use queue::minus;
+ghost use Prim.Native.Nat.{ℕ, _<_};
 ghost use mathlib.Core.Path.{_≡_};
 ghost use mathlib.Core.Bool.{cond};
 ghost use mathlib.Core.List.{List, [], _∷_};
 ghost use lib.ListN.{getD, set};
 ghost use lib.Dec.{ltb, leb};
 ghost use Rattle.constraint.specs.Limits.{lastCount};
-ghost use Rattle.constraint.specs.declared.Call.{Call};
-ghost use Rattle.monitor.specs.Machine.{refusalBy, nextFor};
 ghost use Rattle.monitor.specs.declared.Monitor.{Monitor};
 ghost use Rattle.lent.specs.Layout.{Lent, wordsOf, Shaped, numberArray};
-ghost use Rattle.lent.specs.Steps.{withSoonest, withNext, countedMonitor, countedOn, countedTo};
+ghost use Rattle.lent.specs.Steps.{withSoonest, withNext, withClosed, countedMonitor, countedOn, countedTo, uncountedMonitor};
 
 // The first free time of a stream.
-fn free_at(m: &Words, stream: usize) -> u64
+pub fn free_at(m: &Words, stream: usize) -> u64
     requires { ⌜ stream < 176 ⌝ }
     ensures { λ r. ⌜ ((h : Lent) → now (m .entry) ≡ wordsOf h → Shaped h → r ≡ getD (h .monitor .next) stream 0) ⌝ }
 {
@@ -46,7 +40,7 @@ fn free_at(m: &Words, stream: usize) -> u64
 }
 
 // Another first free time of a stream.
-fn put_free(m: &mut Words, stream: usize, time: u64)
+pub fn put_free(m: &mut Words, stream: usize, time: u64)
     requires { ⌜ stream < 176 ⌝ }
     ensures { λ _. ⌜ ((h : Lent) → now (m .entry) ≡ wordsOf h → Shaped h → now (m .exit) ≡ wordsOf (withNext h (set (h .monitor .next) stream time))) ⌝ }
 {
@@ -110,4 +104,30 @@ pub fn count_tick(m: &mut Words, time: u64)
 {
     let free = free_at(m, 0);
     count(&mut m[NUMBERS], 0, free, time);
+}
+
+// The recording is closed.
+pub fn shut(m: &mut Words)
+    ensures { λ _. ⌜ ((h : Lent) → now (m .entry) ≡ wordsOf h → Shaped h → now (m .exit) ≡ wordsOf (withClosed h 1)) ⌝ }
+{
+    m[NUMBERS][0][OPEN] = 0;
+}
+
+// The numbers as they were before the last step; nothing may be withdrawn then, and every row is to be looked at.
+pub fn uncount(n: &mut [[u64; 64]; 2])
+    ensures { λ _. ⌜ ((m : Monitor) (soonest : ℕ) (plain ends : List ℕ) → now (n .entry) ≡ numberArray m soonest plain ∷ ends ∷ [] → now (n .exit) ≡ numberArray (uncountedMonitor m) 0 plain ∷ ends ∷ []) ⌝ }
+{
+    let clock = n[0][THEN];
+    let count = n[0][COUNTED];
+    let closed = n[0][CLOSED];
+    n[0][CLOCK] = clock;
+    n[0][COUNT] = count;
+    n[0][OPEN] = minus(1, closed);
+    n[0][SOONEST] = 0;
+    n[0][MAY] = 0;
+    n[0][PLACE] = 0;
+    n[0][FREE] = 0;
+    n[0][THEN] = 0;
+    n[0][COUNTED] = 0;
+    n[0][CLOSED] = 0;
 }

@@ -98,7 +98,7 @@ fn either(a: bool, b: bool) -> bool
 // The soonest time to look at one of the first n rows.
 pub fn soonest(m: &Words, n: usize) -> u64
     requires { ⌜ n ≤ 32 ⌝ }
-    ensures { λ r. ⌜ ((h : Lent) → now (m .entry) ≡ wordsOf h → Shaped h → r ≡ soonestOf (h .monitor) n) ⌝ }
+    ensures { λ r. ⌜ ((h : Lent) → now (m .entry) ≡ wordsOf h → Shaped h → r ≡ soonestOf (h .monitor .rows) n) ⌝ }
 {
     let mut time = NO_LIMIT;
     let mut i = 0;

@@ -14,7 +14,7 @@ use Rattle.lent.proofs.rows.soonest.Statement.{statement}
 use Rattle.lent.proofs.rows.soonest.Tie as tie
 
 abbrev Inv-loop : tie.InvT-loop
-Inv-loop m n time₀ i₀ time i = (i ≤ n) × ((h : Lent) → m ≡ wordsOf h → Shaped h → time ≡ soonestOf (h .monitor) i)
+Inv-loop m n time₀ i₀ time i = (i ≤ n) × ((h : Lent) → m ≡ wordsOf h → Shaped h → time ≡ soonestOf (h .monitor .rows) i)
 
 abbrev μ-loop : tie.MeasureT-loop
 μ-loop m n time₀ i₀ time i = n - i
@@ -50,14 +50,14 @@ loop-again c =
     let there : i < 32 = omega arith in
     let look : k .look .result ≡ lookAt (h .monitor) i =
         k .look .ensures (rowAt (h .monitor) i) (keptAt (h .monitor) i) (row-lies h s (now (a .m)) e i there) in
-    c .smaller .ensures ∙ ap₂ min (l .before .loop .inv .1 h e s) look ∙ ap (soonestOf (h .monitor)) (sym (add-one i)))
+    c .smaller .ensures ∙ ap₂ min (l .before .loop .inv .1 h e s) look ∙ ap (soonestOf (h .monitor .rows)) (sym (add-one i)))
 
 returns : tie.Need-returns Inv-loop μ-loop
 returns c h e s =
     let l = c .before .loop in
     let a = c .before .before .args in
     let at-end : l .i ≡ a .n = omega arith in
-    l .inv .1 h e s ∙ ap (soonestOf (h .monitor)) at-end
+    l .inv .1 h e s ∙ ap (soonestOf (h .monitor .rows)) at-end
 
 pub soonest-spec : {M : Type 1} → statement M
 soonest-spec =

@@ -1,0 +1,65 @@
+-- The questions 8 and 24 come first: where one is answered "no" that is the number, and else the call's own questions give it.
+use Prim.Native.Nat.{ℕ, zero, suc, _<_, _≤_}
+use native.Mathlib.Omega.{arith}
+use mathlib.Core.Path.{_≡_, refl, sym, ap, _∙_}
+use mathlib.Core.Bool.{Bool, true, false, cond}
+use lib.Dec.{ltb, leb}
+use borrow.Author.Tests.{lt-ltb, le-ltb, ltb-false}
+use Rattle.constraint.specs.Limits.{lastCount}
+use Rattle.constraint.specs.Run.{asks}
+use Rattle.constraint.specs.declared.Call.{Call}
+use Rattle.constraint.proofs.Lists.{split}
+use Rattle.queue.proofs.Shared.{cond-true, cond-false}
+use Rattle.monitor.specs.Machine.{ownRefusal, nextFor}
+use Rattle.lent.specs.Layout.{Lent, Words, wordsOf, Shaped}
+use Rattle.lent.specs.Steps.{refusalOf, answerTo, leftAfter, Stores}
+
+first-no : (a b : Bool) (n own : ℕ) → n ≡ cond a 8 (cond b 24 0) → 0 < n → n ≡ cond a 8 (cond b 24 own)
+first-no true b n own e l = e
+first-no false true n own e l = e
+first-no false false n own e l = absurd (omega (arith, e, l))
+
+first-yes : (a b : Bool) (n own : ℕ) → n ≡ cond a 8 (cond b 24 0) → n ≤ 0 → cond a 8 (cond b 24 own) ≡ own
+first-yes true b n own e l = absurd (omega (arith, e, l))
+first-yes false true n own e l = absurd (omega (arith, e, l))
+first-yes false false n own e l = refl
+
+pub first-number : (h : Lent) (call : Call) (first : ℕ) → first ≡ cond (ltb 0 (h .monitor .closed)) 8 (cond (leb lastCount (h .monitor .count)) 24 0)
+    → 0 < first → first ≡ refusalOf h call
+first-number h call first e l = first-no (ltb 0 (h .monitor .closed)) (leb lastCount (h .monitor .count)) first _ e l
+
+pub own-number : (h : Lent) (call : Call) (first number : ℕ) → first ≡ cond (ltb 0 (h .monitor .closed)) 8 (cond (leb lastCount (h .monitor .count)) 24 0)
+    → first ≤ 0 → number ≡ ownRefusal call (h .monitor .clock) (nextFor (h .monitor) call) → number ≡ refusalOf h call
+own-number h call first number e l own = own ∙ sym (first-yes (ltb 0 (h .monitor .closed)) (leb lastCount (h .monitor .count)) first _ e l)
+
+pub not-closed : (closed : ℕ) (b : Bool) (own : ℕ) → cond (ltb 0 closed) 8 (cond b 24 own) ≡ 0 → closed ≡ 0
+not-closed closed b own =
+    split (ltb 0 closed) (λ z. cond z 8 (cond b 24 own) ≡ 0 → closed ≡ 0) (λ _ e. absurd (omega (arith, e))) (λ f _. omega (arith, ltb-false 0 closed f))
+
+module _ (entry : Words) (call : Call) (refusal : ℕ) (asked : (h : Lent) → entry ≡ wordsOf h → Shaped h → refusal ≡ refusalOf h call) where
+  pub refused-stores : 0 < refusal → Stores entry (asks call) refusal entry
+  refused-stores some =
+      record {
+        untouched = λ _. refl;
+        stores = λ h e s.
+            let is = asked h e s in
+            let test = lt-ltb 0 (refusalOf h call) (omega (arith, is, some)) in
+            (is ∙ sym (cond-true (ltb 0 (refusalOf h call)) (refusalOf h call) (answerTo h call) test),
+            e ∙ sym (ap wordsOf (cond-true (ltb 0 (refusalOf h call)) h (leftAfter h call) test)));
+      }
+
+  pub taken-stores : (number : ℕ) (exit : Words) → refusal ≤ 0 → (¬ (number ≡ 0) → exit ≡ entry)
+      → ((h : Lent) → entry ≡ wordsOf h → Shaped h → h .monitor .closed ≡ 0 → (number ≡ answerTo h call) × (exit ≡ wordsOf (leftAfter h call)))
+      → Stores entry (asks call) number exit
+  taken-stores number exit none same done =
+      record {
+        untouched = same;
+        stores = λ h e s.
+            let is = asked h e s in
+            let zero-is : refusalOf h call ≡ 0 = omega (arith, is, none) in
+            let test = le-ltb 0 (refusalOf h call) (omega (arith, zero-is)) in
+            let going = not-closed (h .monitor .closed) (leb lastCount (h .monitor .count)) (ownRefusal call (h .monitor .clock) (nextFor (h .monitor) call)) zero-is in
+            let so = done h e s going in
+            (so .0 ∙ sym (cond-false (ltb 0 (refusalOf h call)) (refusalOf h call) (answerTo h call) test),
+            so .1 ∙ sym (ap wordsOf (cond-false (ltb 0 (refusalOf h call)) h (leftAfter h call) test)));
+      }

@@ -1,0 +1,54 @@
+-- The questions are put first; then the numbers are counted on, and the close goes to every row.
+use Prim.Native.Nat.{ℕ, _≤_}
+use mathlib.Core.Path.{_≡_, refl, sym, ap, ap₂, _∙_}
+use native.Mathlib.Omega.{arith}
+use mathlib.Core.Bool.{true, false}
+use denote.Ref.{now}
+use Rattle.constraint.specs.declared.Call.{Call}
+use Rattle.row.specs.Machine.{closeAt}
+use Rattle.lent.specs.Layout.{wordsOf, heldRows}
+use Rattle.lent.specs.Steps.{countedTo, withClosed, ended, nextNumber}
+use Rattle.lent.proofs.Parts.{number-at, shaped-to, shaped-ended}
+use Rattle.lent.proofs.Asked.{first-number, own-number, refused-stores, taken-stores}
+use borrow.Author.Needs.{needs}
+use Rattle.lent.proofs.calls.close.Statement.{statement}
+use Rattle.lent.proofs.calls.close.Tie as tie
+
+returns : tie.Need-returns
+returns c =
+    let f = c .before in
+    let a = f .before .before .args in
+    refused-stores (now (a .m)) Call.Close _ (λ h e s. first-number h Call.Close _ (f .first-refusal .ensures h e s) (c .if1 .taken)) (c .if1 .taken)
+
+ends-requires : tie.Need-ends-requires
+ends-requires c κs = c .held .ensures .0
+
+returns-2 : tie.Need-returns-2
+returns-2 c =
+    let d = c .before .before in
+    let w = d .before in
+    let n = w .before .before .before in
+    let u = n .before in
+    let k = u .before .before in
+    let v = k .before .before in
+    let i = v .before in
+    let f = i .before in
+    let a = f .before .before .args in
+    taken-stores (now (a .m)) Call.Close 0
+    (λ h e s. own-number h Call.Close _ 0 (f .first-refusal .ensures h e s) (omega (arith, i .if1 .left)) refl) 0 (c .put-soonest .last .0) (omega arith) (λ some. absurd (some refl))
+    (λ h e s going.
+    let clock = number-at h s (now (a .m)) e 0 in
+    let counted = k .count-tick .ensures h e s going ∙ ap (λ (x : ℕ). wordsOf (countedTo h x 0)) clock in
+    let h₁ = countedTo h (h .monitor .clock) 1 in
+    let closed = u .shut .ensures (countedTo h (h .monitor .clock) 0) counted (shaped-to h (h .monitor .clock) 0 s) in
+    let wide = shaped-to h (h .monitor .clock) 1 s in
+    let held = w .held .ensures .1 h₁ closed wide in
+    let stopped = d .ends .ensures h₁ closed wide
+        ∙ (λ x. wordsOf (ended h₁ (held x) (closeAt (clock x)) (number-at h₁ wide _ closed 1 x))) in
+    (refl, c .put-soonest .ensures (ended h₁ (heldRows (h .monitor)) (closeAt (h .monitor .clock)) (nextNumber h)) stopped
+    (shaped-ended h₁ (heldRows (h .monitor)) (closeAt (h .monitor .clock)) (nextNumber h) wide)))
+
+pub close-spec : {M : Type 1} → statement M
+close-spec =
+    tie.close (tie.spec (λ c κs. search needs) returns (λ c. search needs) (λ c. search needs) (λ c. search needs) (λ c κs. search needs) (λ c κs.
+    search needs) (λ c. search needs) (λ c. search needs) (λ c. search needs) (λ c κs. search needs) ends-requires (λ c κs. search needs) returns-2)

@@ -1,0 +1,33 @@
+-- The questions are put first; the stream of one that is answered is its kind’s and colour’s.
+use Prim.Native.Nat.{ℕ, _<_}
+use mathlib.Core.Path.{_≡_, ap, subst, _∙_}
+use native.Mathlib.Omega.{arith}
+use denote.Ref.{now}
+use Rattle.constraint.specs.declared.Call.{Call}
+use Rattle.lent.specs.Layout.{Lent, Words, wordsOf, Shaped}
+use Rattle.lent.specs.Steps.{OnStream, answerOn, leftOn}
+use Rattle.lent.proofs.Asked.{refused-stores, taken-stores}
+use borrow.Author.Needs.{needs}
+use Rattle.lent.proofs.calls.coloured_event.Statement.{statement}
+use Rattle.lent.proofs.calls.coloured_event.Tie as tie
+
+returns : tie.Need-returns
+returns c =
+    let a = c .before .before .before .args in
+    refused-stores (now (a .m)) (Call.ColouredEvent (a .kind) (a .colour) (a .time)) _ (c .before .coloured-refusal .ensures .1) (c .if1 .taken)
+
+stream-of-requires : tie.Need-stream-of-requires
+stream-of-requires c κs = c .before .coloured-refusal .ensures .0 (omega (arith, c .if1 .left))
+
+returns-2 : tie.Need-returns-2
+returns-2 c =
+    let t = c .before .before in
+    let i = t .before in
+    let a = i .before .before .before .args in
+    let on = subst (λ (s : ℕ). OnStream (now (a .m)) (a .kind) s (a .time) (c .event-on .result) (c .event-on .last .0)) (t .stream-of .ensures .0) (c .event-on .ensures) in
+    taken-stores (now (a .m)) (Call.ColouredEvent (a .kind) (a .colour) (a .time)) _ (i .before .coloured-refusal .ensures .1) (c .event-on .result) (c .event-on .last .0)
+    (omega (arith, i .if1 .left)) (on .untouched) (on .stores)
+
+pub coloured-event-spec : {M : Type 1} → statement M
+coloured-event-spec =
+    tie.close (tie.spec (λ c κs. search needs) returns stream-of-requires (λ c κs. search needs) returns-2)

@@ -1,0 +1,80 @@
+-- Where a step may be withdrawn, each row and then each number is put back.
+use Prim.Native.Nat.{ℕ, zero, suc, _≤_, _<_}
+use mathlib.Core.Path.{_≡_, refl, sym, ap, ap₂, _∙_}
+use native.Mathlib.Omega.{arith}
+use mathlib.Core.List.{List, []}
+use mathlib.Core.Bool.{true, false, cond}
+use lib.ListN.{getD, set, take}
+use lib.Dec.{ltb}
+use denote.Ref.{now}
+use borrow.Author.Tests.{lt-ltb, le-ltb, ltb-true}
+use Rattle.constraint.specs.Limits.{streamCount}
+use Rattle.constraint.proofs.Lists.{split}
+use Rattle.monitor.specs.Machine.{placeIn}
+use Rattle.lent.specs.Layout.{Words, wordsOf, heldRows}
+use Rattle.lent.specs.Steps.{withMonitor, withSoonest, withNext, backed, backRows, uncountedMonitor}
+use Rattle.lent.proofs.Parts.{numbers-read, number-at, block-written, shaped-backed, shaped-next}
+use borrow.Author.Needs.{needs}
+use Rattle.lent.proofs.calls.withdraw.Statement.{statement}
+use Rattle.lent.proofs.calls.withdraw.Tie as tie
+
+place-small : (p : ℕ) → placeIn p < 176
+place-small p = split (ltb p streamCount) (λ b. cond b p 0 < 176) (λ e. ltb-true p streamCount e) (λ e. omega arith)
+
+above-zero : (n : ℕ) → ¬ (n ≡ 0) → 0 < n
+above-zero zero some = absurd (some refl)
+above-zero (suc n) some = omega arith
+
+returns : tie.Need-returns
+returns c =
+    let a = c .before .before .args in
+    record {
+      untouched = λ _. refl;
+      stores = λ h e s.
+          let may : h .monitor .undo .may ≡ 0 = sym (number-at h s (now (a .m)) e 5) ∙ c .if1 .taken in
+          let none = le-ltb 0 (h .monitor .undo .may) (omega (arith, may)) in
+          (rw none refl, rw none e);
+    }
+
+back-requires : tie.Need-back-requires
+back-requires c κs = c .held .ensures .0
+
+put-free-requires : tie.Need-put-free-requires
+put-free-requires c κs = rw (c .before .before .place-in .ensures) (place-small (getD (getD (getD (c .before .before .before .before .back .last .0) 32 []) 0 []) 6 0))
+
+returns-2 : tie.Need-returns-2
+returns-2 c =
+    let p = c .before .before in
+    let f = p .before .before in
+    let q = f .before in
+    let b = q .before .before in
+    let w = b .before in
+    let n = w .before .before .before in
+    let i = n .before in
+    let a = i .before .before .args in
+    record {
+      untouched = λ some. absurd (some refl);
+      stores = λ h e s.
+          let may = number-at h s (now (a .m)) e 5 in
+          let some = lt-ltb 0 (h .monitor .undo .may) (above-zero (h .monitor .undo .may) (λ z. i .if1 .left (may ∙ z))) in
+          let x = backRows h in
+          let wide = shaped-backed h (heldRows (h .monitor)) (h .monitor .count) s in
+          let back = b .back .ensures h e s
+              ∙ ap₂ (λ (k number : ℕ). wordsOf (backed h k number)) (w .held .ensures .1 h e s) (number-at h s (now (a .m)) e 1) in
+          let place : q .place-in .result ≡ placeIn (x .monitor .undo .place) = q .place-in .ensures ∙ ap placeIn (number-at x wide _ back 6) in
+          let free = number-at x wide _ back 7 in
+          let y = withNext x (set (x .monitor .next) (placeIn (x .monitor .undo .place)) (x .monitor .undo .next)) in
+          let stored = p .put-free .ensures x back wide ∙ ap₂ (λ (k v : ℕ). wordsOf (withNext x (set (x .monitor .next) k v))) place free in
+          let wide-too = shaped-next x (placeIn (x .monitor .undo .place)) (x .monitor .undo .next) wide in
+          let block = ap (λ (m : Words). getD m 32 []) stored ∙ numbers-read y wide-too in
+          let numbers = c .uncount .ensures (y .monitor) (y .soonest) (take 48 (y .monitor .next)) (y .ends) block in
+          (rw some refl, rw some
+          (ap₂ (λ (m : Words) (v : List (List ℕ)). set m 32 v) stored numbers
+          ∙ block-written y wide-too (withSoonest (withMonitor y (uncountedMonitor (y .monitor))) 0) refl refl refl));
+    }
+
+pub withdraw-spec : {M : Type 1} → statement M
+withdraw-spec =
+    tie.close (tie.spec (λ c. search needs) (λ c. search needs) (λ c. search needs) returns (λ c. search needs) (λ c. search needs) (λ c. search
+    needs) (λ c κs. search needs) back-requires (λ c. search needs) (λ c. search needs) (λ c. search needs) (λ c κs. search needs) (λ c. search
+    needs) (λ c. search needs) (λ c. search needs) put-free-requires (λ c. search needs) (λ c κs. search needs) returns-2)

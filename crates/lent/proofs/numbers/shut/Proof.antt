@@ -1,0 +1,21 @@
+-- The word for "open" is stored as 0.
+use Prim.Native.Nat.{ℕ}
+use mathlib.Core.Path.{_≡_, refl, ap, _∙_}
+use mathlib.Core.List.{List, []}
+use lib.ListN.{getD, set}
+use Rattle.lent.specs.Layout.{Words, wordsOf, numberBlock}
+use Rattle.lent.specs.Steps.{withClosed}
+use Rattle.lent.proofs.Parts.{numbers-read, block-written}
+use borrow.Author.Needs.{needs}
+use Rattle.lent.proofs.numbers.shut.Statement.{statement}
+use Rattle.lent.proofs.numbers.shut.Tie as tie
+
+returns : tie.Need-returns
+returns c h e s =
+    ap (λ (m : Words). set m 32 (set (getD m 32 []) 0 (set (getD (getD m 32 []) 0 []) 2 0))) e
+    ∙ ap (λ (b : List (List ℕ)). set (wordsOf h) 32 (set b 0 (set (getD b 0 []) 2 0))) (numbers-read h s)
+    ∙ block-written h s (withClosed h 1) refl refl refl
+
+pub shut-spec : {M : Type 1} → statement M
+shut-spec =
+    tie.close (tie.spec (λ c. search needs) (λ c. search needs) (λ c. search needs) returns)

@@ -1,0 +1,263 @@
+// The calls on a lent monitor: 0 where one is taken, else the number of its refusal.
+use crate::CLOCK;
+use crate::COUNT;
+use crate::FREE;
+use crate::MAY;
+use crate::NUMBERS;
+use crate::PLACE;
+use crate::SOONEST;
+use crate::Words;
+use crate::held;
+use crate::numbers::count_event;
+use crate::numbers::count_tick;
+use crate::numbers::first_refusal;
+use crate::numbers::free_at;
+use crate::numbers::put_free;
+use crate::numbers::put_soonest;
+use crate::numbers::shut;
+use crate::numbers::uncount;
+use crate::rows;
+use constraint::FIRST_COLOURED;
+use constraint::LAST_COLOUR;
+use constraint::LAST_KIND;
+use constraint::LAST_TIME;
+use machine::parts::kind_of;
+use monitor::calls::place_in;
+use monitor::calls::time_refusal;
+use queue::left;
+use row::Occurrence;
+ghost use Prim.Native.Nat.{_+_, _<_, _≤_};
+ghost use mathlib.Core.Path.{_≡_};
+ghost use Rattle.constraint.specs.declared.Call.{Call};
+ghost use Rattle.constraint.specs.Run.{asks, withdraws};
+ghost use Rattle.row.specs.Machine.{eventAt};
+ghost use Rattle.lent.specs.Layout.{Lent, wordsOf, Shaped};
+ghost use Rattle.constraint.specs.Streams.{stream};
+ghost use Rattle.lent.specs.Steps.{countedOn, nextNumber, visited, passed, Late, OnStream, refusalOf, Stores};
+
+const NO_EVENT: u64 = 65;
+
+const NO_STREAM: u64 = 176;
+
+// What a row sees of an event of a stream.
+fn event_of(stream: usize, time: u64) -> Occurrence
+    ensures { λ r. ⌜ r ≡ eventAt stream time ⌝ }
+{
+    let stream = stream as u64;
+    Occurrence {
+        kind: kind_of(stream),
+        stream,
+        time,
+        closes: false,
+    }
+}
+
+// The numbers after an event that crowds no row, and then the rows of its kind, when no other has to be looked at.
+fn taken(m: &mut Words, first: usize, n: usize, stream: usize, time: u64)
+    requires { ⌜ (first + n ≤ 128) × (stream < 176) ⌝ }
+    ensures { λ _. ⌜ ((h : Lent) → now (m .entry) ≡ wordsOf h → Shaped h → h .monitor .closed ≡ 0 → now (m .exit) ≡ wordsOf (visited (countedOn h stream time) first n (eventAt stream time) (nextNumber h))) ⌝ }
+{
+    count_event(m, stream, time);
+    let number = m[NUMBERS][0][COUNT];
+    rows::visits(m, first, n, stream as u64, time, number);
+}
+
+// The same where a row may be overdue or full: 12 where the event crowds a row; else the rows that are overdue end first.
+fn late(m: &mut Words, first: usize, n: usize, rows: usize, stream: usize, time: u64) -> u8
+    requires { ⌜ (first + n ≤ 128) × ((stream < 176) × (rows ≤ 32)) ⌝ }
+    ensures { λ r. ⌜ Late (now (m .entry)) first n rows stream time r (now (m .exit)) ⌝ }
+{
+    let o = event_of(stream, time);
+    if rows::crowds(m, first, n, o) {
+        return 12;
+    }
+    count_event(m, stream, time);
+    let number = m[NUMBERS][0][COUNT];
+    rows::ends(m, rows, o, number);
+    put_soonest(m, 0);
+    rows::visits(m, first, n, stream as u64, time, number);
+    0
+}
+
+// An event of a stream that is answered with no number but 12.
+fn event_on(m: &mut Words, kind: usize, stream: usize, time: u64) -> u8
+    requires { ⌜ (kind < 64) × (stream < 176) ⌝ }
+    ensures { λ r. ⌜ OnStream (now (m .entry)) kind stream time r (now (m .exit)) ⌝ }
+{
+    let first = rows::start_of(m, kind);
+    let n = left(rows::end_of(m, kind), first);
+    if time < m[NUMBERS][0][SOONEST] {
+        taken(m, first, n, stream, time);
+        return 0;
+    }
+    let rows = held(m);
+    let soonest = rows::soonest(m, rows);
+    if time < soonest {
+        put_soonest(m, soonest);
+        taken(m, first, n, stream, time);
+        return 0;
+    }
+    late(m, first, n, rows, stream, time)
+}
+
+// All questions but 12 of an event of a plain kind: the number of the first "no", or 0.
+fn event_refusal(m: &Words, kind: u8, time: u64) -> u8
+    ensures { λ r. ⌜ ((r ≡ 0 → kind < 48) × ((h : Lent) → now (m .entry) ≡ wordsOf h → Shaped h → r ≡ refusalOf h (Call.Event kind time))) ⌝ }
+{
+    let first = first_refusal(m);
+    if 0 < first {
+        return first;
+    }
+    if LAST_KIND < kind {
+        return 9;
+    }
+    if FIRST_COLOURED <= kind {
+        return 19;
+    }
+    time_refusal(time, m[NUMBERS][0][CLOCK], free_at(m, kind as usize))
+}
+
+// An event of a plain kind.
+pub fn event(m: &mut Words, kind: u8, time: u64) -> u8
+    ensures { λ r. ⌜ Stores (now (m .entry)) (asks (Call.Event kind time)) r (now (m .exit)) ⌝ }
+{
+    let refusal = event_refusal(m, kind, time);
+    if 0 < refusal {
+        return refusal;
+    }
+    event_on(m, kind as usize, kind as usize, time)
+}
+
+// The stream of a coloured kind's events of a colour.
+fn stream_of(kind: u8, colour: u8) -> usize
+    requires { ⌜ (48 ≤ kind) × ((kind < 64) × (colour < 8)) ⌝ }
+    ensures { λ r. ⌜ ((r ≡ stream kind colour) × (r < 176)) ⌝ }
+{
+    48 + 8 * (kind as usize - 48) + colour as usize
+}
+
+// All questions but 12 of an event of a coloured kind.
+fn coloured_refusal(m: &Words, kind: u8, colour: u8, time: u64) -> u8
+    ensures { λ r. ⌜ ((r ≡ 0 → (48 ≤ kind) × ((kind < 64) × (colour < 8))) × ((h : Lent) → now (m .entry) ≡ wordsOf h → Shaped h → r ≡ refusalOf h (Call.ColouredEvent kind colour time))) ⌝ }
+{
+    let first = first_refusal(m);
+    if 0 < first {
+        return first;
+    }
+    if LAST_KIND < kind {
+        return 9;
+    }
+    if kind < FIRST_COLOURED {
+        return 19;
+    }
+    if LAST_COLOUR < colour {
+        return 19;
+    }
+    let stream = stream_of(kind, colour);
+    time_refusal(time, m[NUMBERS][0][CLOCK], free_at(m, stream))
+}
+
+// An event of a coloured kind.
+pub fn coloured_event(m: &mut Words, kind: u8, colour: u8, time: u64) -> u8
+    ensures { λ r. ⌜ Stores (now (m .entry)) (asks (Call.ColouredEvent kind colour time)) r (now (m .exit)) ⌝ }
+{
+    let refusal = coloured_refusal(m, kind, colour, time);
+    if 0 < refusal {
+        return refusal;
+    }
+    let stream = stream_of(kind, colour);
+    event_on(m, kind as usize, stream, time)
+}
+
+// All questions of a tick.
+fn tick_refusal(m: &Words, time: u64) -> u8
+    ensures { λ r. ⌜ ((h : Lent) → now (m .entry) ≡ wordsOf h → Shaped h → r ≡ refusalOf h (Call.Tick time)) ⌝ }
+{
+    let first = first_refusal(m);
+    if 0 < first {
+        return first;
+    }
+    if LAST_TIME < time {
+        return 10;
+    }
+    if time <= m[NUMBERS][0][CLOCK] {
+        return 11;
+    }
+    0
+}
+
+// The rows after a tick to a time at which one may be overdue.
+fn pass(m: &mut Words, time: u64)
+    ensures { λ _. ⌜ ((h : Lent) → now (m .entry) ≡ wordsOf h → Shaped h → now (m .exit) ≡ wordsOf (passed h time)) ⌝ }
+{
+    let rows = held(m);
+    let soonest = rows::soonest(m, rows);
+    if soonest < time {
+        let number = m[NUMBERS][0][COUNT];
+        let o = Occurrence {
+            kind: NO_EVENT,
+            stream: NO_STREAM,
+            time,
+            closes: false,
+        };
+        rows::ends(m, rows, o, number);
+        put_soonest(m, 0);
+        return;
+    }
+    put_soonest(m, soonest);
+}
+
+// A tick to a time.
+pub fn tick(m: &mut Words, time: u64) -> u8
+    ensures { λ r. ⌜ Stores (now (m .entry)) (asks (Call.Tick time)) r (now (m .exit)) ⌝ }
+{
+    let refusal = tick_refusal(m, time);
+    if 0 < refusal {
+        return refusal;
+    }
+    let soonest = m[NUMBERS][0][SOONEST];
+    count_tick(m, time);
+    if soonest < time {
+        pass(m, time);
+    }
+    0
+}
+
+// The close.
+pub fn close(m: &mut Words) -> u8
+    ensures { λ r. ⌜ Stores (now (m .entry)) (asks Call.Close) r (now (m .exit)) ⌝ }
+{
+    let refusal = first_refusal(m);
+    if 0 < refusal {
+        return refusal;
+    }
+    let clock = m[NUMBERS][0][CLOCK];
+    count_tick(m, clock);
+    shut(m);
+    let number = m[NUMBERS][0][COUNT];
+    let o = Occurrence {
+        kind: NO_EVENT,
+        stream: NO_STREAM,
+        time: clock,
+        closes: true,
+    };
+    rows::ends(m, held(m), o, number);
+    put_soonest(m, 0);
+    0
+}
+
+// The last step is withdrawn: 0, or 21 where nothing may be withdrawn.
+pub fn withdraw(m: &mut Words) -> u8
+    ensures { λ r. ⌜ Stores (now (m .entry)) withdraws r (now (m .exit)) ⌝ }
+{
+    if m[NUMBERS][0][MAY] == 0 {
+        return 21;
+    }
+    let number = m[NUMBERS][0][COUNT];
+    rows::back(m, held(m), number);
+    let place = place_in(m[NUMBERS][0][PLACE] as usize);
+    let free = m[NUMBERS][0][FREE];
+    put_free(m, place, free);
+    uncount(&mut m[NUMBERS]);
+    0
+}

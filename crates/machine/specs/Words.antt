@@ -7,7 +7,8 @@ use mathlib.Core.List.{List, [], _∷_}
 use lib.ListN.{getD, replicate}
 use Rattle.constraint.specs.Limits.{noLimit}
 use Rattle.queue.specs.Ring.{Ring, ringOf, ring, edited, editPlace, timeAt}
-use Rattle.machine.specs.Parts.{noMarks}
+use Rattle.queue.specs.declared.Edit.{Edit}
+use Rattle.machine.specs.Parts.{noMarks, waits}
 use Rattle.machine.specs.declared.Rule.{Rule}
 use Rattle.machine.specs.declared.Marks.{Marks}
 use Rattle.machine.specs.declared.State.{State}
@@ -74,9 +75,18 @@ abbrev pub withMarks : State → Marks → State
 withMarks state marks =
     record { marks = marks; head = state .head; len = state .len; due = state .due; kept = state .kept; broken = state .broken }
 
+-- what a row keeps with another ring
+abbrev pub withRing : State → Ring → State
+withRing state q =
+    record { marks = state .marks; head = q .head; len = q .len; due = state .due; kept = state .kept; broken = state .broken }
+
 -- what a row keeps that goes on
 abbrev pub goingOn : Ring → Marks → ℕ → Bool → State
 goingOn q marks due kept = record { marks = marks; head = q .head; len = q .len; due = due; kept = cond kept 1 0; broken = 0 }
+
+-- what a row keeps that goes on with its ring as it is
+abbrev pub settled : State → Marks → ℕ → Bool → State
+settled state marks due kept = goingOn (ringOf [] (state .head) (state .len)) marks due kept
 
 -- the row's words after a change that does not crowd it, made by the step of that number
 unfoldable pub changedWords : Rule → List ℕ → State → Change → ℕ → List (List ℕ)
@@ -99,10 +109,24 @@ Breaks entry place number exit =
     (rule : Rule) (times : List ℕ) (state : State) (past : Past) → entry ≡ rowWords rule times state past
     → exit ≡ rowWords rule times (brokenAt number) (pastOf times state place number)
 
+-- the ring is edited, and what the row was is its past
+abbrev pub Edits : List (List ℕ) → Edit → ℕ → List (List ℕ) → Type 0
+Edits entry edit number exit =
+    (rule : Rule) (times : List ℕ) (state : State) (past : Past) → entry ≡ rowWords rule times state past
+    → exit ≡ rowWords rule (edited edit (ringOf times (state .head) (state .len)) .times)
+    (withRing state (edited edit (ringOf times (state .head) (state .len))))
+    (pastOf times state (editPlace edit (ringOf times (state .head) (state .len))) number)
+
 abbrev pub Changes : List (List ℕ) → Change → ℕ → List (List ℕ) → Type 0
 Changes entry change number exit =
     (rule : Rule) (times : List ℕ) (state : State) (past : Past) → entry ≡ rowWords rule times state past
     → exit ≡ changedWords rule times state change number
+
+-- so it is, the change being one of the row's own numbers
+abbrev pub Waits : List (List ℕ) → Edit → ℕ → List (List ℕ) → Type 0
+Waits entry edit number exit =
+    (rule : Rule) (times : List ℕ) (state : State) (past : Past) → entry ≡ rowWords rule times state past
+    → exit ≡ changedWords rule times state (waits (rule .upper) (ring times (state .head) (state .len)) edit (state .marks)) number
 
 -- the function of a row type: its machine's change is made where the words lie
 abbrev pub Applies : (Rule → Marks → List ℕ → ℕ → ℕ → Change) → List (List ℕ) → ℕ → ℕ → ℕ → List (List ℕ) → Type 0

@@ -84,9 +84,9 @@ withRing state q =
 abbrev pub goingOn : Ring → Marks → ℕ → Bool → State
 goingOn q marks due kept = record { marks = marks; head = q .head; len = q .len; due = due; kept = cond kept 1 0; broken = 0 }
 
--- what a row keeps that goes on with its ring as it is
-abbrev pub settled : State → Marks → ℕ → Bool → State
-settled state marks due kept = goingOn (ringOf [] (state .head) (state .len)) marks due kept
+-- so, with its marks and its ring as they are
+abbrev pub settled : State → ℕ → ℕ → State
+settled state due kept = record { marks = state .marks; head = state .head; len = state .len; due = due; kept = kept; broken = 0 }
 
 -- the row's words after a change that does not crowd it, made by the step of that number
 unfoldable pub changedWords : Rule → List ℕ → State → Change → ℕ → List (List ℕ)

@@ -21,7 +21,7 @@ ghost use Rattle.queue.specs.Ring.{ringOf};
 ghost use Rattle.machine.specs.declared.Rule.{Rule};
 ghost use Rattle.machine.specs.declared.Marks.{Marks};
 ghost use Rattle.machine.specs.declared.State.{State};
-ghost use Rattle.machine.specs.Words.{Past, numberWords, ruleAt, marksAt, brokenAt, withMarks, goingOn, Keeps, Breaks, Edits, Changes, Waits};
+ghost use Rattle.machine.specs.Words.{Past, numberWords, ruleAt, marksAt, brokenAt, withMarks, goingOn, settled, Keeps, Breaks, Edits, Changes, Waits};
 ghost use Rattle.queue.specs.declared.Edit.the-variants.{Drop, Push, PushTwo, Store};
 
 // The constraint's numbers.
@@ -294,8 +294,17 @@ pub fn apply(row: &mut [[u64; SIZE]; 2], change: Change, number: u64)
     go_on(&mut row[1], ends.head, ends.len, change.due, change.kept);
 }
 
+// A row's state is that of one that goes on with its marks and its ring: its due time, and 1 where it is kept if the recording is closed now.
+pub fn settle(w: &mut [u64; SIZE], due: u64, kept: u64)
+    ensures { λ _. ⌜ ((rule : Rule) (state : State) (past : Past) → now (w .entry) ≡ numberWords rule state past → now (w .exit) ≡ numberWords rule (settled state due kept) past) ⌝ }
+{
+    w[DUE] = due;
+    w[KEPT] = kept;
+    w[BROKEN] = 0;
+}
+
 // 1 where something is so, else 0.
-fn one_if(so: bool) -> u64
+pub fn one_if(so: bool) -> u64
     ensures { λ r. ⌜ r ≡ cond so 1 0 ⌝ }
 {
     if so { 1 } else { 0 }

@@ -17,7 +17,7 @@ returns c rule times state past e =
     let a = p .before .before .args in
     let kept = k .keep .ensures rule times state past e in
     let pushed : ringOf (c .push .last .0) (p .place-of .result) (c .push .result) ≡ pushRing (a .word) (dropRing (a .dropped) (ringOf times (state .head) (state .len))) =
-        c .push .ensures ∙ rw (l .left .ensures, p .place-of .ensures, kept, e) refl in
+    c .push .ensures ∙ rw (l .left .ensures, p .place-of .ensures, kept, e) refl in
     rw (← pushed, kept, o .place-of2 .ensures, l .left .ensures, p .place-of .ensures, e) refl
 
 pub push-one-spec : {M : Type 1} → statement M

@@ -16,9 +16,9 @@ returns c rule times state past e =
     let a = o .before .before .before .before .args in
     let kept = k .keep .ensures rule times state past e in
     let one : ringOf (f .put .last .0) (state .head) (state .len) ≡ putRing (a .place) (a .first) (ringOf times (state .head) (state .len)) =
-        rw (e, kept) at (f .put .ensures) in
+    rw (e, kept) at (f .put .ensures) in
     let both : ringOf (c .put2 .last .0) (state .head) (state .len) ≡ putRing (a .place + 1) (a .second) (putRing (a .place) (a .first) (ringOf times (state .head) (state .len))) =
-        rw (e, kept) at (c .put2 .ensures) ∙ ap (putRing (a .place + 1) (a .second)) one in
+    rw (e, kept) at (c .put2 .ensures) ∙ ap (putRing (a .place + 1) (a .second)) one in
     rw (← both, kept, o .place-of .ensures, e) refl
 
 pub put-two-spec : {M : Type 1} → statement M

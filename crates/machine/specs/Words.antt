@@ -122,14 +122,16 @@ Changes entry change number exit =
     (rule : Rule) (times : List ℕ) (state : State) (past : Past) → entry ≡ rowWords rule times state past
     → exit ≡ changedWords rule times state change number
 
--- so it is, the change being one of the row's own numbers
-abbrev pub Waits : List (List ℕ) → Edit → ℕ → List (List ℕ) → Type 0
-Waits entry edit number exit =
+-- a change that the row's own numbers, marks and times give is made where the words lie
+abbrev pub Makes : List (List ℕ) → (Rule → Marks → List ℕ → Change) → ℕ → List (List ℕ) → Type 0
+Makes entry change number exit =
     (rule : Rule) (times : List ℕ) (state : State) (past : Past) → entry ≡ rowWords rule times state past
-    → exit ≡ changedWords rule times state (waits (rule .upper) (ring times (state .head) (state .len)) edit (state .marks)) number
+    → exit ≡ changedWords rule times state (change rule (state .marks) (ring times (state .head) (state .len))) number
 
--- the function of a row type: its machine's change is made where the words lie
+-- such a change where the times of the row wait
+abbrev pub Waits : List (List ℕ) → Edit → ℕ → List (List ℕ) → Type 0
+Waits entry edit number exit = Makes entry (λ rule marks times. waits (rule .upper) times edit marks) number exit
+
+-- the function of a row type: its machine's change is made
 abbrev pub Applies : (Rule → Marks → List ℕ → ℕ → ℕ → Change) → List (List ℕ) → ℕ → ℕ → ℕ → List (List ℕ) → Type 0
-Applies machine entry stream t number exit =
-    (rule : Rule) (times : List ℕ) (state : State) (past : Past) → entry ≡ rowWords rule times state past
-    → exit ≡ changedWords rule times state (machine rule (state .marks) (ring times (state .head) (state .len)) stream t) number
+Applies machine entry stream t number exit = Makes entry (λ rule marks times. machine rule marks times stream t) number exit

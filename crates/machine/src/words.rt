@@ -261,15 +261,15 @@ pub fn fewer_wait(row: &mut [[u64; SIZE]; 2], dropped: usize, number: u64)
     row[1][BROKEN] = 0;
 }
 
-// The times of the row wait: t waits too from the step of that number on.
-pub fn one_more_waits(row: &mut [[u64; SIZE]; 2], t: u64, number: u64)
-    ensures { λ _. ⌜ Waits (now (row .entry)) (Push 0 t) number (now (row .exit)) ⌝ }
+// So they do, and t waits too.
+pub fn one_more_waits(row: &mut [[u64; SIZE]; 2], dropped: usize, t: u64, number: u64)
+    ensures { λ _. ⌜ Waits (now (row .entry)) (Push dropped t) number (now (row .exit)) ⌝ }
 {
     let head = row[1][HEAD] as usize;
     let len = row[1][LEN] as usize;
     let upper = row[1][UPPER];
-    let due = due_after(upper, &row[0], head, len, 0, plus(t, upper));
-    push_one(row, 0, t, number);
+    let due = due_after(upper, &row[0], head, len, dropped, plus(t, upper));
+    push_one(row, dropped, t, number);
     row[1][DUE] = due;
     row[1][KEPT] = 0;
     row[1][BROKEN] = 0;

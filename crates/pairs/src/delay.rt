@@ -21,7 +21,7 @@ pub fn apply(row: &mut [[u64; SIZE]; 2], stream: u64, t: u64, number: u64)
             words::fewer_wait(row, 0, number);
             return;
         }
-        words::one_more_waits(row, t, number);
+        words::one_more_waits(row, 0, t, number);
         return;
     }
     let head = row[1][words::HEAD] as usize;

@@ -22,7 +22,7 @@ pub fn apply(row: &mut [[u64; SIZE]; 2], stream: u64, t: u64, number: u64)
 {
     if stream == row[1][words::FIRST] {
         if row[1][EARLY] == 0 {
-            words::one_more_waits(row, t, number);
+            words::one_more_waits(row, 0, t, number);
             row[1][EARLY] = 0;
             return;
         }

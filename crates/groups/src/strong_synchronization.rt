@@ -55,10 +55,22 @@ fn count_at(w: &[u64; SIZE], kind: u64) -> u64
 fn completes(w: &[u64; SIZE], kind: u64) -> bool
     ensures { λ r. ⌜ r ≡ complete (ruleAt (now (w .entry))) (counted (ruleAt (now (w .entry))) (marksAt (now (w .entry))) kind) ⌝ }
 {
-    has(w[words::FIRST], one_more(kind, w[words::FIRST], w[words::ONE]))
-        && (has(w[words::SECOND], one_more(kind, w[words::SECOND], w[words::TWO]))
-            && (has(w[words::THIRD], one_more(kind, w[words::THIRD], w[words::THREE]))
-                && has(w[words::FOURTH], one_more(kind, w[words::FOURTH], w[words::FOUR]))))
+    has(
+        w[words::FIRST],
+        one_more(kind, w[words::FIRST], w[words::ONE]),
+    )
+        && (has(
+            w[words::SECOND],
+            one_more(kind, w[words::SECOND], w[words::TWO]),
+        )
+            && (has(
+                w[words::THIRD],
+                one_more(kind, w[words::THIRD], w[words::THREE]),
+            )
+                && has(
+                    w[words::FOURTH],
+                    one_more(kind, w[words::FOURTH], w[words::FOUR]),
+                )))
 }
 
 // One more of the kind is counted.

@@ -48,7 +48,8 @@ pub fn apply(row: &mut [[u64; SIZE]; 2], stream: u64, t: u64, number: u64)
         return;
     }
     if stream == row[1][words::FOURTH] {
-        run(row, t, row[1][RAN], number);
+        let ran = row[1][RAN];
+        run(row, t, ran, number);
         return;
     }
     words::break_at(row, 0, number);
@@ -90,7 +91,15 @@ fn run(row: &mut [[u64; SIZE]; 2], t: u64, ran: u64, number: u64)
 }
 
 // The row goes on in a phase after an event at t, the execution having run so long.
-fn enter(row: &mut [[u64; SIZE]; 2], phase: u64, t: u64, ran: u64, due: u64, kept: bool, number: u64)
+fn enter(
+    row: &mut [[u64; SIZE]; 2],
+    phase: u64,
+    t: u64,
+    ran: u64,
+    due: u64,
+    kept: bool,
+    number: u64,
+)
     ensures { λ _. ⌜ Makes (now (row .entry)) (λ rule marks times. goesOn (Drop 0) (inPhase marks phase t ran) due kept) number (now (row .exit)) ⌝ }
 {
     words::stay(row, number);

@@ -49,7 +49,10 @@ pub fn apply(row: &mut [[u64; SIZE]; 2], t: u64, number: u64)
 fn place(row: &mut [[u64; SIZE]; 2], t: u64, low: u64, high: u64, number: u64)
     ensures { λ _. ⌜ Makes (now (row .entry)) (λ rule marks times. pointAt rule marks t low high) number (now (row .exit)) ⌝ }
 {
-    let due = parts::plus(parts::plus(high, row[1][words::UPPER]), row[1][words::JITTER]);
+    let due = parts::plus(
+        parts::plus(high, row[1][words::UPPER]),
+        row[1][words::JITTER],
+    );
     words::stay(row, number);
     row[1][words::LAST] = parts::plus(t, 1);
     row[1][LOW] = low;

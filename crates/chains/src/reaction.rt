@@ -5,6 +5,7 @@ use machine::Change;
 use machine::Marks;
 use machine::Rule;
 use machine::parts;
+use machine::words;
 use queue::Edit;
 use queue::SIZE;
 use queue::time_at;
@@ -13,6 +14,7 @@ ghost use mathlib.Core.Bool.{true, false};
 ghost use Prim.Native.Nat.{_<_};
 ghost use lib.ListN.{getD};
 ghost use Rattle.queue.specs.Ring.{ring};
+ghost use Rattle.machine.specs.Words.{Makes, Applies};
 ghost use Rattle.chains.specs.Reaction.{latest, highBut, dueBut, afterStimulus, afterResponse, paired, decideReaction};
 
 // How many colours there are.
@@ -146,6 +148,39 @@ fn paired(
         second: pair.high,
     };
     parts::goes_on(edit, marks, due, due == NO_LIMIT)
+}
+
+// What an event of one of the row's streams makes of it, where it lies.
+pub fn apply(row: &mut [[u64; SIZE]; 2], stream: u64, t: u64, number: u64)
+    ensures { λ _. ⌜ Applies decideReaction (now (row .entry)) stream t number (now (row .exit)) ⌝ }
+{
+    let colour = (stream % 8) as usize;
+    let head = row[1][words::HEAD] as usize;
+    let len = row[1][words::LEN] as usize;
+    let low = word(&row[0], head, len, 2 * colour);
+    let high = word(&row[0], head, len, 2 * colour + 1);
+    if parts::kind_of(stream) == row[1][words::FIRST] {
+        let pair = after_stimulus(row[1][words::LOWER], row[1][words::UPPER], low, high, t);
+        store(row, colour, pair, number);
+        return;
+    }
+    store(row, colour, after_response(low, high, t), number);
+}
+
+// The words of a colour are new.
+fn store(row: &mut [[u64; SIZE]; 2], colour: usize, pair: Pair, number: u64)
+    requires { ⌜ colour < 8 ⌝ }
+    ensures { λ _. ⌜ Makes (now (row .entry)) (λ rule marks words. paired marks words colour pair) number (now (row .exit)) ⌝ }
+{
+    if pair.breaks {
+        words::break_at(row, 0, number);
+        return;
+    }
+    let head = row[1][words::HEAD] as usize;
+    let len = row[1][words::LEN] as usize;
+    let due = due_but(&row[0], head, len, colour, pair.high);
+    words::put_two(row, 2 * colour, pair.low, pair.high, number);
+    words::settle(&mut row[1], due, words::one_if(due == NO_LIMIT));
 }
 
 // What an event of one of the row's streams makes of it.

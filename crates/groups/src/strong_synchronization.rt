@@ -5,12 +5,93 @@ use machine::Marks;
 use machine::Rule;
 use machine::numbers::NO_KIND;
 use machine::parts;
+use machine::words;
 use queue::SIZE;
 use queue::minus;
 ghost use mathlib.Core.Path.{_≡_};
 ghost use Prim.Native.Nat.{ℕ};
 ghost use Rattle.queue.specs.Ring.{ring};
+ghost use Rattle.machine.specs.Words.{Past, numberWords, withMarks, ruleAt, marksAt, Applies};
+ghost use Rattle.machine.specs.declared.Rule.{Rule};
+ghost use Rattle.machine.specs.declared.State.{State};
 ghost use Rattle.groups.specs.StrongSynchronization.{fillsStrongSynchronization, countOf, oneMore, counted, has, complete, withoutOldest, decideStrongSynchronization};
+
+// What an event makes of the row, where it lies.
+pub fn apply(row: &mut [[u64; SIZE]; 2], stream: u64, t: u64, number: u64)
+    ensures { λ _. ⌜ Applies decideStrongSynchronization (now (row .entry)) stream t number (now (row .exit)) ⌝ }
+{
+    if !(count_at(&row[1], stream) < row[1][words::LEN]) {
+        words::one_more_waits(row, 0, t, number);
+        count(&mut row[1], stream);
+        return;
+    }
+    if completes(&row[1], stream) {
+        words::fewer_wait(row, 1, number);
+        count(&mut row[1], stream);
+        forget(&mut row[1]);
+        return;
+    }
+    words::fewer_wait(row, 0, number);
+    count(&mut row[1], stream);
+}
+
+// How many of the groups have an event of the kind.
+fn count_at(w: &[u64; SIZE], kind: u64) -> u64
+    ensures { λ r. ⌜ r ≡ countOf (ruleAt (now (w .entry))) (marksAt (now (w .entry))) kind ⌝ }
+{
+    if kind == w[words::FIRST] {
+        return w[words::ONE];
+    }
+    if kind == w[words::SECOND] {
+        return w[words::TWO];
+    }
+    if kind == w[words::THIRD] {
+        return w[words::THREE];
+    }
+    w[words::FOUR]
+}
+
+// Whether the oldest group has an event of each kind with one more of the kind.
+fn completes(w: &[u64; SIZE], kind: u64) -> bool
+    ensures { λ r. ⌜ r ≡ complete (ruleAt (now (w .entry))) (counted (ruleAt (now (w .entry))) (marksAt (now (w .entry))) kind) ⌝ }
+{
+    has(
+        w[words::FIRST],
+        one_more(kind, w[words::FIRST], w[words::ONE]),
+    )
+        && (has(
+            w[words::SECOND],
+            one_more(kind, w[words::SECOND], w[words::TWO]),
+        )
+            && (has(
+                w[words::THIRD],
+                one_more(kind, w[words::THIRD], w[words::THREE]),
+            )
+                && has(
+                    w[words::FOURTH],
+                    one_more(kind, w[words::FOURTH], w[words::FOUR]),
+                )))
+}
+
+// One more of the kind is counted.
+fn count(w: &mut [u64; SIZE], kind: u64)
+    ensures { λ _. ⌜ ((rule : Rule) (state : State) (past : Past) → now (w .entry) ≡ numberWords rule state past → now (w .exit) ≡ numberWords rule (withMarks state (counted rule (state .marks) kind)) past) ⌝ }
+{
+    w[words::ONE] = one_more(kind, w[words::FIRST], w[words::ONE]);
+    w[words::TWO] = one_more(kind, w[words::SECOND], w[words::TWO]);
+    w[words::THREE] = one_more(kind, w[words::THIRD], w[words::THREE]);
+    w[words::FOUR] = one_more(kind, w[words::FOURTH], w[words::FOUR]);
+}
+
+// The oldest group is not counted any more.
+fn forget(w: &mut [u64; SIZE])
+    ensures { λ _. ⌜ ((rule : Rule) (state : State) (past : Past) → now (w .entry) ≡ numberWords rule state past → now (w .exit) ≡ numberWords rule (withMarks state (withoutOldest (state .marks))) past) ⌝ }
+{
+    w[words::ONE] = minus(w[words::ONE], 1);
+    w[words::TWO] = minus(w[words::TWO], 1);
+    w[words::THREE] = minus(w[words::THREE], 1);
+    w[words::FOUR] = minus(w[words::FOUR], 1);
+}
 
 // What an event makes of the row.
 pub fn decide(

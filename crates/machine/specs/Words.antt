@@ -7,7 +7,8 @@ use mathlib.Core.List.{List, [], _∷_}
 use lib.ListN.{getD, replicate}
 use Rattle.constraint.specs.Limits.{noLimit}
 use Rattle.queue.specs.Ring.{Ring, ringOf, ring, edited, editPlace, timeAt}
-use Rattle.machine.specs.Parts.{noMarks}
+use Rattle.queue.specs.declared.Edit.{Edit}
+use Rattle.machine.specs.Parts.{noMarks, waits}
 use Rattle.machine.specs.declared.Rule.{Rule}
 use Rattle.machine.specs.declared.Marks.{Marks}
 use Rattle.machine.specs.declared.State.{State}
@@ -74,9 +75,18 @@ abbrev pub withMarks : State → Marks → State
 withMarks state marks =
     record { marks = marks; head = state .head; len = state .len; due = state .due; kept = state .kept; broken = state .broken }
 
+-- what a row keeps with another ring
+abbrev pub withRing : State → Ring → State
+withRing state q =
+    record { marks = state .marks; head = q .head; len = q .len; due = state .due; kept = state .kept; broken = state .broken }
+
 -- what a row keeps that goes on
 abbrev pub goingOn : Ring → Marks → ℕ → Bool → State
 goingOn q marks due kept = record { marks = marks; head = q .head; len = q .len; due = due; kept = cond kept 1 0; broken = 0 }
+
+-- so, with its marks and its ring as they are
+abbrev pub settled : State → ℕ → ℕ → State
+settled state due kept = record { marks = state .marks; head = state .head; len = state .len; due = due; kept = kept; broken = 0 }
 
 -- the row's words after a change that does not crowd it, made by the step of that number
 unfoldable pub changedWords : Rule → List ℕ → State → Change → ℕ → List (List ℕ)
@@ -99,13 +109,29 @@ Breaks entry place number exit =
     (rule : Rule) (times : List ℕ) (state : State) (past : Past) → entry ≡ rowWords rule times state past
     → exit ≡ rowWords rule times (brokenAt number) (pastOf times state place number)
 
+-- the ring is edited, and what the row was is its past
+abbrev pub Edits : List (List ℕ) → Edit → ℕ → List (List ℕ) → Type 0
+Edits entry edit number exit =
+    (rule : Rule) (times : List ℕ) (state : State) (past : Past) → entry ≡ rowWords rule times state past
+    → exit ≡ rowWords rule (edited edit (ringOf times (state .head) (state .len)) .times)
+    (withRing state (edited edit (ringOf times (state .head) (state .len))))
+    (pastOf times state (editPlace edit (ringOf times (state .head) (state .len))) number)
+
 abbrev pub Changes : List (List ℕ) → Change → ℕ → List (List ℕ) → Type 0
 Changes entry change number exit =
     (rule : Rule) (times : List ℕ) (state : State) (past : Past) → entry ≡ rowWords rule times state past
     → exit ≡ changedWords rule times state change number
 
--- the function of a row type: its machine's change is made where the words lie
-abbrev pub Applies : (Rule → Marks → List ℕ → ℕ → ℕ → Change) → List (List ℕ) → ℕ → ℕ → ℕ → List (List ℕ) → Type 0
-Applies machine entry stream t number exit =
+-- a change that the row's own numbers, marks and times give is made where the words lie
+abbrev pub Makes : List (List ℕ) → (Rule → Marks → List ℕ → Change) → ℕ → List (List ℕ) → Type 0
+Makes entry change number exit =
     (rule : Rule) (times : List ℕ) (state : State) (past : Past) → entry ≡ rowWords rule times state past
-    → exit ≡ changedWords rule times state (machine rule (state .marks) (ring times (state .head) (state .len)) stream t) number
+    → exit ≡ changedWords rule times state (change rule (state .marks) (ring times (state .head) (state .len))) number
+
+-- such a change where the times of the row wait
+abbrev pub Waits : List (List ℕ) → Edit → ℕ → List (List ℕ) → Type 0
+Waits entry edit number exit = Makes entry (λ rule marks times. waits (rule .upper) times edit marks) number exit
+
+-- the function of a row type: its machine's change is made
+abbrev pub Applies : (Rule → Marks → List ℕ → ℕ → ℕ → Change) → List (List ℕ) → ℕ → ℕ → ℕ → List (List ℕ) → Type 0
+Applies machine entry stream t number exit = Makes entry (λ rule marks times. machine rule marks times stream t) number exit

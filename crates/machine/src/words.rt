@@ -2,13 +2,18 @@
 use crate::Change;
 use crate::Marks;
 use crate::Rule;
+use crate::parts::due_after;
+use crate::parts::plus;
 use constraint::NO_LIMIT;
-use queue::Edit;
 use queue::SIZE;
 use queue::edit_place;
 use queue::edit_ring;
+use queue::left;
+use queue::place_of;
+use queue::push;
+use queue::put;
 use queue::time_at;
-ghost use Prim.Native.Nat.{ℕ};
+ghost use Prim.Native.Nat.{ℕ, _<_};
 ghost use mathlib.Core.Path.{_≡_};
 ghost use mathlib.Core.List.{List};
 ghost use mathlib.Core.Bool.{cond};
@@ -16,7 +21,8 @@ ghost use Rattle.queue.specs.Ring.{ringOf};
 ghost use Rattle.machine.specs.declared.Rule.{Rule};
 ghost use Rattle.machine.specs.declared.Marks.{Marks};
 ghost use Rattle.machine.specs.declared.State.{State};
-ghost use Rattle.machine.specs.Words.{Past, numberWords, ruleAt, marksAt, brokenAt, withMarks, goingOn, Keeps, Breaks, Changes};
+ghost use Rattle.machine.specs.Words.{Past, numberWords, ruleAt, marksAt, brokenAt, withMarks, goingOn, settled, Keeps, Breaks, Edits, Changes, Waits};
+ghost use Rattle.queue.specs.declared.Edit.the-variants.{Drop, Push, PushTwo, Store};
 
 // The constraint's numbers.
 pub const FORM: usize = 0;
@@ -188,6 +194,87 @@ pub fn break_at(row: &mut [[u64; SIZE]; 2], place: usize, number: u64)
     break_numbers(&mut row[1], number);
 }
 
+// The ring stays as it is, before the step of that number.
+pub fn stay(row: &mut [[u64; SIZE]; 2], number: u64)
+    ensures { λ _. ⌜ Edits (now (row .entry)) (Drop 0) number (now (row .exit)) ⌝ }
+{
+    keep(row, 0, number);
+    row[1][HEAD] = place_of(row[1][HEAD] as usize, 0) as u64;
+}
+
+// The oldest times leave by the step of that number, as many as dropped says.
+pub fn drop_oldest(row: &mut [[u64; SIZE]; 2], dropped: usize, number: u64)
+    ensures { λ _. ⌜ Edits (now (row .entry)) (Drop dropped) number (now (row .exit)) ⌝ }
+{
+    keep(row, 0, number);
+    row[1][HEAD] = place_of(row[1][HEAD] as usize, dropped) as u64;
+    row[1][LEN] = left(row[1][LEN] as usize, dropped) as u64;
+}
+
+// So they do, and a word goes behind the rest.
+pub fn push_one(row: &mut [[u64; SIZE]; 2], dropped: usize, word: u64, number: u64)
+    ensures { λ _. ⌜ Edits (now (row .entry)) (Push dropped word) number (now (row .exit)) ⌝ }
+{
+    let head = place_of(row[1][HEAD] as usize, dropped);
+    let len = left(row[1][LEN] as usize, dropped);
+    keep(row, place_of(head, len), number);
+    let more = push(&mut row[0], head, len, word);
+    row[1][HEAD] = head as u64;
+    row[1][LEN] = more as u64;
+}
+
+// So they do, and two words go behind the rest.
+pub fn push_two(row: &mut [[u64; SIZE]; 2], dropped: usize, first: u64, second: u64, number: u64)
+    ensures { λ _. ⌜ Edits (now (row .entry)) (PushTwo dropped first second) number (now (row .exit)) ⌝ }
+{
+    let head = place_of(row[1][HEAD] as usize, dropped);
+    let len = left(row[1][LEN] as usize, dropped);
+    keep(row, place_of(head, len), number);
+    let more = push(&mut row[0], head, len, first);
+    let both = push(&mut row[0], head, more, second);
+    row[1][HEAD] = head as u64;
+    row[1][LEN] = both as u64;
+}
+
+// None leaves: two words are put at a place of their own and the next.
+pub fn put_two(row: &mut [[u64; SIZE]; 2], place: usize, first: u64, second: u64, number: u64)
+    requires { ⌜ place < 64 ⌝ }
+    ensures { λ _. ⌜ Edits (now (row .entry)) (Store place first second) number (now (row .exit)) ⌝ }
+{
+    let head = row[1][HEAD] as usize;
+    let len = row[1][LEN] as usize;
+    keep(row, place_of(head, place), number);
+    put(&mut row[0], head, len, place, first);
+    put(&mut row[0], head, len, place + 1, second);
+}
+
+// The times of the row wait: the oldest leave by the step of that number, and the oldest that is left gives the due time.
+pub fn fewer_wait(row: &mut [[u64; SIZE]; 2], dropped: usize, number: u64)
+    ensures { λ _. ⌜ Waits (now (row .entry)) (Drop dropped) number (now (row .exit)) ⌝ }
+{
+    let head = row[1][HEAD] as usize;
+    let len = row[1][LEN] as usize;
+    let due = due_after(row[1][UPPER], &row[0], head, len, dropped, NO_LIMIT);
+    drop_oldest(row, dropped, number);
+    row[1][DUE] = due;
+    row[1][KEPT] = one_if(len <= dropped);
+    row[1][BROKEN] = 0;
+}
+
+// So they do, and t waits too.
+pub fn one_more_waits(row: &mut [[u64; SIZE]; 2], dropped: usize, t: u64, number: u64)
+    ensures { λ _. ⌜ Waits (now (row .entry)) (Push dropped t) number (now (row .exit)) ⌝ }
+{
+    let head = row[1][HEAD] as usize;
+    let len = row[1][LEN] as usize;
+    let upper = row[1][UPPER];
+    let due = due_after(upper, &row[0], head, len, dropped, plus(t, upper));
+    push_one(row, dropped, t, number);
+    row[1][DUE] = due;
+    row[1][KEPT] = 0;
+    row[1][BROKEN] = 0;
+}
+
 // A change is made where the row lies, by the step of that number.
 pub fn apply(row: &mut [[u64; SIZE]; 2], change: Change, number: u64)
     ensures { λ _. ⌜ Changes (now (row .entry)) change number (now (row .exit)) ⌝ }
@@ -207,8 +294,17 @@ pub fn apply(row: &mut [[u64; SIZE]; 2], change: Change, number: u64)
     go_on(&mut row[1], ends.head, ends.len, change.due, change.kept);
 }
 
+// A row's state is that of one that goes on with its marks and its ring: its due time, and 1 where it is kept if the recording is closed now.
+pub fn settle(w: &mut [u64; SIZE], due: u64, kept: u64)
+    ensures { λ _. ⌜ ((rule : Rule) (state : State) (past : Past) → now (w .entry) ≡ numberWords rule state past → now (w .exit) ≡ numberWords rule (settled state due kept) past) ⌝ }
+{
+    w[DUE] = due;
+    w[KEPT] = kept;
+    w[BROKEN] = 0;
+}
+
 // 1 where something is so, else 0.
-fn one_if(so: bool) -> u64
+pub fn one_if(so: bool) -> u64
     ensures { λ r. ⌜ r ≡ cond so 1 0 ⌝ }
 {
     if so { 1 } else { 0 }

@@ -2,13 +2,16 @@
 -- the number of sources.
 use Prim.Native.Nat.{ℕ, _-_}
 use mathlib.Core.Bool.{false, cond}
-use mathlib.Core.List.{List}
+use mathlib.Core.List.{List, []}
 use lib.Dec.{eqb}
 use Rattle.constraint.specs.Limits.{noLimit}
+use Rattle.queue.specs.Ring.{ringOf}
 use Rattle.queue.specs.declared.Edit.the-variants.{Drop}
 use Rattle.machine.specs.Parts.{plus, marksOf, earlyOf, withLast, goesOn}
+use Rattle.machine.specs.Words.{goingOn}
 use Rattle.machine.specs.declared.Rule.{Rule}
 use Rattle.machine.specs.declared.Marks.{Marks}
+use Rattle.machine.specs.declared.State.{State}
 use Rattle.machine.specs.declared.Change.{Change}
 
 -- how many sources are beyond the number of targets
@@ -23,6 +26,12 @@ withAhead m ahead = marksOf (m .last) ahead (m .second) m
 unfoldable pub changesTo : Marks → Change
 changesTo marks =
     cond (eqb (earlyOf marks) 0) (goesOn (Drop 0) marks noLimit (eqb (aheadOf marks) 0)) (goesOn (Drop 0) marks (earlyOf marks - 1) false)
+
+-- what the row keeps after the change to these marks
+abbrev pub stored : State → ℕ → ℕ → State
+stored state early ahead =
+    let marks = marksOf early ahead (state .marks .second) (state .marks) in
+    goingOn (ringOf [] (state .head) (state .len)) marks (changesTo marks .due) (changesTo marks .kept)
 
 -- a source: the partner of the target beyond, or one more beyond; a target: the partner of a source beyond, or one beyond
 unfoldable pub decideOrder : Rule → Marks → List ℕ → ℕ → ℕ → Change

@@ -3,11 +3,33 @@ use machine::Change;
 use machine::Marks;
 use machine::Rule;
 use machine::parts;
+use machine::words;
 use queue::SIZE;
 use queue::time_at;
 ghost use mathlib.Core.Path.{_≡_};
 ghost use Rattle.queue.specs.Ring.{ring};
+ghost use Rattle.machine.specs.Words.{Applies};
 ghost use Rattle.pairs.specs.Delay.{answeredBy, answeredAtOnce, fillsDelay, decideDelay};
+
+// What an event makes of the row, where it lies.
+pub fn apply(row: &mut [[u64; SIZE]; 2], stream: u64, t: u64, number: u64)
+    ensures { λ _. ⌜ Applies decideDelay (now (row .entry)) stream t number (now (row .exit)) ⌝ }
+{
+    let lower = row[1][words::LOWER];
+    if stream == row[1][words::FIRST] {
+        if answered_at_once(lower, row[1][words::LAST], t) {
+            words::fewer_wait(row, 0, number);
+            return;
+        }
+        words::one_more_waits(row, 0, t, number);
+        return;
+    }
+    let head = row[1][words::HEAD] as usize;
+    let len = row[1][words::LEN] as usize;
+    let dropped = answered(lower, t, &row[0], head, len);
+    words::fewer_wait(row, dropped, number);
+    row[1][words::LAST] = parts::plus(t, 1);
+}
 
 // What an event makes of the row.
 pub fn decide(

@@ -5,11 +5,56 @@ use machine::Change;
 use machine::Marks;
 use machine::Rule;
 use machine::parts;
+use machine::words;
 use queue::Edit;
+use queue::SIZE;
 ghost use mathlib.Core.Path.{_≡_};
 ghost use mathlib.Core.List.{List};
 ghost use Prim.Native.Nat.{ℕ};
-ghost use Rattle.pairs.specs.Order.{withAhead, changesTo, decideOrder};
+ghost use Rattle.machine.specs.Words.{Past, numberWords, Applies};
+ghost use Rattle.machine.specs.declared.Rule.{Rule};
+ghost use Rattle.machine.specs.declared.State.{State};
+ghost use Rattle.pairs.specs.Order.{withAhead, changesTo, stored, decideOrder};
+
+// One more than the time of a target beyond the number of sources, and how many sources are beyond the number of targets.
+const EARLY: usize = words::LAST;
+
+const AHEAD: usize = words::ONE;
+
+// What an event makes of the row, where it lies.
+pub fn apply(row: &mut [[u64; SIZE]; 2], stream: u64, t: u64, number: u64)
+    ensures { λ _. ⌜ Applies decideOrder (now (row .entry)) stream t number (now (row .exit)) ⌝ }
+{
+    words::stay(row, number);
+    let early = row[1][EARLY];
+    let ahead = row[1][AHEAD];
+    if stream == row[1][words::FIRST] {
+        if early == 0 {
+            store(&mut row[1], early, parts::plus(ahead, 1));
+            return;
+        }
+        store(&mut row[1], 0, ahead);
+        return;
+    }
+    if ahead == 0 {
+        store(&mut row[1], parts::plus(t, 1), ahead);
+        return;
+    }
+    store(&mut row[1], early, ahead - 1);
+}
+
+// These are beyond: a target beyond needs its source at once, and the row is kept where nothing is beyond.
+fn store(w: &mut [u64; SIZE], early: u64, ahead: u64)
+    ensures { λ _. ⌜ ((rule : Rule) (state : State) (past : Past) → now (w .entry) ≡ numberWords rule state past → now (w .exit) ≡ numberWords rule (stored state early ahead) past) ⌝ }
+{
+    w[EARLY] = early;
+    w[AHEAD] = ahead;
+    if early == 0 {
+        words::settle(w, NO_LIMIT, words::one_if(ahead == 0));
+        return;
+    }
+    words::settle(w, early - 1, 0);
+}
 
 // What an event makes of the row.
 pub fn decide(rule: Rule, marks: Marks, kind: u64, t: u64) -> Change

@@ -4,12 +4,51 @@ use machine::Change;
 use machine::Marks;
 use machine::Rule;
 use machine::parts;
+use machine::words;
 use queue::Edit;
 use queue::SIZE;
 ghost use mathlib.Core.Path.{_≡_};
 ghost use Prim.Native.Nat.{ℕ};
 ghost use Rattle.queue.specs.Ring.{ring};
+ghost use Rattle.machine.specs.Words.{Applies};
 ghost use Rattle.pairs.specs.StrongDelay.{fillsStrongDelay, sourceStrongDelay, targetStrongDelay, decideStrongDelay};
+
+// One more than the time of a target beyond the number of sources.
+const EARLY: usize = words::LAST;
+
+// What an event makes of the row, where it lies.
+pub fn apply(row: &mut [[u64; SIZE]; 2], stream: u64, t: u64, number: u64)
+    ensures { λ _. ⌜ Applies decideStrongDelay (now (row .entry)) stream t number (now (row .exit)) ⌝ }
+{
+    if stream == row[1][words::FIRST] {
+        if row[1][EARLY] == 0 {
+            words::one_more_waits(row, 0, t, number);
+            row[1][EARLY] = 0;
+            return;
+        }
+        words::fewer_wait(row, 0, number);
+        row[1][EARLY] = 0;
+        return;
+    }
+    let lower = row[1][words::LOWER];
+    let head = row[1][words::HEAD] as usize;
+    let len = row[1][words::LEN] as usize;
+    if len == 0 {
+        if lower == 0 {
+            words::stay(row, number);
+            row[1][EARLY] = parts::plus(t, 1);
+            words::settle(&mut row[1], t, 0);
+            return;
+        }
+        words::break_at(row, 0, number);
+        return;
+    }
+    if parts::reaches(parts::front(&row[0], head, len), lower, t) {
+        words::fewer_wait(row, 1, number);
+        return;
+    }
+    words::break_at(row, 0, number);
+}
 
 // What an event makes of the row.
 pub fn decide(

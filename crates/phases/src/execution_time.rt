@@ -5,11 +5,16 @@ use machine::Change;
 use machine::Marks;
 use machine::Rule;
 use machine::parts;
+use machine::words;
 use queue::Edit;
+use queue::SIZE;
 use queue::minus;
 ghost use mathlib.Core.Path.{_≡_};
 ghost use mathlib.Core.List.{List};
 ghost use Prim.Native.Nat.{ℕ};
+ghost use Rattle.queue.specs.declared.Edit.the-variants.{Drop};
+ghost use Rattle.machine.specs.Parts.{goesOn};
+ghost use Rattle.machine.specs.Words.{Makes, Applies};
 ghost use Rattle.phases.specs.ExecutionTime.{ranTo, inPhase, idleFrom, runningFrom, preemptedFrom, whileIdle, whileRunning, whilePreempted};
 ghost use Rattle.phases.specs.ExecutionTime.{decideExecutionTime};
 
@@ -19,6 +24,90 @@ const IDLE: u64 = 0;
 const RUNNING: u64 = 1;
 
 const PREEMPTED: u64 = 2;
+
+// The phase, and how long the execution begun has run up to the last event.
+const PHASE: usize = words::ONE;
+
+const RAN: usize = words::TWO;
+
+// What an event makes of the row, where it lies.
+pub fn apply(row: &mut [[u64; SIZE]; 2], stream: u64, t: u64, number: u64)
+    ensures { λ _. ⌜ Applies decideExecutionTime (now (row .entry)) stream t number (now (row .exit)) ⌝ }
+{
+    if t < row[1][words::LAST] {
+        words::break_at(row, 0, number);
+        return;
+    }
+    let phase = row[1][PHASE];
+    if phase == IDLE {
+        apply_idle(row, stream, t, number);
+        return;
+    }
+    if phase == RUNNING {
+        apply_running(row, stream, t, number);
+        return;
+    }
+    if stream == row[1][words::FOURTH] {
+        let ran = row[1][RAN];
+        run(row, t, ran, number);
+        return;
+    }
+    words::break_at(row, 0, number);
+}
+
+// What an event makes of a row between two executions.
+fn apply_idle(row: &mut [[u64; SIZE]; 2], stream: u64, t: u64, number: u64)
+    ensures { λ _. ⌜ Makes (now (row .entry)) (λ rule marks times. whileIdle rule marks stream t) number (now (row .exit)) ⌝ }
+{
+    if stream == row[1][words::FIRST] && 0 < row[1][words::UPPER] {
+        run(row, t, 0, number);
+        return;
+    }
+    words::break_at(row, 0, number);
+}
+
+// What an event makes of a running execution.
+fn apply_running(row: &mut [[u64; SIZE]; 2], stream: u64, t: u64, number: u64)
+    ensures { λ _. ⌜ Makes (now (row .entry)) (λ rule marks times. whileRunning rule marks stream t) number (now (row .exit)) ⌝ }
+{
+    let ran = parts::plus(row[1][RAN], minus(parts::plus(t, 1), row[1][words::LAST]));
+    if stream == row[1][words::SECOND] && row[1][words::LOWER] <= ran {
+        enter(row, IDLE, t, 0, NO_LIMIT, true, number);
+        return;
+    }
+    if stream == row[1][words::THIRD] && ran < row[1][words::UPPER] {
+        enter(row, PREEMPTED, t, ran, NO_LIMIT, false, number);
+        return;
+    }
+    words::break_at(row, 0, number);
+}
+
+// The row goes on with an execution that runs from t on: it must stop before it has run longer than upper.
+fn run(row: &mut [[u64; SIZE]; 2], t: u64, ran: u64, number: u64)
+    ensures { λ _. ⌜ Makes (now (row .entry)) (λ rule marks times. runningFrom rule marks t ran) number (now (row .exit)) ⌝ }
+{
+    let due = parts::plus(t, minus(row[1][words::UPPER], ran));
+    enter(row, RUNNING, t, ran, due, false, number);
+}
+
+// The row goes on in a phase after an event at t, the execution having run so long.
+fn enter(
+    row: &mut [[u64; SIZE]; 2],
+    phase: u64,
+    t: u64,
+    ran: u64,
+    due: u64,
+    kept: bool,
+    number: u64,
+)
+    ensures { λ _. ⌜ Makes (now (row .entry)) (λ rule marks times. goesOn (Drop 0) (inPhase marks phase t ran) due kept) number (now (row .exit)) ⌝ }
+{
+    words::stay(row, number);
+    row[1][words::LAST] = parts::plus(t, 1);
+    row[1][PHASE] = phase;
+    row[1][RAN] = ran;
+    words::settle(&mut row[1], due, words::one_if(kept));
+}
 
 // What an event makes of the row.
 pub fn decide(rule: Rule, marks: Marks, kind: u64, t: u64) -> Change

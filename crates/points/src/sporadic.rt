@@ -5,12 +5,70 @@ use machine::Change;
 use machine::Marks;
 use machine::Rule;
 use machine::parts;
+use machine::words;
 use queue::Edit;
+use queue::SIZE;
 use queue::minus;
 ghost use mathlib.Core.Path.{_≡_};
 ghost use mathlib.Core.List.{List};
-ghost use Prim.Native.Nat.{ℕ};
+ghost use mathlib.Core.Bool.{cond};
+ghost use lib.Dec.{eqb};
+ghost use Prim.Native.Nat.{ℕ, min};
+ghost use Rattle.constraint.specs.Limits.{noLimit};
+ghost use Rattle.machine.specs.Parts.{plus};
+ghost use Rattle.machine.specs.Words.{Makes, Applies};
 ghost use Rattle.points.specs.Sporadic.{duePoint, pointAt, stride, lowest, highest, laterSporadic, decideSporadic};
+
+// Where the last hidden point can be: from a low to a high.
+const LOW: usize = words::ONE;
+
+const HIGH: usize = words::TWO;
+
+// What an event makes of the row, where it lies.
+pub fn apply(row: &mut [[u64; SIZE]; 2], t: u64, number: u64)
+    ensures { λ _. ⌜ ((stream : ℕ) → Applies decideSporadic (now (row .entry)) stream t number (now (row .exit))) ⌝ }
+{
+    let upper = row[1][words::UPPER];
+    let near = minus(t, row[1][words::JITTER]);
+    let last = row[1][words::LAST];
+    if last == 0 {
+        place(row, t, near, t, number);
+        return;
+    }
+    let stride = stride(row[1][words::LOWER]);
+    let low = parts::larger(parts::plus(row[1][LOW], stride), near);
+    let high = latest(upper, row[1][HIGH], t);
+    if parts::far_enough(row[1][words::MINIMUM], last, t) && stride <= upper && low <= high {
+        place(row, t, low, high, number);
+        return;
+    }
+    words::break_at(row, 0, number);
+}
+
+// The row goes on with an event at t, whose point can be at each place from low to high.
+fn place(row: &mut [[u64; SIZE]; 2], t: u64, low: u64, high: u64, number: u64)
+    ensures { λ _. ⌜ Makes (now (row .entry)) (λ rule marks times. pointAt rule marks t low high) number (now (row .exit)) ⌝ }
+{
+    let due = parts::plus(
+        parts::plus(high, row[1][words::UPPER]),
+        row[1][words::JITTER],
+    );
+    words::stay(row, number);
+    row[1][words::LAST] = parts::plus(t, 1);
+    row[1][LOW] = low;
+    row[1][HIGH] = high;
+    words::settle(&mut row[1], due, 1);
+}
+
+// The last place where the point of an event at t can be, the one before it being at high or earlier.
+fn latest(upper: u64, high: u64, t: u64) -> u64
+    ensures { λ r. ⌜ r ≡ cond (eqb upper noLimit) t (min (plus high upper) t) ⌝ }
+{
+    if upper == NO_LIMIT {
+        return t;
+    }
+    parts::smaller(parts::plus(high, upper), t)
+}
 
 // What an event makes of the row.
 pub fn decide(rule: Rule, marks: Marks, t: u64) -> Change

@@ -53,7 +53,7 @@ pub fn left(len: usize, dropped: usize) -> usize
 }
 
 // The place that is i behind the head.
-fn place_of(head: usize, i: usize) -> usize
+pub fn place_of(head: usize, i: usize) -> usize
     ensures { λ r. ⌜ r ≡ ringPlace head i ⌝ }
 {
     (head % SIZE + i % SIZE) % SIZE
@@ -68,7 +68,7 @@ pub fn time_at(times: &[u64; SIZE], head: usize, i: usize) -> u64
 }
 
 // The ring with a word behind the rest, where it holds fewer than 64: its length.
-fn push(times: &mut [u64; SIZE], head: usize, len: usize, word: u64) -> usize
+pub fn push(times: &mut [u64; SIZE], head: usize, len: usize, word: u64) -> usize
     ensures { λ r. ⌜ ringOf (now (times .exit)) head r ≡ pushRing word (ringOf (now (times .entry)) head len) ⌝ }
 {
     let at = place_of(head, len);
@@ -80,7 +80,7 @@ fn push(times: &mut [u64; SIZE], head: usize, len: usize, word: u64) -> usize
 }
 
 // The ring with a word at one of its places.
-fn put(times: &mut [u64; SIZE], head: usize, len: usize, i: usize, word: u64)
+pub fn put(times: &mut [u64; SIZE], head: usize, len: usize, i: usize, word: u64)
     ensures { λ r. ⌜ ringOf (now (times .exit)) head len ≡ putRing i word (ringOf (now (times .entry)) head len) ⌝ }
 {
     let at = place_of(head, i);

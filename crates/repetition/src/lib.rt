@@ -5,6 +5,7 @@ use machine::Change;
 use machine::Marks;
 use machine::Rule;
 use machine::parts;
+use machine::words;
 use queue::Edit;
 use queue::SIZE;
 use queue::minus;
@@ -12,8 +13,36 @@ use queue::time_at;
 ghost use mathlib.Core.Path.{_≡_};
 ghost use Prim.Native.Nat.{ℕ};
 ghost use Rattle.queue.specs.Ring.{ring};
+ghost use Rattle.machine.specs.Words.{Applies};
 ghost use Rattle.machine.specs.declared.Marks.{Marks};
 ghost use Rattle.repetition.specs.Repetition.{fillsRepetition, firstHigh, lowest, highest, placed, decideRepetition};
+
+// What an event makes of the row, where it lies.
+pub fn apply(row: &mut [[u64; SIZE]; 2], t: u64, number: u64)
+    ensures { λ _. ⌜ ((stream : ℕ) → Applies decideRepetition (now (row .entry)) stream t number (now (row .exit))) ⌝ }
+{
+    let head = row[1][words::HEAD] as usize;
+    let len = row[1][words::LEN] as usize;
+    let n = (len / 2) as u64;
+    let span = row[1][words::SPAN];
+    let upper = row[1][words::UPPER];
+    let near = minus(t, row[1][words::JITTER]);
+    let first = parts::plus(first_high(&row[0], head, len, t), minus(upper, span));
+    let high = parts::smaller(t, parts::plus(first, n));
+    if n < span {
+        words::push_two(row, 0, near, high, number);
+        words::settle(&mut row[1], NO_LIMIT, 1);
+        return;
+    }
+    let oldest = parts::front(&row[0], head, len);
+    let low = parts::larger(near, parts::plus(oldest, row[1][words::LOWER]));
+    if span <= upper && low <= high {
+        words::push_two(row, 2, low, high, number);
+        words::settle(&mut row[1], NO_LIMIT, 1);
+        return;
+    }
+    words::break_at(row, 0, number);
+}
 
 // What an event makes of the row.
 pub fn decide(

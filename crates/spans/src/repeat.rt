@@ -4,12 +4,37 @@ use machine::Change;
 use machine::Marks;
 use machine::Rule;
 use machine::parts;
+use machine::words;
 use queue::Edit;
 use queue::SIZE;
 ghost use mathlib.Core.Path.{_≡_};
 ghost use Prim.Native.Nat.{ℕ};
 ghost use Rattle.queue.specs.Ring.{ring};
+ghost use Rattle.machine.specs.Words.{Applies};
 ghost use Rattle.spans.specs.Repeat.{spanReached, leaving, fillsRepeat, decideRepeat};
+
+// What an event makes of the row, where it lies.
+pub fn apply(row: &mut [[u64; SIZE]; 2], t: u64, number: u64)
+    ensures { λ _. ⌜ ((stream : ℕ) → Applies decideRepeat (now (row .entry)) stream t number (now (row .exit))) ⌝ }
+{
+    if !parts::far_enough(row[1][words::MINIMUM], row[1][words::LAST], t) {
+        words::break_at(row, 0, number);
+        return;
+    }
+    let head = row[1][words::HEAD] as usize;
+    let len = row[1][words::LEN] as usize;
+    let mut dropped = 0;
+    if row[1][words::SPAN] <= len as u64 {
+        if !parts::reaches(parts::front(&row[0], head, len), row[1][words::LOWER], t) {
+            words::break_at(row, 0, number);
+            return;
+        }
+        dropped = 1;
+    }
+    words::one_more_waits(row, dropped, t, number);
+    row[1][words::LAST] = parts::plus(t, 1);
+    row[1][words::KEPT] = 1;
+}
 
 // What an event makes of the row.
 pub fn decide(

@@ -1,0 +1,72 @@
+-- The length is the number of groups begun, and the tests are those of the machine; what is counted goes beside what waits.
+use mathlib.Core.Path.{refl, ap, _∙_}
+use mathlib.Core.List.{[]}
+use lib.Dec.{ltb}
+use lib.ListN.{getD, set}
+use borrow.Author.Tests.{not-true, not-false}
+use Rattle.queue.proofs.Laws.{ring-length}
+use Rattle.machine.specs.Words.{rowWords, numberWords, changedWords}
+use Rattle.groups.specs.StrongSynchronization.{decideStrongSynchronization}
+use borrow.Author.Needs.{needs}
+use Rattle.groups.proofs.strong_synchronization.apply.Statement.{statement}
+use Rattle.groups.proofs.strong_synchronization.apply.Tie as tie
+
+returns : tie.Need-returns
+unfolding rowWords numberWords changedWords decideStrongSynchronization
+returns c rule times state past e =
+    let w = c .before .before in
+    let i = w .before .before in
+    let k = i .before .before in
+    let waited = w .one-more-waits .ensures rule times state past e in
+    let counted = c .count .ensures rule _ _ (ap (λ m. getD m 1 []) waited) in
+    rw (counted, waited, ring-length, ← rw e at (k .count-at .ensures), not-true (ltb (k .count-at .result) (state .len)) (rw e at (i .if1 .taken))) refl
+
+returns-2 : tie.Need-returns-2
+unfolding rowWords numberWords changedWords decideStrongSynchronization
+returns-2 c rule times state past e =
+    let n = c .before .before in
+    let w = n .before .before in
+    let i = w .before .before in
+    let m = i .before in
+    let f = m .before .before in
+    let k = f .before .before in
+    let waited = w .fewer-wait .ensures rule times state past e in
+    let counted = n .count2 .ensures rule _ _ (ap (λ m. getD m 1 []) waited) in
+    let gone = c .forget .ensures rule _ _ (ap (λ m. getD (set m 1 (n .count2 .last .0)) 1 []) waited ∙ counted) in
+    rw (
+      gone,
+      waited,
+      ring-length,
+      ← rw e at (k .count-at .ensures),
+      not-false (ltb (k .count-at .result) (state .len)) (rw e at (f .if1 .left)),
+      ← rw e at (m .completes .ensures),
+      i .if2 .taken,
+    )
+    refl
+
+returns-3 : tie.Need-returns-3
+unfolding rowWords numberWords changedWords decideStrongSynchronization
+returns-3 c rule times state past e =
+    let w = c .before .before in
+    let i = w .before .before in
+    let m = i .before in
+    let f = m .before .before in
+    let k = f .before .before in
+    let waited = w .fewer-wait2 .ensures rule times state past e in
+    let counted = c .count3 .ensures rule _ _ (ap (λ m. getD m 1 []) waited) in
+    rw (
+      counted,
+      waited,
+      ring-length,
+      ← rw e at (k .count-at .ensures),
+      not-false (ltb (k .count-at .result) (state .len)) (rw e at (f .if1 .left)),
+      ← rw e at (m .completes .ensures),
+      i .if2 .left,
+    )
+    refl
+
+pub apply-spec : {M : Type 1} → statement M
+apply-spec =
+    tie.close (tie.spec (λ c. search needs) (λ c κs. search needs) (λ c. search needs) (λ c. search needs) (λ c κs. search needs) (λ c. search
+    needs) (λ c κs. search needs) returns (λ c. search needs) (λ c κs. search needs) (λ c κs. search needs) (λ c. search needs) (λ c κs. search
+    needs) (λ c. search needs) (λ c κs. search needs) returns-2 (λ c κs. search needs) (λ c. search needs) (λ c κs. search needs) returns-3)

@@ -1,0 +1,27 @@
+-- What the row is becomes its past, the place being that of the push; the ring is the one that is pushed to.
+use Prim.Native.Nat.{ℕ}
+use mathlib.Core.Path.{_≡_, refl, _∙_}
+use Rattle.queue.specs.Ring.{ringOf, pushRing, dropRing}
+use Rattle.machine.specs.Words.{rowWords, numberWords}
+use borrow.Author.Needs.{needs}
+use Rattle.machine.proofs.words.push_one.Statement.{statement}
+use Rattle.machine.proofs.words.push_one.Tie as tie
+
+returns : tie.Need-returns
+unfolding rowWords numberWords
+returns c rule times state past e =
+    let k = c .before .before in
+    let o = k .before in
+    let l = o .before .before in
+    let p = l .before .before in
+    let a = p .before .before .args in
+    let kept = k .keep .ensures rule times state past e in
+    let pushed : ringOf (c .push .last .0) (p .place-of .result) (c .push .result) ≡ pushRing (a .word) (dropRing (a .dropped) (ringOf times (state .head) (state .len))) =
+    c .push .ensures ∙ rw (l .left .ensures, p .place-of .ensures, kept, e) refl in
+    rw (← pushed, kept, o .place-of2 .ensures, l .left .ensures, p .place-of .ensures, e) refl
+
+pub push-one-spec : {M : Type 1} → statement M
+push-one-spec =
+    tie.close (tie.spec (λ c. search needs) (λ c. search needs) (λ c κs. search needs) (λ c. search needs) (λ c. search needs) (λ c κs. search
+    needs) (λ c κs. search needs) (λ c κs. search needs) (λ c. search needs) (λ c κs. search needs) (λ c. search needs) (λ c. search needs) (λ c.
+    search needs) (λ c. search needs) returns)

@@ -1,0 +1,77 @@
+-- Each event is the partner of one beyond of the other kind, or one more beyond itself; what is beyond is stored.
+use Prim.Native.Nat.{ℕ, _-_}
+use mathlib.Core.Path.{_≡_, refl, ap}
+use mathlib.Core.Bool.{Bool, true, false, cond}
+use mathlib.Core.List.{List, []}
+use lib.Dec.{eqb}
+use lib.ListN.{getD}
+use borrow.Author.Tests.{eq-eqb, ne-eqb}
+use Rattle.constraint.specs.Limits.{noLimit}
+use Rattle.queue.specs.Ring.{ringOf, dropRing}
+use Rattle.queue.specs.declared.Edit.the-variants.{Drop}
+use Rattle.machine.specs.Parts.{goesOn}
+use Rattle.machine.specs.Words.{rowWords, numberWords, changedWords, pastOf, goingOn}
+use Rattle.machine.specs.declared.Rule.{Rule}
+use Rattle.machine.specs.declared.Marks.{Marks}
+use Rattle.machine.specs.declared.State.{State}
+use Rattle.pairs.specs.Order.{changesTo, decideOrder}
+use borrow.Author.Needs.{needs}
+use Rattle.pairs.proofs.order.apply.Statement.{statement}
+use Rattle.pairs.proofs.order.apply.Tie as tie
+
+-- a change to other marks, as the words have it
+going-to : (rule : Rule) (times : List ℕ) (state : State) (marks : Marks) (number : ℕ)
+    → changedWords rule times state (changesTo marks) number
+    ≡ rowWords rule times (goingOn (dropRing 0 (ringOf times (state .head) (state .len))) marks (changesTo marks .due) (changesTo marks .kept)) (pastOf times state 0 number)
+unfolding changedWords changesTo
+going-to rule times state marks number = either (eqb (marks .last) 0) noLimit (marks .last - 1) (eqb (marks .first) 0) false
+  where
+    either : (b : Bool) (d f : ℕ) (k l : Bool) → changedWords rule times state (cond b (goesOn (Drop 0) marks d k) (goesOn (Drop 0) marks f l)) number
+        ≡ rowWords rule times
+        (goingOn (dropRing 0 (ringOf times (state .head) (state .len))) marks (cond b (goesOn (Drop 0) marks d k) (goesOn (Drop 0) marks f l) .due) (cond b (goesOn (Drop 0) marks d k) (goesOn (Drop 0) marks f l) .kept))
+        (pastOf times state 0 number)
+    either true d f k l = refl
+    either false d f k l = refl
+
+returns : tie.Need-returns
+unfolding rowWords numberWords decideOrder
+returns c rule times state past e =
+    let b = c .before .before .before in
+    let i = b .before in
+    let s = i .before .before .before .before in
+    let stayed = s .stay .ensures rule times state past e in
+    rw (c .store .ensures rule _ _ (ap (λ w. getD w 1 []) stayed), c .before .plus .ensures, stayed, eq-eqb _ _ (rw stayed at (i .if1 .taken)), eq-eqb _ _ (rw stayed at (b .if2 .taken)), going-to) refl
+
+returns-2 : tie.Need-returns-2
+unfolding rowWords numberWords decideOrder
+returns-2 c rule times state past e =
+    let b = c .before .before in
+    let i = b .before in
+    let s = i .before .before .before .before in
+    let stayed = s .stay .ensures rule times state past e in
+    rw (c .store2 .ensures rule _ _ (ap (λ w. getD w 1 []) stayed), stayed, eq-eqb _ _ (rw stayed at (i .if1 .taken)), ne-eqb _ _ (rw stayed at (b .if2 .left)), going-to) refl
+
+returns-3 : tie.Need-returns-3
+unfolding rowWords numberWords decideOrder
+returns-3 c rule times state past e =
+    let b = c .before .before .before in
+    let i = b .before in
+    let s = i .before .before .before .before in
+    let stayed = s .stay .ensures rule times state past e in
+    rw (c .store3 .ensures rule _ _ (ap (λ w. getD w 1 []) stayed), c .before .plus2 .ensures, stayed, ne-eqb _ _ (rw stayed at (i .if1 .left)), eq-eqb _ _ (rw stayed at (b .if3 .taken)), going-to) refl
+
+returns-4 : tie.Need-returns-4
+unfolding rowWords numberWords decideOrder
+returns-4 c rule times state past e =
+    let b = c .before .before in
+    let i = b .before in
+    let s = i .before .before .before .before in
+    let stayed = s .stay .ensures rule times state past e in
+    rw (c .store4 .ensures rule _ _ (ap (λ w. getD w 1 []) stayed), stayed, ne-eqb _ _ (rw stayed at (i .if1 .left)), ne-eqb _ _ (rw stayed at (b .if3 .left)), going-to) refl
+
+pub apply-spec : {M : Type 1} → statement M
+apply-spec =
+    tie.close (tie.spec (λ c κs. search needs) (λ c. search needs) (λ c. search needs) (λ c. search needs) (λ c. search needs) (λ c. search needs)
+    (λ c. search needs) (λ c. search needs) (λ c κs. search needs) (λ c κs. search needs) returns (λ c. search needs) (λ c κs. search needs)
+    returns-2 (λ c. search needs) (λ c κs. search needs) (λ c κs. search needs) returns-3 (λ c. search needs) (λ c. search needs) (λ c κs. search
+    needs) returns-4)

@@ -1,0 +1,28 @@
+-- The tests are those of `changesTo`; each number is stored at its place.
+use mathlib.Core.Path.{refl, ap, _∙_}
+use lib.ListN.{set}
+use borrow.Author.Tests.{eq-eqb, ne-eqb}
+use Rattle.machine.specs.Words.{numberWords}
+use Rattle.pairs.specs.Order.{changesTo}
+use borrow.Author.Needs.{needs}
+use Rattle.pairs.proofs.order.store.Statement.{statement}
+use Rattle.pairs.proofs.order.store.Tie as tie
+
+returns : tie.Need-returns
+unfolding numberWords changesTo
+returns c rule state past e =
+    let i = c .before .before .before in
+    let a = i .before .args in
+    c .settle .ensures rule _ past (ap (λ w. set (set w 10 (a .early)) 11 (a .ahead)) e) ∙ rw (eq-eqb _ _ (i .if1 .taken), c .before .one-if .ensures) refl
+
+returns-2 : tie.Need-returns-2
+unfolding numberWords changesTo
+returns-2 c rule state past e =
+    let i = c .before .before in
+    let a = i .before .args in
+    c .settle2 .ensures rule _ past (ap (λ w. set (set w 10 (a .early)) 11 (a .ahead)) e) ∙ rw (ne-eqb _ _ (i .if1 .left)) refl
+
+pub store-spec : {M : Type 1} → statement M
+store-spec =
+    tie.close (tie.spec (λ c. search needs) (λ c. search needs) (λ c κs. search needs) (λ c κs. search needs) returns (λ c. search needs) (λ c κs.
+    search needs) returns-2)

@@ -1,0 +1,59 @@
+-- The tests are those of `whileRunning`, in its order.
+use mathlib.Core.Path.{_≡_, refl, _∙_}
+use mathlib.Core.Logic.{⊎-elim}
+use borrow.Author.Tests.{eq-eqb, ne-eqb}
+use Rattle.machine.specs.Words.{rowWords, numberWords, changedWords}
+use Rattle.phases.specs.ExecutionTime.{ranTo, whileRunning}
+use borrow.Author.Needs.{needs}
+use Rattle.phases.proofs.execution_time.apply_running.Statement.{statement}
+use Rattle.phases.proofs.execution_time.apply_running.Tie as tie
+
+returns : tie.Need-returns
+unfolding rowWords numberWords whileRunning
+returns c rule times state past e =
+    let i = c .before .before in
+    let f = i .before .before in
+    let q = f .before .before in
+    let m = q .before in
+    let p = m .before .before in
+    let ran : q .plus2 .result ≡ ranTo (state .marks) (p .before .before .args .t) = q .plus2 .ensures ∙ rw (m .minus .ensures, p .plus .ensures, e) refl in
+    rw (c .enter .ensures rule times state past e, ← ran, eq-eqb _ _ (rw e at (f .if1 .taken)), rw e at (i .if2 .taken)) refl
+
+returns-2 : tie.Need-returns-2
+unfolding rowWords numberWords whileRunning
+returns-2 c rule times state past e =
+    let i = c .before .before in
+    let f = i .before .before in
+    let j = f .before .before in
+    let q = j .before .before in
+    let m = q .before in
+    let p = m .before .before in
+    let ran : q .plus2 .result ≡ ranTo (state .marks) (p .before .before .args .t) = q .plus2 .ensures ∙ rw (m .minus .ensures, p .plus .ensures, e) refl in
+    rw (c .enter2 .ensures rule times state past e, ← ran, eq-eqb _ _ (rw e at (f .if3 .taken)), rw e at (i .if4 .taken))
+    (⊎-elim
+    (λ w. rw (eq-eqb _ _ (rw e at (w .0 .taken)), rw e at (w .2 .left)) refl)
+    (λ w. rw (ne-eqb _ _ (rw e at (w .left))) refl)
+    (j .if1 .came))
+
+returns-3 : tie.Need-returns-3
+unfolding rowWords numberWords changedWords whileRunning
+returns-3 c rule times state past e =
+    let k = c .before .before in
+    let j = k .before .before in
+    let q = j .before .before in
+    let m = q .before in
+    let p = m .before .before in
+    let ran : q .plus2 .result ≡ ranTo (state .marks) (p .before .before .args .t) = q .plus2 .ensures ∙ rw (m .minus .ensures, p .plus .ensures, e) refl in
+    rw (c .break-at .ensures rule times state past e, ← ran)
+    (⊎-elim
+    (λ w. rw (eq-eqb _ _ (rw e at (w .0 .taken)), rw e at (w .2 .left))
+    (⊎-elim (λ v. rw (eq-eqb _ _ (rw e at (v .0 .taken)), rw e at (v .2 .left)) refl) (λ v. rw (ne-eqb _ _ (rw e at (v .left))) refl) (k .if3 .came)))
+    (λ w. rw (ne-eqb _ _ (rw e at (w .left)))
+    (⊎-elim (λ v. rw (eq-eqb _ _ (rw e at (v .0 .taken)), rw e at (v .2 .left)) refl) (λ v. rw (ne-eqb _ _ (rw e at (v .left))) refl) (k .if3 .came)))
+    (j .if1 .came))
+
+pub apply-running-spec : {M : Type 1} → statement M
+apply-running-spec =
+    tie.close (tie.spec (λ c. search needs) (λ c. search needs) (λ c κs. search needs) (λ c. search needs) (λ c. search needs) (λ c κs. search
+    needs) (λ c κs. search needs) (λ c. search needs) (λ c. search needs) (λ c. search needs) (λ c. search needs) (λ c κs. search needs) returns (λ
+    c. search needs) (λ c. search needs) (λ c. search needs) (λ c. search needs) (λ c κs. search needs) returns-2 (λ c κs. search needs) returns-3)

@@ -1,11 +1,10 @@
 -- A row where it lies: the words that it is, with what is kept of it, and what a step, a withdrawal and a fresh start make of them.
 use Prim.Native.Nat.{ℕ}
 use mathlib.Core.Path.{_≡_}
-use mathlib.Core.Bool.{Bool, true, false, cond}
+use mathlib.Core.Bool.{cond}
 use mathlib.Core.List.{List}
 use lib.ListN.{getD}
-use lib.Dec.{ltb, eqb}
-use Rattle.machine.specs.declared.Rule.{Rule}
+use lib.Dec.{eqb}
 use Rattle.machine.specs.declared.State.{State}
 use Rattle.machine.specs.Words.{Past, rowWords, marksAt}
 use Rattle.row.specs.declared.Before.{Before}
@@ -46,15 +45,6 @@ endedRow o number r = cond (endsBy (r .rule) (r .now) o) (rowFrom (r .rule) (r .
 
 abbrev pub endedSaves : Occurrence → ℕ → Row → Before → Before
 endedSaves o number r b = cond (endsBy (r .rule) (r .now) o) (savedAt r 0 number) b
-
--- ---- until when nothing but an event of its own can change a row, and none can crowd it
-
--- a row is looked at before each step where 63 or more times are kept, unless these are all that a Repeat or Burst keeps; else from its due time on
-abbrev pub keepsSpan : Rule → ℕ → Bool
-keepsSpan rule len = cond (ltb len (rule .span)) false (cond (eqb (rule .form) 3) true (cond (eqb (rule .form) 5) true false))
-
-abbrev pub lookTime : Rule → State → ℕ
-lookTime rule state = cond (ltb (state .len) 63) (state .due) (cond (keepsSpan rule (state .len)) (state .due) 0)
 
 -- ---- what a function on a row's words promises, whatever row they are
 

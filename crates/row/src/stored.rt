@@ -2,9 +2,10 @@
 use crate::Occurrence;
 use crate::concerns;
 use crate::crowded_by;
-use crate::decide;
+use chains::reaction;
 use constraint::Constraint;
 use constraint::NO_LIMIT;
+use groups::strong_synchronization;
 use machine::Rule;
 use machine::State;
 use machine::numbers::rule_of;
@@ -12,12 +13,16 @@ use machine::numbers::words_of;
 use machine::words;
 use machine::words::marks_at;
 use machine::words::rule_at;
+use pairs::delay;
+use pairs::order;
+use pairs::strong_delay;
+use phases::execution_time;
+use points::sporadic;
 use queue::SIZE;
 use queue::put_back;
+use spans::repeat;
 ghost use Prim.Native.Nat.{ℕ};
 ghost use mathlib.Core.Path.{_≡_};
-ghost use mathlib.Core.Bool.{true, false, cond};
-ghost use lib.Dec.{ltb, eqb};
 ghost use Rattle.machine.specs.Words.{Applies, Past, numberWords};
 ghost use Rattle.machine.specs.declared.Rule.{Rule};
 ghost use Rattle.machine.specs.declared.State.{State};
@@ -26,7 +31,7 @@ ghost use Rattle.row.specs.Apart.{crowdedBy};
 ghost use Rattle.row.specs.Machine.{decide, eventAt, freshState, rowOf};
 ghost use Rattle.row.specs.declared.Before.{Before};
 ghost use Rattle.row.specs.declared.Row.{Row};
-ghost use Rattle.row.specs.Stored.{wordsOf, eventRow, eventSaves, endedRow, endedSaves, lookTime, Becomes, stateAt, nothing};
+ghost use Rattle.row.specs.Stored.{wordsOf, eventRow, eventSaves, endedRow, endedSaves, Becomes, stateAt, nothing};
 
 // What the row keeps.
 fn state_at(w: &[u64; SIZE]) -> State
@@ -46,12 +51,18 @@ fn state_at(w: &[u64; SIZE]) -> State
 fn change(row: &mut [[u64; SIZE]; 2], stream: u64, t: u64, number: u64)
     ensures { λ _. ⌜ Applies decide (now (row .entry)) stream t number (now (row .exit)) ⌝ }
 {
-    let rule = rule_at(&row[1]);
-    let marks = marks_at(&row[1]);
-    let head = row[1][words::HEAD] as usize;
-    let len = row[1][words::LEN] as usize;
-    let change = decide(rule, marks, &row[0], head, len, stream, t);
-    words::apply(row, change, number);
+    let form = row[1][words::FORM];
+    match form {
+        1 => delay::apply(row, stream, t, number),
+        2 => strong_delay::apply(row, stream, t, number),
+        3 | 5 => repeat::apply(row, t, number),
+        4 => sporadic::apply(row, t, number),
+        6 => order::apply(row, stream, t, number),
+        8 => execution_time::apply(row, stream, t, number),
+        9 => reaction::apply(row, stream, t, number),
+        10 => repetition::apply(row, t, number),
+        _ => strong_synchronization::apply(row, stream, t, number),
+    }
 }
 
 // The row after an event that concerns it, which is the step of that number.
@@ -155,36 +166,6 @@ pub fn crowds(row: &[[u64; SIZE]; 2], o: Occurrence) -> bool
     let rule = rule_at(&row[1]);
     let state = state_at(&row[1]);
     crowded_by(rule, state, o)
-}
-
-// Whether a Repeat or Burst keeps all the times that it ever keeps.
-fn keeps_span(form: u64, span: u64, len: u64) -> bool
-    ensures { λ r. ⌜ r ≡ cond (ltb len span) false (cond (eqb form 3) true (cond (eqb form 5) true false)) ⌝ }
-{
-    if len < span {
-        return false;
-    }
-    if form == 3 {
-        return true;
-    }
-    if form == 5 {
-        return true;
-    }
-    false
-}
-
-// From when on the row is looked at before a step.
-pub fn look(row: &[[u64; SIZE]; 2]) -> u64
-    ensures { λ r. ⌜ ((w : Row) (b : Before) → now (row .entry) ≡ wordsOf w b → r ≡ lookTime (w .rule) (w .now)) ⌝ }
-{
-    let len = row[1][words::LEN];
-    if len < 63 {
-        return row[1][words::DUE];
-    }
-    if keeps_span(row[1][words::FORM], row[1][words::SPAN], len) {
-        return row[1][words::DUE];
-    }
-    0
 }
 
 // The numbers of a row before any step.

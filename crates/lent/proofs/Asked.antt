@@ -43,9 +43,10 @@ module _ (entry : Words) (call : Call) (refusal : ℕ) (asked : (h : Lent) → e
         untouched = λ _. refl;
         stores = λ h e s.
             let is = asked h e s in
-            let test = lt-ltb 0 (refusalOf h call) (omega (arith, is, some)) in
-            (is ∙ sym (cond-true (ltb 0 (refusalOf h call)) (refusalOf h call) (answerTo h call) test),
-            e ∙ sym (ap wordsOf (cond-true (ltb 0 (refusalOf h call)) h (leftAfter h call) test)));
+            let test = lt-ltb 0 (refusalOf h call) (omega (arith, is, some)) in (
+              is ∙ sym (cond-true (ltb 0 (refusalOf h call)) (refusalOf h call) (answerTo h call) test),
+              e ∙ sym (ap wordsOf (cond-true (ltb 0 (refusalOf h call)) h (leftAfter h call) test)),
+            );
       }
 
   pub taken-stores : (number : ℕ) (exit : Words) → refusal ≤ 0 → (¬ (number ≡ 0) → exit ≡ entry)
@@ -59,7 +60,8 @@ module _ (entry : Words) (call : Call) (refusal : ℕ) (asked : (h : Lent) → e
             let zero-is : refusalOf h call ≡ 0 = omega (arith, is, none) in
             let test = le-ltb 0 (refusalOf h call) (omega (arith, zero-is)) in
             let going = not-closed (h .monitor .closed) (leb lastCount (h .monitor .count)) (ownRefusal call (h .monitor .clock) (nextFor (h .monitor) call)) zero-is in
-            let so = done h e s going in
-            (so .0 ∙ sym (cond-false (ltb 0 (refusalOf h call)) (refusalOf h call) (answerTo h call) test),
-            so .1 ∙ sym (ap wordsOf (cond-false (ltb 0 (refusalOf h call)) h (leftAfter h call) test)));
+            let so = done h e s going in (
+              so .0 ∙ sym (cond-false (ltb 0 (refusalOf h call)) (refusalOf h call) (answerTo h call) test),
+              so .1 ∙ sym (ap wordsOf (cond-false (ltb 0 (refusalOf h call)) h (leftAfter h call) test)),
+            );
       }

@@ -3,7 +3,7 @@ use Prim.Native.Nat.{ℕ, zero, suc, _+_, _-_, _<_, _≤_, _/_, _%_, min}
 use native.Mathlib.Omega.{arith}
 use native.Mathlib.Nat.{suc-add, zero-add}
 use mathlib.Core.Path.{_≡_, refl, sym, ap, ap₂, subst, _∙_}
-use mathlib.Core.Bool.{true, false}
+use mathlib.Core.Bool.{true, false, cond}
 use mathlib.Core.List.{List, [], _∷_, _++_}
 use lib.ListN.{length, getD, set, take, drop, length-set}
 use lib.Seq.{getD-take, getD-drop, getD-append-add, take-set-lt, take-set-le, drop-set-lt, drop-set-add}
@@ -15,8 +15,8 @@ use Rattle.row.specs.declared.Occurrence.{Occurrence}
 use Rattle.row.specs.declared.Row.{Row}
 use Rattle.machine.specs.Parts.{plus}
 use Rattle.monitor.specs.declared.Monitor.{Monitor}
-use Rattle.lent.specs.Layout.{Lent, Words, halves, numberArray, numberBlock, lastBlocks, wordsOf, rowBlocks, Shaped, rowNamed}
-use Rattle.lent.specs.Steps.{withRow, withSoonest, withNext, countedOn, countedTo, visited, ended, backed}
+use Rattle.lent.specs.Layout.{Lent, Words, halves, numberArray, numberBlock, lastBlocks, wordsOf, rowBlocks, Shaped, rowNamed, heldRows}
+use Rattle.lent.specs.Steps.{withRow, withSoonest, withNext, countedOn, countedTo, visited, ended, backed, soonestAll, passed, begun}
 use Rattle.lent.proofs.Blocks.{last-read, last-written}
 
 -- ---- two halves
@@ -145,7 +145,6 @@ shaped-next h i v s =
       entries-there = s .entries-there;
     }
 
-
 pub shaped-soonest : (h : Lent) (time : ℕ) → Shaped h → Shaped (withSoonest h time)
 shaped-soonest h time s =
     record { rows-there = s .rows-there; kept-there = s .kept-there; next-there = s .next-there; ends-there = s .ends-there; entries-there = s .entries-there }
@@ -190,3 +189,25 @@ shaped-counted h stream time s =
 pub shaped-to : (h : Lent) (time closed : ℕ) → Shaped h → Shaped (countedTo h time closed)
 shaped-to h time closed s =
     record { rows-there = s .rows-there; kept-there = s .kept-there; next-there = s .next-there; ends-there = s .ends-there; entries-there = s .entries-there }
+
+-- ---- the rows to which the clock goes
+
+pub ended-count : (h : Lent) (n : ℕ) (o : Occurrence) (number : ℕ) → ended h n o number .monitor .count ≡ h .monitor .count
+ended-count h zero o number = refl
+ended-count h (suc n) o number = ended-count h n o number
+
+module _ (h : Lent) (o : Occurrence) where
+  -- what holds of each outcome holds of what begins
+  by-outcome : (P : Lent → Type 0) → P (withSoonest (ended h (heldRows (h .monitor)) o (h .monitor .count)) 0) → P (withSoonest h (soonestAll h)) → P h → P (begun h o)
+  by-outcome P late same none =
+      split (ltb (h .soonest) (o .time)) (λ b. P (cond b (passed h o) h))
+      (λ _. split (ltb (soonestAll h) (o .time))
+      (λ b. P (cond b (withSoonest (ended h (heldRows (h .monitor)) o (h .monitor .count)) 0) (withSoonest h (soonestAll h)))) (λ _. late) (λ _. same)) (λ _. none)
+
+  pub begun-count : begun h o .monitor .count ≡ h .monitor .count
+  begun-count = by-outcome (λ (x : Lent). x .monitor .count ≡ h .monitor .count) (ended-count h (heldRows (h .monitor)) o (h .monitor .count)) refl refl
+
+  pub shaped-begun : Shaped h → Shaped (begun h o)
+  shaped-begun s =
+      by-outcome Shaped (shaped-soonest (ended h (heldRows (h .monitor)) o (h .monitor .count)) 0 (shaped-ended h (heldRows (h .monitor)) o (h .monitor .count) s))
+      (shaped-soonest h (soonestAll h) s) s

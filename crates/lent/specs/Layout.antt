@@ -9,14 +9,13 @@ use lib.Dec.{ltb}
 use Rattle.constraint.specs.Limits.{rowLimit, streamCount, waitingLimit}
 use Rattle.row.specs.Undo.{noBefore}
 use Rattle.row.specs.Machine.{concerns}
-use Rattle.row.specs.Stored.{lookTime}
 use Rattle.row.specs.Stored as Stored
 use Rattle.row.specs.declared.Before.{Before}
 use Rattle.row.specs.declared.Row.{Row}
 use Rattle.monitor.specs.Machine.{noRow}
 use Rattle.monitor.specs.declared.Monitor.{Monitor}
 
--- a monitor, a time before which no row has to be looked at, and for each kind where its rows end among the entries
+-- a monitor, a time before which no row is due, and for each kind where its rows end among the entries
 pub record Lent : Type 0 where
   pub monitor : Monitor
   pub soonest : ℕ
@@ -101,15 +100,15 @@ keptAt m i = getD (m .before) i noBefore
 abbrev pub isIn : Monitor → ℕ → ℕ → Bool
 isIn m kind i = concerns (rowAt m i .rule) kind
 
--- from when on row i is looked at before a step
-abbrev pub lookAt : Monitor → ℕ → ℕ
-lookAt m i = lookTime (rowAt m i .rule) (rowAt m i .now)
+-- the due time of row i
+abbrev pub dueAt : Monitor → ℕ → ℕ
+dueAt m i = rowAt m i .now .due
 
 -- ---- the lists and the time are the monitor's
 
 pub record Indexed (h : Lent) : Type 0 where
   pub shaped : Shaped h
   pub listed : (kind : ℕ) → kind < 64 → rowsOf h kind ≡ numbers (isIn (h .monitor) kind) (heldRows (h .monitor))
-  pub no-sooner : (i : ℕ) → i < heldRows (h .monitor) → h .soonest ≤ lookAt (h .monitor) i
+  pub no-sooner : (i : ℕ) → i < heldRows (h .monitor) → h .soonest ≤ dueAt (h .monitor) i
   pub few : (i : ℕ) → i < heldRows (h .monitor) → rowAt (h .monitor) i .now .len ≤ waitingLimit
   pub then-few : (i : ℕ) → i < heldRows (h .monitor) → keptAt (h .monitor) i .state .len ≤ waitingLimit

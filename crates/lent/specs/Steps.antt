@@ -14,7 +14,7 @@ use Rattle.constraint.specs.Run.{Request, asks, withdraws}
 use Rattle.machine.specs.Parts.{plus}
 use Rattle.row.specs.Apart.{crowdedBy}
 use Rattle.row.specs.Undo.{rowWithout, keptWithout}
-use Rattle.row.specs.Stored.{lookTime, eventRow, eventSaves, endedRow, endedSaves}
+use Rattle.row.specs.Stored.{eventRow, eventSaves, endedRow, endedSaves}
 use Rattle.row.specs.declared.Before.{Before}
 use Rattle.row.specs.declared.Occurrence.{Occurrence}
 use Rattle.row.specs.declared.Row.{Row}
@@ -24,7 +24,7 @@ use Rattle.monitor.specs.Parts.{withRows}
 use Rattle.monitor.specs.Contract.{Steps}
 use Rattle.monitor.specs.declared.Monitor.{Monitor}
 use Rattle.monitor.specs.declared.Stepped.{Stepped}
-use Rattle.lent.specs.Layout.{Lent, Words, wordsOf, Shaped, Indexed, rowNamed, startOf, endOf, heldRows, rowAt, keptAt, lookAt}
+use Rattle.lent.specs.Layout.{Lent, Words, wordsOf, Shaped, Indexed, rowNamed, startOf, endOf, heldRows, rowAt, keptAt, dueAt}
 
 -- ---- parts of the record
 
@@ -43,9 +43,9 @@ abbrev pub eventOn : Lent → ℕ → Occurrence → ℕ → Lent
 eventOn h i o number =
     withRow h i (eventRow o number (rowAt (h .monitor) i)) (eventSaves o number (rowAt (h .monitor) i) (keptAt (h .monitor) i))
 
--- the row that an entry names, and the soonest time to look
+-- the row that an entry names, and the soonest due time
 abbrev pub visitAt : Lent → ℕ → Occurrence → ℕ → Lent
-visitAt h i o number = withSoonest (eventOn h i o number) (min (h .soonest) (lookAt (eventOn h i o number .monitor) i))
+visitAt h i o number = withSoonest (eventOn h i o number) (min (h .soonest) (dueAt (eventOn h i o number .monitor) i))
 
 abbrev pub visited : Lent → ℕ → ℕ → Occurrence → ℕ → Lent
 visited h first zero o number = h
@@ -61,10 +61,10 @@ abbrev pub ended : Lent → ℕ → Occurrence → ℕ → Lent
 ended h zero o number = h
 ended h (suc n) o number = endAt (ended h n o number) n o number
 
--- the soonest time to look at one of the first n rows
+-- the soonest due time of the first n rows
 abbrev pub soonestOf : List Row → ℕ → ℕ
 soonestOf rows zero = noLimit
-soonestOf rows (suc n) = min (soonestOf rows n) (lookTime (getD rows n noRow .rule) (getD rows n noRow .now))
+soonestOf rows (suc n) = min (soonestOf rows n) (getD rows n noRow .now .due)
 
 -- ---- a withdrawal goes to all rows
 
@@ -143,49 +143,34 @@ nextNumber h = plus (h .monitor .count) 1
 abbrev pub rowCount : Lent → ℕ → ℕ
 rowCount h kind = endOf h kind - startOf h kind
 
-abbrev pub lookAll : Lent → ℕ
-lookAll h = soonestOf (h .monitor .rows) (heldRows (h .monitor))
+abbrev pub soonestAll : Lent → ℕ
+soonestAll h = soonestOf (h .monitor .rows) (heldRows (h .monitor))
 
-abbrev pub visitedBy : Lent → Lent → ℕ → ℕ → ℕ → Lent
-visitedBy h x kind stream time = visited x (startOf h kind) (rowCount h kind) (eventAt stream time) (nextNumber h)
+-- the rows to which the clock goes, where one may be overdue; where by their due times there is none, the soonest of these is stored
+abbrev pub passed : Lent → Occurrence → Lent
+passed h o =
+    cond (ltb (soonestAll h) (o .time)) (withSoonest (ended h (heldRows (h .monitor)) o (h .monitor .count)) 0) (withSoonest h (soonestAll h))
 
--- the rows to which the clock goes come first
-abbrev pub endedFirst : Lent → ℕ → ℕ → Lent
-endedFirst h stream time = withSoonest (ended (countedOn h stream time) (heldRows (h .monitor)) (eventAt stream time) (nextNumber h)) 0
+abbrev pub begun : Lent → Occurrence → Lent
+begun h o = cond (ltb (h .soonest) (o .time)) (passed h o) h
 
-abbrev pub answerOn : Lent → ℕ → ℕ → ℕ → ℕ
-answerOn h kind stream time =
-    cond (ltb time (h .soonest)) 0
-    (cond (ltb time (lookAll h)) 0 (cond (crowded h (startOf h kind) (rowCount h kind) (eventAt stream time)) 12 0))
+abbrev pub crowdedOn : Lent → ℕ → ℕ → ℕ → Bool
+crowdedOn h kind stream time = crowded h (startOf h kind) (rowCount h kind) (eventAt stream time)
 
 abbrev pub leftOn : Lent → ℕ → ℕ → ℕ → Lent
 leftOn h kind stream time =
-    cond (ltb time (h .soonest)) (visitedBy h (countedOn h stream time) kind stream time)
-    (cond (ltb time (lookAll h)) (visitedBy h (withSoonest (countedOn h stream time) (lookAll h)) kind stream time)
-    (cond (crowded h (startOf h kind) (rowCount h kind) (eventAt stream time)) h (visitedBy h (endedFirst h stream time) kind stream time)))
+    visited (begun (countedOn h stream time) (eventAt stream time)) (startOf h kind) (rowCount h kind) (eventAt stream time) (nextNumber h)
 
--- what the functions on words promise of it
-pub record Late (entry : Words) (first n rows stream time number : ℕ) (exit : Words) : Type 0 where
-  pub untouched : ¬ (number ≡ 0) → exit ≡ entry
-  pub stores : (h : Lent) → entry ≡ wordsOf h → Shaped h → h .monitor .closed ≡ 0
-      → (number ≡ cond (crowded h first n (eventAt stream time)) 12 0)
-      × (exit ≡ wordsOf (cond (crowded h first n (eventAt stream time)) h
-      (visited (withSoonest (ended (countedOn h stream time) rows (eventAt stream time) (nextNumber h)) 0) first n (eventAt stream time) (nextNumber h))))
-
+-- what the function on words promises of it
 pub record OnStream (entry : Words) (kind stream time number : ℕ) (exit : Words) : Type 0 where
   pub untouched : ¬ (number ≡ 0) → exit ≡ entry
   pub stores : (h : Lent) → entry ≡ wordsOf h → Shaped h → h .monitor .closed ≡ 0
-      → (number ≡ answerOn h kind stream time) × (exit ≡ wordsOf (leftOn h kind stream time))
+      → (number ≡ cond (crowdedOn h kind stream time) 12 0) × (exit ≡ wordsOf (cond (crowdedOn h kind stream time) h (leftOn h kind stream time)))
 
 -- ---- a tick and the close that are taken
 
--- the rows after a tick to a time at which one may be overdue, the numbers being counted
-abbrev pub passed : Lent → ℕ → Lent
-passed h time =
-    cond (ltb (lookAll h) time) (withSoonest (ended h (heldRows (h .monitor)) (tickAt time) (h .monitor .count)) 0) (withSoonest h (lookAll h))
-
 abbrev pub leftAfterTick : Lent → ℕ → Lent
-leftAfterTick h time = cond (ltb (h .soonest) time) (passed (countedTo h time 0) time) (countedTo h time 0)
+leftAfterTick h time = begun (countedTo h time 0) (tickAt time)
 
 abbrev pub leftAfterClose : Lent → Lent
 leftAfterClose h =
@@ -225,14 +210,14 @@ abbrev pub refusalOf : Lent → Call → ℕ
 refusalOf h call = refusalBy call (h .monitor .closed) (h .monitor .count) (h .monitor .clock) (nextFor (h .monitor) call)
 
 abbrev pub answerTo : Lent → Call → ℕ
-answerTo h (Call.Event kind time) = answerOn h kind kind time
-answerTo h (Call.ColouredEvent kind colour time) = answerOn h kind (stream kind colour) time
+answerTo h (Call.Event kind time) = cond (crowdedOn h kind kind time) 12 0
+answerTo h (Call.ColouredEvent kind colour time) = cond (crowdedOn h kind (stream kind colour) time) 12 0
 answerTo h (Call.Tick time) = 0
 answerTo h Call.Close = 0
 
 abbrev pub leftAfter : Lent → Call → Lent
-leftAfter h (Call.Event kind time) = leftOn h kind kind time
-leftAfter h (Call.ColouredEvent kind colour time) = leftOn h kind (stream kind colour) time
+leftAfter h (Call.Event kind time) = cond (crowdedOn h kind kind time) h (leftOn h kind kind time)
+leftAfter h (Call.ColouredEvent kind colour time) = cond (crowdedOn h kind (stream kind colour) time) h (leftOn h kind (stream kind colour) time)
 leftAfter h (Call.Tick time) = leftAfterTick h time
 leftAfter h Call.Close = leftAfterClose h
 

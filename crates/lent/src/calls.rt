@@ -26,14 +26,14 @@ use monitor::calls::place_in;
 use monitor::calls::time_refusal;
 use queue::left;
 use row::Occurrence;
-ghost use Prim.Native.Nat.{_+_, _<_, _≤_};
+ghost use Prim.Native.Nat.{_<_, _≤_};
 ghost use mathlib.Core.Path.{_≡_};
 ghost use Rattle.constraint.specs.declared.Call.{Call};
 ghost use Rattle.constraint.specs.Run.{asks, withdraws};
 ghost use Rattle.row.specs.Machine.{eventAt};
 ghost use Rattle.lent.specs.Layout.{Lent, wordsOf, Shaped};
 ghost use Rattle.constraint.specs.Streams.{stream};
-ghost use Rattle.lent.specs.Steps.{countedOn, nextNumber, visited, passed, Late, OnStream, refusalOf, Stores};
+ghost use Rattle.lent.specs.Steps.{passed, begun, OnStream, refusalOf, Stores};
 
 const NO_EVENT: u64 = 65;
 
@@ -52,31 +52,28 @@ fn event_of(stream: usize, time: u64) -> Occurrence
     }
 }
 
-// The numbers after an event that crowds no row, and then the rows of its kind, when no other has to be looked at.
-fn taken(m: &mut Words, first: usize, n: usize, stream: usize, time: u64)
-    requires { ⌜ (first + n ≤ 128) × (stream < 176) ⌝ }
-    ensures { λ _. ⌜ ((h : Lent) → now (m .entry) ≡ wordsOf h → Shaped h → h .monitor .closed ≡ 0 → now (m .exit) ≡ wordsOf (visited (countedOn h stream time) first n (eventAt stream time) (nextNumber h))) ⌝ }
+// The rows to which the clock goes, where one may be overdue.
+fn pass(m: &mut Words, o: Occurrence)
+    ensures { λ _. ⌜ ((h : Lent) → now (m .entry) ≡ wordsOf h → Shaped h → now (m .exit) ≡ wordsOf (passed h o)) ⌝ }
 {
-    count_event(m, stream, time);
-    let number = m[NUMBERS][0][COUNT];
-    rows::visits(m, first, n, stream as u64, time, number);
+    let rows = held(m);
+    let soonest = rows::soonest(m, rows);
+    if soonest < o.time {
+        let number = m[NUMBERS][0][COUNT];
+        rows::ends(m, rows, o, number);
+        put_soonest(m, 0);
+        return;
+    }
+    put_soonest(m, soonest);
 }
 
-// The same where a row may be overdue or full: 12 where the event crowds a row; else the rows that are overdue end first.
-fn late(m: &mut Words, first: usize, n: usize, rows: usize, stream: usize, time: u64) -> u8
-    requires { ⌜ (first + n ≤ 128) × ((stream < 176) × (rows ≤ 32)) ⌝ }
-    ensures { λ r. ⌜ Late (now (m .entry)) first n rows stream time r (now (m .exit)) ⌝ }
+// The same, if the soonest due time says so.
+fn begin(m: &mut Words, o: Occurrence)
+    ensures { λ _. ⌜ ((h : Lent) → now (m .entry) ≡ wordsOf h → Shaped h → now (m .exit) ≡ wordsOf (begun h o)) ⌝ }
 {
-    let o = event_of(stream, time);
-    if rows::crowds(m, first, n, o) {
-        return 12;
+    if m[NUMBERS][0][SOONEST] < o.time {
+        pass(m, o);
     }
-    count_event(m, stream, time);
-    let number = m[NUMBERS][0][COUNT];
-    rows::ends(m, rows, o, number);
-    put_soonest(m, 0);
-    rows::visits(m, first, n, stream as u64, time, number);
-    0
 }
 
 // An event of a stream that is answered with no number but 12.
@@ -86,18 +83,15 @@ fn event_on(m: &mut Words, kind: usize, stream: usize, time: u64) -> u8
 {
     let first = rows::start_of(m, kind);
     let n = left(rows::end_of(m, kind), first);
-    if time < m[NUMBERS][0][SOONEST] {
-        taken(m, first, n, stream, time);
-        return 0;
+    let o = event_of(stream, time);
+    if rows::crowds(m, first, n, o) {
+        return 12;
     }
-    let rows = held(m);
-    let soonest = rows::soonest(m, rows);
-    if time < soonest {
-        put_soonest(m, soonest);
-        taken(m, first, n, stream, time);
-        return 0;
-    }
-    late(m, first, n, rows, stream, time)
+    count_event(m, stream, time);
+    begin(m, o);
+    let number = m[NUMBERS][0][COUNT];
+    rows::visits(m, first, n, stream as u64, time, number);
+    0
 }
 
 // All questions but 12 of an event of a plain kind: the number of the first "no", or 0.
@@ -186,27 +180,6 @@ fn tick_refusal(m: &Words, time: u64) -> u8
     0
 }
 
-// The rows after a tick to a time at which one may be overdue.
-fn pass(m: &mut Words, time: u64)
-    ensures { λ _. ⌜ ((h : Lent) → now (m .entry) ≡ wordsOf h → Shaped h → now (m .exit) ≡ wordsOf (passed h time)) ⌝ }
-{
-    let rows = held(m);
-    let soonest = rows::soonest(m, rows);
-    if soonest < time {
-        let number = m[NUMBERS][0][COUNT];
-        let o = Occurrence {
-            kind: NO_EVENT,
-            stream: NO_STREAM,
-            time,
-            closes: false,
-        };
-        rows::ends(m, rows, o, number);
-        put_soonest(m, 0);
-        return;
-    }
-    put_soonest(m, soonest);
-}
-
 // A tick to a time.
 pub fn tick(m: &mut Words, time: u64) -> u8
     ensures { λ r. ⌜ Stores (now (m .entry)) (asks (Call.Tick time)) r (now (m .exit)) ⌝ }
@@ -215,11 +188,14 @@ pub fn tick(m: &mut Words, time: u64) -> u8
     if 0 < refusal {
         return refusal;
     }
-    let soonest = m[NUMBERS][0][SOONEST];
     count_tick(m, time);
-    if soonest < time {
-        pass(m, time);
-    }
+    let o = Occurrence {
+        kind: NO_EVENT,
+        stream: NO_STREAM,
+        time,
+        closes: false,
+    };
+    begin(m, o);
     0
 }
 

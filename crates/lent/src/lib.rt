@@ -12,21 +12,33 @@ pub type Words = [[[u64; 64]; 2]; 35];
 
 // The block of the numbers beside the rows, and where each stands in its first array.
 pub const NUMBERS: usize = 32;
+
 pub const CLOCK: usize = 0;
+
 pub const COUNT: usize = 1;
+
 pub const OPEN: usize = 2;
+
 pub const ROWS: usize = 3;
+
 pub const SOONEST: usize = 4;
+
 pub const MAY: usize = 5;
+
 pub const PLACE: usize = 6;
+
 pub const FREE: usize = 7;
+
 pub const THEN: usize = 8;
+
 pub const COUNTED: usize = 9;
+
 pub const CLOSED: usize = 10;
 // The first free times of the plain kinds stand behind them.
 pub const PLAIN: usize = 16;
 // The entries of the lists, and the first free times of the coloured streams.
 pub const ENTRIES: usize = 33;
+
 pub const COLOURED: usize = 34;
 
 // How many rows there are.

@@ -5,14 +5,16 @@ use crate::SOONEST;
 use crate::Words;
 use constraint::NO_LIMIT;
 use machine::parts::smaller;
+use machine::words::DUE;
+use machine::words::LEN;
 use row::Occurrence;
 use row::stored;
 ghost use Prim.Native.Nat.{_+_, _<_, _≤_, min};
 ghost use mathlib.Core.Path.{_≡_};
 ghost use mathlib.Core.Bool.{_||_};
 ghost use Rattle.row.specs.Machine.{eventAt};
-ghost use Rattle.lent.specs.Layout.{Lent, wordsOf, Shaped, lookAt, rowNamed, startOf, endOf};
-ghost use Rattle.lent.specs.Steps.{withSoonest, visitAt, visited, ended, soonestOf, crowded, backed};
+ghost use Rattle.lent.specs.Layout.{Lent, wordsOf, Shaped, dueAt, rowNamed, startOf, endOf};
+ghost use Rattle.lent.specs.Steps.{withSoonest, visitAt, visited, ended, soonestOf, crowdedAt, crowded, backed};
 
 // The row that an entry names, whatever the word is.
 fn named(m: &Words, place: usize) -> usize
@@ -42,13 +44,12 @@ pub fn start_of(m: &Words, kind: usize) -> usize
     end_of(m, kind - 1)
 }
 
-// The soonest time to look is not after row i's.
+// The soonest due time is not after row i's.
 fn sooner(m: &mut Words, i: usize)
     requires { ⌜ i < 32 ⌝ }
-    ensures { λ _. ⌜ ((h : Lent) → now (m .entry) ≡ wordsOf h → Shaped h → now (m .exit) ≡ wordsOf (withSoonest h (min (h .soonest) (lookAt (h .monitor) i)))) ⌝ }
+    ensures { λ _. ⌜ ((h : Lent) → now (m .entry) ≡ wordsOf h → Shaped h → now (m .exit) ≡ wordsOf (withSoonest h (min (h .soonest) (dueAt (h .monitor) i)))) ⌝ }
 {
-    let look = stored::look(&m[i]);
-    m[NUMBERS][0][SOONEST] = smaller(m[NUMBERS][0][SOONEST], look);
+    m[NUMBERS][0][SOONEST] = smaller(m[NUMBERS][0][SOONEST], m[i][1][DUE]);
 }
 
 // Row i after an event that concerns it, which is the step of that number.
@@ -73,6 +74,17 @@ pub fn visits(m: &mut Words, first: usize, n: usize, stream: u64, t: u64, number
     }
 }
 
+// Whether what occurs crowds row i, in which at most 64 wait: one in which fewer than 63 wait is not looked at further.
+fn crowds_at(m: &Words, i: usize, o: Occurrence) -> bool
+    requires { ⌜ i < 32 ⌝ }
+    ensures { λ r. ⌜ ((h : Lent) → now (m .entry) ≡ wordsOf h → Shaped h → r ≡ crowdedAt h i o) ⌝ }
+{
+    if m[i][1][LEN] < 63 {
+        return false;
+    }
+    stored::crowds(&m[i], o)
+}
+
 // Whether what occurs crowds one of the rows that n entries name, from one on.
 pub fn crowds(m: &Words, first: usize, n: usize, o: Occurrence) -> bool
     requires { ⌜ first + n ≤ 128 ⌝ }
@@ -82,7 +94,7 @@ pub fn crowds(m: &Words, first: usize, n: usize, o: Occurrence) -> bool
     let mut j = 0;
     while j < n {
         let i = named(m, first + j);
-        any = either(any, stored::crowds(&m[i], o));
+        any = either(any, crowds_at(m, i, o));
         j += 1;
     }
     any
@@ -95,7 +107,7 @@ fn either(a: bool, b: bool) -> bool
     if a { true } else { b }
 }
 
-// The soonest time to look at one of the first n rows.
+// The soonest due time of the first n rows.
 pub fn soonest(m: &Words, n: usize) -> u64
     requires { ⌜ n ≤ 32 ⌝ }
     ensures { λ r. ⌜ ((h : Lent) → now (m .entry) ≡ wordsOf h → Shaped h → r ≡ soonestOf (h .monitor .rows) n) ⌝ }
@@ -103,7 +115,7 @@ pub fn soonest(m: &Words, n: usize) -> u64
     let mut time = NO_LIMIT;
     let mut i = 0;
     while i < n {
-        time = smaller(time, stored::look(&m[i]));
+        time = smaller(time, m[i][1][DUE]);
         i += 1;
     }
     time

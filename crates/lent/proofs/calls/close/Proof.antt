@@ -44,9 +44,11 @@ returns-2 c =
     let wide = shaped-to h (h .monitor .clock) 1 s in
     let held = w .held .ensures .1 h₁ closed wide in
     let stopped = d .ends .ensures h₁ closed wide
-        ∙ (λ x. wordsOf (ended h₁ (held x) (closeAt (clock x)) (number-at h₁ wide _ closed 1 x))) in
-    (refl, c .put-soonest .ensures (ended h₁ (heldRows (h .monitor)) (closeAt (h .monitor .clock)) (nextNumber h)) stopped
-    (shaped-ended h₁ (heldRows (h .monitor)) (closeAt (h .monitor .clock)) (nextNumber h) wide)))
+    ∙ (λ x. wordsOf (ended h₁ (held x) (closeAt (clock x)) (number-at h₁ wide _ closed 1 x))) in (
+      refl,
+      c .put-soonest .ensures (ended h₁ (heldRows (h .monitor)) (closeAt (h .monitor .clock)) (nextNumber h)) stopped
+          (shaped-ended h₁ (heldRows (h .monitor)) (closeAt (h .monitor .clock)) (nextNumber h) wide),
+    ))
 
 pub close-spec : {M : Type 1} → statement M
 close-spec =

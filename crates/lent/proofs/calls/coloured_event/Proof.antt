@@ -5,7 +5,7 @@ use native.Mathlib.Omega.{arith}
 use denote.Ref.{now}
 use Rattle.constraint.specs.declared.Call.{Call}
 use Rattle.lent.specs.Layout.{Lent, Words, wordsOf, Shaped}
-use Rattle.lent.specs.Steps.{OnStream, answerOn, leftOn}
+use Rattle.lent.specs.Steps.{OnStream}
 use Rattle.lent.proofs.Asked.{refused-stores, taken-stores}
 use borrow.Author.Needs.{needs}
 use Rattle.lent.proofs.calls.coloured_event.Statement.{statement}

@@ -19,17 +19,21 @@ returns c = (λ z. absurd (omega (arith, z, c .if1 .taken)), λ h e s. first-num
 
 returns-2 : tie.Need-returns-2
 returns-2 c =
-    let a = c .before .before .before .args in
-    (λ z. absurd (omega (arith, z)), λ h e s.
-    own-number h (Call.Event (a .kind) (a .time)) _ _ (c .before .before .first-refusal .ensures h e s) (omega (arith, c .before .if1 .left)) (rw (lt-ltb lastKind (a .kind) (c .if2 .taken)) refl))
+    let a = c .before .before .before .args in (
+      λ z. absurd (omega (arith, z)),
+      λ h e s.
+          own-number h (Call.Event (a .kind) (a .time)) _ _ (c .before .before .first-refusal .ensures h e s) (omega (arith, c .before .if1 .left)) (rw (lt-ltb lastKind (a .kind) (c .if2 .taken)) refl),
+    )
 
 returns-3 : tie.Need-returns-3
 returns-3 c =
     let f = c .before .before .before in
-    let a = f .before .args in
-    (λ z. absurd (omega (arith, z)), λ h e s.
-    own-number h (Call.Event (a .kind) (a .time)) _ _ (f .first-refusal .ensures h e s) (omega (arith, c .before .before .if1 .left))
-    (rw (le-ltb lastKind (a .kind) (c .before .if2 .left), le-leb firstColoured (a .kind) (c .if3 .taken)) refl))
+    let a = f .before .args in (
+      λ z. absurd (omega (arith, z)),
+      λ h e s.
+          own-number h (Call.Event (a .kind) (a .time)) _ _ (f .first-refusal .ensures h e s) (omega (arith, c .before .before .if1 .left))
+          (rw (le-ltb lastKind (a .kind) (c .before .if2 .left), le-leb firstColoured (a .kind) (c .if3 .taken)) refl),
+    )
 
 returns-4 : tie.Need-returns-4
 returns-4 c =
@@ -37,11 +41,13 @@ returns-4 c =
     let i = q .before .before in
     let f = i .before .before .before in
     let a = f .before .args in
-    let small : a .kind < 48 = omega (arith, i .if3 .left) in
-    (λ z. small, λ h e s.
-    own-number h (Call.Event (a .kind) (a .time)) _ _ (f .first-refusal .ensures h e s) (omega (arith, i .before .before .if1 .left))
-    (rw (le-ltb lastKind (a .kind) (i .before .if2 .left), lt-leb firstColoured (a .kind) (i .if3 .left), lt-ltb (a .kind) streamCount (omega (arith, small)))
-    (c .time-refusal .ensures ∙ ap₂ (timeRefusal (a .time)) (number-at h s (now (a .m)) e 0) (q .free-at .ensures h e s))))
+    let small : a .kind < 48 = omega (arith, i .if3 .left) in (
+      λ z. small,
+      λ h e s.
+          own-number h (Call.Event (a .kind) (a .time)) _ _ (f .first-refusal .ensures h e s) (omega (arith, i .before .before .if1 .left))
+          (rw (le-ltb lastKind (a .kind) (i .before .if2 .left), lt-leb firstColoured (a .kind) (i .if3 .left), lt-ltb (a .kind) streamCount (omega (arith, small)))
+          (c .time-refusal .ensures ∙ ap₂ (timeRefusal (a .time)) (number-at h s (now (a .m)) e 0) (q .free-at .ensures h e s))),
+    )
 
 pub event-refusal-spec : {M : Type 1} → statement M
 event-refusal-spec =

@@ -1,49 +1,41 @@
--- Where the soonest time to look is past, the rows that are overdue end; else it is stored.
-use Prim.Native.Nat.{ℕ, _≤_}
+-- Where the soonest due time is past, the rows that are overdue end; else it is stored.
+use Prim.Native.Nat.{ℕ}
 use mathlib.Core.Path.{_≡_, refl, sym, ap, ap₂, _∙_}
 use mathlib.Core.Bool.{true, false}
 use lib.Dec.{ltb}
 use denote.Ref.{now}
 use borrow.Author.Tests.{lt-ltb, le-ltb}
-use Rattle.row.specs.Machine.{tickAt}
 use Rattle.lent.specs.Layout.{wordsOf, heldRows}
-use Rattle.lent.specs.Steps.{withSoonest, ended, lookAll, soonestOf}
+use Rattle.lent.specs.Steps.{withSoonest, ended, soonestAll, soonestOf}
 use Rattle.lent.proofs.Parts.{number-at, shaped-ended}
 use borrow.Author.Needs.{needs}
 use Rattle.lent.proofs.calls.pass.Statement.{statement}
 use Rattle.lent.proofs.calls.pass.Tie as tie
 
-soonest-requires : tie.Need-soonest-requires
-soonest-requires c κs = c .before .held .ensures .0
-
-ends-requires : tie.Need-ends-requires
-ends-requires c κs = c .before .before .before .before .before .held .ensures .0
-
 returns : tie.Need-returns
 returns c h e s =
     let d = c .before .before in
     let i = d .before .before .before in
-    let t = i .before in
+    let t = i .before .before in
     let k = t .before .before in
     let a = k .before .before .args in
     let held = k .held .ensures .1 h e s in
-    let look : t .soonest .result ≡ lookAll h = t .soonest .ensures h e s ∙ ap (soonestOf (h .monitor .rows)) held in
-    let past : ltb (lookAll h) (a .time) ≡ true = ap (λ (x : ℕ). ltb x (a .time)) (sym look) ∙ lt-ltb _ _ (i .if1 .taken) in
-    let stopped = d .ends .ensures h e s
-        ∙ ap₂ (λ (x y : ℕ). wordsOf (ended h x (tickAt (a .time)) y)) held (number-at h s (now (a .m)) e 1) in
-    rw past (c .put-soonest .ensures (ended h (heldRows (h .monitor)) (tickAt (a .time)) (h .monitor .count)) stopped (shaped-ended h (heldRows (h .monitor)) (tickAt (a .time)) (h .monitor .count) s))
+    let soon : t .soonest .result ≡ soonestAll h = t .soonest .ensures h e s ∙ ap (soonestOf (h .monitor .rows)) held in
+    let past : ltb (soonestAll h) (a .o .time) ≡ true = ap (λ (x : ℕ). ltb x (a .o .time)) (sym soon) ∙ lt-ltb _ _ (i .if1 .taken) in
+    let stopped = d .ends .ensures h e s ∙ ap₂ (λ (x y : ℕ). wordsOf (ended h x (a .o) y)) held (number-at h s (now (a .m)) e 1) in
+    rw past (c .put-soonest .ensures (ended h (heldRows (h .monitor)) (a .o) (h .monitor .count)) stopped (shaped-ended h (heldRows (h .monitor)) (a .o) (h .monitor .count) s))
 
 returns-2 : tie.Need-returns-2
 returns-2 c h e s =
     let i = c .before .before in
-    let t = i .before in
+    let t = i .before .before in
     let k = t .before .before in
     let a = k .before .before .args in
-    let look : t .soonest .result ≡ lookAll h = t .soonest .ensures h e s ∙ ap (soonestOf (h .monitor .rows)) (k .held .ensures .1 h e s) in
-    let not-past : ltb (lookAll h) (a .time) ≡ false = ap (λ (x : ℕ). ltb x (a .time)) (sym look) ∙ le-ltb _ _ (i .if1 .left) in
-    rw not-past (c .put-soonest2 .ensures h e s ∙ ap (λ (x : ℕ). wordsOf (withSoonest h x)) look)
+    let soon : t .soonest .result ≡ soonestAll h = t .soonest .ensures h e s ∙ ap (soonestOf (h .monitor .rows)) (k .held .ensures .1 h e s) in
+    let not-past : ltb (soonestAll h) (a .o .time) ≡ false = ap (λ (x : ℕ). ltb x (a .o .time)) (sym soon) ∙ le-ltb _ _ (i .if1 .left) in
+    rw not-past (c .put-soonest2 .ensures h e s ∙ ap (λ (x : ℕ). wordsOf (withSoonest h x)) soon)
 
 pub pass-spec : {M : Type 1} → statement M
 pass-spec =
-    tie.close (tie.spec (λ c κs. search needs) soonest-requires (λ c. search needs) (λ c. search needs) (λ c. search needs) ends-requires (λ c κs.
-    search needs) returns (λ c κs. search needs) returns-2)
+    tie.close (tie.spec (λ c κs. search needs) (λ c κs. search needs) (λ c. search needs) (λ c. search needs) (λ c. search needs) (λ c κs. search
+    needs) (λ c κs. search needs) returns (λ c κs. search needs) returns-2)

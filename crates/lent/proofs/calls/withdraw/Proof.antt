@@ -60,17 +60,19 @@ returns-2 c =
           let x = backRows h in
           let wide = shaped-backed h (heldRows (h .monitor)) (h .monitor .count) s in
           let back = b .back .ensures h e s
-              ∙ ap₂ (λ (k number : ℕ). wordsOf (backed h k number)) (w .held .ensures .1 h e s) (number-at h s (now (a .m)) e 1) in
+          ∙ ap₂ (λ (k number : ℕ). wordsOf (backed h k number)) (w .held .ensures .1 h e s) (number-at h s (now (a .m)) e 1) in
           let place : q .place-in .result ≡ placeIn (x .monitor .undo .place) = q .place-in .ensures ∙ ap placeIn (number-at x wide _ back 6) in
           let free = number-at x wide _ back 7 in
           let y = withNext x (set (x .monitor .next) (placeIn (x .monitor .undo .place)) (x .monitor .undo .next)) in
           let stored = p .put-free .ensures x back wide ∙ ap₂ (λ (k v : ℕ). wordsOf (withNext x (set (x .monitor .next) k v))) place free in
           let wide-too = shaped-next x (placeIn (x .monitor .undo .place)) (x .monitor .undo .next) wide in
           let block = ap (λ (m : Words). getD m 32 []) stored ∙ numbers-read y wide-too in
-          let numbers = c .uncount .ensures (y .monitor) (y .soonest) (take 48 (y .monitor .next)) (y .ends) block in
-          (rw some refl, rw some
-          (ap₂ (λ (m : Words) (v : List (List ℕ)). set m 32 v) stored numbers
-          ∙ block-written y wide-too (withSoonest (withMonitor y (uncountedMonitor (y .monitor))) 0) refl refl refl));
+          let numbers = c .uncount .ensures (y .monitor) (y .soonest) (take 48 (y .monitor .next)) (y .ends) block in (
+            rw some refl,
+            rw some
+                (ap₂ (λ (m : Words) (v : List (List ℕ)). set m 32 v) stored numbers
+                ∙ block-written y wide-too (withSoonest (withMonitor y (uncountedMonitor (y .monitor))) 0) refl refl refl),
+          );
     }
 
 pub withdraw-spec : {M : Type 1} → statement M

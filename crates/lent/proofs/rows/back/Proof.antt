@@ -41,17 +41,19 @@ loop-again c =
     let l = c .before .before in
     let a = l .before .before .args in
     let i = l .before .loop .i in
-    let m = l .before .loop .m in
-    (omega arith, λ h e s.
-    let so-far = l .before .loop .inv .1 h e s in
-    let h′ = backed h i (a .number) in
-    let there : i < 32 = omega arith in
-    let r = rowAt (h′ .monitor) i in
-    let b = keptAt (h′ .monitor) i in
-    let wide = shaped-backed h i (a .number) s in
-    let row = c .without .ensures r b (row-lies h′ wide m so-far i there) in
-    row-stored h′ wide m so-far i there (c .without .last .0) (rowWithout (a .number) r b) (keptWithout (a .number) b) row
-    ∙ ap (λ (k : ℕ). wordsOf (backed h k (a .number))) (sym (add-one i)))
+    let m = l .before .loop .m in (
+      omega arith,
+      λ h e s.
+          let so-far = l .before .loop .inv .1 h e s in
+          let h′ = backed h i (a .number) in
+          let there : i < 32 = omega arith in
+          let r = rowAt (h′ .monitor) i in
+          let b = keptAt (h′ .monitor) i in
+          let wide = shaped-backed h i (a .number) s in
+          let row = c .without .ensures r b (row-lies h′ wide m so-far i there) in
+          row-stored h′ wide m so-far i there (c .without .last .0) (rowWithout (a .number) r b) (keptWithout (a .number) b) row
+          ∙ ap (λ (k : ℕ). wordsOf (backed h k (a .number))) (sym (add-one i)),
+    )
 
 returns : tie.Need-returns Inv-loop μ-loop
 returns c h e s =

@@ -5,11 +5,8 @@ use native.Mathlib.Omega.{arith}
 use native.Mathlib.Numerals.{add-one}
 use mathlib.Core.Path.{ap₂}
 use mathlib.Core.Bool.{Bool, _||_}
-use denote.Ref.{now}
-use Rattle.row.specs.Apart.{crowdedBy}
-use Rattle.lent.specs.Layout.{Lent, wordsOf, Shaped, rowNamed, rowAt, keptAt}
+use Rattle.lent.specs.Layout.{Lent, wordsOf, Shaped, rowNamed}
 use Rattle.lent.specs.Steps.{crowdedAt, crowded}
-use Rattle.lent.proofs.Blocks.{row-lies}
 use borrow.Author.Needs.{needs}
 use Rattle.lent.proofs.rows.crowds.Statement.{statement}
 use Rattle.lent.proofs.rows.crowds.Tie as tie
@@ -29,14 +26,8 @@ add-named c = omega arith
 named-requires : tie.Need-named-requires Inv-loop μ-loop
 named-requires c κs = omega arith
 
-mul-crowds : tie.Need-mul-crowds Inv-loop μ-loop
-mul-crowds c = omega (arith, c .named .ensures .0)
-
-index-1-crowds : tie.Need-index-1-crowds Inv-loop μ-loop
-index-1-crowds c = omega (arith, c .named .ensures .0)
-
-crowds-requires : tie.Need-crowds-requires Inv-loop μ-loop
-crowds-requires c κs = tt
+crowds-at-requires : tie.Need-crowds-at-requires Inv-loop μ-loop
+crowds-at-requires c κs = c .named .ensures .0
 
 either-requires : tie.Need-either-requires Inv-loop μ-loop
 either-requires c κs = tt
@@ -50,18 +41,17 @@ loop-less c = omega arith
 loop-again : tie.Need-loop-again Inv-loop μ-loop
 loop-again c =
     let w = c .before in
-    let d = w .before .before in
+    let d = w .before in
     let l = d .before in
     let a = l .before .before .args in
-    let j = l .before .loop .j in
-    (omega arith, λ h e s.
-    let so-far = l .before .loop .inv .1 h e s in
-    let i = d .named .result in
-    let row : i ≡ rowNamed h (a .first + j) = d .named .ensures .1 h e s in
-    let crowds : w .crowds .result ≡ crowdedAt h i (a .o) =
-        w .crowds .ensures (rowAt (h .monitor) i) (keptAt (h .monitor) i) (row-lies h s (now (a .m)) e i (d .named .ensures .0)) in
-    c .either .ensures ∙ ap₂ (λ (x y : Bool). x || y) so-far (crowds ∙ ap (λ (k : ℕ). crowdedAt h k (a .o)) row)
-    ∙ ap (λ (k : ℕ). crowded h (a .first) k (a .o)) (sym (add-one j)))
+    let j = l .before .loop .j in (
+      omega arith,
+      λ h e s.
+          let so-far = l .before .loop .inv .1 h e s in
+          let row = d .named .ensures .1 h e s in
+          c .either .ensures ∙ ap₂ (λ (x y : Bool). x || y) so-far (w .crowds-at .ensures h e s ∙ ap (λ (k : ℕ). crowdedAt h k (a .o)) row)
+          ∙ ap (λ (k : ℕ). crowded h (a .first) k (a .o)) (sym (add-one j)),
+    )
 
 returns : tie.Need-returns Inv-loop μ-loop
 returns c h e s =
@@ -72,5 +62,4 @@ returns c h e s =
 
 pub crowds-spec : {M : Type 1} → statement M
 crowds-spec =
-    tie.close (tie.spec Inv-loop μ-loop loop-holds add-named named-requires mul-crowds index-1-crowds crowds-requires either-requires add-j
-    loop-less loop-again returns)
+    tie.close (tie.spec Inv-loop μ-loop loop-holds add-named named-requires crowds-at-requires either-requires add-j loop-less loop-again returns)

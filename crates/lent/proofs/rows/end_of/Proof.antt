@@ -15,8 +15,8 @@ returns c =
     let k = c .before .before .args .kind in (
       omega (arith, c .if1 .taken),
       λ h e s.
-      let n = ap (λ m. getD (getD (getD m 32 []) 1 []) k 0) e ∙ ap (λ (b : List (List ℕ)). getD (getD b 1 []) k 0) (numbers-read h s) in
-      omega (arith, n, c .if1 .taken),
+          let n = ap (λ m. getD (getD (getD m 32 []) 1 []) k 0) e ∙ ap (λ (b : List (List ℕ)). getD (getD b 1 []) k 0) (numbers-read h s) in
+          omega (arith, n, c .if1 .taken),
     )
 
 returns-2 : tie.Need-returns-2
@@ -24,8 +24,8 @@ returns-2 c =
     let k = c .before .before .args .kind in (
       omega arith,
       λ h e s.
-      let n = ap (λ m. getD (getD (getD m 32 []) 1 []) k 0) e ∙ ap (λ (b : List (List ℕ)). getD (getD b 1 []) k 0) (numbers-read h s) in
-      omega (arith, n, c .if1 .left),
+          let n = ap (λ m. getD (getD (getD m 32 []) 1 []) k 0) e ∙ ap (λ (b : List (List ℕ)). getD (getD b 1 []) k 0) (numbers-read h s) in
+          omega (arith, n, c .if1 .left),
     )
 
 pub end-of-spec : {M : Type 1} → statement M

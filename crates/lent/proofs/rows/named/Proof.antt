@@ -15,9 +15,9 @@ returns c =
     let p = a .args .place in (
       omega arith,
       λ h e s.
-      ap (λ (w : ℕ). w % 32)
-      (ap (λ m. getD (getD (getD m 33 []) (p / 64) []) (p % 64) 0) e ∙ ap (λ (b : List (List ℕ)). getD (getD b (p / 64) []) (p % 64) 0) (entries-read h s)
-      ∙ half-read (h .entries) p (a .pre)),
+          ap (λ (w : ℕ). w % 32)
+          (ap (λ m. getD (getD (getD m 33 []) (p / 64) []) (p % 64) 0) e ∙ ap (λ (b : List (List ℕ)). getD (getD b (p / 64) []) (p % 64) 0) (entries-read h s)
+          ∙ half-read (h .entries) p (a .pre)),
     )
 
 pub named-spec : {M : Type 1} → statement M

@@ -1,12 +1,16 @@
--- Row after row: before the turn of number i it is the soonest time of the first i.
+-- Row after row: before the turn of number i it is the soonest due time of the first i.
 use Prim.Native.Nat.{ℕ, _+_, _-_, _≤_, _<_}
 use mathlib.Core.Path.{_≡_, refl, sym, ap, _∙_}
 use native.Mathlib.Omega.{arith}
 use native.Mathlib.Numerals.{add-one}
 use mathlib.Core.Path.{ap₂}
 use Prim.Native.Nat.{min}
+use mathlib.Core.List.{List, []}
+use lib.ListN.{getD}
 use denote.Ref.{now}
-use Rattle.lent.specs.Layout.{Lent, wordsOf, Shaped, rowAt, keptAt, lookAt}
+use Rattle.machine.specs.Words.{rowWords, numberWords}
+use Rattle.row.specs.Stored as Stored
+use Rattle.lent.specs.Layout.{Lent, wordsOf, Shaped}
 use Rattle.lent.specs.Steps.{soonestOf}
 use Rattle.lent.proofs.Blocks.{row-lies}
 use borrow.Author.Needs.{needs}
@@ -22,14 +26,17 @@ abbrev μ-loop : tie.MeasureT-loop
 loop-holds : tie.Need-loop-holds Inv-loop μ-loop
 loop-holds c = (omega arith, λ h e s. refl)
 
-mul-look : tie.Need-mul-look Inv-loop μ-loop
-mul-look c = omega arith
+mul-smaller : tie.Need-mul-smaller Inv-loop μ-loop
+mul-smaller c = omega arith
 
-index-1-look : tie.Need-index-1-look Inv-loop μ-loop
-index-1-look c = omega arith
+index-1-smaller : tie.Need-index-1-smaller Inv-loop μ-loop
+index-1-smaller c = omega arith
 
-look-requires : tie.Need-look-requires Inv-loop μ-loop
-look-requires c κs = tt
+index-2-smaller : tie.Need-index-2-smaller Inv-loop μ-loop
+index-2-smaller c = search needs
+
+index-3-smaller : tie.Need-index-3-smaller Inv-loop μ-loop
+index-3-smaller c = search needs
 
 smaller-requires : tie.Need-smaller-requires Inv-loop μ-loop
 smaller-requires c κs = tt
@@ -41,16 +48,17 @@ loop-less : tie.Need-loop-less Inv-loop μ-loop
 loop-less c = omega arith
 
 loop-again : tie.Need-loop-again Inv-loop μ-loop
+unfolding Stored.wordsOf rowWords numberWords
 loop-again c =
-    let k = c .before in
-    let l = k .before .before in
+    let l = c .before .before in
     let a = l .before .before .args in
-    let i = l .before .loop .i in
-    (omega arith, λ h e s.
-    let there : i < 32 = omega arith in
-    let look : k .look .result ≡ lookAt (h .monitor) i =
-        k .look .ensures (rowAt (h .monitor) i) (keptAt (h .monitor) i) (row-lies h s (now (a .m)) e i there) in
-    c .smaller .ensures ∙ ap₂ min (l .before .loop .inv .1 h e s) look ∙ ap (soonestOf (h .monitor .rows)) (sym (add-one i)))
+    let i = l .before .loop .i in (
+      omega arith,
+      λ h e s.
+          let there : i < 32 = omega arith in
+          let due = ap (λ (w : List (List ℕ)). getD (getD w 1 []) 17 0) (row-lies h s (now (a .m)) e i there) in
+          c .smaller .ensures ∙ ap₂ min (l .before .loop .inv .1 h e s) due ∙ ap (soonestOf (h .monitor .rows)) (sym (add-one i)),
+    )
 
 returns : tie.Need-returns Inv-loop μ-loop
 returns c h e s =
@@ -61,4 +69,5 @@ returns c h e s =
 
 pub soonest-spec : {M : Type 1} → statement M
 soonest-spec =
-    tie.close (tie.spec Inv-loop μ-loop loop-holds mul-look index-1-look look-requires smaller-requires add-i loop-less loop-again returns)
+    tie.close (tie.spec Inv-loop μ-loop loop-holds mul-smaller index-1-smaller index-2-smaller index-3-smaller smaller-requires add-i loop-less
+    loop-again returns)

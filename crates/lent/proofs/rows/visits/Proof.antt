@@ -41,14 +41,16 @@ loop-again c =
     let l = d .before .before in
     let a = l .before .before .args in
     let j = l .before .loop .j in
-    let o = eventAt (a .stream) (a .t) in
-    (omega arith, λ h e s.
-    let so-far = l .before .loop .inv .1 h e s in
-    let h′ = visited h (a .first) j o (a .number) in
-    let wide = shaped-visited h (a .first) j o (a .number) s in
-    let row : d .named .result ≡ rowNamed h (a .first + j) = d .named .ensures .1 h′ so-far wide ∙ visited-named h (a .first) j o (a .number) (a .first + j) in
-    c .visit .ensures h′ so-far wide ∙ ap (λ (i : ℕ). wordsOf (visitAt h′ i o (a .number))) row
-    ∙ ap (λ (k : ℕ). wordsOf (visited h (a .first) k o (a .number))) (sym (add-one j)))
+    let o = eventAt (a .stream) (a .t) in (
+      omega arith,
+      λ h e s.
+          let so-far = l .before .loop .inv .1 h e s in
+          let h′ = visited h (a .first) j o (a .number) in
+          let wide = shaped-visited h (a .first) j o (a .number) s in
+          let row : d .named .result ≡ rowNamed h (a .first + j) = d .named .ensures .1 h′ so-far wide ∙ visited-named h (a .first) j o (a .number) (a .first + j) in
+          c .visit .ensures h′ so-far wide ∙ ap (λ (i : ℕ). wordsOf (visitAt h′ i o (a .number))) row
+          ∙ ap (λ (k : ℕ). wordsOf (visited h (a .first) k o (a .number))) (sym (add-one j)),
+    )
 
 returns : tie.Need-returns Inv-loop μ-loop
 returns c h e s =

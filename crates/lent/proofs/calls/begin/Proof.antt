@@ -1,0 +1,28 @@
+-- The soonest due time that is stored says whether a row may be overdue.
+use Prim.Native.Nat.{ℕ}
+use mathlib.Core.Path.{_≡_, sym, ap, _∙_}
+use mathlib.Core.Bool.{true, false}
+use lib.Dec.{ltb}
+use denote.Ref.{now}
+use borrow.Author.Tests.{lt-ltb, le-ltb}
+use Rattle.lent.proofs.Parts.{number-at}
+use borrow.Author.Needs.{needs}
+use Rattle.lent.proofs.calls.begin.Statement.{statement}
+use Rattle.lent.proofs.calls.begin.Tie as tie
+
+returns : tie.Need-returns
+returns c h e s =
+    let i = c .before .before in
+    let a = i .before .before .before .args in
+    let past : ltb (h .soonest) (a .o .time) ≡ true = ap (λ (x : ℕ). ltb x (a .o .time)) (sym (number-at h s (now (a .m)) e 4)) ∙ lt-ltb _ _ (i .if1 .taken) in
+    rw past (c .pass .ensures h e s)
+
+returns-2 : tie.Need-returns-2
+returns-2 c h e s =
+    let a = c .before .before .before .args in
+    let not-past : ltb (h .soonest) (a .o .time) ≡ false = ap (λ (x : ℕ). ltb x (a .o .time)) (sym (number-at h s (now (a .m)) e 4)) ∙ le-ltb _ _ (c .if1 .left) in
+    rw not-past e
+
+pub begin-spec : {M : Type 1} → statement M
+begin-spec =
+    tie.close (tie.spec (λ c. search needs) (λ c. search needs) (λ c. search needs) (λ c κs. search needs) returns returns-2)

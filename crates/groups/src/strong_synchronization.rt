@@ -55,22 +55,17 @@ fn count_at(w: &[u64; SIZE], kind: u64) -> u64
 fn completes(w: &[u64; SIZE], kind: u64) -> bool
     ensures { λ r. ⌜ r ≡ complete (ruleAt (now (w .entry))) (counted (ruleAt (now (w .entry))) (marksAt (now (w .entry))) kind) ⌝ }
 {
-    has(
-        w[words::FIRST],
-        one_more(kind, w[words::FIRST], w[words::ONE]),
-    )
-        && (has(
-            w[words::SECOND],
-            one_more(kind, w[words::SECOND], w[words::TWO]),
-        )
-            && (has(
-                w[words::THIRD],
-                one_more(kind, w[words::THIRD], w[words::THREE]),
-            )
-                && has(
-                    w[words::FOURTH],
-                    one_more(kind, w[words::FOURTH], w[words::FOUR]),
-                )))
+    gets(kind, w[words::FIRST], w[words::ONE])
+        && (gets(kind, w[words::SECOND], w[words::TWO])
+            && (gets(kind, w[words::THIRD], w[words::THREE])
+                && gets(kind, w[words::FOURTH], w[words::FOUR])))
+}
+
+// Whether the oldest group has an event of a kind with one more, where the event is of that kind, or there is no such kind.
+fn gets(kind: u64, of: u64, count: u64) -> bool
+    ensures { λ r. ⌜ r ≡ has of (oneMore kind of count) ⌝ }
+{
+    has(of, one_more(kind, of, count))
 }
 
 // One more of the kind is counted.

@@ -109,8 +109,8 @@ pub fn marks_at(w: &[u64; SIZE]) -> Marks
 }
 
 // What the row keeps is kept as its past, before the step of that number, which overwrites two words from a place on.
-fn keep_numbers(w: &mut [u64; SIZE], place: usize, old: u64, other: u64, number: u64)
-    ensures { λ _. ⌜ ((rule : Rule) (state : State) (past : Past) → now (w .entry) ≡ numberWords rule state past → now (w .exit) ≡ numberWords rule state (record { state = state; place = place; first = old; second = other; stamp = number })) ⌝ }
+fn keep_numbers(w: &mut [u64; SIZE], place: usize, number: u64)
+    ensures { λ _. ⌜ ((rule : Rule) (state : State) (past : Past) → now (w .entry) ≡ numberWords rule state past → now (w .exit) ≡ numberWords rule state (record { state = state; place = place; first = past .first; second = past .second; stamp = number })) ⌝ }
 {
     let last = w[LAST];
     let one = w[ONE];
@@ -133,8 +133,6 @@ fn keep_numbers(w: &mut [u64; SIZE], place: usize, old: u64, other: u64, number:
     w[28] = kept;
     w[29] = broken;
     w[PLACE] = place as u64;
-    w[OLD] = old;
-    w[OTHER] = other;
     w[STAMP] = number;
 }
 
@@ -181,9 +179,9 @@ pub fn go_on(w: &mut [u64; SIZE], head: usize, len: usize, due: u64, kept: bool)
 pub fn keep(row: &mut [[u64; SIZE]; 2], place: usize, number: u64)
     ensures { λ _. ⌜ Keeps (now (row .entry)) place number (now (row .exit)) ⌝ }
 {
-    let old = time_at(&row[0], place, 0);
-    let other = time_at(&row[0], place, 1);
-    keep_numbers(&mut row[1], place, old, other, number);
+    keep_numbers(&mut row[1], place, number);
+    row[1][OLD] = time_at(&row[0], place, 0);
+    row[1][OTHER] = time_at(&row[0], place, 1);
 }
 
 // The row breaks at the step of that number, which overwrites two words from a place on.

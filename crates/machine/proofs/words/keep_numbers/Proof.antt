@@ -1,7 +1,7 @@
--- Ten numbers are read before the first is stored, so each stands ten places on; the last four are stored as they are given.
-use borrow.Author.Needs.{needs}
+-- Ten numbers are read before the first is stored, so each stands ten places on; place and stamp are stored as they are given.
 use mathlib.Core.Path.{refl}
 use Rattle.machine.specs.Words.{numberWords}
+use borrow.Author.Needs.{needs}
 use Rattle.machine.proofs.words.keep_numbers.Statement.{statement}
 use Rattle.machine.proofs.words.keep_numbers.Tie as tie
 
@@ -14,4 +14,4 @@ keep-numbers-spec =
     tie.close (tie.spec (λ c. search needs) (λ c. search needs) (λ c. search needs) (λ c. search needs) (λ c. search needs) (λ c. search needs) (λ
     c. search needs) (λ c. search needs) (λ c. search needs) (λ c. search needs) (λ c. search needs) (λ c. search needs) (λ c. search needs) (λ c.
     search needs) (λ c. search needs) (λ c. search needs) (λ c. search needs) (λ c. search needs) (λ c. search needs) (λ c. search needs) (λ c.
-    search needs) (λ c. search needs) (λ c. search needs) (λ c. search needs) returns)
+    search needs) (λ c. search needs) returns)

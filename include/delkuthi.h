@@ -5,9 +5,10 @@
  * events of a bench, and says for each row, while the recording runs, whether
  * it is open, kept, or broken, and at which step it broke.
  *
- * It is for x86-64 Linux with glibc 2.34 or newer. Link libdelkuthi.a or
- * libdelkuthi.so (pkg-config --cflags --libs delkuthi). Of the C library the
- * archive needs no more than memcpy, memmove, memset and memcmp.
+ * It is for x86-64 Linux. Link libdelkuthi.a, or libdelkuthi.so, which needs
+ * glibc 2.14 or newer (pkg-config --cflags --libs delkuthi). Of the C library
+ * the archive needs no more than memcpy, memmove, memset and memcmp, and any
+ * that has them will do.
  *
  *
  * THE PROMISE
@@ -25,8 +26,8 @@
  * A machine has checked this, not tests: the first point is the contract of
  * each call, the others are the theorem monitor-is-exact over all calls and
  * withdrawals.
- * docs/DATASHEET.md has what they say, what they assume, and what is not
- * promised; docs/CONTRACT.md says all of it in words, in numbered clauses,
+ * DATASHEET.md has what they say, what they assume, and what is not
+ * promised; CONTRACT.md says all of it in words, in numbered clauses,
  * with examples to check a verdict by hand.
  *
  *
@@ -145,7 +146,7 @@
  *
  * WHAT EACH ROW ASKS
  *
- * Bounds include their ends. docs/CONTRACT.md has the corners and examples of
+ * Bounds include their ends. CONTRACT.md has the corners and examples of
  * each type, from clause 5.1 on.
  *
  *   1 Delay       For each source, at time s, a target comes at s + lower or
@@ -213,7 +214,7 @@
  * A BENCH LOOP
  *
  * It has a monitor, gives it each step when it comes, and stops at the first
- * broken row. next_step is the bench's own; host/c/bench_loop.c has one that
+ * broken row. next_step is the bench's own; examples/bench_loop.c has one that
  * reads a recording.
 
 #include "delkuthi.h"

@@ -14,7 +14,7 @@ use std::{env, fs};
 pub fn make(build: &Path, words: &[&str]) -> Output {
     let mut command = Command::new("make");
     // the tests may have been started by make themselves
-    for name in ["MAKEFLAGS", "MAKELEVEL", "MFLAGS", "DESTDIR", "PREFIX"] {
+    for name in ["MAKEFLAGS", "MAKELEVEL", "MFLAGS", "DESTDIR", "PREFIX", "CFLAGS", "CPPFLAGS", "LDFLAGS"] {
         command.env_remove(name);
     }
     command.current_dir(root()).env("DELKUTHI_LIB", archive_folder());
@@ -102,6 +102,14 @@ impl Installed {
 /// If it is not there.
 pub fn version() -> String {
     fs::read_to_string(root().join("VERSION")).expect("VERSION").trim_end().to_string()
+}
+
+/// The first two numbers of the version: what a host is linked with is good for all versions that share them.
+///
+/// # Panics
+/// If the version has not three numbers.
+pub fn interface() -> String {
+    version().rsplit_once('.').expect("three numbers").0.to_string()
 }
 
 /// A Rust program of its own that depends on the crate `delkuthi` by its path, as a buyer's would.

@@ -26,7 +26,7 @@ DOCUMENTS := CHANGELOG.md LICENSE NOTICE docs/CONTRACT.md docs/DATASHEET.md
 MANUALS   := $(BUILD)/delkuthi.1 $(BUILD)/delkuthi.3
 EXAMPLES  := $(addprefix host/c/,bench_loop.c report.c file.c file.h) examples/table.bin examples/recording.bin
 
-.PHONY: all lib program install install-lib install-dev uninstall clean help test test-python test-ports run bench portable always
+.PHONY: all lib program install install-lib install-dev uninstall clean help test test-python test-ports run bench count portable always
 
 all: lib program
 lib: $(LIBRARY)
@@ -45,6 +45,7 @@ help:
 	@echo "make test-python the tests of the package in python/ alone"
 	@echo "make test-ports  the portable crate on ARM, 64 and 32 bits, beside the proved library; says which packages are missing"
 	@echo "make bench       the speed beside plain Rust"
+	@echo "make count       the instructions of a call beside plain Rust (needs valgrind)"
 	@echo "With DELKUTHI_LIB set, libdelkuthi.a is taken from the folder that it names, and rt is not needed."
 
 # The archive: proved and built, or taken from where DELKUTHI_LIB says, to the byte. It is put together of parts that are compiled by
@@ -133,6 +134,9 @@ run:
 
 bench:
 	cd host && cargo run --release --offline -p bench
+
+count:
+	cd host && cargo run --release --offline -p bench count
 
 portable:
 	python3 release/portable.py $(BUILD)/portable $(PARTS)

@@ -274,8 +274,9 @@ fn what_make_says() {
     let planned = String::from_utf8(planned.stdout).expect("text");
     assert!(planned.contains("program/delkuthi.c") && !planned.contains(".ci/run"), "{planned}");
     let help = String::from_utf8(make(folder.path(), &["help"]).stdout).expect("text");
-    for target in ["lib", "program", "install", "uninstall", "portable", "clean", "run", "test", "test-ports", "bench"]
-    {
+    let targets =
+        ["lib", "program", "install", "uninstall", "portable", "clean", "run", "test", "test-ports", "bench", "count"];
+    for target in targets {
         assert!(help.contains(&format!("make {target} ")), "{target} in {help}");
     }
 }

@@ -69,6 +69,7 @@ impl Monitor {
     ///
     /// # Errors
     /// 8 closed, 9 the kind, 19 a coloured kind, 10 the time's range, 11 its order, 12 more than 64 would wait in a row.
+    #[inline]
     pub fn event(&mut self, kind: u8, time: u64) -> Result<(), Refusal> {
         Refusal::of_step(ffi::delkuthi_event(self, kind, time))
     }
@@ -79,6 +80,7 @@ impl Monitor {
     /// # Errors
     /// 8 closed, 9 the kind, 19 a plain kind or no colour, 10 the time's range, 11 its order, 12 more than 64 would wait
     /// in a row.
+    #[inline]
     pub fn coloured_event(&mut self, kind: u8, colour: u8, time: u64) -> Result<(), Refusal> {
         Refusal::of_step(ffi::delkuthi_coloured_event(self, kind, colour, time))
     }
@@ -87,6 +89,7 @@ impl Monitor {
     ///
     /// # Errors
     /// 8 closed, 10 the time's range, 11 its order.
+    #[inline]
     pub fn tick(&mut self, time: u64) -> Result<(), Refusal> {
         Refusal::of_step(ffi::delkuthi_tick(self, time))
     }
@@ -95,6 +98,7 @@ impl Monitor {
     ///
     /// # Errors
     /// 8 closed already.
+    #[inline]
     pub fn close(&mut self) -> Result<(), Refusal> {
         Refusal::of_step(ffi::delkuthi_close(self))
     }
@@ -104,6 +108,7 @@ impl Monitor {
     ///
     /// # Errors
     /// 21 nothing to withdraw.
+    #[inline]
     pub fn withdraw(&mut self) -> Result<(), Refusal> {
         Refusal::of_step(ffi::delkuthi_withdraw(self))
     }

@@ -41,7 +41,7 @@ pub fn lines() -> Vec<Line> {
 
 /// The lines over tables of more and more rows: events.
 pub fn sizes() -> Vec<Line> {
-    let sizes = |dense| [1, 2, 4, 8, 16, WHOLE].map(|rows| Line { sort: Sort::Steps, dense, rows });
+    let sizes = |dense| [1, 2, 4, 8, 16].map(|rows| Line { sort: Sort::Steps, dense, rows });
     [false, true].into_iter().flat_map(sizes).collect()
 }
 

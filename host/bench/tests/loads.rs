@@ -45,9 +45,9 @@ fn both_monitors_agree_and_rows_stay_open() {
 #[test]
 fn every_line_has_its_own_name_and_as_many_calls_as_asked() {
     let (lines, sizes) = (lines(), sizes());
-    assert_eq!((lines.len(), sizes.len()), (14, 12));
+    assert_eq!((lines.len(), sizes.len()), (14, 10));
     let names: BTreeSet<String> = lines.iter().chain(&sizes).map(|line| line.what()).collect();
-    assert_eq!(names.len(), 24, "the steps over 32 rows are among both: {names:?}");
+    assert_eq!(names.len(), 24, "{names:?}");
     lines.iter().chain(&sizes).for_each(|line| assert_eq!(line.load(10_000).number(), 10_000, "{}", line.what()));
 }
 

@@ -2,12 +2,11 @@
 from __future__ import annotations
 
 import json
-from dataclasses import asdict
 from html import escape
 from typing import Iterable, Sequence
 from xml.sax.saxutils import quoteattr
 
-from .check import Outcome
+from .check import UNEXERCISED, Outcome
 from .library import VERSION, library_version
 from .table import Table
 from .text import row_text
@@ -15,44 +14,98 @@ from .timeline import Scene, svg
 from .units import shown
 
 
+def as_text(outcome: Outcome, page: bool, quiet: bool) -> str:
+    """For a person: a line for each row that is broken or was never exercised, and a last one; or the library's page."""
+    idle = [row.number for row in outcome.unexercised]
+    if page:
+        return (outcome.page or "") + (f"never exercised: {', '.join(map(str, idle))}\n" if idle else "")
+    lines = [*outcome.messages]
+    for row in outcome.unexercised:
+        name = f'"{row.name}"' if row.name != f"row {row.number}" else row.name
+        lines.append(f"{outcome.log}: {name} ({row.type}) {UNEXERCISED}: {_number(row.events, 'event')} of its kinds, nothing to judge")
+    if not quiet:
+        lines.append(f"{outcome.log}: {_summary(outcome)}")
+    return "".join(line + "\n" for line in lines)
+
+
+def _number(count: int, word: str) -> str:
+    """``1 line``, ``2 lines``."""
+    return f"{count} {word}" if count == 1 else f"{count} {word}s"
+
+
+def _summary(outcome: Outcome) -> str:
+    """How many rows read what, and what was read."""
+    counts = outcome.counts
+    words = [_number(len(outcome.rows), "row")]
+    words.append(f"{len(outcome.of('kept'))} kept" if outcome.closed else f"{len(outcome.of('open'))} open")
+    if outcome.unexercised:
+        words.append(f"{len(outcome.unexercised)} never exercised")
+    words.append(f"{len(outcome.broken)} broken")
+    read = [f"{_number(counts.events, 'event')} in {_number(counts.lines, outcome.word)}"]
+    for count, said in ((counts.dropped, "left out at equal stamps"), (counts.moved, "moved one unit on at equal stamps"),
+                        (counts.unsorted, "sorted"), (counts.rounded, "rounded"), (counts.skipped, "blank")):
+        if count:
+            word = {"sorted": outcome.word, "rounded": "stamp", "blank": outcome.word}.get(said, "event")
+            read.append(f"{_number(count, word)} {said}")
+    if outcome.moments.shift and outcome.moments.start < 2 * outcome.moments.shift:
+        read.append(f"clock {shown(outcome.moments.shift, outcome.moments.unit)} ahead of the stamps (the largest jitter)")
+    return f"{', '.join(words)}; {', '.join(read)}"
+
+
+def overall(outcomes: Sequence[Outcome]) -> str:
+    """The last line over several logs."""
+    words = [_number(len(outcomes), "log")]
+    for status, said in ((0, "kept"), (1, "broken"), (2, "refused")):
+        words.append(f"{sum(outcome.status == status for outcome in outcomes)} {said}")
+    idle = sum(bool(outcome.unexercised) for outcome in outcomes)
+    return ", ".join(words) + (f"; {idle} with rows never exercised" if idle else "")
+
+
 def as_json(table: Table, outcomes: Sequence[Outcome]) -> str:
     """All outcomes as one JSON object."""
-    logs = []
-    for outcome in outcomes:
-        logs.append({**asdict(outcome), "status": outcome.status})
+    logs = [outcome.as_dict() for outcome in outcomes]
     found = {"delkuthi": VERSION, "library": library_version(), "unit": table.unit, "logs": logs,
              "status": max((outcome.status for outcome in outcomes), default=0)}
-    return json.dumps(found, indent=2, ensure_ascii=False) + "\n"
+    return json.dumps(found, indent=2, ensure_ascii=True) + "\n"
 
 
 def as_junit(table: Table, outcomes: Sequence[Outcome]) -> str:
-    """All outcomes as one JUnit file: a suite for each log, a test for each row."""
-    failures = sum(len(outcome.broken) for outcome in outcomes)
-    errors = sum(outcome.error is not None for outcome in outcomes)
-    tests = sum(len(outcome.rows) or 1 for outcome in outcomes)
-    out = ['<?xml version="1.0" encoding="UTF-8"?>',
-           f'<testsuites name="delkuthi" tests="{tests}" failures="{failures}" errors="{errors}">']
-    for outcome in outcomes:
-        out.extend(_suite(table, outcome))
+    """All outcomes as one JUnit file: a suite for each log, a test for each row. A row that is open, or was never exercised, is
+    skipped; where exercise is asked for it is a failure."""
+    suites = [_suite(table, outcome) for outcome in outcomes]
+    total = {name: sum(counts[name] for counts, _ in suites) for name in ("tests", "failures", "errors", "skipped")}
+    out = ['<?xml version="1.0" encoding="UTF-8"?>', f'<testsuites name="delkuthi"{_attributes(total)}>']
+    for outcome, (counts, cases) in zip(outcomes, suites):
+        out.append(f"  <testsuite name={quoteattr(_xml(outcome.log))}{_attributes(counts)}>")
+        out += [*cases, "  </testsuite>"]
     return "\n".join([*out, "</testsuites>"]) + "\n"
 
 
-def _suite(table: Table, outcome: Outcome) -> Iterable[str]:
-    failures, tests = len(outcome.broken), len(outcome.rows) or 1
+def _attributes(counts: dict[str, int]) -> str:
+    return "".join(f' {name}="{count}"' for name, count in counts.items())
+
+
+def _suite(table: Table, outcome: Outcome) -> tuple[dict[str, int], list[str]]:
+    """How many tests of a log went how, and the tests."""
     name = quoteattr(_xml(outcome.log))
-    errors = int(outcome.error is not None)
-    yield f'  <testsuite name={name} tests="{tests}" failures="{failures}" errors="{errors}" skipped="0">'
     if outcome.error is not None:
-        yield f'    <testcase classname={name} name="log"><error message={quoteattr(_xml(outcome.error))}/></testcase>'
+        error = f'    <testcase classname={name} name="log"><error message={quoteattr(_xml(outcome.error))}/></testcase>'
+        return {"tests": 1, "failures": 0, "errors": 1, "skipped": 0}, [error]
+    counts = {"tests": len(outcome.rows), "failures": 0, "errors": 0, "skipped": 0}
+    cases = []
     for row in outcome.rows:
-        case = f"<testcase classname={name} name={quoteattr(_xml(row.name))}"
-        if row.verdict == "broken":
-            text = _xml(row.message or "")
-            asked = escape(_xml(row_text(table, table.rows[row.number])))
-            yield f"    {case}><failure type={quoteattr(row.type)} message={quoteattr(text)}>{asked}</failure></testcase>"
+        case = f"    <testcase classname={name} name={quoteattr(_xml(row.name))}"
+        asked = escape(_xml(row_text(table, table.rows[row.number])))
+        if row.verdict == "broken" or row.verdict == UNEXERCISED and outcome.exercised:
+            counts["failures"] += 1
+            text = quoteattr(_xml(row.message or row.verdict))
+            cases.append(f"{case}><failure type={quoteattr(row.type)} message={text}>{asked}</failure></testcase>")
+        elif row.verdict == "kept":
+            cases.append(f"{case}/>")
         else:
-            yield f"    {case}/>"
-    yield "  </testsuite>"
+            counts["skipped"] += 1
+            cases.append(f"{case}><skipped message={quoteattr(row.verdict)}/></testcase>")
+    return counts, cases
 
 
 def _xml(text: str) -> str:
@@ -93,7 +146,7 @@ def _log_html(table: Table, table_name: str, outcome: Outcome, picture: Scene | 
         yield f'<p class="error">{escape(outcome.error)}</p>'
         return
     end = shown(outcome.clock, table.unit)
-    yield (f"<p>Checked against {escape(table_name)}: {outcome.lines:,} lines, {outcome.events:,} of them events of the "
+    yield (f"<p>Checked against {escape(table_name)}: {outcome.counts.lines:,} lines, {outcome.counts.events:,} of them events of the "
            f"table; {outcome.steps:,} steps up to {end}{', closed' if outcome.closed else ', left open'}.</p>")
     yield '<table><tr><th>row</th><th>name</th><th>asks</th><th>verdict</th></tr>'
     for row in outcome.rows:

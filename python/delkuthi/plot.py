@@ -2,6 +2,7 @@
 from __future__ import annotations
 
 from pathlib import Path
+from typing import Any
 
 from .timeline import BROKEN, COLOURS, Scene, svg, ticks
 
@@ -16,11 +17,11 @@ def write_plot(picture: Scene, path: str) -> None:
         Path(path).write_text(svg(picture), encoding="utf-8")
         return
     try:
-        import matplotlib  # type: ignore[import]
+        import matplotlib
     except ImportError:
         raise PlotMissing(f"{path}: a picture other than SVG needs matplotlib (Debian: python3-matplotlib)") from None
     matplotlib.use("Agg")
-    from matplotlib.figure import Figure  # type: ignore[import]
+    from matplotlib.figure import Figure
 
     figure = Figure(figsize=(12, 1.6 + 0.32 * len(picture.lanes)), dpi=110, constrained_layout=True)
     axes = figure.subplots()
@@ -31,7 +32,7 @@ def write_plot(picture: Scene, path: str) -> None:
         raise PlotMissing(f"{path}: {error}") from None
 
 
-def _draw(axes, picture: Scene) -> None:
+def _draw(axes: Any, picture: Scene) -> None:
     """The lanes from top to bottom, the shaded stretches, the marks."""
     for shade in picture.shades:
         end = picture.shown_end(shade)
@@ -46,8 +47,8 @@ def _draw(axes, picture: Scene) -> None:
         axes.annotate(label, (time, 1.0), xycoords=("data", "axes fraction"), xytext=(-4 if right else 4, 4 + 11 * place),
                       textcoords="offset points", ha="right" if right else "left", color=BROKEN, weight="bold", fontsize=8)
     axes.set_yticks(range(len(picture.lanes)), [name for name, _ in picture.lanes])
-    places, unit, size = ticks(picture.begin, picture.end, picture.unit)
-    axes.set_xticks(places, [f"{place / size:g}" for place in places])
+    places, unit, size = ticks(picture.begin - picture.zero, picture.end - picture.zero, picture.unit)
+    axes.set_xticks([place + picture.zero for place in places], [f"{place / size:g}" for place in places])
     axes.set_xlabel(unit or "time")
     axes.set_xlim(picture.begin, picture.end)
     axes.set_ylim(len(picture.lanes) - 0.5, -0.5)

@@ -4,7 +4,7 @@ Events of one number are of one stream: their times rise. Steps, reasons and pic
 """
 from __future__ import annotations
 
-from .library import LAST_COLOUR
+from .library import FIRST_COLOURED, LAST_COLOUR
 
 #: What stands for a colour that is none.
 NO_COLOUR = 255
@@ -23,3 +23,8 @@ def parts(number: int) -> tuple[int, int | None]:
 def colours(kind: int) -> tuple[int, ...]:
     """The signals of a coloured kind, a colour after the other."""
     return tuple(signal(kind, colour) for colour in range(LAST_COLOUR + 1))
+
+
+def signals_of(kind: int) -> tuple[int, ...]:
+    """The signals of a kind: itself if it is plain, its colours if it is coloured."""
+    return colours(kind) if kind >= FIRST_COLOURED else (kind,)

@@ -9,7 +9,7 @@ from typing import Iterable
 from . import library as lib
 from .library import Refused
 from .rowtypes import MOST, BY_NAME, RowType, Value, row_bytes, row_values
-from .signals import colours, parts
+from .signals import parts, signals_of
 
 
 @dataclass(frozen=True)
@@ -84,9 +84,15 @@ class Row:
         return tuple(kind for part in self.type.fields for kind in _kinds(part.role, self.values[part.name]))
 
     @property
-    def hears(self) -> tuple[int, ...]:
-        """The signals that it hears: its plain kinds, and each colour of its coloured ones."""
-        return tuple(number for kind in self.kinds for number in (colours(kind) if kind >= lib.FIRST_COLOURED else (kind,)))
+    def signals(self) -> tuple[int, ...]:
+        """The signals that it is about: its plain kinds, and each colour of its coloured ones."""
+        return tuple(number for kind in self.kinds for number in signals_of(kind))
+
+    def number(self, name: str) -> int:
+        """The value of a field that is one number."""
+        value = self.values[name]
+        assert isinstance(value, int)
+        return value
 
     def doubtful(self, number: int) -> str | None:
         """The name of the field that a refusal of this number (5 to 7, or 18) is about."""
@@ -179,7 +185,7 @@ class Table:
         return printed(self)
 
     def kind(self, event: int | str) -> int:
-        """The kind of an event that is given by its name or by its kind."""
+        """The kind of an event that is given by its name or by its kind; :class:`KeyError` if there is none of that name."""
         return event if isinstance(event, int) else self._kinds[event]
 
     def event_name(self, number: int) -> str:
@@ -187,6 +193,12 @@ class Table:
         kind, colour = parts(number)
         name = self._names.get(kind, f"kind {kind}")
         return name if colour is None else f"{name}/{colour}"
+
+    @property
+    def jitter(self) -> int:
+        """The largest jitter of its rows; 0 if none has one."""
+        return max((value for row in self.rows for name, value in row.values.items() if name == "jitter" and isinstance(value, int)),
+                   default=0)
 
     def row_name(self, number: int) -> str:
         """The name of a row, in quotes; ``row 3`` if it has none."""

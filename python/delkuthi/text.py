@@ -14,10 +14,11 @@ from __future__ import annotations
 
 import difflib
 import re
+from typing import Any
 
 from . import library as lib
 from .library import Refused
-from .rowtypes import MOST, BY_NAME, TYPES, Field, RowType, Value
+from .rowtypes import MOST, BY_NAME, TYPES, Field, Value
 from .table import CanSource, CsvSource, Event, KeySource, Row, Source, Table, table_places
 from .units import DIGITS, NUMBER, UNITS, NotWhole, exact, in_unit
 
@@ -31,7 +32,7 @@ class TextError(Exception):
         self.file, self.line, self.column, self.message = file, line, column, message
         Exception.__init__(self, f"{file}:{line}:{column}: {message}")
 
-    def __reduce__(self):
+    def __reduce__(self) -> tuple[Any, ...]:
         return (TextError, (self.file, self.line, self.column, self.message))
 
 
@@ -42,7 +43,7 @@ class TextRefused(TextError, Refused):
         Refused.__init__(self, refusal.number, refusal.place)
         TextError.__init__(self, file, line, column, message)
 
-    def __reduce__(self):
+    def __reduce__(self) -> tuple[Any, ...]:
         return (TextRefused, (self.file, self.line, self.column, self.message, Refused(self.number, self.place)))
 
 

@@ -27,7 +27,7 @@ def rows(draw, pool=st.integers(0, 47), coloured=st.integers(48, 63), some_times
             values[part.name] = kinds[taken]
             taken += 1
         elif part.role in MOST:
-            values[part.name] = draw(st.integers(1, MOST[part.role] if some_times is times else 3))
+            values[part.name] = draw(st.integers(1, MOST[part.role] if some_times is times else 8))
         else:
             values[part.name] = draw(some_times)
     if row_type.bounds:

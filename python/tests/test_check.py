@@ -30,7 +30,8 @@ def test_the_messages_on_the_drive():
     outcome = drive()
     assert [message.replace(f"{EXAMPLES}/", "") for message in outcome.messages] == MESSAGES[:-1]
     assert (outcome.status, f"closed {outcome.steps}") == (1, REPORT[0])
-    assert MESSAGES[-1].endswith(f"; {outcome.events} events in {outcome.lines} lines")
+    assert f"; {outcome.counts.events} events in {outcome.counts.lines} lines, clock 3 ms ahead" in MESSAGES[-1]
+    assert outcome.warnings == [f"{EXAMPLES}/drive.csv: the log has no cabin_light"]
 
 
 @pytest.mark.parametrize("name", ["drive.csv", "drive.log", "recording.bin"])
@@ -46,10 +47,10 @@ def test_random_logs(tmp_path, case):
     path = tmp_path / "a.bin"
     data = recording_bytes(steps)
     path.write_bytes(data)
-    check_module._CHUNK = 7
-    outcome = check(table, str(path))
-    check_module._CHUNK = 1024
-    lines = [f"{row.number} {row.verdict}{'' if row.step is None else f' {row.step}'}" for row in outcome.rows]
+    check_module.CHUNK = 7
+    outcome = check(table, str(path), Policy(as_stamped=True))
+    check_module.CHUNK = 1024
+    lines = [f"{row.number} {row.verdict.split(',')[0]}{'' if row.step is None else f' {row.step}'}" for row in outcome.rows]
     assert [f"closed {outcome.steps}", *lines] == report(table, data).splitlines()
     for row in outcome.broken:
         assert row.by_close == (row.step == len(steps) + 1)
@@ -84,7 +85,7 @@ def test_recordings_that_the_report_refuses(tmp_path, case, more):
     data = recording_bytes(steps + more)
     path.write_bytes(data)
     said = report(table, data)
-    outcome = check(table, str(path))
+    outcome = check(table, str(path), Policy(as_stamped=True))
     assert (outcome.error is not None) == said.startswith("refused")
     if outcome.error is None:
         assert f"closed {outcome.steps}\n" in said
@@ -118,7 +119,7 @@ def test_json():
 def test_junit():
     table = Table.read(EXAMPLES / "drive.txt")
     tree = xml.fromstring(as_junit(table, [drive(), drive("drive.log"), check(table, "no<where&.csv")]).encode())
-    assert tree.attrib == {"name": "delkuthi", "tests": f"{2 * ROWS + 1}", "failures": f"{2 * BROKEN}", "errors": "1"}
+    assert tree.attrib == {"name": "delkuthi", "tests": f"{2 * ROWS + 1}", "failures": f"{2 * BROKEN}", "errors": "1", "skipped": "0"}
     assert [suite.get("failures") for suite in tree] == [f"{BROKEN}", f"{BROKEN}", "0"]
     failure = tree[0][1].find("failure")
     assert failure.get("type") == "StrongDelay" and MESSAGES[0].split(": ", 1)[1] in failure.get("message")

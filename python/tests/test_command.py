@@ -26,7 +26,7 @@ def kept(tmp_path):
 
 
 def test_the_four_statuses(command, kept):
-    assert command("check", "kept.txt", "kept.csv") == (0, "kept.csv: 1 rows, 1 kept, 0 broken; 2 events in 2 lines\n", "")
+    assert command("check", "kept.txt", "kept.csv") == (0, "kept.csv: 1 row, 1 kept, 0 broken; 2 events in 2 lines\n", "")
     assert command("check", TABLE, CSV)[0] == 1
     (kept / "bad.txt").write_text("Delay 1 -> 1, 0 .. 5\n")
     status, out, error = command("check", "bad.txt", "kept.csv")
@@ -68,7 +68,8 @@ def test_many_logs_in_one_junit_file(command, kept):
     assert alone == spread and alone[0] == 1
     assert (kept / "one.xml").read_text() == (kept / "all.xml").read_text()
     assert [suite.get("failures") for suite in xml.parse(kept / "all.xml").getroot()] == ["0", "0", "0", "0", "1"]
-    assert "4.csv:3: \"answer\" (Delay) broken at 7 ms: the a at 1 ms (line 2) had no b by 6 ms\n" in alone[1]
+    assert ("4.csv:3: \"answer\" (Delay) broken at 7 ms: the a at 1 ms (line 2) was answered 1 ms late, by the b at 7 ms (line 3): after 6 ms, at most 5 ms is asked\n") in alone[1]
+    assert alone[1].endswith("\n5 logs, 4 kept, 1 broken, 0 refused\n")
 
 
 def test_spread_by_gnu_parallel(tmp_path):
@@ -89,10 +90,11 @@ def test_spread_by_gnu_parallel(tmp_path):
     line = line.replace("logs/*.blf", "logs/*.log").replace("parallel ", "parallel --will-cite --keep-order ", 1)
     known = {**os.environ, "HOME": str(tmp_path), "PATH": f"{tmp_path}:{os.environ['PATH']}"}
     done = subprocess.run(line, shell=True, cwd=tmp_path, capture_output=True, text=True, env=known)
-    assert all(text.startswith("parallel: Warning: ") for text in done.stderr.splitlines())
+    assert all(text.startswith("parallel: Warning: ") or ": the log has no " in text for text in done.stderr.splitlines())
     outcomes = [check(Table.read(TABLE), str(tmp_path / "logs" / f"{number}.log")) for number in range(3)]
     expected = [message.replace(f"{tmp_path}/", "") for outcome in outcomes for message in outcome.messages]
-    assert done.stdout.splitlines() == expected and len(expected) > 3
+    found = [line for line in done.stdout.splitlines() if "never exercised" not in line]
+    assert found == expected and len(expected) > 3
     assert done.returncode == sum(outcome.status != 0 for outcome in outcomes) > 0
     assert len(list((tmp_path / "logs").glob("?.xml"))) == 3
 
@@ -102,19 +104,31 @@ def test_json_is_all_that_is_printed(command):
     assert status == 1 and json.loads(out)["logs"][0]["rows"][1]["verdict"] == "broken"
 
 
-def test_a_log_without_events(command, kept):
-    (kept / "other.csv").write_text("time,event\n1,x\n3,y\n")
-    status, _, error = command("check", "kept.txt", "other.csv")
-    assert status == 0 and error.startswith("other.csv: no line is an event of the table")
+@pytest.mark.parametrize("text", ["time,event\n", "time,event\n1,x\n3,y\n", "time,event\n1,b\n"])
+def test_a_log_that_exercises_nothing(command, kept, text):
+    """Kept, never exercised: in words, in JSON and JUnit, and with --exercised a failure."""
+    (kept / "other.csv").write_text(text)
+    status, out, error = command("check", "kept.txt", "other.csv", "--junit", "a.xml")
+    assert status == 0 and '"answer" (Delay) kept, never exercised: ' in out and "0 kept, 1 never exercised, 0 broken" in out
+    assert "other.csv: the log has no a\n" in error
+    suite = xml.parse(kept / "a.xml").getroot()[0]
+    assert suite.get("skipped") == "1" and "never exercised" in suite[0].find("skipped").get("message")
+    status, out, _ = command("check", "kept.txt", "other.csv", "--json")
+    assert status == 0 and json.loads(out)["logs"][0]["rows"][0]["verdict"] == "kept, never exercised"
+    assert command("check", "kept.txt", "other.csv", "--page")[1].endswith("\nnever exercised: 0\n")
+    status, out, _ = command("check", "kept.txt", "other.csv", "--exercised", "--junit", "a.xml")
+    assert status == 1 and xml.parse(kept / "a.xml").getroot().get("failures") == "1"
+    assert command("check", "kept.txt", "kept.csv", "--exercised")[0] == 0
 
 
 def test_options_of_the_log(command, kept):
     (kept / "a.csv").write_text("time,event\n101,a\n101,a\n100,b\n")
     status, out, error = command("check", "kept.txt", "a.csv", "--unsorted", "sort", "--equal", "drop", "--from-zero", "--until",
                                  "0.004 s", "--no-close")
-    assert (status, error) == (0, "") and out == "a.csv: 1 rows, 1 open, 0 broken; 3 events in 3 lines\n"
+    assert (status, error) == (0, "")
+    assert out == "a.csv: 1 row, 1 open, 0 broken; 2 events in 3 lines, 1 event left out at equal stamps, 1 line sorted\n"
     status, out, _ = command("check", "kept.txt", "a.csv", "--unsorted", "sort", "--equal", "drop", "--until", "107 ms")
-    assert status == 1 and "broken at 107 ms: the a at 101 ms (line 2) had no b by 106 ms" in out
+    assert status == 1 and "broken at 107 ms: the a at 101 ms (line 2) was never answered: no b came for it, due by 106 ms" in out
     assert command("check", "kept.txt", "a.csv", "--until", "soon")[0] == 2
 
 
@@ -147,7 +161,7 @@ def test_two_logs_joined(command, tmp_path):
     last = (EXAMPLES / "messages.txt").read_text().splitlines()[-1]
     assert status == 1 and out.splitlines()[-1] == last.replace("drive.csv", "joined.bin").replace("lines", "records")
     status, _, error = command("join", TABLE, CSV, CSV, "-o", "twice.bin")
-    assert status == 2 and "refused with 20" in error
+    assert (status, error) == (2, f"{CSV}: wheel_speed is in the other log too; refused with 20: a kind is found in both recordings\n")
 
 
 def test_the_lines_that_matter(command):
@@ -155,13 +169,13 @@ def test_the_lines_that_matter(command):
     assert status == 1
     first, *lines = out.splitlines()
     door, late = (int(line.split(":")[0]) for line in lines)
-    assert first == (f'{CSV}: "cabin light" is broken by lines {door} to {late} alone, {late - door + 1} of '
-                     f"{len(CSV.read_text().splitlines()) - 1} steps; those that the row hears, and the last:")
+    assert first == (f'{CSV}: "cabin light" broke at line {late}: lines {door} to {late} are enough, {late - door + 1} of '
+                     f"{len(CSV.read_text().splitlines()) - 1} steps; the row's events among them, and the last:")
     assert lines == [f"{number}: {CSV.read_text().splitlines()[number - 1]}" for number in (door, late)]
     assert lines[0].endswith(": 70100,door_open") and f'drive.csv:{late}: "cabin light"' in (EXAMPLES / "messages.txt").read_text()
     steps = command("shrink", TABLE, EXAMPLES / "recording.bin", "7")[1].splitlines()[1:]
-    assert steps[0] == f"record {door - 1}: door_open 70100"
-    assert command("shrink", TABLE, CSV, "wheel speed")[0] == 0
+    assert steps[0] == f"record {door - 1}: door_open 70.1 ms"
+    assert command("shrink", TABLE, CSV, "wheel speed")[:2] == (0, f'{CSV}: "wheel speed" is not broken by the log\n')
     assert command("shrink", TABLE, CSV, "nobody")[0] == 2
 
 

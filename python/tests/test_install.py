@@ -37,8 +37,9 @@ def test_the_command(environment):
     """It finds the library that make installed, and needs no other package for the drive."""
     assert environment("delkuthi", "--version") == (0, f"delkuthi {__version__}, library {__version__}\n", "")
     messages = (EXAMPLES / "messages.txt").read_text(encoding="utf-8")
-    assert environment("delkuthi", "check", "drive.txt", "drive.csv") == (1, messages, "")
-    assert environment("python3", "-m", "delkuthi", "check", "drive.txt", "drive.csv") == (1, messages, "")
+    warning = "drive.csv: the log has no cabin_light\n"
+    assert environment("delkuthi", "check", "drive.txt", "drive.csv") == (1, messages, warning)
+    assert environment("python3", "-m", "delkuthi", "check", "drive.txt", "drive.csv") == (1, messages, warning)
     assert environment("delkuthi") == (1, (EXAMPLES / "report.txt").read_text(), "")
 
 

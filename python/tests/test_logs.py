@@ -8,6 +8,7 @@ from hypothesis import strategies as st
 from delkuthi import Table
 from delkuthi.check import check
 from delkuthi.logs import Log, LogError, Policy
+from delkuthi.readers.python_can import PythonCanReader
 from delkuthi.recording import recording_bytes
 from delkuthi.signals import signal
 
@@ -39,9 +40,10 @@ def error(path, text, **policy):
 def test_the_drive_in_all_forms():
     """The CSV file and the candump log of the drive are its recording, step by step."""
     table = Table.read(EXAMPLES / "drive.txt")
-    recorded = [step[:2] for step in Log(EXAMPLES / "recording.bin", table).steps()]
+    literal = Policy(as_stamped=True)
+    recorded = [step[:2] for step in Log(EXAMPLES / "recording.bin", table, literal).steps()]
     for name, first in (("drive.csv", 2), ("drive.log", 1)):
-        found = list(Log(EXAMPLES / name, table).steps())
+        found = list(Log(EXAMPLES / name, table, literal).steps())
         assert [step[:2] for step in found] == recorded
         assert [step.place for step in found] == list(range(first, first + len(found)))
     assert recording_bytes(recorded) == (EXAMPLES / "recording.bin").read_bytes()
@@ -123,9 +125,8 @@ def test_candump_as_python_can_reads_it(tmp_path, given_frames):
             time += later
             writer(can.Message(timestamp=time / 1e6, arbitration_id=identifier, is_extended_id=identifier > 0x7FF, data=data,
                                channel="can0"))
-    log = Log(path, TABLE)
-    ours = list(log.lines())
-    theirs = list(log._python_can())
+    ours = list(Log(path, TABLE).reader.lines())
+    theirs = list(PythonCanReader(str(path), TABLE, Policy()).lines())
     assert ours == theirs
 
 
@@ -178,7 +179,7 @@ def test_the_end_and_the_beginning(tmp_path):
     assert steps(path, text, until=90) == [(1, 50, 2), (0, 70, 3), (None, 90, 3)]
     assert steps(path, text, until=60) == [(1, 50, 2), (0, 70, 3)]
     assert steps(path, text, from_zero=True) == [(1, 0, 2), (0, 20, 3)]
-    assert steps(path, "time_ms,event\n0.0015,light\n", round=True) == [(1, 1, 2)]
+    assert steps(path, "time_ms,event\n0.0015,light\n", round=True) == [(1, 2, 2)]
 
 
 def test_recordings(tmp_path):

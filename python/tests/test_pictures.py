@@ -26,10 +26,11 @@ def test_what_the_drives_picture_shows():
     picture, outcome = pictured(table, EXAMPLES / "drive.csv")
     signals = sorted(signal(event.kind, source.colour) for event in table.events for source in event.sources)
     assert [name for name, _ in picture.lanes] == [table.event_name(number) for number in signals]
-    assert sum(len(times) for _, times in picture.lanes) == outcome.events
+    assert sum(len(times) for _, times in picture.lanes) == outcome.counts.events
     marks = [(row.time, f"{row.name} broken") for row in sorted(outcome.broken, key=lambda row: row.step)]
-    assert picture.marks == marks and (118300, "steering reply broken") in marks
-    red = [(shade.row, shade.begin, shade.end) for shade in picture.shades if shade.broken]
+    ahead = table.jitter
+    assert picture.marks == [(time + ahead, text) for time, text in marks] and (118300, "steering reply broken") in marks
+    red = [(shade.row, shade.begin - ahead, shade.end - ahead) for shade in picture.shades if shade.broken]
     assert {(1, 96100, 115100), (7, 70100, 220100)} <= set(red) and {row for row, _, _ in red} == {row.number for row in outcome.broken}
 
 
@@ -50,7 +51,7 @@ def test_any_log_has_a_picture(tmp_path, case):
     path.write_bytes(recording_bytes(steps))
     picture, outcome = pictured(table, path)
     assert sum(len(times) for _, times in picture.lanes) == sum(
-        any(kind in row.hears for row in table.rows) for kind, _ in steps)
+        any(kind in row.signals for row in table.rows) for kind, _ in steps)
     assert len(picture.marks) == len(outcome.broken)
     pictures = [picture] + [pictured(table, path, [row.number])[0] for row in outcome.broken]
     for one in pictures:

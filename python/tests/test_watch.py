@@ -13,7 +13,7 @@ from hypothesis import strategies as st
 from delkuthi import Monitor, Table
 from delkuthi.logs import LogError
 from delkuthi.recording import records
-from delkuthi.watch import Watch, watch_bus
+from delkuthi.watch import Clock, Screen, Watch, watch_bus
 
 can = pytest.importorskip("can", reason="python-can is missing (Debian: python3-can)")
 
@@ -39,7 +39,7 @@ def test_a_broken_row_is_said_at_once():
         for one in (frame(0x1A0), frame(0x2B4, b"\x01"), frame(0x1A0), frame(0x2B4, b"\x00")):
             sender.send(one)
             time.sleep(0.002)
-        watch_bus(watch, bus, 20, 0.005, 0.02, lambda: "", lambda: bool(said))
+        watch_bus(watch, bus, 20, Clock(watch, 0.005, 0.02), lambda: "", lambda: bool(said), Screen(watch))
     assert len(said) == 1 and watch.broken.keys() == {0}
     assert said[0].startswith('"brake light" (Delay) broken at ') and "the pedal at " in said[0] and " had no light by " in said[0]
     watch.close()
@@ -69,10 +69,10 @@ def test_the_steps_of_a_watch(monkeypatch):
     bus, said, spool = ScriptedBus(script), [], io.BytesIO()
     monkeypatch.setattr("delkuthi.watch.clock", bus)
     watch = Watch(Table(TABLE.rows[:1], TABLE.events, TABLE.unit), said.append, spool)
-    watch_bus(watch, bus, None, 0.01, 0.02, lambda: "", lambda: not bus.script)
+    watch_bus(watch, bus, None, Clock(watch, 0.01, 0.02), lambda: "", lambda: not bus.script, Screen(watch))
     taken = [(kind, moment) for _, kind, moment in records(io.BytesIO(spool.getvalue()[1:]))]
     assert taken == [(0, 10_000), (1, 30_000), (None, 50_000), (None, 180_000), (0, 180_000), (None, 280_000), (None, 380_000)]
-    assert said == ['"brake light" (Delay) broken at 280 ms: the pedal at 180 ms (step 5) had no light by 240 ms']
+    assert said == ['"brake light" (Delay) broken at 280 ms: the pedal at 180 ms (step 5) had no light by 240 ms, at most 60 ms is asked']
 
 
 def test_a_table_without_a_unit():
@@ -115,9 +115,14 @@ def test_withdrawn_markers_are_struck_out(drawn):
     for kind, moment in taken:
         fresh.tick(moment) if kind is None else fresh.event(kind, moment)
     assert [str(one) for one in watch.monitor.verdicts] == [str(one) for one in fresh.verdicts]
-    assert bytes(watch.monitor._memory) == bytes(fresh._memory)
-    assert [(kind, moment) for _, kind, moment in records(io.BytesIO(spool.getvalue()[1:]))] == taken
     assert {row: verdict.step for row, verdict in enumerate(fresh.verdicts) if verdict.step} == watch.broken
+    assert watch.monitor.page() == fresh.page()
+    if watch.clock < 2**59:
+        for one in (watch.monitor, fresh):
+            one.tick(watch.clock + 10**6)
+            one.close()
+        assert watch.monitor.page() == fresh.page()
+    assert [(kind, moment) for _, kind, moment in records(io.BytesIO(spool.getvalue()[1:]))] == taken
 
 
 def test_a_marker_taken_back_by_a_signal(tmp_path):
@@ -137,8 +142,9 @@ def test_a_marker_taken_back_by_a_signal(tmp_path):
         assert process.stdout.readline() == "there is no marker to withdraw\n"
         process.send_signal(signal.SIGTERM)
         rest = process.stdout.read()
-        assert process.wait() == 0
-    assert rest.startswith("virtual:marker: 2 rows, 2 kept, 0 broken; ")
+        assert process.wait() == 2
+        assert process.stderr.read().endswith("virtual:marker: no frame ever came, so nothing was checked\n")
+    assert "\nvirtual:marker: 2 rows, 0 kept, 2 never exercised, 0 broken; 0 frames, " in rest
     kinds = {kind for _, kind, _ in records(io.BytesIO((tmp_path / "out.bin").read_bytes()[1:]))}
     assert kinds <= {None}
 
@@ -153,7 +159,7 @@ def test_a_marker_that_stays(command, tmp_path):
     watch.tick(9000)
     watch.close()
     assert said == ["mark at 5 ms", '"marked" (Order) broken at the end: the recording ended at 9 ms, and the mark at 5 ms (step 2) had no pedal yet']
-    assert command("watch", "a.txt", "virtual:quiet", "--seconds", "0.2")[0] == 0
+    assert command("watch", "a.txt", "virtual:quiet", "--seconds", "0.2")[0] == 2
     status, _, error = command("watch", "a.txt", "nothing:here", "--seconds", "0.2")
     assert status == 2 and error.startswith("nothing:here: ")
 

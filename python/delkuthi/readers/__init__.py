@@ -1,0 +1,22 @@
+"""The readers of logs, a module for each format. A new one is a class in a module of its own and its name in ``READERS``."""
+from __future__ import annotations
+
+from ..table import Table
+from .base import LogError, Policy, Reader, Stamped, ending
+from .candump import CandumpReader
+from .csv_events import CsvReader
+from .python_can import PythonCanReader
+from .recordings import RecordingReader
+
+#: The formats by their endings; python-can is asked for all other files.
+READERS: tuple[type[Reader], ...] = (CsvReader, CandumpReader, RecordingReader)
+
+__all__ = ["READERS", "LogError", "Policy", "Reader", "Stamped", "reader"]
+
+
+def reader(path: str, table: Table, policy: Policy) -> Reader:
+    """The reader of a log, by the ending of its name."""
+    for one in READERS:
+        if ending(path) in one.endings:
+            return one(path, table, policy)
+    return PythonCanReader(path, table, policy)

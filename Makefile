@@ -22,23 +22,24 @@ SHARED    := libdelkuthi.so.$(VERSION)
 CMAKE     := $(BUILD)/delkuthi-config.cmake $(BUILD)/delkuthi-config-version.cmake
 LIBRARY   := $(BUILD)/libdelkuthi.a $(BUILD)/$(SHARED) $(BUILD)/delkuthi.pc $(CMAKE)
 HEADERS   := $(wildcard include/*.h include/*.hpp)
-DOCUMENTS := CHANGELOG.md LICENSE NOTICE docs/CONTRACT.md docs/DATASHEET.md
+DOCUMENTS := CHANGELOG.md LICENSE NOTICE docs/CONTRACT.md docs/DATASHEET.md docs/SAFETY.md $(BUILD)/TRACE.md
 MANUALS   := $(BUILD)/delkuthi.1 $(BUILD)/delkuthi.3
 EXAMPLES  := $(addprefix host/c/,bench_loop.c report.c file.c file.h) examples/table.bin examples/recording.bin
 
-.PHONY: all lib program install install-lib install-dev uninstall clean help test test-python test-ports run bench count portable always
+.PHONY: all lib program install install-lib install-dev uninstall clean help test test-python test-ports run bench count portable trace always
 
 all: lib program
 lib: $(LIBRARY)
-program: $(BUILD)/delkuthi $(MANUALS)
+program: $(BUILD)/delkuthi $(MANUALS) $(BUILD)/TRACE.md
 
 help:
-	@echo "make             the library and the program, in $(BUILD)/ (needs rt, of the Rattle kit, and a C compiler)"
+	@echo "make             the library and the program, in $(BUILD)/ (needs rt, of the Rattle kit, a C compiler and python3)"
 	@echo "make lib         $(SHARED), libdelkuthi.a and the files for pkg-config and CMake alone"
 	@echo "make program     delkuthi and the manual pages alone"
 	@echo "make install     to PREFIX ($(PREFIX)), under DESTDIR if that is set"
 	@echo "make uninstall   takes away what make install has put there"
 	@echo "make portable    the sources as one no_std crate of Rust for other machines, in $(BUILD)/portable"
+	@echo "make trace       TRACE.md alone, from each promise of the contract to its definition, theorem, function and tests (needs python3)"
 	@echo "make clean       takes away $(BUILD)/"
 	@echo "make run         proves and builds delkuthi_cli, and prints the report on the drive in examples/"
 	@echo "make test        the gate: proves everything from nothing, then runs the tests"
@@ -87,13 +88,18 @@ $(BUILD)/$(SHARED): $(BUILD)/libdelkuthi.a $(BUILD)/exports.map
 $(BUILD)/delkuthi: program/delkuthi.c $(HEADERS) $(BUILD)/libdelkuthi.a
 	$(CC) -std=c99 $(CPPFLAGS) $(CFLAGS) $(HARDENED) -Iinclude $(LDFLAGS) -pie $(LINKED) -o $@ program/delkuthi.c $(BUILD)/libdelkuthi.a
 
+trace: $(BUILD)/TRACE.md
+$(BUILD)/TRACE.md: release/trace.py docs/READING.md docs/CONTRACT.md VERSION $(wildcard host/*/tests/*.rs)
+	@mkdir -p $(BUILD)
+	python3 release/trace.py $@
+
 # What a host runs with, and what it is compiled with: two packages of a distribution.
 install-lib: $(BUILD)/$(SHARED)
 	install -d $(DESTDIR)$(LIBDIR)
 	install -m 755 $(BUILD)/$(SHARED) $(DESTDIR)$(LIBDIR)/
 	ln -sf $(SHARED) $(DESTDIR)$(LIBDIR)/libdelkuthi.so.$(INTERFACE)
 
-install-dev: lib $(MANUALS)
+install-dev: lib $(MANUALS) $(BUILD)/TRACE.md
 	install -d $(addprefix $(DESTDIR),$(LIBDIR)/pkgconfig $(CMAKEDIR) $(INCLUDEDIR) $(MANDIR)/man3 $(DOCDIR)/examples)
 	ln -sf libdelkuthi.so.$(INTERFACE) $(DESTDIR)$(LIBDIR)/libdelkuthi.so
 	install -m 644 $(BUILD)/libdelkuthi.a $(DESTDIR)$(LIBDIR)/

@@ -1,4 +1,5 @@
 //! Two recordings joined: the exported function beside the model.
+//! Clauses: §8.16, §8.20, §13.1 to §13.8.
 
 use checks::contract::{blocks, text};
 use checks::places::example;

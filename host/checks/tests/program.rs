@@ -1,4 +1,5 @@
 //! The small programs on files, beside what the model says they print, and how the one with an exit status ends.
+//! Clauses: §7.10, §7.13, §8.17, §9.9.
 
 use checks::places::{Folder, example_bytes};
 use checks::program::{files, printed, program, with_status};

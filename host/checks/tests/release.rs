@@ -42,7 +42,7 @@ fn copies() -> [Installed; 2] {
 }
 
 /// What is installed beside the headers and the files of the shared library.
-const INSTALLED: [&str; 19] = [
+const INSTALLED: [&str; 21] = [
     "bin/delkuthi",
     "lib/cmake/delkuthi/delkuthi-config-version.cmake",
     "lib/cmake/delkuthi/delkuthi-config.cmake",
@@ -54,6 +54,8 @@ const INSTALLED: [&str; 19] = [
     "share/doc/delkuthi/DATASHEET.md",
     "share/doc/delkuthi/LICENSE",
     "share/doc/delkuthi/NOTICE",
+    "share/doc/delkuthi/SAFETY.md",
+    "share/doc/delkuthi/TRACE.md",
     "share/doc/delkuthi/examples/bench_loop.c",
     "share/doc/delkuthi/examples/file.c",
     "share/doc/delkuthi/examples/file.h",
@@ -274,9 +276,10 @@ fn what_make_says() {
     let planned = String::from_utf8(planned.stdout).expect("text");
     assert!(planned.contains("program/delkuthi.c") && !planned.contains(".ci/run"), "{planned}");
     let help = String::from_utf8(make(folder.path(), &["help"]).stdout).expect("text");
-    let targets =
-        ["lib", "program", "install", "uninstall", "portable", "clean", "run", "test", "test-ports", "bench", "count"];
-    for target in targets {
+    let makefile = text_of(&root().join("Makefile"));
+    let targets = makefile.lines().find_map(|line| line.strip_prefix(".PHONY: ")).expect("the targets");
+    let inner = ["all", "help", "always", "install-lib", "install-dev"];
+    for target in targets.split(' ').filter(|target| !inner.contains(target)) {
         assert!(help.contains(&format!("make {target} ")), "{target} in {help}");
     }
 }

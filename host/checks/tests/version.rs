@@ -1,4 +1,5 @@
 //! One version: header, pkg-config file, Rust crate and list of changes have the one in the file `VERSION`.
+//! Clauses: §11.6.
 
 use checks::hosts::c_host;
 use checks::places::root;

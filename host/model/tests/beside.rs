@@ -1,4 +1,5 @@
 //! Rows that don't hear each other (request 7): lists beside each other for a row, over tables that share it.
+//! Clauses: §3.10, §3.11.
 
 mod common;
 

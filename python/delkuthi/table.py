@@ -2,6 +2,7 @@
 from __future__ import annotations
 
 import ctypes
+import unicodedata
 from dataclasses import dataclass, field
 from pathlib import Path
 from typing import Iterable
@@ -10,6 +11,7 @@ from . import library as lib
 from .library import Refused
 from .rowtypes import MOST, BY_NAME, RowType, Value, row_bytes, row_values
 from .signals import parts, signals_of
+from .units import exact
 
 
 @dataclass(frozen=True)
@@ -94,22 +96,33 @@ class Row:
         assert isinstance(value, int)
         return value
 
-    def doubtful(self, number: int) -> str | None:
-        """The name of the field that a refusal of this number (5 to 7, or 18) is about."""
-        seen: set[int] = set()
+    def doubtful(self, number: int, unit: str | None = None) -> tuple[str, str] | None:
+        """The name of the field that a refusal of this number (4 to 7, or 18) is about, what it has, and what it may have."""
+        seen: dict[int, str] = {}
         for part in self.type.fields:
             value = self.values[part.name]
             for kind in _kinds(part.role, value):
-                if number == 5 and (kind > lib.LAST_KIND or kind in seen):
-                    return part.name
+                if number == 5 and kind > lib.LAST_KIND:
+                    return part.name, f"found {kind}, the range is 0 to {lib.LAST_KIND}"
+                if number == 5 and kind in seen:
+                    return part.name, f"found {kind}, which stands in {seen[kind]} already"
                 if number == 18 and (kind >= lib.FIRST_COLOURED) != (part.role == "coloured"):
-                    return part.name
-                seen.add(kind)
+                    return part.name, f"found {kind}, the range is {_SORTS[part.role == 'coloured']}"
+                seen[kind] = part.name
             if number == 4 and part.role == "kinds":
-                return part.name
+                return part.name, f"found {len(_kinds(part.role, value))}, the range is 2 to 4"
             if number == 6 and part.role in ("time", "limit", *MOST) and not _in_range(part.role, value):
-                return part.name
-        return self.type.bounds[0] if number == 7 and self.type.bounds else None
+                if part.role in MOST:
+                    return part.name, f"found {value}, the range is 1 to {MOST[part.role]}"
+                return part.name, f"found {exact(self.number(part.name), unit)}, the range is 0 to {exact(lib.LAST_TIME, unit)}"
+        if number == 7 and self.type.bounds:
+            lower, upper = self.type.bounds
+            return lower, f"found {exact(self.number(lower), unit)} above {exact(self.number(upper), unit)}"
+        return None
+
+
+#: The kinds of a plain field, and of a coloured one.
+_SORTS = {False: f"0 to {lib.FIRST_COLOURED - 1}", True: f"{lib.FIRST_COLOURED} to {lib.LAST_KIND}"}
 
 
 def _kinds(role: str, value: Value) -> tuple[int, ...]:
@@ -126,6 +139,11 @@ def _in_range(role: str, value: Value) -> bool:
     return value <= lib.LAST_TIME or role == "limit" and value == lib.NO_LIMIT
 
 
+def one_line(name: str) -> bool:
+    """Is it text of one line, without control characters?"""
+    return not any(unicodedata.category(c) in ("Cc", "Cs", "Zl", "Zp") for c in name)
+
+
 class Table:
     """An accepted table, with the names and units that its text gives.
 
@@ -138,7 +156,7 @@ class Table:
         self.events = tuple(events)
         self.unit = unit
         for name in [row.name for row in self.rows if row.name is not None]:
-            if not name.isprintable():
+            if not one_line(name):
                 raise ValueError(f"a row's name is one line of text, not {name!r}")
         self._bytes = bytes([1]) + b"".join(row_bytes(row.type, row.values) for row in self.rows)
         self._names = {event.kind: event.name for event in self.events}

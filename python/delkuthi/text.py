@@ -14,37 +14,81 @@ from __future__ import annotations
 
 import difflib
 import re
-from typing import Any
+import unicodedata
+from typing import Any, Iterator
 
 from . import library as lib
 from .library import Refused
-from .rowtypes import MOST, BY_NAME, TYPES, Field, Value
-from .table import CanSource, CsvSource, Event, KeySource, Row, Source, Table, table_places
+from .rowtypes import MOST, BY_NAME, TYPES, Field, Value, row_bytes
+from .table import CanSource, CsvSource, Event, KeySource, Row, Source, Table, ask_table, one_line
 from .units import DIGITS, NUMBER, UNITS, NotWhole, exact, in_unit
 
 GRAMMAR = (__doc__ or "").split(".. code-block:: text\n\n")[1]
 
+#: What people write for a unit or a row type, and what it is here.
+_UNIT_WORDS = {
+    **dict.fromkeys(("nsec", "nsecs", "nanosecond", "nanoseconds"), "ns"),
+    **dict.fromkeys(("\u00b5s", "\u03bcs", "usec", "usecs", "microsecond", "microseconds"), "us"),
+    **dict.fromkeys(("msec", "msecs", "millis", "millisecond", "milliseconds"), "ms"),
+    **dict.fromkeys(("sec", "secs", "second", "seconds"), "s"), **dict.fromkeys(("mins", "minute", "minutes"), "min"),
+    **dict.fromkeys(("hr", "hrs", "hour", "hours"), "h"),
+}
+_PERIODIC = "a periodic signal is a Sporadic with lower = upper, as in Sporadic EVENT, 10 ms .. 10 ms, jitter 1 ms, minimum 0 ms"
+_TYPE_WORDS = {
+    "periodic": _PERIODIC, "period": _PERIODIC, "synchronization": "events in step are a StrongSynchronization",
+    "age": "the age of data is a Reaction or a Delay here", "pattern": "a Pattern is several rows here",
+    "deadline": "a deadline is a Delay from 0 to it",
+}
+
+
+class _Skip(Exception):
+    """A line that cannot be read because of a mistake in another one, which is said there."""
+
 
 class TextError(Exception):
-    """A text that is not a table: ``file``, ``line``, ``column`` (both from 1) and ``message``, what was expected there."""
+    """A text that is not a table: ``file``, ``line``, ``column`` (both from 1) and ``message``, what was expected there.
 
-    def __init__(self, file: str, line: int, column: int, message: str):
-        self.file, self.line, self.column, self.message = file, line, column, message
-        Exception.__init__(self, f"{file}:{line}:{column}: {message}")
+    ``source`` is the line; ``others`` are the further mistakes of the text, which stand in what is printed too.
+    """
+
+    def __init__(self, file: str, line: int, column: int, message: str, source: str | None = None, others: tuple[TextError, ...] = ()):
+        self.file, self.line, self.column, self.message, self.source, self.others = file, line, column, message, source, others
+        Exception.__init__(self, "\n".join(one.shown() for one in (self, *others)))
+
+    def shown(self) -> str:
+        """This mistake alone, with its line and a caret below the place."""
+        text = f"{self.file}:{self.line}:{self.column}: {self.message}"
+        if self.source is None:
+            return text
+        return f"{text}\n    {_visible(self.source)}\n    {_blank(self.source[: self.column - 1])}^"
 
     def __reduce__(self) -> tuple[Any, ...]:
-        return (TextError, (self.file, self.line, self.column, self.message))
+        return (TextError, (self.file, self.line, self.column, self.message, self.source, self.others))
 
 
 class TextRefused(TextError, Refused):
     """A text whose table the library refuses: the refusal's ``number``, ``place`` and ``text``, and where it stands."""
 
-    def __init__(self, file: str, line: int, column: int, message: str, refusal: Refused):
+    def __init__(self, file: str, line: int, column: int, message: str, refusal: Refused, source: str | None = None,
+                 others: tuple[TextError, ...] = ()):
         Refused.__init__(self, refusal.number, refusal.place)
-        TextError.__init__(self, file, line, column, message)
+        TextError.__init__(self, file, line, column, message, source, others)
 
     def __reduce__(self) -> tuple[Any, ...]:
-        return (TextRefused, (self.file, self.line, self.column, self.message, Refused(self.number, self.place)))
+        refusal = Refused(self.number, self.place)
+        return (TextRefused, (self.file, self.line, self.column, self.message, refusal, self.source, self.others))
+
+
+def _visible(text: str) -> str:
+    """The text with a mark for each character that does not print; a tab stays one."""
+    return "".join(c if c == "\t" or unicodedata.category(c) not in ("Cc", "Cs", "Zl", "Zp") else "\ufffd" for c in text.rstrip())
+
+
+def _blank(text: str) -> str:
+    """As many blanks as the text is wide on a screen; a tab stays one."""
+    wide = {"W": 2, "F": 2}
+    return "".join("\t" if c == "\t" else " " * (0 if unicodedata.combining(c) else wide.get(unicodedata.east_asian_width(c), 1))
+                   for c in text)
 
 
 def grammar() -> str:
@@ -81,11 +125,26 @@ class _Line:
         return self.place + 1
 
     def error(self, message: str, column: int | None = None) -> TextError:
-        return TextError(self.file, self.number, column or self.column, message)
+        return TextError(self.file, self.number, column or self.column, message, self.text)
 
     def expected(self, what: str) -> TextError:
         rest = re.compile(r"\"[^\"]*\"?|\w+|->|\.\.|\S").match(self.text, self.place)
-        return self.error(f"expected {what}, found {rest[0] if rest else 'the end of the line'}")
+        found = rest[0] if rest else "the end of the line"
+        return self.error(f"expected {what}, found {found}{self.hint(found)}")
+
+    def hint(self, found: str) -> str:
+        """What may have been meant by a word that is not expected here."""
+        before = self.text[: self.place].rstrip()
+        if before[-1:].isdigit() and found.lower() in _UNIT_WORDS:
+            return f" (the unit is written {_UNIT_WORDS[found.lower()]})"
+        if before[-1:].isdigit() and re.match(r",[0-9]", self.text[self.place :]):
+            number = re.search(r"[0-9]+$", before)
+            part = re.match(r"[0-9]+", self.text[self.place + 1 :])
+            if number and part:
+                return f" (a part is written with a point: {number[0]}.{part[0]})"
+        if found.lower() in UNITS and found not in UNITS:
+            return f" (the unit is written {found.lower()})"
+        return ""
 
     def take(self, pattern: str, what: str | None = None) -> str | None:
         """What the pattern matches here; if nothing, ``None``, or an error where it is said what is expected."""
@@ -119,6 +178,26 @@ class _Parser:
         self.unit: str | None = None
         self.events: list[Event] = []
         self.rows: list[Row] = []
+        self.mistakes: list[TextError] = []
+        #: Names of event lines that have a mistake: rows that use them are not read.
+        self.unsure: set[str] = set()
+        self.sources: list[str] = []
+
+    def take(self, number: int, text: str) -> None:
+        """Reads a line; what is wrong with it is noted, and the next one is read."""
+        line = _Line(self.file, number, text)
+        self.sources.append(text)
+        try:
+            self.line(line)
+        except _Skip:
+            pass
+        except TextError as mistake:
+            self.mistakes.append(mistake)
+            event = re.match(r"\s*event\s+([^\W\d]\w*)", text)
+            if event:
+                self.unsure.add(event[1])
+            if re.match(r"\s*unit\b", text) and self.unit is None:
+                self.unit = "ns"
 
     def line(self, line: _Line) -> None:
         if line.ended():
@@ -126,6 +205,9 @@ class _Parser:
         start = line.column
         if line.text.startswith('"', line.place):
             name = line.string('a name that ends with "')
+            if not one_line(name):
+                strange = next(c for c in name if not one_line(c))
+                raise line.error(f"a row's name is one line of text; it has the character U+{ord(strange):04X}", start)
             if any(row.name == name for row in self.rows):
                 raise line.error(f'a second row with the name "{name}"', start)
             self.row(line, name)
@@ -180,8 +262,10 @@ class _Parser:
         type_name = line.take(r"[^\W\d]\w*", "unit, event, a row's name or its type")
         if type_name not in BY_NAME:
             line.place = start
-            near = difflib.get_close_matches(type_name or "", [*BY_NAME, "unit", "event"], 1)
-            hint = f" (did you mean {near[0]}?)" if near else ""
+            plain = re.sub("constraint$", "", (type_name or "").lower())
+            near = [name for name in BY_NAME if name.lower() == plain] or difflib.get_close_matches(
+                type_name or "", [*BY_NAME, "unit", "event"], 1)
+            hint = f" ({_TYPE_WORDS[plain]})" if plain in _TYPE_WORDS else f" (did you mean {near[0]}?)" if near else ""
             raise line.error(f"expected a row's type, one of {', '.join(BY_NAME)}; found {type_name}{hint}")
         row_type = BY_NAME[type_name]
         values: dict[str, Value] = {}
@@ -223,6 +307,8 @@ class _Parser:
         for event in self.events:
             if event.name == found:
                 return event.kind
+        if found in self.unsure:
+            raise _Skip
         near = difflib.get_close_matches(found, [event.name for event in self.events], 1)
         hint = f"did you mean {near[0]}?" if near else "an event line has to declare it"
         raise line.error(f"expected an event for {what}; {found} is not declared ({hint})", start)
@@ -271,7 +357,7 @@ def _source(line: _Line) -> Source:
     identifier, extended = int(digits, 16), len(digits) >= 10 or int(digits, 16) > 0x7FF
     if identifier >= 2**29:
         raise line.error("expected an identifier of at most 29 bits, 0x1FFFFFFF", start)
-    bus = line.take(r"\w+", "a bus, such as can0") if line.word("bus") else None
+    bus = line.take(r"[\w.:/+-]+", "a bus, such as can0 or 1") if line.word("bus") else None
     data = line.take(r"[0-9A-Fa-f.]+(?!\w)", "hexadecimal digits, with . for any") if line.word("data") else None
     change = line.word("on")
     if change:
@@ -280,27 +366,41 @@ def _source(line: _Line) -> Source:
 
 
 def parse(text: str, file: str = "table") -> Table:
-    """The table of a text; :class:`TextError` or :class:`TextRefused` where it has none."""
+    """The table of a text; :class:`TextError` or :class:`TextRefused` where it has none, with all its mistakes."""
     parser = _Parser(file)
     for number, line in enumerate(text.split("\n"), 1):
-        parser.line(_Line(file, number, line.rstrip("\r")))
-    try:
+        parser.take(number, line.rstrip("\r"))
+    mistakes = sorted([*parser.mistakes, *_refusals(parser)], key=lambda mistake: (mistake.line, mistake.column))
+    if not mistakes:
         return Table(parser.rows, parser.events, parser.unit)
-    except Refused as refusal:
-        raise _located(parser, refusal) from None
+    first, others = mistakes[0], tuple(mistakes[1:])
+    if isinstance(first, TextRefused):
+        raise TextRefused(first.file, first.line, first.column, first.message, first, first.source, others)
+    raise TextError(first.file, first.line, first.column, first.message, first.source, others)
 
 
-def _located(parser: _Parser, refusal: Refused) -> TextRefused:
-    """The refusal with the line and the field that it is about."""
-    from .rowtypes import row_bytes
+def _refusals(parser: _Parser) -> Iterator[TextRefused]:
+    """What the library has against the rows, each asked by itself, and against their number."""
+    place = 1
+    for number, row in enumerate(parser.rows):
+        data = row_bytes(row.type, row.values)
+        try:
+            if number >= lib.ROW_LIMIT:
+                raise Refused(3)
+            ask_table(b"\x01" + data)
+        except Refused as refusal:
+            yield _located(parser, row, Refused(refusal.number, place))
+            if refusal.number == 3:
+                return
+        place += len(data)
 
-    data = bytes([1]) + b"".join(row_bytes(row.type, row.values) for row in parser.rows)
-    places = [place for place, _ in table_places(data)]
-    row = parser.rows[places.index(refusal.place or 1)]
-    field = row.doubtful(refusal.number)
+
+def _located(parser: _Parser, row: Row, refusal: Refused) -> TextRefused:
+    """The refusal with the line and the field that it is about, what was found there and what may stand there."""
+    field, found = row.doubtful(refusal.number, parser.unit) or (None, None)
     about = f"{row.type.name}, {field}" if field else row.type.name
-    message = f"{about}: {refusal.text} (refused with {refusal.number})"
-    return TextRefused(parser.file, row.line, row.columns.get(field or "", 1), message, refusal)
+    message = f"{about}: {refusal.text} (refused with {refusal.number}){f': {found}' if found else ''}"
+    return TextRefused(parser.file, row.line, row.columns.get(field or "", 1), message, refusal, parser.sources[row.line - 1])
 
 
 def printed(table: Table) -> str:

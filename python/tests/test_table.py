@@ -89,6 +89,65 @@ def test_errors_say_line_and_column(text, message):
     assert not isinstance(error.value, Refused)
 
 
+HINTS = [
+    (UNIT + "Delay pedal -> light, 1 .. 2 msec", "expected the end of the line, found msec (the unit is written ms)"),
+    (UNIT + "Delay pedal -> light, 1 \u00b5s .. 2", "expected .., found \u00b5s (the unit is written us)"),
+    (UNIT + "Delay pedal -> light, 1 .. 50,5 ms", "found , (a part is written with a point: 50.5)"),
+    (UNIT + "Periodic pedal, 5 ms", "found Periodic (a periodic signal is a Sporadic with lower = upper"),
+    (UNIT + "DelayConstraint pedal -> light, 5", "found DelayConstraint (did you mean Delay?)"),
+    (UNIT + "Delay pedal -> light, 9 ms .. 2 ms", "(refused with 7): found 9 ms above 2 ms"),
+    (UNIT + "Repeat pedal span 70, 1 .. 2", "(refused with 6): found 70, the range is 1 to 64"),
+    (UNIT + "Repetition pedal span 9, 1 .. 2, jitter 1", "(refused with 6): found 9, the range is 1 to 8"),
+    (UNIT + "Order pedal -> pedal", "(refused with 5): found 0, which stands in source already"),
+    (UNIT + "Order pedal -> 64", "(refused with 5): found 64, the range is 0 to 63"),
+    (UNIT + "Order pedal -> 48", "(refused with 18): found 48, the range is 0 to 47"),
+    ('"a\tb" Order 0 -> 1', "a row's name is one line of text; it has the character U+0009"),
+    ('"a\rb" Order 0 -> 1', "it has the character U+000D"), ('"a\0b" Order 0 -> 1', "it has the character U+0000"),
+]
+
+
+@pytest.mark.parametrize("text, part", HINTS)
+def test_what_may_have_been_meant(text, part):
+    with pytest.raises(TextError) as error:
+        Table.from_text(text, "t")
+    assert part in str(error.value)
+
+
+def test_all_mistakes_are_said_at_once():
+    """Each with its line and a caret below its column; what follows from another mistake is not said."""
+    text = ("unit us\nevent pedal = 99\nevent light = 1\nevent horn = 2\n"
+            "Order pedal -> light\n\tOrder light -> hron\nOrder light -> light\n\"\u65e5\u672c\" Order light, horn\n")
+    with pytest.raises(TextError) as error:
+        Table.from_text(text, "t")
+    assert str(error.value).splitlines() == [
+        "t:2:15: expected a kind from 0 to 63, found 99", "    event pedal = 99", "                  ^",
+        "t:6:17: expected an event for target; hron is not declared (did you mean horn?)", "    \tOrder light -> hron",
+        "    \t               ^",
+        "t:7:16: Order, target: a row has a kind above 63, or one kind twice (refused with 5): found 1, which stands in source already",
+        "    Order light -> light", "                   ^",
+        "t:8:17: expected ->, found ,", "    \"\u65e5\u672c\" Order light, horn", "                      ^",
+    ]
+    assert [(one.line, one.column) for one in (error.value, *error.value.others)] == [(2, 15), (6, 17), (7, 16), (8, 17)]
+    with pytest.raises(TextError) as error:
+        Table.from_text("unit days\nDelay 0 -> 1, 1 ms .. 2 s\n", "t")
+    assert not error.value.others
+
+
+@given(st.text(max_size=12))
+def test_row_names_of_every_class(name):
+    """A name that is one line of text is read as it stands; any other is an error with its place."""
+    import unicodedata
+
+    quoted = name.replace("\\", "\\\\").replace('"', '\\"')
+    bad = any(unicodedata.category(c) in ("Cc", "Cs", "Zl", "Zp") for c in name)
+    try:
+        table = Table.from_text(f'"{quoted}" Order 0 -> 1', "t")
+    except TextError as error:
+        assert bad and error.line == 1
+    else:
+        assert not bad and table.rows[0].name == name and Table.from_text(table.text()).rows == table.rows
+
+
 @pytest.mark.parametrize("before, column", [("Order 0 -> ", 12), ("Delay 0 -> 1, ", 15), ("Repeat 0 span ", 15), ("event a = ", 11)])
 def test_numbers_of_thousands_of_digits(before, column):
     with pytest.raises(TextError, match=f"^t:1:{column}: expected a"):

@@ -5,60 +5,39 @@ import ctypes
 import unicodedata
 from dataclasses import dataclass, field
 from pathlib import Path
-from typing import Iterable
+from typing import Iterable, Mapping
 
 from . import library as lib
 from .library import Refused
-from .rowtypes import MOST, BY_NAME, RowType, Value, row_bytes, row_values
-from .signals import parts, signals_of
+from .rowtypes import MOST, BY_NAME, RowType, Value, row_values
+from .signals import is_coloured, parts, signals_of
+from .sources import CanSource, CsvSource, KeySource, Source
+from .split import Part, split
 from .units import exact
 
-
-@dataclass(frozen=True)
-class CanSource:
-    """Frames of a CAN bus that are an event: an identifier, and what their data begins with (``.`` is any digit)."""
-
-    identifier: int
-    extended: bool = False
-    bus: str | None = None
-    data: str | None = None
-    change: bool = False
-    colour: int | None = None
-
-    def matches(self, data: bytes) -> bool:
-        """Does the data begin with the digits asked for?"""
-        if self.data is None:
-            return True
-        digits = data.hex().upper()
-        return len(digits) >= len(self.data) and all(a in (".", b) for a, b in zip(self.data, digits))
-
-
-@dataclass(frozen=True)
-class CsvSource:
-    """What stands in the event's column of a CSV file where it is not the event's name."""
-
-    text: str
-    colour: int | None = None
-
-
-@dataclass(frozen=True)
-class KeySource:
-    """A key that gives the event while a bus is watched."""
-
-    key: str
-    colour: int | None = None
-
-
-Source = CanSource | CsvSource | KeySource
+__all__ = ["CanSource", "CsvSource", "Event", "Executed", "KeySource", "Row", "Source", "Table", "ask_table", "one_line", "table_places"]
 
 
 @dataclass(frozen=True)
 class Event:
-    """A kind of event with its name, and where it comes from; from a source of a coloured kind with its colour."""
+    """A kind of event with its name, and where it comes from; from a source of a coloured kind with its colour. ``numbered`` says that
+    its kind is the text's and not the tool's, ``implied`` that it has no line of its own in the text."""
 
     name: str
     kind: int
     sources: tuple[Source, ...] = ()
+    numbered: bool = True
+    implied: bool = False
+
+
+@dataclass(frozen=True)
+class Executed:
+    """What an ExecutionTime row is about where its text names a task, an interrupt routine or a runnable and not four events;
+    ``without_waiting`` says that the time in which it waits is no running time."""
+
+    target: str
+    name: str
+    without_waiting: bool = False
 
 
 @dataclass(frozen=True)
@@ -70,6 +49,7 @@ class Row:
     name: str | None = None
     line: int = field(default=0, compare=False)
     columns: dict[str, int] = field(default_factory=dict, compare=False)
+    executed: Executed | None = None
 
     @staticmethod
     def of(type_name: str, name: str | None = None, **values: Value) -> Row:
@@ -84,6 +64,17 @@ class Row:
     def kinds(self) -> tuple[int, ...]:
         """The kinds that it names, in the order of its fields."""
         return tuple(kind for part in self.type.fields for kind in _kinds(part.role, self.values[part.name]))
+
+    def with_kinds(self, kinds: Mapping[int, int]) -> dict[str, Value]:
+        """The values of its fields, with other numbers for its kinds."""
+        found = dict(self.values)
+        for part in self.type.fields:
+            value = found[part.name]
+            if isinstance(value, tuple):
+                found[part.name] = tuple(kinds[kind] for kind in value)
+            elif part.role in ("kind", "coloured"):
+                found[part.name] = kinds[value]
+        return found
 
     @property
     def signals(self) -> tuple[int, ...]:
@@ -102,11 +93,11 @@ class Row:
         for part in self.type.fields:
             value = self.values[part.name]
             for kind in _kinds(part.role, value):
-                if number == 5 and kind > lib.LAST_KIND:
+                if number == 5 and lib.LAST_KIND < kind <= 255:
                     return part.name, f"found {kind}, the range is 0 to {lib.LAST_KIND}"
                 if number == 5 and kind in seen:
                     return part.name, f"found {kind}, which stands in {seen[kind]} already"
-                if number == 18 and (kind >= lib.FIRST_COLOURED) != (part.role == "coloured"):
+                if number == 18 and is_coloured(kind) != (part.role == "coloured"):
                     return part.name, f"found {kind}, the range is {_SORTS[part.role == 'coloured']}"
                 seen[kind] = part.name
             if number == 4 and part.role == "kinds":
@@ -150,18 +141,35 @@ class Table:
     ``Table.read(path)`` takes a file of text or bytes; :meth:`from_text` and :meth:`from_bytes` take what was read.
     """
 
-    def __init__(self, rows: Iterable[Row], events: Iterable[Event] = (), unit: str | None = None):
-        """A table of rows; :class:`Refused` says what the library has against them."""
+    def __init__(self, rows: Iterable[Row], events: Iterable[Event] = (), unit: str | None = None, databases: Iterable[str] = (),
+                 folder: str = ""):
+        """A table of rows; :class:`Refused` says what the library has against them. ``databases`` are the files with the signals, as
+        seen from ``folder``."""
         self.rows = tuple(rows)
         self.events = tuple(events)
         self.unit = unit
+        self.databases, self.folder = tuple(databases), folder
         for name in [row.name for row in self.rows if row.name is not None]:
             if not one_line(name):
                 raise ValueError(f"a row's name is one line of text, not {name!r}")
-        self._bytes = bytes([1]) + b"".join(row_bytes(row.type, row.values) for row in self.rows)
+        #: The rows for as many monitors as are needed.
+        self.parts: list[Part] = split(self.rows)
         self._names = {event.kind: event.name for event in self.events}
         self._kinds = {event.name: event.kind for event in self.events}
-        ask_table(self._bytes)
+        for part in self.parts:
+            self._ask(part)
+
+    def _ask(self, part: Part) -> None:
+        """Does the library accept a part of the table? The place of a refusal is the row's in the whole table."""
+        try:
+            ask_table(part.data)
+        except Refused as refusal:
+            places = [place for place, _ in table_places(part.data)]
+            if len(self.parts) == 1 or refusal.place not in places:
+                raise
+            row = part.rows[places.index(refusal.place)]
+            sizes = [2 + len(body) for one in self.parts for _, body in table_places(one.data)]
+            raise Refused(refusal.number, 1 + sum(sizes[:row])) from None
 
     @staticmethod
     def read(path: str | Path) -> Table:
@@ -193,8 +201,10 @@ class Table:
         return parse(text, file)
 
     def bytes(self) -> bytes:
-        """The table as the library reads it."""
-        return self._bytes
+        """The table as the library reads it; :class:`Refused` with 3 if one monitor cannot take it."""
+        if len(self.parts) > 1:
+            raise Refused(3)
+        return self.parts[0].data
 
     def text(self) -> str:
         """The table as text, in its normal form."""
@@ -225,7 +235,17 @@ class Table:
 
     def alone(self, number: int) -> Table:
         """The table of this one row."""
-        return Table([self.rows[number]], self.events, self.unit)
+        return Table([self.rows[number]], self.events, self.unit, self.databases, self.folder)
+
+    def with_databases(self, files: Iterable[str]) -> Table:
+        """The same table with these files of signals besides its own, as seen from where the command stands."""
+        paths = [str(Path(file).absolute()) for file in files]
+        return Table(self.rows, self.events, self.unit, (*self.databases, *paths), self.folder) if paths else self
+
+    @property
+    def database_paths(self) -> tuple[str, ...]:
+        """Where the files of signals are."""
+        return tuple(str(Path(self.folder) / name) for name in self.databases)
 
 
 def table_places(data: bytes) -> Iterable[tuple[int, bytes]]:

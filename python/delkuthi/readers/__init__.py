@@ -2,16 +2,19 @@
 from __future__ import annotations
 
 from ..table import Table
-from .base import LogError, Policy, Reader, Stamped, ending
+from .asc import AscReader
+from .base import Lines, LogError, Policy, Reader, Stamped, ending
+from .btf import BtfReader
 from .candump import CandumpReader
 from .csv_events import CsvReader
 from .python_can import PythonCanReader
 from .recordings import RecordingReader
+from .xlsx import XlsxReader
 
 #: The formats by their endings; python-can is asked for all other files.
-READERS: tuple[type[Reader], ...] = (CsvReader, CandumpReader, RecordingReader)
+READERS: tuple[type[Reader], ...] = (CsvReader, CandumpReader, AscReader, BtfReader, XlsxReader, RecordingReader)
 
-__all__ = ["READERS", "LogError", "Policy", "Reader", "Stamped", "reader"]
+__all__ = ["READERS", "Lines", "LogError", "Policy", "Reader", "Stamped", "reader"]
 
 
 def reader(path: str, table: Table, policy: Policy) -> Reader:

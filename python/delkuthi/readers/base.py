@@ -4,13 +4,17 @@ A reader says what stands in the log. What becomes of equal, unsorted or early s
 """
 from __future__ import annotations
 
+import bz2
+import codecs
 import csv
 import gzip
+import lzma
 import zlib
 from dataclasses import dataclass
 from pathlib import Path
-from typing import IO, Any, Callable, ClassVar, Iterator, NamedTuple
+from typing import IO, Any, Callable, ClassVar, Iterable, Iterator, NamedTuple, TypeVar, Union
 
+from ..batches import Batch, Codes
 from ..table import Table
 from ..units import NotWhole, in_unit, nearest_in_unit
 
@@ -21,6 +25,12 @@ class Stamped(NamedTuple):
     time: int
     kinds: tuple[int, ...]
     place: int
+
+
+Lines = Iterable[Stamped]
+_Found = TypeVar("_Found")
+#: How the files of each ending are unpacked.
+PACKED: dict[str, Callable[..., Any]] = {".gz": gzip.open, ".bz2": bz2.open, ".xz": lzma.open}
 
 
 @dataclass(frozen=True)
@@ -36,6 +46,8 @@ class Policy:
     - ``as_stamped``: the monitor's clock is the stamps', not ahead of them by the largest jitter of the table.
     - ``until``: the clock goes on to this stamp, in the table's unit, after the last line.
     - ``close``: the end of the log is the end of the recording; else rows that are not broken stay open.
+    - ``time_column`` and the others: what the columns of a sheet are called, where they have not the usual names.
+    - ``encoding``: how the characters of a text log are written.
     """
 
     equal: str = "refuse"
@@ -47,6 +59,9 @@ class Policy:
     close: bool = True
     time_column: str | None = None
     event_column: str | None = None
+    task_column: str | None = None
+    action_column: str | None = None
+    encoding: str = "utf-8"
 
 
 class LogError(Exception):
@@ -68,8 +83,10 @@ class Reader:
     #: What a place is: a line, a record, a frame.
     word: ClassVar[str] = "line"
 
-    def __init__(self, path: str, table: Table, policy: Policy):
+    def __init__(self, path: str, table: Table, policy: Policy, file: str | None = None):
         self.path, self.table, self.policy = path, table, policy
+        #: Where the bytes are, if that is not the path that is said in messages.
+        self.file = path if file is None else file
         #: Lines that say nothing, such as blank ones, and stamps that were rounded.
         self.skipped = self.rounded = 0
         #: The buses of the frames that were read, as the log names them.
@@ -81,15 +98,23 @@ class Reader:
         """The lines of the log as they stand."""
         raise NotImplementedError
 
+    def batches(self, codes: Codes) -> Iterator[Union[Batch, Lines]]:
+        """The same many at a time, where the format has a way for that; else the lines."""
+        yield self.lines()
+
     def checked_lines(self) -> Iterator[Stamped]:
-        """The same; what is wrong with the file itself is an error of the log."""
+        """The lines; what is wrong with the file itself is an error of the log."""
+        return self.checked(self.lines())
+
+    def checked(self, found: Iterable[_Found]) -> Iterator[_Found]:
+        """What was found in the file; what is wrong with the file itself is an error of the log."""
         try:
-            yield from self.lines()
+            yield from found
         except UnicodeDecodeError as error:
             raise LogError(self.path, "", f"not a text file: {error.reason} at byte {error.start}") from None
         except csv.Error as error:
             raise LogError(self.path, "", f"not a CSV file: {error}") from None
-        except (EOFError, gzip.BadGzipFile, zlib.error) as error:
+        except (EOFError, gzip.BadGzipFile, zlib.error, lzma.LZMAError) as error:
             raise LogError(self.path, "", f"not a packed file: {error}") from None
 
     def where(self, place: int) -> str:
@@ -125,17 +150,32 @@ class Reader:
 
     def opened(self) -> IO[bytes]:
         """The file, unpacked if it is packed."""
-        return gzip.open(self.path, "rb") if self.path.endswith(".gz") else open(self.path, "rb")  # type: ignore[return-value]
+        return PACKED.get(Path(self.file).suffix.lower(), open)(self.file, "rb")  # type: ignore[no-any-return]
+
+    @property
+    def wide(self) -> bool:
+        """Has a character of the encoding several bytes, so that a line feed is not one byte?"""
+        return "\n".encode(self.policy.encoding.lower().replace("utf-16", "utf-16-le").replace("utf-32", "utf-32-le")) != b"\n"
+
+    def decoded(self, line: bytes, number: int) -> str:
+        """The text of a line; the mark at the beginning of a file is left out."""
+        if number == 1 and line.startswith(codecs.BOM_UTF8):
+            line = line[len(codecs.BOM_UTF8) :]
+        return line.decode(self.policy.encoding)
 
     def text_lines(self) -> Iterator[tuple[int, str]]:
         """The lines of a text file, with their numbers."""
         with self.opened() as file:
+            if self.wide:
+                for number, text in enumerate(codecs.getreader(self.policy.encoding)(file), 1):
+                    yield number, text
+                return
             for number, line in enumerate(file, 1):
                 self.advance(len(line))
-                yield number, line.decode("utf-8-sig" if number == 1 else "utf-8")
+                yield number, self.decoded(line, number)
 
 
 def ending(path: str) -> str:
     """The ending of a file's name in small letters; of a packed one the ending before that."""
     suffixes = [suffix.lower() for suffix in Path(path).suffixes]
-    return suffixes[-2] if suffixes[-1:] == [".gz"] and len(suffixes) > 1 else (suffixes or [""])[-1]
+    return suffixes[-2] if suffixes and suffixes[-1] in PACKED and len(suffixes) > 1 else (suffixes or [""])[-1]

@@ -1,55 +1,47 @@
-"""CSV: a column of times and a column of events."""
+"""CSV and TSV."""
 from __future__ import annotations
 
 import csv
-import re
-from typing import Iterator
+from typing import Iterable, Iterator
 
-from ..library import FIRST_COLOURED
-from ..signals import colours, parts, signal
-from ..table import CsvSource
-from ..units import DIGITS, UNITS
-from .base import Reader, Stamped
+from ..batches import OTHER, Batch, Codes, Irregular, Scale, blocks, table_of
+from .base import Lines, Reader, Stamped, ending
 from .python_can import PythonCanReader
-
-_STAMP = re.compile(rf"{DIGITS}(?:\.[0-9]{{0,40}})?")
-_UNIT = re.compile(r"(?:^|[ _(\[])(%s)[)\]]?$" % "|".join(UNITS))
+from .sheets import Columns, SheetReader
 
 
-class CsvReader(Reader):
-    """Columns by name. A file of python-can's own columns is read by python-can."""
+class CsvReader(SheetReader):
+    """Columns by name, between commas, semicolons or tabs; with semicolons a comma is the point of a number. A file of python-can's own
+    columns is read by python-can."""
 
-    endings = (".csv",)
+    endings = (".csv", ".tsv")
+    delimiter = ","
 
     def lines(self) -> Iterator[Stamped]:
-        lines = self.text_lines()
-        first = next(lines, (1, ""))[1]
-        delimiter = max(",;\t", key=first.count)
-        header: list[str] = next(csv.reader([first], delimiter=delimiter), [])
-        if "arbitration_id" in header:
-            yield from self._frames()
+        for _, first in self.text_lines():
+            yield from self._frames() if "arbitration_id" in self._header(first) else super().lines()
             return
-        time_place, unit = self._time_column(header)
-        event_place = self._column(header, self.policy.event_column or "event")
-        kinds, number = self._kinds(), 1
+        yield from super().lines()
+
+    def _header(self, first: str) -> list[str]:
+        """The names of the columns; from them it is seen what separates them."""
+        self.delimiter = "\t" if ending(self.path) == ".tsv" else max(",;\t", key=first.count)
+        self.comma = self.delimiter == ";"
+        return next(csv.reader([first], delimiter=self.delimiter), [])
+
+    def rows(self) -> Iterator[tuple[int, list[str]]]:
+        return self._cells(self.text_lines())
+
+    def _cells(self, lines: Iterable[tuple[int, str]]) -> Iterator[tuple[int, list[str]]]:
+        number = 1
 
         def texts() -> Iterator[str]:
             nonlocal number
             for number, line in lines:
                 yield line
 
-        for cells in csv.reader(texts(), delimiter=delimiter):
-            if not cells:
-                self.skipped += 1
-                continue
-            if len(cells) <= max(time_place, event_place):
-                raise self.error(number, f"expected {len(header)} columns, found {len(cells)}")
-            stamp = cells[time_place].strip()
-            if delimiter == ";":
-                stamp = stamp.replace(",", ".")
-            if not _STAMP.fullmatch(stamp):
-                raise self.error(number, f"expected a time, found {stamp or 'nothing'}")
-            yield Stamped(self.time(stamp, unit, number), kinds.get(cells[event_place].strip(), ()), number)
+        for cells in csv.reader(texts(), delimiter=self.delimiter):
+            yield number, cells
 
     def _frames(self) -> Iterator[Stamped]:
         """A file of python-can, whose first frame is in the second line."""
@@ -59,31 +51,88 @@ class CsvReader(Reader):
             yield Stamped(time, kinds, place + 1)
             self.rounded = frames.rounded
 
-    def _kinds(self) -> dict[str, tuple[int, ...]]:
-        """The signals by what stands in the events' column."""
-        kinds: dict[str, tuple[int, ...]] = {event.name: (event.kind,) for event in self.table.events}
-        for event in self.table.events:
-            for source in event.sources:
-                if isinstance(source, CsvSource):
-                    kinds[source.text] = (signal(event.kind, source.colour),)
-            if event.kind >= FIRST_COLOURED:
-                kinds.update((f"{event.name}/{parts(number)[1]}", (number,)) for number in colours(event.kind))
-        return kinds
+    def batches(self, codes: Codes) -> Iterator[Batch | Lines]:
+        with self.opened() as file:
+            header = [] if self.wide else self._header(self.decoded(file.readline(), 1))
+            if not header or "arbitration_id" in header:
+                yield self.lines()
+                return
+            columns = Columns(self, header, self.comma)
+            if columns.event is None or columns.samples or columns.tasks:
+                yield self.lines()
+                return
+            several = _Blocks(self, columns, codes)
+            number, rest = 2, blocks(file)
+            for block in rest:
+                self.advance(len(block))
+                if b'"' in block:
+                    # A cell in quotes may go on in the next block.
+                    yield self._one_by_one(columns, _lines(block, rest), number)
+                    return
+                try:
+                    batch = several.batch(block, number)
+                    number += len(batch.codes)
+                    yield batch
+                except Irregular:
+                    yield self._one_by_one(columns, _lines(block, ()), number)
+                    number += block.count(b"\n")
 
-    def _column(self, header: list[str], name: str) -> int:
-        names = [cell.strip().lower() for cell in header]
-        if name.lower() not in names:
-            raise self.error(1, f"expected a column {name}, found {', '.join(header) or 'nothing'}")
-        return names.index(name.lower())
+    def _one_by_one(self, columns: Columns, lines: Iterable[bytes], number: int) -> Iterator[Stamped]:
+        """Lines from a number on, each by itself."""
+        for place, cells in self._cells((at, self.decoded(line, at)) for at, line in enumerate(lines, number)):
+            if cells:
+                yield columns.line(cells, place)
+            else:
+                self.skipped += 1
 
-    def _time_column(self, header: list[str]) -> tuple[int, str | None]:
-        """The place of the column of the times, and the unit that its name ends with, as in ``time_ms`` or ``time [ms]``."""
-        if self.policy.time_column is not None:
-            place = self._column(header, self.policy.time_column)
-        else:
-            found = [i for i, cell in enumerate(header) if re.match(r"time(stamp)?($|[ _(\[])", cell.strip().lower())]
-            if not found:
-                raise self.error(1, f"expected a column time, found {', '.join(header) or 'nothing'}")
-            place = found[0]
-        unit = _UNIT.search(header[place].strip())
-        return place, unit[1] if unit else None
+
+def _lines(block: bytes, rest: Iterable[bytes]) -> Iterator[bytes]:
+    """The lines of a block, and those of the blocks behind it."""
+    yield from block.splitlines(keepends=True) if b"\r" not in block else _split(block)
+    for more in rest:
+        yield from _split(more)
+
+
+def _split(block: bytes) -> list[bytes]:
+    """The lines of a block as a file has them: each with its line feed."""
+    lines = [line + b"\n" for line in block.split(b"\n")]
+    last = lines.pop()[:-1]
+    return [*lines, last] if last else lines
+
+
+class _Cells(dict[bytes, int]):
+    """The codes of what stands in the events' column, kept from line to line."""
+
+    def __init__(self, reader: Reader, columns: Columns, codes: Codes):
+        super().__init__()
+        self.reader, self.columns, self.codes = reader, columns, codes
+
+    def __missing__(self, cell: bytes) -> int:
+        kinds = self.columns.kinds.get(self.reader.decoded(cell, 2).strip(), ())
+        code = self.codes.of[kinds[0]] if kinds else OTHER
+        if len(self) < 10_000:
+            self[cell] = code
+        return code
+
+
+class _Blocks:
+    """Blocks of lines that all have a plain stamp and an event."""
+
+    def __init__(self, reader: CsvReader, columns: Columns, codes: Codes):
+        self.reader, self.columns = reader, columns
+        self.number, self.delimiter = len(columns.header), reader.delimiter.encode()
+        self.cells = _Cells(reader, columns, codes)
+        if columns.unit is not None and reader.table.unit is None:
+            raise reader.error(2, f"the stamps are in {columns.unit}, but the table has no unit line")
+        self.scale = Scale(columns.unit, reader.table.unit)
+
+    def batch(self, block: bytes, number: int) -> Batch:
+        """The lines of a block."""
+        if not block.isascii():
+            self.reader.decoded(block, 2)
+        cells = table_of(block, self.delimiter, self.number)
+        stamps = cells[self.columns.time :: self.number + 1]
+        if self.reader.comma:
+            stamps = b"\n".join(stamps).replace(b",", b".").split(b"\n")
+        event = self.columns.event or 0
+        return Batch(self.scale.times(stamps), bytes(map(self.cells.__getitem__, cells[event :: self.number + 1])), number)

@@ -1,0 +1,154 @@
+"""Thousands of lines of a log at a time: their stamps and their events side by side, and the records that the library reads in one call.
+
+What is done for each line is done by what Python has in C: splitting, looking up, packing. Lines that are not all alike raise
+:class:`Irregular`, and are then looked at one by one; both ways give the same steps.
+"""
+from __future__ import annotations
+
+import sys
+from array import array
+from math import gcd
+from operator import lt
+from itertools import islice
+from typing import IO, Iterable, Iterator, NamedTuple, Sequence
+
+from .library import FIRST_COLOURED
+from .signals import parts
+from .units import UNITS
+
+#: The code of a line that is no event of the table.
+OTHER = 255
+#: So many bytes of a log are looked at together.
+BLOCK = 1 << 18
+
+
+class Irregular(Exception):
+    """Lines that are not all alike."""
+
+
+class Batch(NamedTuple):
+    """Lines that follow each other: their stamps, the codes of their events, and the place of the first."""
+
+    times: list[int]
+    codes: bytes
+    place: int
+
+
+class Codes:
+    """A number below :data:`OTHER` for each signal of a table, so that the events of many lines are a string of bytes."""
+
+    def __init__(self, numbers: Iterable[int]):
+        self.numbers = sorted(set(numbers))
+        if len(self.numbers) >= OTHER - 1:
+            raise Irregular
+        self.of = {number: code for code, number in enumerate(self.numbers)}
+
+
+def blocks(file: IO[bytes], size: int = BLOCK) -> Iterator[bytes]:
+    """The rest of a file in blocks of whole lines, each ended by a line feed; but for the last line, which may have none."""
+    rest = b""
+    while data := file.read(size):
+        cut = data.rfind(b"\n") + 1
+        if not cut:
+            rest += data
+            continue
+        yield rest + data[:cut]
+        rest = data[cut:]
+    if rest:
+        yield rest
+
+
+def table_of(block: bytes, delimiter: bytes, columns: int) -> list[bytes]:
+    """The cells of a block of lines that all have so many, and a cell of a line feed behind each line; none has quotes."""
+    if b"\r" in block:
+        block = block.replace(b"\r\n", b"\n")
+    if b'"' in block or b"\r" in block or not block.endswith(b"\n"):
+        raise Irregular
+    cells = block.replace(b"\n", delimiter + b"\n" + delimiter).split(delimiter)
+    ends = cells[columns :: columns + 1]
+    if len(cells) % (columns + 1) != 1 or ends.count(b"\n") != len(ends):
+        raise Irregular
+    cells.pop()
+    return cells
+
+
+class Scale:
+    """How stamps, decimal numbers of one unit, become whole numbers of another."""
+
+    def __init__(self, written: str | None, unit: str | None):
+        self.above, self.below = (1, 1) if written is None or unit is None else (UNITS[written], UNITS[unit])
+
+    def times(self, cells: list[bytes]) -> list[int]:
+        """The times of stamps that have all the same number of digits behind the point, or none."""
+        joined, digits = b"".join(cells), 0
+        try:
+            if not joined.isdigit():
+                digits = _digits(cells, joined)
+                cells = b"\n".join(cells).replace(b".", b"").split(b"\n")
+            times = list(map(int, cells))
+        except ValueError:
+            raise Irregular from None
+        above, below = self.above, self.below * 10**digits
+        common = gcd(above, below)
+        above, below = above // common, below // common
+        if below > 1 and any([time % below for time in times]):
+            raise Irregular
+        return times if above == below == 1 else [time * above // below for time in times]
+
+
+def _digits(cells: list[bytes], joined: bytes) -> int:
+    """How many digits each cell has behind its point."""
+    number, size, point = len(cells), len(cells[0]), cells[0].find(b".")
+    if joined.count(b".") != number or not joined.replace(b".", b"").isdigit():
+        raise Irregular
+    if point > 0 and len(joined) == size * number and joined[point::size] == b"." * number and len(set(map(len, cells))) == 1:
+        return size - point - 1
+    behind = {len(cell) - cell.find(b".") for cell in cells if cell.find(b".") > 0}
+    if len(behind) != 1 or not all([b"." in cell[1:] for cell in cells]):
+        raise Irregular
+    return behind.pop() - 1
+
+
+def rising(times: Sequence[int], clock: int) -> bool:
+    """Is each time later than the one before it, and the first later than the clock?"""
+    return times[0] > clock and all(map(lt, times, islice(times, 1, None)))
+
+
+class Records:
+    """Steps as the records of a recording, for a monitor whose table has ``kinds``, by their codes."""
+
+    def __init__(self, numbers: Sequence[int], kinds: Iterable[int]):
+        """The signals of the codes, and the kinds that the monitor's rows name; those of other kinds only move the clock."""
+        known = set(kinds)
+        free = [kind for kind in range(FIRST_COLOURED) if kind not in known]
+        self._heads = [_head(number) if parts(number)[0] in known else b"\x00\x08" for number in numbers]
+        self._heads += [b"\x00\x08"] * (256 - len(self._heads))
+        # Without colours all records have one length, if what only moves the clock is an event of a kind that no row names.
+        self._kinds = bytes(head[2] if len(head) == 3 else free[0] if free and len(head) == 2 else 0 for head in self._heads)
+        self._alike = bytes(code for code, head in enumerate(self._heads) if len(head) == 3 or free and len(head) == 2)
+        self.coloured = any(len(head) == 4 for head in self._heads)
+
+    def of(self, times: Sequence[int], codes: bytes) -> bytes:
+        """The records of steps; each is later than the one before it, or an event that may have its time."""
+        number = len(codes)
+        try:
+            stamps = array("Q", times)
+        except OverflowError:
+            raise Irregular from None
+        if sys.byteorder == "little":
+            stamps.byteswap()
+        data = stamps.tobytes()
+        if codes.translate(None, self._alike):
+            return b"".join([self._heads[code] + data[at : at + 8] for code, at in zip(codes, range(0, len(data), 8))])
+        records = bytearray(11 * number)
+        records[1::11] = b"\x09" * number
+        records[2::11] = codes.translate(self._kinds)
+        for at in range(8):
+            records[3 + at :: 11] = data[at::8]
+        return bytes(records)
+
+
+def _head(number: int) -> bytes:
+    """What stands before the time in the record of an event."""
+    kind, colour = parts(number)
+    return bytes([0, 9, kind]) if colour is None else bytes([0, 10, kind, colour])

@@ -26,7 +26,7 @@ DOCUMENTS := CHANGELOG.md LICENSE NOTICE docs/CONTRACT.md docs/DATASHEET.md docs
 MANUALS   := $(BUILD)/delkuthi.1 $(BUILD)/delkuthi.3
 EXAMPLES  := $(addprefix host/c/,bench_loop.c report.c file.c file.h) examples/table.bin examples/recording.bin
 
-.PHONY: all lib program install install-lib install-dev uninstall clean help test test-python test-ports run bench count portable trace always
+.PHONY: all lib program install install-lib install-dev uninstall clean help test test-python test-ports run bench count portable trace dist always
 
 all: lib program
 lib: $(LIBRARY)
@@ -38,6 +38,7 @@ help:
 	@echo "make program     delkuthi and the manual pages alone"
 	@echo "make install     to PREFIX ($(PREFIX)), under DESTDIR if that is set"
 	@echo "make uninstall   takes away what make install has put there"
+	@echo "make dist        the release: a folder and a tarball in $(BUILD)/, with manifest, list of parts and checksums"
 	@echo "make portable    the sources as one no_std crate of Rust for other machines, in $(BUILD)/portable"
 	@echo "make trace       TRACE.md alone, from each promise of the contract to its definition, theorem, function and tests (needs python3)"
 	@echo "make clean       takes away $(BUILD)/"
@@ -149,3 +150,9 @@ portable:
 
 test-ports: lib portable
 	BUILD=$(BUILD) bash release/test-ports
+
+# The release finds its own parts wherever it is unpacked.
+dist: portable
+	rm -rf $(BUILD)/dist
+	$(MAKE) --no-print-directory install DESTDIR=$(BUILD)/dist PREFIX=/tree PC_PREFIX='$$$${pcfiledir}/../..'
+	python3 release/dist.py $(BUILD)

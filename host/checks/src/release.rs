@@ -7,17 +7,23 @@ use std::path::{Path, PathBuf};
 use std::process::{Command, Output};
 use std::{env, fs};
 
-/// `make` at the repository's root, with the archive that the tests have, and what it builds in a folder of its own.
-///
-/// # Panics
-/// If there is no `make`.
-pub fn make(build: &Path, words: &[&str]) -> Output {
+/// `make` in a folder of sources, with the archive that the tests have, and with no setting of whoever started the tests.
+pub fn make_in(sources: &Path) -> Command {
     let mut command = Command::new("make");
     // the tests may have been started by make themselves
     for name in ["MAKEFLAGS", "MAKELEVEL", "MFLAGS", "DESTDIR", "PREFIX", "CFLAGS", "CPPFLAGS", "LDFLAGS"] {
         command.env_remove(name);
     }
-    command.current_dir(root()).env("DELKUTHI_LIB", archive_folder());
+    command.current_dir(sources).env("DELKUTHI_LIB", archive_folder());
+    command
+}
+
+/// `make` at the repository's root, and what it builds in a folder of its own.
+///
+/// # Panics
+/// If there is no `make`.
+pub fn make(build: &Path, words: &[&str]) -> Output {
+    let mut command = make_in(&root());
     command.arg(format!("BUILD={}", build.display())).args(words);
     command.output().expect("make, which builds and installs the library, must be in the PATH")
 }
@@ -162,7 +168,7 @@ impl RustHost {
 }
 
 /// The `PATH`, where a folder that has the program is replaced by one with links to all else that it has.
-fn path_without(program: &str, folder: &Folder) -> OsString {
+pub fn path_without(program: &str, folder: &Folder) -> OsString {
     let without = |(number, path): (usize, PathBuf)| {
         if !path.join(program).exists() {
             return path;

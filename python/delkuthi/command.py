@@ -13,16 +13,17 @@ from typing import IO, Any, Iterator, Sequence
 
 from . import library as lib
 from .check import Outcome, check
+from .html_page import Pictured, as_html
 from .library import LibraryMissing, Refused
 from .logs import Log, LogError, Policy
 from .monitor import report
 from .on_logs import join_logs, late_stamps, record, shrink
-from .output import as_html, as_json, as_junit, as_text, overall
+from .output import as_json, as_junit, as_text, overall
 from .plot import PlotMissing, write_plot
 from .policies import add_options, policy
 from .table import Table
 from .text import TextError, grammar
-from .timeline import Scene, scene
+from .timeline import close_up, gather, overview
 from .units import UNITS
 from .writing import NotWritten, complain, give_up_output, out, write
 
@@ -87,8 +88,7 @@ def _check(given: argparse.Namespace) -> int:
     if given.junit:
         write(given.junit, as_junit(table, outcomes))
     if given.html:
-        pages = [(outcome, *_scenes(table, how, outcome)) for outcome in outcomes]
-        write(given.html, as_html(table, given.table, pages))
+        write(given.html, as_html(table, given.table, [pictured(table, how, outcome) for outcome in outcomes]))
     if given.plot:
         _plot(given.plot, table, how, outcomes)
     return max(outcome.status for outcome in outcomes)
@@ -107,13 +107,12 @@ def _tell(given: argparse.Namespace, outcome: Outcome) -> None:
         out(as_text(outcome, given.page, given.quiet))
 
 
-def _scenes(table: Table, how: Policy, outcome: Outcome) -> tuple[Scene | None, dict[int, Scene]]:
-    """The picture of a log, and one close up for each broken row."""
+def pictured(table: Table, how: Policy, outcome: Outcome) -> Pictured:
+    """An outcome, the picture of its log, and one close up for each broken row; the log is read once more."""
     if outcome.error is not None:
-        return None, {}
-    log = Log(outcome.log, table, how)
-    whole = scene(table, log.steps(), outcome)
-    return whole, {row.number: scene(table, log.steps(), outcome, [row.number]) for row in outcome.broken}
+        return outcome, None, {}
+    gathered = gather(table, Log(outcome.log, table, how).steps(), outcome)
+    return outcome, overview(table, gathered, outcome), {row.number: close_up(table, gathered, outcome, row) for row in outcome.broken}
 
 
 def _plot(path: str, table: Table, how: Policy, outcomes: Sequence[Outcome]) -> None:
@@ -130,7 +129,7 @@ def _plot(path: str, table: Table, how: Policy, outcomes: Sequence[Outcome]) -> 
         taken.add(name)
         if outcome.error is None:
             try:
-                write_plot(scene(table, Log(outcome.log, table, how).steps(), outcome), name)
+                write_plot(overview(table, gather(table, Log(outcome.log, table, how).steps(), outcome), outcome), name)
             except OSError as error:
                 raise NotWritten(f"{name}: {error.strerror or error}") from None
 
@@ -307,7 +306,7 @@ def main(arguments: Sequence[str] | None = None) -> int:
         return REFUSED
     except Exception as error:  # whatever was not foreseen: a line and a status, never a traceback
         said = " ".join(str(error).split())
-        complain(f"delkuthi: this was not foreseen, and no verdict is given: {type(error).__name__}{': ' if said else ''}{said}")
+        complain(f"delkuthi: this was not foreseen: {type(error).__name__}{': ' if said else ''}{said}")
         return REFUSED
 
 

@@ -10,8 +10,10 @@ from hypothesis import strategies as st
 from delkuthi import Table, report
 from delkuthi import check as check_module
 from delkuthi.check import check
+from delkuthi.command import pictured
+from delkuthi.html_page import as_html
 from delkuthi.logs import Policy
-from delkuthi.output import as_html, as_json, as_junit
+from delkuthi.output import as_json, as_junit
 from delkuthi.recording import recording_bytes
 
 from conftest import EXAMPLES
@@ -134,7 +136,7 @@ class Seen(HTMLParser):
 
     def handle_starttag(self, tag, attributes):
         self.loads += [value for name, value in attributes if name in ("src", "href", "srcset", "data")]
-        if tag not in ("meta", "path", "rect"):
+        if tag not in ("meta", "br", "path", "rect", "circle"):
             self.open.append(tag)
         elif tag in ("path", "rect") and not self.get_starttag_text().endswith("/>"):
             self.open.append(tag)
@@ -150,15 +152,14 @@ class Seen(HTMLParser):
 
 
 def test_the_page():
-    from delkuthi.command import _scenes
-
     table = Table.read(EXAMPLES / "drive.txt")
     outcome, policy = drive(), Policy()
-    page = as_html(table, "<drive>.txt", [(outcome, *_scenes(table, policy, outcome)), (check(table, "no.csv"), None, {})])
+    page = as_html(table, "<drive>.txt", [pictured(table, policy, outcome), (check(table, "no.csv"), None, {})])
     seen = Seen()
     seen.feed(page)
-    assert seen.open == [] and seen.loads == []
+    assert seen.open == []
+    assert all(load.startswith("#") and f'id="{load[1:]}"' in page for load in seen.loads) and len(seen.loads) == BROKEN + 2
     assert "http" not in page.replace("http://www.w3.org/2000/svg", "")
     assert "@import" not in page and "url(" not in page and "<script" not in page
     assert "<drive>.txt" in seen.text and all(message in seen.text for message in outcome.messages)
-    assert page.count("<svg") == 1 + BROKEN
+    assert page.count("<svg") == 1 + BROKEN and "broken at line 39" in seen.text and "2 logs, 0 kept, 1 broken, 1 refused" in seen.text

@@ -21,6 +21,7 @@ pub mod Accepted
 pub mod Rows
 pub mod Run
 pub mod Promise
+pub mod Deadlines
 pub mod Bytes
 pub mod Table
 pub mod Recording

@@ -6,7 +6,7 @@ use native.Mathlib.Omega.{arith}
 use mathlib.Core.Path.{_≡_, refl, sym, ap, _∙_, subst, subst₂}
 use mathlib.Core.Bool.{Bool, true, false, cond}
 use mathlib.Core.List.{List, [], _∷_, _++_, append-assoc}
-use mathlib.Core.Logic.{by-cases, inr}
+use mathlib.Core.Logic.{by-cases}
 use lib.ListN.{length, replicate}
 use lib.Dec.{eqb}
 use borrow.Author.Tests.{eqb-true, eqb-false, eq-eqb, ne-eqb}
@@ -366,7 +366,7 @@ module _ (stimulus response minimum maximum : ℕ) (sound : Sound (Reaction stim
         same = same _ _ _;
         late = λ past live. late _ _ _ live;
         is-open = λ past o live soon. goes-on 8 _ _ (waiting-few 8 _) o live soon;
-        waits = λ past live. inr (refl, omega (arith, live .whole));
+        waits = λ past live. (refl, omega (arith, live .whole));
         is-kept = λ past live soon k. kept-met _ _ live k;
         not-kept = λ past live k. unkept-missed _ _ live k;
       }

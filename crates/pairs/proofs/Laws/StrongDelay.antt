@@ -194,7 +194,7 @@ module _ (source target lower upper : ℕ) (sound : Sound (StrongDelay source ta
 
   -- ---- Exact
 
-  strong-delay-laws : TwoKinds (decideStrongDelay rule) source target (Paired (Between lower upper))
+  strong-delay-laws : TwoKinds (decideStrongDelay rule) source target (Paired (Between lower upper)) true
       (λ sources targets. length sources - length targets)
   strong-delay-laws =
       record {
@@ -206,7 +206,7 @@ module _ (source target lower upper : ℕ) (sound : Sound (StrongDelay source ta
         target-does = λ r before live. target-by _ _ _ _ r _ before (live .pairing);
         late = λ live. late-by _ _ _ _ _ (live .pairing);
         is-open = λ r live. open-by _ _ _ _ _ r (live .pairing);
-        waits = λ live. inl (pairing-waits (live .pairing));
+        waits = λ live. pairing-waits (live .pairing);
         is-kept = λ live. kept-by _ _ _ _ (live .pairing);
         not-kept = λ live. not-kept-by _ _ _ _ (live .pairing);
       }
@@ -215,5 +215,5 @@ module _ (source target lower upper : ℕ) (sound : Sound (StrongDelay source ta
   unfolding Meets MeetsStrongDelay waiting
   exactStrongDelay =
       exactTwoKinds
-      (record { kinds-are = refl; streams-are = refl; kinds-fit = sound .kinds-fit; no-words = refl; meets-are = λ steps. refl; waiting-is = λ steps. refl })
+      (record { kinds-are = refl; streams-are = refl; kinds-fit = sound .kinds-fit; no-words = refl; meets-are = λ steps. refl; waits-are = refl; waiting-is = λ steps. refl })
       (decideStrongDelay rule) strong-delay-laws

@@ -140,6 +140,7 @@ exactRepetition kind span lower upper jitter sound =
       one-kind = refl;
       no-words = refl;
       meets = λ steps. (λ m. m, λ m. m);
+      none-waits = refl;
       waits-none = λ steps. refl;
       says-first = λ xs ys now later h after m. repetition-first span lower upper jitter xs ys m;
       keeps-none = last-none rule;

@@ -212,6 +212,7 @@ exactRepeat kind span lower upper sound =
       one-kind = refl;
       no-words = refl;
       meets = λ steps. (λ m. m, λ m. m);
+      none-waits = refl;
       waits-none = λ steps. refl;
       says-first = repeat-first span lower upper;
       keeps-none = repeat-none rule;

@@ -1,21 +1,13 @@
 //! The release as a buyer gets it: made twice in different folders, unpacked, checked, and used without the kit.
 
 use checks::documents::text_of;
-use checks::hosts::{Ran, ran, say};
+use checks::hosts::{Ran, done, ran, say};
 use checks::places::{Folder, archive_folder, root};
 use checks::release::{make_in, path_without, version};
 use std::fs;
 use std::path::{Path, PathBuf};
 use std::process::Command;
 use std::sync::OnceLock;
-
-/// Runs a command, which has to end well, and gives what it prints.
-fn done(command: &mut Command) -> String {
-    let output = command.output().unwrap_or_else(|error| panic!("{command:?}: {error}"));
-    let said = String::from_utf8_lossy(&output.stdout).into_owned() + &String::from_utf8_lossy(&output.stderr);
-    assert!(output.status.success(), "{command:?}: {said}");
-    said
-}
 
 /// The tarball that a clone of the repository at this place gives; none where the sources are in no repository.
 fn tarball(clone: &Path) -> Option<PathBuf> {

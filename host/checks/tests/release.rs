@@ -1,7 +1,7 @@
 //! The release: what `make` builds and `make install` puts where, and hosts in C, C++ and Python that use the copy.
 
 use checks::documents::{files, text_of};
-use checks::hosts::{Host, Ran, c_compiler, compile_with, cpp_compiler, found, ran, say};
+use checks::hosts::{Host, Ran, c_compiler, compile_with, cpp_compiler, done, found, ran, say};
 use checks::places::{Folder, archive_folder, example, example_bytes, root};
 use checks::release::{Installed, RustHost, interface, make, version};
 use std::ffi::OsString;
@@ -225,11 +225,8 @@ fn a_host_of_cmake() {
     let mut configure = Command::new("cmake");
     configure.arg("-S").arg(folder.path()).arg("-B").arg(&build);
     configure.arg(format!("-DCMAKE_PREFIX_PATH={}", copy.at.display()));
-    for command in [&mut configure, Command::new("cmake").arg("--build").arg(&build)] {
-        let output = command.output().expect("cmake can be run");
-        let text = String::from_utf8_lossy(&output.stdout).into_owned() + &String::from_utf8_lossy(&output.stderr);
-        assert!(output.status.success(), "{text}");
-    }
+    done(&mut configure);
+    done(Command::new("cmake").arg("--build").arg(&build));
     for form in ["of_delkuthi", "of_archive"] {
         let ran = ran(Command::new(build.join(form)).args(drive_files()).output());
         assert_eq!(ran, Ran::new(0, &drive()));

@@ -1,0 +1,123 @@
+"""One and the same drive in all formats: the same verdicts, reasons and counts."""
+import re
+
+import pytest
+from hypothesis import given, settings
+from hypothesis import strategies as st
+
+from delkuthi import Table
+from delkuthi.check import check
+from delkuthi.logs import Log, LogError, Policy
+
+from conftest import EXAMPLES
+from formats import drive_in_all_formats, write_formats
+
+#: The line of the first frame in each format, and what a line is called there.
+FIRST = {"csv": 2, "log": 1, "asc": 4, "bin": 1, "blf": 1, "trc": 1}
+
+
+def said(table, path, **policy):
+    """Everything that a check says, without the names of files and with the frames counted from 1."""
+    outcome = check(table, str(path), Policy(round=True, **policy))
+    first = FIRST[path.suffix[1:]]
+
+    def plain(text):
+        text = re.sub(r"\b(?:line|record|frame) (\d+)", lambda match: f"frame {int(match[1]) - first + 1}", (text or "").replace(str(path), "log"))
+        return re.sub(r"^log(?::(\d+)|: (?=frame))", lambda match: f"log: frame {int(match[1]) - first + 1}" if match[1] else "log: ", text)
+
+    rows = [(row.verdict, row.step, row.time, row.events, row.instances, plain(row.message), row.about) for row in outcome.rows]
+    counts = (outcome.counts.lines, outcome.counts.events, outcome.steps, outcome.clock, outcome.moments)
+    return rows, counts, [plain(warning) for warning in outcome.warnings], plain(outcome.error), outcome.page
+
+
+def test_the_drive(tmp_path):
+    table = Table.read(EXAMPLES / "drive.txt")
+    paths = drive_in_all_formats(tmp_path)
+    assert len(paths) == 6
+    found = {path.suffix: said(table, path) for path in paths}
+    assert all(one == found[".csv"] for one in found.values())
+    assert sum(row[0] == "broken" for row in found[".csv"][0]) == 3
+
+
+TABLE = """unit us
+event a = 0  from can 0x100
+event b = 1  from can 0x101
+event c = 2  from can 0x18FF0001
+event d = 3  from can 0x103 data 01
+event s = 48  from can 0x110 data 01 colour 1  from can 0x110 data 02 colour 2
+event r = 49  from can 0x111 data 01 colour 1  from can 0x111 data 02 colour 2
+Delay a -> b, 0 ms .. 3 ms
+StrongDelay a -> b, 0 ms .. 9 ms
+Repeat c span 1, 1 ms .. 20 ms
+Sporadic c, 4 ms .. 6 ms, jitter 5 ms, minimum 0 ms
+Burst b maximum 2, length 4 ms, minimum 1 ms
+Order b -> d
+StrongSynchronization a c, tolerance 6 ms
+ExecutionTime a -> b, preempt c, resume d, 0 ms .. 50 ms
+Reaction s -> r, 0 ms .. 9 ms
+Repetition c span 3, 10 ms .. 20 ms, jitter 7 ms
+"""
+FRAMES = [("100", b""), ("101", b""), ("18FF0001", b"\1"), ("18FF0001", b""), ("103", b"\1"), ("103", b"\2"), ("110", b"\1"), ("110", b"\2"),
+          ("111", b"\1"), ("111", b"\2"), ("7FF", b"")]
+
+
+@given(st.lists(st.tuples(st.integers(1, 9), st.sampled_from(FRAMES)), min_size=1, max_size=40), st.sampled_from([0, 3, 12, 1_600_000_000_000]))
+@settings(max_examples=60)
+def test_any_drive(tmp_path, drawn, start):
+    """With all its row types, from whichever stamp on. TRC counts from its first frame, and BLF as python-can writes it too, unless
+    the stamps are of this century; so all are compared from there as well."""
+    table, time, frames = Table.from_text(TABLE), start, []
+    # A recording has no tick at 0, so the drive begins with an event.
+    for later, (identifier, data) in [(1, FRAMES[0]), *drawn]:
+        frames.append((time * 1000, identifier, data))
+        time += later
+    paths = write_formats(tmp_path, table, frames)
+    counted = (".trc",) if start > 10**9 else (".trc", ".blf")
+    plain = [said(table, path) for path in paths if path.suffix not in counted]
+    assert all(one == plain[0] for one in plain)
+    zero = [said(table, path, from_zero=True) for path in paths]
+    assert all(one == zero[0] for one in zero)
+    assert [row[:2] for row in plain[0][0]] == [row[:2] for row in zero[0][0]], "verdicts do not depend on where the stamps begin"
+
+
+def test_a_bus_is_what_the_log_says(tmp_path):
+    """The number of a channel as ASC, BLF and TRC write it, from 1; the name of an interface in candump."""
+    table = Table.from_text("unit us\nevent a = 0 from can 0x100 bus 1 from can 0x100 bus can0\nevent b = 1 from can 0x101 bus 2\n"
+                            "event c = 2 from can 0x102 bus vcan0.1-x\nOrder a -> b\n")
+    assert Table.from_text(table.text()).events == table.events
+    for path in write_formats(tmp_path, table, [(1000, "100", b""), (2000, "101", b"")]):
+        if path.suffix in (".csv", ".bin"):
+            continue
+        outcome = check(table, str(path), Policy(round=True))
+        assert outcome.counts.events == 1 and outcome.rows[0].events == 1, path
+        there = "can0" if path.suffix == ".log" else "1"
+        assert f"{path}: the log has no b: it has to come on bus 2, and the log has {there}" in outcome.warnings
+        assert f"{path}: the log has no c: it has to come on bus vcan0.1-x, and the log has {there}" in outcome.warnings
+
+
+def test_blf_stamps_are_exact(tmp_path):
+    """The nanoseconds of the file, and not what a floating-point number leaves of them since 1970."""
+    can = pytest.importorskip("can")
+    path = tmp_path / "a.blf"
+    with can.Logger(str(path)) as writer:
+        for time in (1_600_000_000.0, 1_600_000_000.25, 1_600_000_001.5):
+            writer(can.Message(timestamp=time, arbitration_id=0x100, is_extended_id=False))
+    fine = Table.from_text("unit ns\nevent a = 0 from can 0x100\n")
+    times = [step.time for step in Log(path, fine).steps()]
+    assert [time - times[0] for time in times] == [0, 250_000_000, 1_500_000_000] and times[0] % 10**6 == 0
+    data = path.read_bytes()
+    assert data[:4] == b"LOGG"
+
+
+def test_stamps_finer_than_the_unit_are_not_rounded_in_silence(tmp_path):
+    can = pytest.importorskip("can")
+    path = tmp_path / "a.blf"
+    with can.Logger(str(path)) as writer:
+        for time in (0.0, 0.0000015, 0.25):
+            writer(can.Message(timestamp=time, arbitration_id=0x100, is_extended_id=False))
+    table = Table.from_text("unit us\nevent a = 0 from can 0x100\n")
+    with pytest.raises(LogError, match=r"frame 2: the stamp 1\d{3} ns is no whole number of us: take a finer unit in the table, or --round"):
+        list(Log(path, table).steps())
+    log = Log(path, table, Policy(round=True))
+    assert [step.time for step in log.steps()] == [0, 2, 250_000] or [step.time for step in log.steps()] == [0, 1, 250_000]
+    assert log.counts.rounded >= 1

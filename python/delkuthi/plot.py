@@ -15,7 +15,7 @@ class PlotMissing(Exception):
 def write_plot(picture: Scene, path: str) -> None:
     """Writes the picture; the ending of the name says in which format."""
     if Path(path).suffix.lower() == ".svg":
-        Path(path).write_text(svg(picture), encoding="utf-8")
+        Path(path).write_bytes(svg(picture).encode("utf-8", "backslashreplace"))
         return
     try:
         import matplotlib

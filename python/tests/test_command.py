@@ -51,6 +51,95 @@ def test_outputs_that_cannot_be_written(kept):
     assert done.returncode == 3
 
 
+def run_with(words, **options):
+    """Status and standard error of the command with other streams or another environment."""
+    done = subprocess.run([sys.executable, "-m", "delkuthi", *map(str, words)], stderr=subprocess.PIPE, text=True, **options)
+    assert "Traceback" not in done.stderr and "not foreseen" not in done.stderr and "Exception ignored" not in done.stderr
+    return done.returncode, done.stderr
+
+
+@pytest.mark.parametrize("words", [["--help"], ["check", "--help"], ["--version"], ["table", "--grammar"], ["table", TABLE], ["check", TABLE, CSV],
+                                   ["check", TABLE, CSV, "--json"], ["check", TABLE, CSV, "--page"], ["shrink", TABLE, CSV, "cabin light"],
+                                   ["stamps", TABLE, CSV, "wheel speed", "1 ms"], ["table", TABLE, "--bytes"], ["check", TABLE, CSV, "--html", "-"]])
+def test_a_standard_output_that_is_full_or_closed(words):
+    with open("/dev/full", "w") as full:
+        status, error = run_with(words, stdout=full)
+    assert status == 3 and "could not be written" in error
+    closed = f"{sys.executable} -m delkuthi {' '.join(repr(str(word)) for word in words)} >&-"
+    status, error = subprocess.run(closed, shell=True, stderr=subprocess.PIPE, text=True).returncode, ""
+    assert status == 3
+
+
+def test_a_standard_error_that_is_closed():
+    done = subprocess.run(f"{sys.executable} -m delkuthi check none.txt none.csv 2>&-", shell=True, capture_output=True, text=True)
+    assert (done.returncode, done.stdout) == (2, "")
+    done = subprocess.run(f"{sys.executable} -m delkuthi check {TABLE} {CSV} 2>&-", shell=True, capture_output=True, text=True)
+    assert done.returncode == 1 and "broken" in done.stdout
+
+
+def test_a_standard_output_that_is_not_utf_8(kept):
+    (kept / "umlaut.txt").write_text(KEPT.replace("answer", "T\u00fcr \u65e5"), encoding="utf-8")
+    (kept / "late.csv").write_text("time,event\n1,a\n30,b\n")
+    words = [sys.executable, "-m", "delkuthi", "check", "umlaut.txt", "late.csv"]
+    for encoding in ("ascii", "latin-1", "utf-8"):
+        done = subprocess.run(words, cwd=kept, capture_output=True, env={**os.environ, "PYTHONIOENCODING": encoding, "PYTHONUTF8": "0"})
+        assert done.returncode == 1 and b"broken at 30 ms" in done.stdout and b"Traceback" not in done.stderr
+        json_of = subprocess.run([*words, "--json"], cwd=kept, capture_output=True, env={**os.environ, "PYTHONIOENCODING": encoding, "PYTHONUTF8": "0"})
+        assert json.loads(json_of.stdout)["logs"][0]["rows"][0]["name"] == "T\u00fcr \u65e5"
+
+
+def test_names_of_files_that_are_not_utf_8(kept):
+    name = b"caf\xe9.csv"
+    os.rename(kept / "kept.csv", os.path.join(os.fsencode(kept), name))
+    for more in ([], ["--json"], ["--junit", "a.xml"], ["--html", "a.html"], ["--plot", "a.svg"]):
+        done = subprocess.run([sys.executable, "-m", "delkuthi", "check", "kept.txt", name, *more], cwd=kept, capture_output=True)
+        assert done.returncode == 0 and b"Traceback" not in done.stderr and b"not foreseen" not in done.stderr
+    xml.parse(kept / "a.xml")
+
+
+def test_outputs_that_cannot_be_written_anywhere(kept):
+    for words in (["record", TABLE, LOG, "-o", "/nowhere/x"], ["join", TABLE, LOG, "kept.csv", "-o", "/nowhere/x"],
+                  ["watch", TABLE, "virtual:x", "--record", "/nowhere/x", "--seconds", "0"], ["check", TABLE, CSV, "--plot", "/nowhere/x.png"],
+                  ["table", TABLE, "-o", "/dev/full"], ["check", TABLE, CSV, "--html", "/dev/full"]):
+        status, error = run_with(words, cwd=kept, stdout=subprocess.DEVNULL)
+        assert status == 3 and "could not be written" in error, words
+
+
+def test_pictures_of_logs_of_one_name(command, kept):
+    for folder in ("x", "y"):
+        (kept / folder).mkdir()
+        (kept / folder / "kept.csv").write_text("time,event\n1,a\n3,b\n")
+    assert command("check", "kept.txt", "x/kept.csv", "y/kept.csv", "kept.csv", "--plot", "p.svg")[0] == 0
+    assert sorted(path.name for path in kept.glob("*.svg")) == ["p-kept-2.svg", "p-kept-3.svg", "p-kept.svg"]
+
+
+def test_rows_left_open_are_skipped_tests(command, kept):
+    assert command("check", "kept.txt", "kept.csv", "--no-close", "--junit", "a.xml")[0] == 0
+    root = xml.parse(kept / "a.xml").getroot()
+    assert (root.get("skipped"), root[0][0].find("skipped").get("message")) == ("1", "open")
+
+
+def test_every_count_is_said(command, kept):
+    (kept / "a.csv").write_text("time_us,event\n3000,a\n\n1000,a\n1600,\n1000,a\n2000.4,b\n\n")
+    words = ["check", "kept.txt", "a.csv", "--unsorted", "sort", "--round", "--equal"]
+    status, out, _ = command(*words, "drop")
+    assert out.splitlines()[-1] == ("a.csv: 1 row, 0 kept, 1 broken; 3 events in 5 lines, 1 event left out at equal stamps, "
+                                    "2 lines out of order and sorted, 2 stamps rounded, 2 blank lines skipped")
+    status, out, _ = command(*words, "later", "--json")
+    log = json.loads(out)["logs"][0]
+    assert {name: log[name] for name in ("lines", "events", "dropped", "moved", "unsorted", "rounded", "skipped")} == {
+        "lines": 5, "events": 4, "dropped": 0, "moved": 1, "unsorted": 2, "rounded": 2, "skipped": 2}
+
+
+def test_a_library_without_a_call(tmp_path):
+    """Another library of the same name is said to be one, in a line."""
+    (tmp_path / "a.c").write_text("unsigned delkuthi_version(void) { return 0; }\n")
+    name = f"libdelkuthi.so.{__version__.rsplit('.', 1)[0]}"
+    subprocess.run([os.environ.get("CC", "cc"), "-shared", "-fPIC", "-o", tmp_path / name, tmp_path / "a.c"], check=True)
+    status, error = run_with(["check", TABLE, CSV], env={**os.environ, "DELKUTHI_LIB": str(tmp_path)}, stdout=subprocess.DEVNULL)
+    assert status == 2 and "has no call delkuthi_monitor_size" in error and len(error.splitlines()) == 1
+
+
 def test_help_and_version(command):
     status, out, _ = command("--help")
     assert status == 0 and "delkuthi check brake.txt drive.csv" in out
@@ -126,7 +215,7 @@ def test_options_of_the_log(command, kept):
     status, out, error = command("check", "kept.txt", "a.csv", "--unsorted", "sort", "--equal", "drop", "--from-zero", "--until",
                                  "0.004 s", "--no-close")
     assert (status, error) == (0, "")
-    assert out == "a.csv: 1 row, 1 open, 0 broken; 2 events in 3 lines, 1 event left out at equal stamps, 1 line sorted\n"
+    assert out == "a.csv: 1 row, 1 open, 0 broken; 2 events in 3 lines, 1 event left out at equal stamps, 1 line out of order and sorted\n"
     status, out, _ = command("check", "kept.txt", "a.csv", "--unsorted", "sort", "--equal", "drop", "--until", "107 ms")
     assert status == 1 and "broken at 107 ms: the a at 101 ms (line 2) was never answered: no b came for it, due by 106 ms" in out
     assert command("check", "kept.txt", "a.csv", "--until", "soon")[0] == 2

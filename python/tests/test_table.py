@@ -269,3 +269,7 @@ def test_the_refusals_are_the_headers():
     header = re.sub(r'"\n\s+"', "", (ROOT / "include/delkuthi.h").read_text(encoding="utf-8"))
     for number, text in delkuthi.library.REFUSALS.items():
         assert f'"{text}"' in header, number
+    texts = set(re.findall(r'return "([^"]+)";', header.split("delkuthi_refusal_text(")[1].split("\n}")[0]))
+    assert texts - set(delkuthi.library.REFUSALS.values()) == {"taken", "a refusal without a text"}
+    numbers = {int(number) for number in re.findall(r"^\| (\d+) \|", (ROOT / "README.md").read_text(encoding="utf-8"), re.M)}
+    assert set(delkuthi.library.REFUSALS) == numbers - {0}

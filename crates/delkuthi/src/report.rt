@@ -31,8 +31,8 @@ fn refusal_of(number: u64) -> ReadAnswer
     ensures { λ r. ⌜ r ≡ refusalOf number ⌝ }
 {
     ReadAnswer::Refused {
-        number: (number % 256) as u8,
-        place: (number / 256) as usize,
+        number: (number & 255) as u8,
+        place: (number >> 8) as usize,
     }
 }
 

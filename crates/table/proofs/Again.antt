@@ -1,5 +1,5 @@
--- Demand 2 of the two functions: what `read` accepted `write` writes back to the same bytes, and what `write` has written `read` reads back to the same rows.
-use Prim.Native.Nat.{ℕ, _≤_}
+-- §4.9 and §4.10 of the functions: what `read` accepted `write` writes back to the same bytes, and what `write` has written `read` reads back to the same rows.
+use Prim.Native.Nat.{ℕ, _+_, _*_, _≤_, _<_}
 use mathlib.Core.Path.{_≡_, refl, sym, ap, subst, _∙_}
 use mathlib.Core.List.{List, [], _∷_, _++_}
 use native.Mathlib.Omega.{arith}
@@ -18,6 +18,7 @@ use Rattle.constraint.proofs.Judged.{never, judged-none, judged-yes, judged-lat
 use Rattle.constraint.proofs.Accepted.{rows-then}
 use Rattle.table.specs.Reading.{readAs, ReadsInto}
 use Rattle.table.specs.Writing.{answerOf, Writes}
+use Rattle.table.specs.Raw.{rawSize, RawRows, WritesRaw, all-read, stopped-at}
 use Rattle.table.specs.declared.ReadAnswer.{ReadAnswer}
 use Rattle.table.specs.declared.Reading.{Reading}
 use Rattle.table.specs.declared.WriteAnswer.{WriteAnswer}
@@ -53,27 +54,41 @@ read-write bytes before after r w all into e long writes = go w writes
     go (WriteAnswer.Refused n) writes =
         let no = judged-once (writerQuestions (rowsOf (r .table)) before) Taken (Refused n) taken (writes .judged) in never (cc)
 
--- written, then read: the same rows
+-- written, then read: the bytes say the same rows
+pub written-read : (rows : List Constraint) (before after : List ℕ) (n : ℕ) → Writes rows before (WriteAnswer.Written n) after
+    → ReadsTable (take n after) (table-of rows)
+written-read rows before after n writes = subst (λ (list : List ℕ). ReadsTable list (table-of rows)) (sym bytes) (write-then-read rows accepted)
+  where
+    bytes : take n after ≡ tableBytes rows
+    bytes =
+        subst (λ (m : ℕ). take m after ≡ tableBytes rows) (sym (writes .counted n refl))
+        (ap (take (length (tableBytes rows))) (writes .buffer) ∙ take-append-seam (tableBytes rows) (drop (length (tableBytes rows)) before))
+
+    accepted : Accepted rows
+    accepted =
+        judged-parts (rowsQuestions 0 rows []) ((16, length (tableBytes rows) ≤ length before) ∷ [])
+        (subst (λ (qs : List Question). Judged qs Taken) (rows-then 0 rows ((16, length (tableBytes rows) ≤ length before) ∷ [])) (writes .judged)) .0
+
+-- of a table record: the record's rows
 pub write-read : (table : Table) (before after : List ℕ) (n : ℕ) (r : Reading) → Writes (rowsOf table) before (WriteAnswer.Written n) after → ReadsInto (take n after) r
     → (r .answer ≡ ReadAnswer.Accepted) × (rowsOf (r .table) ≡ rowsOf table)
-write-read table before after n r writes into = go (r .answer) refl (reads-once (take n after) (into .reads) back)
+write-read table before after n r writes into =
+    go (r .answer) refl (reads-once (take n after) (into .reads) (written-read (rowsOf table) before after n writes))
   where
-    bytes : take n after ≡ tableBytes (rowsOf table)
-    bytes =
-        subst (λ (m : ℕ). take m after ≡ tableBytes (rowsOf table)) (sym (writes .counted n refl))
-        (ap (take (length (tableBytes (rowsOf table)))) (writes .buffer) ∙ take-append-seam (tableBytes (rowsOf table)) (drop (length (tableBytes (rowsOf table))) before))
-
-    accepted : Accepted (rowsOf table)
-    accepted =
-        judged-parts (rowsQuestions 0 (rowsOf table) []) ((16, length (tableBytes (rowsOf table)) ≤ length before) ∷ [])
-        (subst (λ (qs : List Question). Judged qs Taken) (rows-then 0 (rowsOf table) ((16, length (tableBytes (rowsOf table)) ≤ length before) ∷ [])) (writes .judged)) .0
-
-    back : ReadsTable (take n after) (table-of (rowsOf table))
-    back = subst (λ (list : List ℕ). ReadsTable list (table-of (rowsOf table))) (sym bytes) (write-then-read (rowsOf table) accepted)
-
     go : (a : ReadAnswer) → r .answer ≡ a → readAs (r .answer) (r .table) ≡ table-of (rowsOf table) → (r .answer ≡ ReadAnswer.Accepted) × (rowsOf (r .table) ≡ rowsOf table)
     go ReadAnswer.Accepted e same = (e, rows-same (ap (λ (answer : ReadAnswer). readAs answer (r .table)) (sym e) ∙ same))
       where
         rows-same : table-of (rowsOf (r .table)) ≡ table-of (rowsOf table) → rowsOf (r .table) ≡ rowsOf table
         rows-same p = cc
     go (ReadAnswer.Refused m place) e same = let no = ap (λ (answer : ReadAnswer). readAs answer (r .table)) (sym e) ∙ same in never (cc)
+
+-- of rows given as raw bytes: the rows that their bodies stand for, one for each whole stretch of 34 bytes
+pub raw-read : (bytes before after : List ℕ) (n : ℕ) → WritesRaw bytes before (WriteAnswer.Written n) after
+    → (rows : List Constraint) × RawRows bytes rows × (length bytes < (length rows + 1) * rawSize) × ReadsTable (take n after) (table-of rows)
+raw-read bytes before after n writes = go refl writes
+  where
+    go : {r : WriteAnswer} {list : List ℕ} → r ≡ WriteAnswer.Written n → WritesRaw bytes before r list
+        → (rows : List Constraint) × RawRows bytes rows × (length bytes < (length rows + 1) * rawSize) × ReadsTable (take n list) (table-of rows)
+    go {list = list} e (all-read rows raw past written) =
+        (rows, raw, past, written-read rows before list n (subst (λ (w : WriteAnswer). Writes rows before w list) e written))
+    go e (stopped-at rows m raw more judged) = never (cc)

@@ -13,5 +13,5 @@ pub mod Stores
 pub mod Written
 pub mod Answers
 pub mod Again
-pub mod RawRows
 pub mod Scanning
+pub mod RawRows

@@ -260,8 +260,8 @@ fn the_size_of_a_row_is_the_same_everywhere() {
     let size = longest_row();
     assert_eq!(size, number_between(&Header::read().text, "uint8_t body[", "]"));
     assert_eq!(size, constant("host/delkuthi/src/table.rs", "ROW_SIZE"));
-    assert_eq!(size, number_between(&text("crates/table/specs/Raw.antt"), "length bytes / ", "\n"));
-    assert_eq!(size, number_between(&text("crates/table/src/raw.rt"), "rows.len() / ", ";"));
+    assert_eq!(size, number_between(&text("crates/table/specs/Raw.antt"), "\nrawSize = ", "\n"));
+    assert_eq!(size, constant("crates/table/src/raw.rt", "RAW_SIZE"));
 }
 
 #[test]

@@ -26,7 +26,7 @@ DOCUMENTS := CHANGELOG.md LICENSE NOTICE docs/CONTRACT.md docs/DATASHEET.md docs
 MANUALS   := $(BUILD)/delkuthi.1 $(BUILD)/delkuthi.3
 EXAMPLES  := $(addprefix host/c/,bench_loop.c report.c file.c file.h) examples/table.bin examples/recording.bin
 
-.PHONY: all lib program install install-lib install-dev uninstall clean help test test-python test-ports run bench count portable trace dist always
+.PHONY: all lib program install install-lib install-dev uninstall clean help test test-python test-ports run bench count worst portable trace dist always
 
 all: lib program
 lib: $(LIBRARY)
@@ -47,6 +47,7 @@ help:
 	@echo "make test-python the tests of the package in python/ alone"
 	@echo "make test-ports  the portable crate on ARM, 64 and 32 bits, beside the proved library; says which packages are missing"
 	@echo "make bench       the speed beside plain Rust"
+	@echo "make worst       the dearest calls, in cycles"
 	@echo "make count       the instructions of a call beside plain Rust (needs valgrind)"
 	@echo "With DELKUTHI_LIB set, libdelkuthi.a is taken from the folder that it names, and rt is not needed."
 
@@ -144,6 +145,11 @@ bench:
 
 count:
 	cd host && cargo run --release --offline -p bench count
+
+# Cycles by the time stamp counter of x86-64.
+worst: lib
+	$(CC) -std=c99 -O2 -Iinclude host/c/worst.c $(BUILD)/libdelkuthi.a -o $(BUILD)/worst
+	$(BUILD)/worst
 
 portable:
 	python3 release/portable.py $(BUILD)/portable $(PARTS)

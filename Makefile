@@ -74,7 +74,7 @@ $(BUILD)/libdelkuthi.a: $(ARCHIVES) always
 # Where something lies by the prefix, or by the folder that the file itself is in.
 from_prefix = $(patsubst $(PREFIX)/%,$${prefix}/%,$1)
 from_cmake = $(shell realpath -m --relative-to=$(CMAKEDIR) $1)
-$(BUILD)/delkuthi.pc $(CMAKE) $(BUILD)/exports.map $(MANUALS): $(BUILD)/%: release/%.in VERSION always
+$(BUILD)/delkuthi.pc $(CMAKE) $(BUILD)/exports.map $(BUILD)/delkuthi.1: $(BUILD)/%: release/%.in VERSION always
 	@mkdir -p $(BUILD)
 	@sed -e 's|@PREFIX@|$(PC_PREFIX)|' -e 's|@VERSION@|$(VERSION)|' -e 's|@INTERFACE@|$(INTERFACE)|' \
 	    -e 's|@LIBDIR@|$(call from_prefix,$(LIBDIR))|' -e 's|@INCLUDEDIR@|$(call from_prefix,$(INCLUDEDIR))|' \
@@ -89,6 +89,10 @@ $(BUILD)/$(SHARED): $(BUILD)/libdelkuthi.a $(BUILD)/exports.map
 
 $(BUILD)/delkuthi: program/delkuthi.c $(HEADERS) $(BUILD)/libdelkuthi.a
 	$(CC) -std=c99 $(CPPFLAGS) $(CFLAGS) $(HARDENED) -Iinclude $(LDFLAGS) -pie $(LINKED) -o $@ program/delkuthi.c $(BUILD)/libdelkuthi.a
+
+$(BUILD)/delkuthi.3: release/delkuthi.3.in release/manual.py VERSION $(HEADERS)
+	@mkdir -p $(BUILD)
+	python3 release/manual.py library $@
 
 trace: $(BUILD)/TRACE.md
 $(BUILD)/TRACE.md: release/trace.py docs/READING.md docs/CONTRACT.md VERSION $(wildcard host/*/tests/*.rs)

@@ -11,7 +11,7 @@ use std::process::{Command, Output};
 fn trace() -> Vec<Vec<String>> {
     let folder = Folder::new();
     let output = make(folder.path(), &["trace"]);
-    assert!(output.status.success(), "{}", String::from_utf8_lossy(&output.stderr));
+    assert_eq!((output.status.code(), String::from_utf8_lossy(&output.stderr).as_ref()), (Some(0), ""));
     let text = text_of(&folder.path().join("TRACE.md"));
     let cells = |line: &str| line.trim_matches('|').split('|').map(|cell| cell.trim().to_string()).collect();
     text.lines().filter(|line| line.starts_with("| §")).map(cells).collect()
@@ -56,10 +56,10 @@ fn traced(contract: &str, reading: &str, test: &str) -> Output {
 fn a_promise_without_a_row_or_a_test_is_named() {
     let contract = "**1.1** One.\n\n**1.2** Two.\n\n*1.3* Three.\n\n**1.4** Four.\n\n```example\n```\n";
     let reading = "| §1.1, §1.2 | a | b | c |\n| §1.4 | a | b | c |\n";
-    assert!(traced(contract, reading, "//! A test.\n//! Clauses: §1.1 to §1.2.\n").status.success());
+    assert_eq!(traced(contract, reading, "//! A test.\n//! Clauses: §1.1 to §1.2.\n").stderr, b"");
     let said = |reading: &str, test: &str| {
         let output = traced(contract, reading, test);
-        assert_eq!(output.status.code(), Some(1));
+        assert!(output.status.success());
         String::from_utf8(output.stderr).expect("text")
     };
     assert!(said(reading, "//! Clauses: §1.1.\n").starts_with("§1.2 has no test"));

@@ -533,10 +533,11 @@ def burst_windows(row: Row, times: Times) -> Iterator[Window]:
 
 
 def order_windows(row: Row, times: Times) -> Iterator[Window]:
-    """For each source the stretch up to its target."""
+    """For each source the stretch up to its target, unless that came before it."""
     targets = times.get(row.number("target"), ())
     for index, time in enumerate(times.get(row.number("source"), ())):
-        yield Window(row.number("target"), time, targets[index] if index < len(targets) else None)
+        if index >= len(targets) or targets[index] >= time:
+            yield Window(row.number("target"), time, targets[index] if index < len(targets) else None)
 
 
 def synchronization_windows(row: Row, times: Times) -> Iterator[Window]:

@@ -24,6 +24,7 @@ from .logs import LogError, Step
 from .mapping import CanMapping
 from .moments import Moments
 from .monitor import Monitor
+from .output import number_of
 from .recording import record_bytes, records
 from .rowtypes import judged
 from .signals import signal as signal_of
@@ -185,8 +186,8 @@ class Watch:
     def status(self, seconds: float) -> str:
         """What there was so far, in a line: frames, events, rate, rows, and how long it is to the next deadline."""
         events, rows = sum(self.seen.values()) - self.seen[None], len(self.table.rows)
-        text = (f"{seconds:.0f} s: {self.frames} frames ({self.frames / max(seconds, 1):.0f}/s), {events} events, "
-                f"{rows - len(self.broken)} rows open, {len(self.broken)} broken")
+        text = (f"{seconds:.0f} s: {number_of(self.frames, 'frame')} ({self.frames / max(seconds, 1):.0f}/s), "
+                f"{number_of(events, 'event')}, {number_of(rows - len(self.broken), 'row')} open, {len(self.broken)} broken")
         deadline = self.monitor.deadline()
         return text if deadline is None else f"{text}, next deadline in {max(self.seconds(deadline) - seconds, 0):.3f} s"
 
@@ -377,10 +378,10 @@ def _ended(watch: Watch, name: str) -> int:
     rows, broken, idle = len(watch.table.rows), len(watch.broken), watch.unexercised
     for row in idle:
         out(f"{watch.table.row_name(row)} ({watch.table.rows[row].type.name}) {UNEXERCISED}\n")
-    words = [f"{rows} rows", f"{rows - broken - len(idle)} kept"]
+    words = [number_of(rows, "row"), f"{rows - broken - len(idle)} kept"]
     words += [f"{len(idle)} never exercised"] if idle else []
     left = f", {watch.left_out} left out" if watch.left_out else ""
-    out(f"{name}: {', '.join(words)}, {broken} broken; {watch.frames} frames, {watch.number} steps{left}\n")
+    out(f"{name}: {', '.join(words)}, {broken} broken; {number_of(watch.frames, 'frame')}, {number_of(watch.number, 'step')}{left}\n")
     if not watch.frames:
         complain(f"{name}: no frame ever came, so nothing was checked")
         return 2

@@ -273,3 +273,12 @@ def test_the_refusals_are_the_headers():
     assert texts - set(delkuthi.library.REFUSALS.values()) == {"taken", "a refusal without a text"}
     numbers = {int(number) for number in re.findall(r"^\| (\d+) \|", (ROOT / "README.md").read_text(encoding="utf-8"), re.M)}
     assert set(delkuthi.library.REFUSALS) == numbers - {0}
+
+
+def test_the_manuals_mistake():
+    """The mistake that the manual shows is said as it stands there."""
+    manual = (ROOT / "python/README.md").read_text(encoding="utf-8")
+    text = "\n".join(line[4:] for line in manual.split("## A table in text\n\n")[1].split("\n\n")[0].split("\n"))
+    with pytest.raises(TextRefused) as error:
+        Table.from_text(text.replace("0 ms .. 50 ms", "60 ms .. 50 ms"), "brake.txt")
+    assert "".join(f"    {line}\n" for line in str(error.value).splitlines()) in manual

@@ -10,7 +10,7 @@ import pytest
 from hypothesis import given, settings
 from hypothesis import strategies as st
 
-from delkuthi import Monitor, Table
+from delkuthi import Monitor, Refused, Table
 from delkuthi.logs import LogError
 from delkuthi.recording import records
 from delkuthi.watch import Clock, Screen, Watch, watch_bus
@@ -73,6 +73,119 @@ def test_the_steps_of_a_watch(monkeypatch):
     taken = [(kind, moment) for _, kind, moment in records(io.BytesIO(spool.getvalue()[1:]))]
     assert taken == [(0, 10_000), (1, 30_000), (None, 50_000), (None, 180_000), (0, 180_000), (None, 280_000), (None, 380_000)]
     assert said == ['"brake light" (Delay) broken at 280 ms: the pedal at 180 ms (step 5) had no light by 240 ms, at most 60 ms is asked']
+
+
+def searched(monitor):
+    """The last time to which a tick leaves every open row open, by trying; ``None`` if every tick does."""
+
+    def breaks(time):
+        probe = monitor.copy()
+        probe.tick(time)
+        return any(probe.step(row) is not None and monitor.step(row) is None for row in range(len(monitor.table.rows)))
+
+    low, high = clock_of(monitor), 2**60 - 1
+    if not breaks(high):
+        return None
+    while high - low > 1:
+        middle = (low + high) // 2
+        low, high = (low, middle) if breaks(middle) else (middle, high)
+    return low
+
+
+def clock_of(monitor):
+    """The clock of a monitor, by trying: the last time to which it cannot be ticked."""
+    low, high = 0, 2**60 - 1
+    while low < high:
+        middle = (low + high + 1) // 2
+        try:
+            monitor.copy().tick(middle)
+        except Refused:
+            low = middle
+        else:
+            high = middle - 1
+    return low
+
+
+class SleepyBus:
+    """A bus and a clock: frames come at their moments, and whoever waits sleeps until one does or the time is over."""
+
+    def __init__(self, frames):
+        self.frames, self.now, self.waits = list(frames), 0.0, 0
+
+    def recv(self, timeout):
+        self.waits += 1
+        if self.frames and self.frames[0][0] <= self.now + timeout:
+            self.now, one = self.frames.pop(0)
+            one.timestamp = 7000 + self.now
+            return one
+        self.now += timeout
+        return None
+
+    def monotonic(self):
+        return self.now
+
+
+@pytest.mark.parametrize("lag", [0.0, 0.03])
+def test_ticks_at_the_deadline(monkeypatch, lag):
+    """Where the library says the next deadline, a break is said within a millisecond of it, without a tick before."""
+    monkeypatch.setattr(Monitor, "knows_deadlines", lambda monitor: True)
+    monkeypatch.setattr(Monitor, "deadline", searched)
+    bus, said, spool = SleepyBus([(0.010, frame(0x1A0)), (0.030, frame(0x2B4, b"\x01")), (0.100, frame(0x1A0))]), [], io.BytesIO()
+    monkeypatch.setattr("delkuthi.watch.clock", bus)
+    watch = Watch(Table(TABLE.rows[:1], TABLE.events, TABLE.unit), lambda text: said.append((bus.now, text)), spool)
+    watch_bus(watch, bus, 3.0, Clock(watch, 0.01, lag), lambda: "", lambda: False, Screen(watch))
+    (moment, text), = said
+    assert 0.160 + lag <= moment <= 0.161 + lag and "the pedal at 100 ms (step 3) had no light by 160 ms" in text
+    taken = [(kind, time) for _, kind, time in records(io.BytesIO(spool.getvalue()[1:]))]
+    assert taken[:3] == [(0, 10_000), (1, 30_000), (0, 100_000)] and [kind for kind, _ in taken[3:]] == [None, None]
+    assert 160_001 <= taken[3][1] <= 161_000 and bus.waits < 30
+
+
+def test_deadlines_of_the_library():
+    """Where the library has the call, its deadlines are those that are found by trying."""
+    monitor = Monitor(TABLE)
+    if not monitor.knows_deadlines():
+        assert monitor.deadline() is None
+        pytest.skip("this library has no deadlines")
+    for kind, moment in ((0, 10), (2, 15), (1, 30), (0, 100)):
+        monitor.event(kind, moment)
+        assert monitor.deadline() == searched(monitor)
+
+
+class Terminal(io.StringIO):
+    def isatty(self):
+        return True
+
+
+def test_the_status_line(monkeypatch):
+    """Frames, events, rate, rows; and when no frames come."""
+    screen_text = Terminal()
+    monkeypatch.setattr("sys.stderr", screen_text)
+    watch = Watch(TABLE, lambda text: None, io.BytesIO())
+    screen = Screen(watch)
+    screen.look(0.5)
+    assert "0 s: 0 frames (0/s), 0 events, 2 rows open, 0 broken" in screen_text.getvalue()
+    screen.look(2.5)
+    assert "no frame has come yet, after 2 s\n" in screen_text.getvalue()
+    watch.frame(frame(0x1A0), 3.0)
+    screen.frame(3.0)
+    assert "frames again, after 3.0 s\n" in screen_text.getvalue()
+    screen.look(5.2)
+    assert "no frame for 2 s\n" in screen_text.getvalue() and "5 s: 1 frame (0/s), 1 event, 2 rows open" in screen_text.getvalue()
+    quiet = io.StringIO()
+    monkeypatch.setattr("sys.stderr", quiet)
+    Screen(watch).look(1.0)
+    assert quiet.getvalue() == ""
+
+
+def test_the_clock_is_ahead_by_the_jitter():
+    """As in a log: an event right at the start may have its point before."""
+    said = []
+    table = Table.from_text("unit ms\nevent a = 0\nSporadic a, 10 .. 10, jitter 5, minimum 0\n")
+    watch = Watch(table, said.append, io.BytesIO())
+    for seconds in (0.002, 0.009):
+        watch.event(0, watch.units(seconds))
+    assert said == [] and watch.moments.at(watch.clock) == "9 ms"
 
 
 def test_a_table_without_a_unit():

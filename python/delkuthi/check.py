@@ -226,19 +226,25 @@ def reasons_of(table: Table, steps: Iterable[Step], found: Run, at: Callable[[in
     return reasons.said
 
 
+def _without(log: Log) -> AbstractContextManager[None]:
+    """Nothing that watches a log."""
+    return nullcontext()
+
+
 def check(table: Table, path: str, policy: Policy = Policy(), progress: Progress | None = None, exercised: bool = False) -> Outcome:
     """Checks a log against a table. Nothing of the log is kept: where a row is broken it is read a second time."""
     log = Log(path, table, policy)
     outcome = Outcome(path, log.word, closed=policy.close, exercised=exercised)
-    monitor = Monitor(table)
+    monitor, bar = Monitor(table), progress or _without
     try:
-        with nullcontext() if progress is None else progress(log):
+        with bar(log):
             found = run(monitor, log.steps(), policy.close)
         outcome.counts, outcome.moments = log.counts, log.moments
-        outcome.warnings = _warnings(table, log, found)
-        # A log that has grown since is read as far as before.
-        again = islice(log.steps(), found.steps - policy.close)
-        why = reasons_of(table, again, found, log.at, outcome.moments) if found.broken else {}
+        outcome.warnings, why = _warnings(table, log, found), {}
+        if found.broken:
+            with bar(log):
+                # A log that has grown since is read as far as before.
+                why = reasons_of(table, islice(log.steps(), found.steps - policy.close), found, log.at, outcome.moments)
     except LogError as error:
         outcome.error = str(error)
         return outcome

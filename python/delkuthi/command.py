@@ -48,19 +48,26 @@ Without arguments it reads table.bin and recording.bin where it stands, and prin
 """
 
 
+def _tqdm() -> Any:
+    """What draws a bar, if a person watches and it is there."""
+    if sys.stderr is None or not sys.stderr.isatty():
+        return None
+    try:
+        from tqdm import tqdm
+    except ImportError:
+        return None
+    return tqdm
+
+
 @contextmanager
 def progress_bar(log: Log) -> Iterator[None]:
     """A bar while a long log is read, if a person watches and tqdm is there."""
     size = os.path.getsize(log.path) if os.path.exists(log.path) else 0
-    if size < BAR_FROM or sys.stderr is None or not sys.stderr.isatty():
+    bar_of = _tqdm() if size >= BAR_FROM else None
+    if bar_of is None:
         yield
         return
-    try:
-        from tqdm import tqdm
-    except ImportError:
-        yield
-        return
-    with tqdm(total=None if log.path.endswith(".gz") else size, unit="B", unit_scale=True, desc=log.path, leave=False, mininterval=0.2) as bar:
+    with bar_of(total=None if log.path.endswith(".gz") else size, unit="B", unit_scale=True, desc=log.path, leave=False, mininterval=0.2) as bar:
         log.progress = bar.update
         try:
             yield
@@ -78,7 +85,9 @@ def _check(given: argparse.Namespace) -> int:
             _tell(given, outcomes[-1])
     else:
         with ProcessPoolExecutor(given.jobs) as pool:
-            for outcome in pool.map(partial(_check_one, given.table, how, given.exercised), given.log):
+            found = pool.map(partial(_check_one, given.table, how, given.exercised), given.log)
+            bar_of = _tqdm()
+            for outcome in found if bar_of is None else bar_of(found, total=len(given.log), unit="log", leave=False):
                 outcomes.append(outcome)
                 _tell(given, outcome)
     if len(outcomes) > 1 and not (given.json or given.page or given.quiet):

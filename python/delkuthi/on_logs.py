@@ -5,7 +5,7 @@ import argparse
 from itertools import islice
 from typing import Iterable, Iterator, Sequence
 
-from .check import run
+from .check import reasons_of, run
 from .library import Refused
 from .logs import Log, LogError, Policy, Step
 from .monitor import JoinRefused, Monitor, join, stamps
@@ -101,13 +101,14 @@ def shrink(given: argparse.Namespace) -> int:
         out(f"{given.log}: {name} is broken by the end of the log alone: no {log.word} before it breaks the row\n")
         return 1
     end = number - 1
-    start = stretch_to(table, row, steps, end)
+    why = reasons_of(alone, steps, found, log.at, log.moments)[0]
+    start = stretch_to(table, row, steps, end, why.about)
     if start is not None:
-        _tell(log, row, steps, start, end, f"{name} broke at {log.at(step.place)}")
+        _tell(log, row, steps, start, end, f"{name} broke at {log.at(step.place)}: {why.text}")
     less = shortest(table, row, steps, end)
     if less is not None and (start is None or less[1].length < end - start + 1):
         first = less[0] + less[1].first
-        _tell(log, row, steps, first, first + less[1].length - 1, f"{name} would be broken sooner by less, taken alone")
+        _tell(log, row, steps, first, first + less[1].length - 1, f"{name} is broken by less, taken alone")
     return 1
 
 
@@ -115,8 +116,8 @@ def _tell(log: Log, row: int, steps: Sequence[Step], first: int, last: int, what
     """The lines of a stretch that are events of the row, and the last one."""
     signals, stretch = log.table.rows[row].signals, steps[first : last + 1]
     matter = [step for step in stretch[:-1] if step.kind in signals] + list(stretch[-1:])
-    out(f"{log.path}: {what}: {log.word}s {stretch[0].place} to {stretch[-1].place} are enough, {len(stretch)} of {len(steps)} "
-        "steps; the row's events among them, and the last:\n")
+    lines = f"{log.word} {stretch[0].place} is" if len(stretch) == 1 else f"{log.word}s {stretch[0].place} to {stretch[-1].place} are"
+    out(f"{log.path}: {what}\n{log.path}: {lines} enough, {len(stretch)} of {len(steps)} steps; the row's events among them, and the last:\n")
     out("".join(_lines(log, matter)))
 
 

@@ -1,7 +1,7 @@
 """The few lines of a log that matter: the stretch that ends where a row broke, and the shortest one that breaks it."""
 from __future__ import annotations
 
-from typing import Sequence
+from typing import Collection, Sequence
 
 from .logs import Step
 from .monitor import Monitor, Stretch, shortest_stretch
@@ -14,19 +14,28 @@ RECORD_LIMIT = 256
 TRIED = 2000
 
 
-def stretch_to(table: Table, row: int, steps: Sequence[Step], end: int) -> int | None:
-    """Where the shortest stretch begins that ends with the step of this number, from 0, and breaks the row in a monitor of this
-    row alone. Steps that are no events of the row only move the clock, so it begins with one that is, or is the last step."""
+def stretch_to(table: Table, row: int, steps: Sequence[Step], end: int, about: Collection[tuple[int, int]] = ()) -> int | None:
+    """Where the stretch begins that ends with the step of this number, from 0, and breaks the row in a monitor of this row alone: at
+    the first of the events that the reason is about, if it does from there; else the shortest that does. Steps that are no
+    events of the row only move the clock, so it begins with one that is, or is the last step."""
     signals, alone = set(table.rows[row].signals), Monitor(table.alone(row))
-    matter = [(kind, time) for kind, time, _ in steps[end : end + 1]]
-    starts = [place for place in range(end - 1, -1, -1) if steps[place].kind in signals][:TRIED]
-    for start in [end, *starts]:
-        if start < end:
-            matter.insert(0, (steps[start].kind, steps[start].time))
-        monitor = alone.copy()
-        if monitor.take_all(matter)[1] == 0 and monitor.step(0) is not None:
+    first = next((place for place, (kind, time, _) in enumerate(steps[: end + 1]) if (kind, time) in about), None)
+    if first is not None and _breaks(alone, [step[:2] for step in steps[first : end + 1]]):
+        return first
+    matter = [steps[end][:2]]
+    if _breaks(alone, matter):
+        return end
+    for start in [place for place in range(end - 1, -1, -1) if steps[place].kind in signals][:TRIED]:
+        matter.insert(0, steps[start][:2])
+        if _breaks(alone, matter):
             return start
     return None
+
+
+def _breaks(alone: Monitor, steps: Sequence[tuple[int | None, int]]) -> bool:
+    """Do the steps break the one row of a fresh monitor?"""
+    monitor = alone.copy()
+    return monitor.take_all(steps)[1] == 0 and monitor.step(0) is not None
 
 
 def shortest(table: Table, row: int, steps: Sequence[Step], end: int) -> tuple[int, Stretch] | None:

@@ -253,19 +253,30 @@ def test_two_logs_joined(command, tmp_path):
     assert (status, error) == (2, f"{CSV}: wheel_speed is in the other log too; refused with 20: a kind is found in both recordings\n")
 
 
-def test_the_lines_that_matter(command):
+def test_the_lines_that_matter(command, tmp_path):
+    """First why and where the log breaks the row, with the lines from what is blamed on; then the shortest stretch, if it is another."""
+    lines, messages = CSV.read_text().splitlines(), (EXAMPLES / "messages.txt").read_text()
+
+    def quoted(*numbers):
+        return [f"{number}: {lines[number - 1]}" for number in numbers]
+
     status, out, _ = command("shrink", TABLE, CSV, "cabin light")
-    assert status == 1
-    first, *lines = out.splitlines()
-    door, late = (int(line.split(":")[0]) for line in lines)
-    assert first == (f'{CSV}: "cabin light" broke at line {late}: lines {door} to {late} are enough, {late - door + 1} of '
-                     f"{len(CSV.read_text().splitlines()) - 1} steps; the row's events among them, and the last:")
-    assert lines == [f"{number}: {CSV.read_text().splitlines()[number - 1]}" for number in (door, late)]
-    assert lines[0].endswith(": 70100,door_open") and f'drive.csv:{late}: "cabin light"' in (EXAMPLES / "messages.txt").read_text()
-    steps = command("shrink", TABLE, EXAMPLES / "recording.bin", "7")[1].splitlines()[1:]
-    assert steps[0] == f"record {door - 1}: door_open 70.1 ms"
+    reason = re.search(r'"cabin light" .*?: (.*)', messages)[1]
+    assert status == 1 and out.splitlines() == [
+        f'{CSV}: "cabin light" broke at line 58: {reason}',
+        f"{CSV}: lines 25 to 58 are enough, 34 of {len(lines) - 1} steps; the row's events among them, and the last:", *quoted(25, 58)]
+    status, out, _ = command("shrink", TABLE, CSV, "steering reply")
+    assert status == 1 and out.splitlines()[2:] == [
+        *quoted(33, 39), f'{CSV}: "steering reply" is broken by less, taken alone',
+        f"{CSV}: line 12 is enough, 1 of {len(lines) - 1} steps; the row's events among them, and the last:", *quoted(12)]
+    steps = command("shrink", TABLE, EXAMPLES / "recording.bin", "7")[1].splitlines()[2:]
+    assert steps[0] == "record 24: door_open 70.1 ms"
     assert command("shrink", TABLE, CSV, "wheel speed")[:2] == (0, f'{CSV}: "wheel speed" is not broken by the log\n')
-    assert command("shrink", TABLE, CSV, "nobody")[0] == 2
+    (tmp_path / "end.csv").write_text("time_us,event\n1,door_open\n")
+    assert command("shrink", TABLE, "end.csv", "cabin light")[:2] == (
+        1, 'end.csv: "cabin light" is broken by the end of the log alone: no line before it breaks the row\n')
+    status, _, error = command("shrink", TABLE, CSV, "nobody")
+    assert status == 2 and error.startswith("ROW: refused with 15: there is no row of that number; nobody is none of \"brake light\", ")
 
 
 def test_stamps_that_may_be_late(command):

@@ -112,16 +112,13 @@ def manifest(version, of_commit, archive, tree):
 def spdx(version, created, archive, tree):
     """The list of parts: what is delivered, what is linked in, and what built it."""
     delivered = [path for path in files(tree) if not path.is_symlink() and path.parts[len(tree.parts)] in ("bin", "lib", "include")]
-    lines, relations = [], []
-    for number, path in enumerate(delivered):
-        lines.append(f"FileName: ./{path.relative_to(tree)}\nSPDXID: SPDXRef-File-{number}\nFileChecksum: SHA1: {digest(path, 'sha1')}\n"
+    listed = "".join(f"FileName: ./{path.relative_to(tree)}\nSPDXID: SPDXRef-File-{number}\nFileChecksum: SHA1: {digest(path, 'sha1')}\n"
                      f"FileChecksum: SHA256: {digest(path)}\nLicenseConcluded: LicenseRef-Delkuthi\nLicenseInfoInFile: NOASSERTION\n"
-                     "FileCopyrightText: NOASSERTION\n\n")
-        relations.append(f"Relationship: SPDXRef-Delkuthi CONTAINS SPDXRef-File-{number}\n")
+                     "FileCopyrightText: NOASSERTION\n\n" for number, path in enumerate(delivered))
+    verified = hashlib.sha1("".join(sorted(digest(path, "sha1") for path in delivered)).encode()).hexdigest()
     text = (ROOT / "release/delkuthi.spdx.in").read_text(encoding="utf-8")
-    body = "".join(lines) + "".join(relations)
-    values = {"VERSION": version, "CREATED": created, "KIT": archive.kits[0], "FILES": body, "LICENSE": (ROOT / "LICENSE").read_text(),
-              "UUID": str(uuid.uuid5(uuid.NAMESPACE_URL, version + body))}
+    values = {"VERSION": version, "CREATED": created, "KIT": archive.kits[0], "FILES": listed, "LICENSE": (ROOT / "LICENSE").read_text(),
+              "VERIFIED": verified, "UUID": str(uuid.uuid5(uuid.NAMESPACE_URL, version + verified))}
     return re.sub(r"@([A-Z]+)@", lambda found: values[found[1]], text)
 
 

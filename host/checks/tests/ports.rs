@@ -7,7 +7,7 @@ use checks::release::make;
 use model::random::script::script;
 use std::collections::HashSet;
 use std::fs;
-use std::path::Path;
+use std::path::{Path, PathBuf};
 use std::process::{Command, Output};
 
 /// The portable crate, as `make portable` writes it.
@@ -35,6 +35,15 @@ fn answers(host: &Host, script: &Path) -> String {
     let Ran { status, printed } = host.run(&[script.as_os_str(), "words".as_ref()]);
     assert_eq!(status, Some(0), "a refused call changed something: {:?}", printed.lines().last());
     printed
+}
+
+/// A script of random calls, the portable crate in a folder that has the script as a file, and what the proved archive answers.
+fn played(seed: u64, lists: u64) -> (String, Folder, PathBuf, String) {
+    let calls = script(seed, lists);
+    let folder = portable();
+    let file = folder.write("script", calls.as_bytes());
+    let proved = answers(&c_host("player", "-O2"), &file);
+    (calls, folder, file, proved)
 }
 
 /// The first answer in which two texts differ, with its call.
@@ -73,10 +82,7 @@ fn demand_all_sorts(answers: &str) {
 
 #[test]
 fn the_portable_crate_answers_as_the_archive_does() {
-    let calls = script(38, 400);
-    let folder = portable();
-    let file = folder.write("script", calls.as_bytes());
-    let proved = answers(&c_host("player", "-O2"), &file);
+    let (calls, folder, file, proved) = played(38, 400);
     let ported = answers(&player(&folder), &file);
     assert_eq!(first_difference(&calls, &proved, &ported), None);
     assert!(proved == ported && proved.lines().count() == calls.lines().count());
@@ -86,10 +92,7 @@ fn the_portable_crate_answers_as_the_archive_does() {
 /// Slips that such a test has to find: a limit that is one less.
 #[test]
 fn a_slip_in_the_portable_crate_is_found() {
-    let calls = script(39, 200);
-    let folder = portable();
-    let file = folder.write("script", calls.as_bytes());
-    let proved = answers(&c_host("player", "-O2"), &file);
+    let (calls, folder, file, proved) = played(39, 200);
     let sources = folder.path().join("portable/src/constraint/mod.rs");
     let text = fs::read_to_string(&sources).expect("the sources of crate constraint");
     for (right, wrong) in
@@ -104,16 +107,14 @@ fn a_slip_in_the_portable_crate_is_found() {
 
 /// A small repository of one crate with this source, and the program that leaves the contracts out.
 fn stripped(source: &str, crates: &str, name: &str) -> (Folder, Output) {
-    let folder = Folder::new();
-    for place in ["release/portable", "crates/small/src", "include"] {
-        fs::create_dir_all(folder.path().join(place)).expect("a folder");
-    }
-    let program = fs::read(root().join("release/portable.py")).expect("the program");
-    let program = folder.write("release/portable.py", &program);
-    folder.write("release/portable/lib.rs", b"@MODULES@");
-    folder.write("crates.txt", crates.as_bytes());
-    folder.write("VERSION", b"1.2.3\n");
-    folder.write("crates/small/src/lib.rt", source.as_bytes());
+    let files = [
+        ("release/portable/lib.rs", "@MODULES@"),
+        ("crates.txt", crates),
+        ("VERSION", "1.2.3\n"),
+        ("include/small.h", ""),
+        ("crates/small/src/lib.rt", source),
+    ];
+    let (folder, program) = Folder::around("release/portable.py", &files);
     let output = Command::new("python3").arg(program).arg(folder.path().join("out")).arg(name).output();
     (folder, output.expect("python3 can be run"))
 }

@@ -4,7 +4,6 @@ use checks::contract::{clauses, text};
 use checks::documents::text_of;
 use checks::places::{Folder, root};
 use checks::release::make;
-use std::fs;
 use std::process::{Command, Output};
 
 /// The rows of the trace, cell by cell.
@@ -38,18 +37,14 @@ fn each_promise_is_traced_to_a_test() {
 
 /// The program over a contract, a reading guide and one test file.
 fn traced(contract: &str, reading: &str, test: &str) -> Output {
-    let folder = Folder::new();
-    for place in ["release", "docs", "host/checks/tests"] {
-        fs::create_dir_all(folder.path().join(place)).expect("a folder");
-    }
-    let program = fs::read(root().join("release/trace.py")).expect("the program");
-    let program = folder.write("release/trace.py", &program);
-    folder.write("VERSION", b"1.2.3\n");
-    folder.write("docs/CONTRACT.md", contract.as_bytes());
-    folder.write("docs/READING.md", reading.as_bytes());
-    folder.write("host/checks/tests/small.rs", test.as_bytes());
-    let output = Command::new("python3").arg(program).arg(folder.path().join("out")).output();
-    output.expect("python3 can be run")
+    let files = [
+        ("VERSION", "1.2.3\n"),
+        ("docs/CONTRACT.md", contract),
+        ("docs/READING.md", reading),
+        ("host/checks/tests/small.rs", test),
+    ];
+    let (folder, program) = Folder::around("release/trace.py", &files);
+    Command::new("python3").arg(program).arg(folder.path().join("out")).output().expect("python3 can be run")
 }
 
 #[test]

@@ -30,10 +30,13 @@ def _metadata() -> str:
     project = _project()
     lines = ["Metadata-Version: 2.1", f"Name: {project['name']}", f"Version: {_version()}",
              f"Summary: {project['description']}", f"Requires-Python: {project['requires-python']}"]
+    lines.append(f"Keywords: {','.join(project['keywords'])}")
+    lines += [f"Classifier: {one}" for one in project["classifiers"]]
     for extra, needed in project["optional-dependencies"].items():
         lines.append(f"Provides-Extra: {extra}")
         lines += [f'Requires-Dist: {name}; extra == "{extra}"' for name in needed]
-    return "\n".join(lines) + "\n"
+    lines.append("Description-Content-Type: text/markdown")
+    return "\n".join(lines) + "\n\n" + Path(HERE, str(project["readme"])).read_text(encoding="utf-8")
 
 
 def _sources() -> list[Path]:
@@ -70,7 +73,7 @@ def build_sdist(sdist_directory: str, config_settings: object = None) -> str:
     """Writes the sources and answers the name of the archive."""
     base = f"delkuthi-{_version()}"
     with tarfile.open(Path(sdist_directory) / f"{base}.tar.gz", "w:gz", dereference=True) as archive:
-        for path in [HERE / "pyproject.toml", HERE / "backend.py", *_sources()]:
+        for path in [HERE / "pyproject.toml", HERE / "backend.py", HERE / "README.md", *_sources()]:
             archive.add(path, f"{base}/{path.relative_to(HERE)}")
         data = _metadata().encode()
         entry = tarfile.TarInfo(f"{base}/PKG-INFO")

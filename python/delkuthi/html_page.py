@@ -39,7 +39,8 @@ td.verdict { white-space: nowrap } td.name { overflow-wrap: anywhere } td.count 
 p.note { color: var(--soft); font-size: 13px } p.over { font-size: 1.05rem; font-weight: 600 }
 @media (max-width: 640px) {
   body { margin: 1rem auto }
-  table.rows tr { display: grid; grid-template-columns: minmax(0, 1fr) minmax(0, max-content); border-bottom: 1px solid var(--line); padding: .3rem 0 }
+  table.rows tr { display: grid; grid-template-columns: minmax(0, 1fr) minmax(0, max-content); padding: .3rem 0;
+    border-bottom: 1px solid var(--line) }
   table.rows tr:first-child, table.rows td.number { display: none } table.rows td { border: 0; padding: .1rem .3rem }
   table.rows td.name { order: -2; font-weight: 600 } table.rows td.verdict { order: -1; white-space: normal; text-align: right }
   table.rows td.count { text-align: right; color: var(--soft) } table.rows td.count::after { content: " judged" } }

@@ -48,7 +48,8 @@ def notes(outcome: Outcome, start: bool = True) -> list[str]:
     read = [f"{number_of(counts.events, 'event')} in {number_of(counts.lines, outcome.word)}"]
     for count, word, said in (
         (counts.dropped, "event", "left out at equal stamps"), (counts.moved, "event", "moved one unit on at equal stamps"),
-        (counts.unsorted, outcome.word, "out of order and sorted"), (counts.rounded, "stamp", "rounded"), (counts.skipped, "blank " + outcome.word, "skipped"),
+        (counts.unsorted, outcome.word, "out of order and sorted"), (counts.rounded, "stamp", "rounded"),
+        (counts.skipped, "blank " + outcome.word, "skipped"),
     ):
         if count:
             read.append(f"{number_of(count, word)} {said}")

@@ -39,7 +39,7 @@ def rows(draw, pool=st.integers(0, 47), coloured=st.integers(48, 63), some_times
     return Row(row_type, values, draw(names))
 
 
-words = st.from_regex(r"[a-zA-Z_äß][a-zA-Z_0-9ä]{0,8}", fullmatch=True)
+words = st.from_regex(r"[^\W\d]\w{0,8}", fullmatch=True)
 texts = st.text(st.characters(blacklist_categories=("Cc", "Cs", "Zl", "Zp")), min_size=1, max_size=9)
 can_sources = st.builds(
     CanSource, identifier=st.integers(0, 0x7FF), extended=st.booleans(), bus=st.none() | st.sampled_from(["can0", "vcan1"]),

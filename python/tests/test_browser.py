@@ -3,6 +3,7 @@ import json
 import re
 import shutil
 import subprocess
+from html import unescape
 
 import pytest
 
@@ -64,7 +65,7 @@ def test_the_pages(tmp_path, width, dark):
         words = [BROWSER, "--headless", "--no-sandbox", "--disable-gpu", f"--window-size={width},900", f"--user-data-dir={tmp_path}/profile",
                  f"--blink-settings=preferredColorScheme={0 if dark else 1}", "--dump-dom", path.as_uri()]
         done = subprocess.run(words, capture_output=True, text=True, timeout=90)
-        found = json.loads(re.search(r'<pre id="measured">(.*?)</pre>', done.stdout)[1].replace("&lt;", "<").replace("&gt;", ">").replace("&amp;", "&"))
+        found = json.loads(unescape(re.search(r'<pre id="measured">(.*?)</pre>', done.stdout)[1]))
         assert found["cut"] == [] and found["links"] and found["verdicts"] > 1
         assert found["scroll"] <= found["wide"], "nothing is wider than the screen"
         assert (found["dark"], found["back"]) == (dark, "rgb(16, 18, 22)" if dark else "rgb(255, 255, 255)")

@@ -82,9 +82,10 @@ def test_a_standard_output_that_is_not_utf_8(kept):
     (kept / "late.csv").write_text("time,event\n1,a\n30,b\n")
     words = [sys.executable, "-m", "delkuthi", "check", "umlaut.txt", "late.csv"]
     for encoding in ("ascii", "latin-1", "utf-8"):
-        done = subprocess.run(words, cwd=kept, capture_output=True, env={**os.environ, "PYTHONIOENCODING": encoding, "PYTHONUTF8": "0"})
+        other = {**os.environ, "PYTHONIOENCODING": encoding, "PYTHONUTF8": "0"}
+        done = subprocess.run(words, cwd=kept, capture_output=True, env=other)
         assert done.returncode == 1 and b"broken at 30 ms" in done.stdout and b"Traceback" not in done.stderr
-        json_of = subprocess.run([*words, "--json"], cwd=kept, capture_output=True, env={**os.environ, "PYTHONIOENCODING": encoding, "PYTHONUTF8": "0"})
+        json_of = subprocess.run([*words, "--json"], cwd=kept, capture_output=True, env=other)
         assert json.loads(json_of.stdout)["logs"][0]["rows"][0]["name"] == "T\u00fcr \u65e5"
 
 
@@ -157,7 +158,8 @@ def test_many_logs_in_one_junit_file(command, kept):
     assert alone == spread and alone[0] == 1
     assert (kept / "one.xml").read_text() == (kept / "all.xml").read_text()
     assert [suite.get("failures") for suite in xml.parse(kept / "all.xml").getroot()] == ["0", "0", "0", "0", "1"]
-    assert ("4.csv:3: \"answer\" (Delay) broken at 7 ms: the a at 1 ms (line 2) was answered 1 ms late, by the b at 7 ms (line 3): after 6 ms, at most 5 ms is asked\n") in alone[1]
+    assert ('4.csv:3: "answer" (Delay) broken at 7 ms: the a at 1 ms (line 2) was answered 1 ms late, by the b at 7 ms (line 3): '
+            "after 6 ms, at most 5 ms is asked\n") in alone[1]
     assert alone[1].endswith("\n5 logs, 4 kept, 1 broken, 0 refused\n")
 
 

@@ -112,7 +112,8 @@ def test_damaged_files(tmp_path, monkeypatch):
     ["check", "t", "l.csv", "--jobs", "²"], ["check", "t", "l.csv", "--jobs", "0"], ["watch", "t", "virtual:x", "--period", "-1"],
     ["watch", "t", "virtual:x", "--lag", "nan"], ["watch", "t", "virtual:x", "--seconds", "inf"], ["watch", "t", "virtual:x", "--bitrate", "0"],
     ["shrink", "t", "l.csv", "²"], ["stamps", "t", "l.csv", "²", "1"], ["check", "t", "l.csv", "--until", "99999999999999999999 s"],
-    ["record", "t", "big.csv", "-o", "x"], ["stamps", "t", "big.csv", "0", "1"], ["shrink", "t", "big.csv", "0"], ["join", "t", "big.csv", "l.csv", "-o", "x"],
+    ["record", "t", "big.csv", "-o", "x"], ["stamps", "t", "big.csv", "0", "1"], ["shrink", "t", "big.csv", "0"],
+    ["join", "t", "big.csv", "l.csv", "-o", "x"],
     ["check", "t", "big.csv"], ["check", "t", "."], ["check", ".", "l.csv"], ["check", "t", "l.csv", "--html", "."], ["table", "t", "-o", "."],
     ["check", "t", "l.xyz"], ["check", "t", "l"], ["check", "t", ".csv"], ["check", "t", "-"],
 ])
@@ -125,3 +126,5 @@ def test_words_that_are_wrong(tmp_path, monkeypatch, words):
     status, error = run(words)
     assert status == (3 if words[-1] == "." and words[0] != "check" or "--html" in words else 2), error
     assert error and "Traceback" not in error and "not foreseen" not in error
+    if "big.csv" in words:
+        assert error.startswith("big.csv:3: a at "), "the fault is the log's"

@@ -95,26 +95,25 @@ def test_a_bus_is_what_the_log_says(tmp_path):
         assert f"{path}: the log has no c: it has to come on bus vcan0.1-x, and the log has {there}" in outcome.warnings
 
 
+def written_blf(path, times):
+    """A BLF file with a frame at each of these seconds."""
+    can = pytest.importorskip("can")
+    with can.Logger(str(path)) as writer:
+        for time in times:
+            writer(can.Message(timestamp=time, arbitration_id=0x100, is_extended_id=False))
+    return path
+
+
 def test_blf_stamps_are_exact(tmp_path):
     """The nanoseconds of the file, and not what a floating-point number leaves of them since 1970."""
-    can = pytest.importorskip("can")
-    path = tmp_path / "a.blf"
-    with can.Logger(str(path)) as writer:
-        for time in (1_600_000_000.0, 1_600_000_000.25, 1_600_000_001.5):
-            writer(can.Message(timestamp=time, arbitration_id=0x100, is_extended_id=False))
+    path = written_blf(tmp_path / "a.blf", (1_600_000_000.0, 1_600_000_000.25, 1_600_000_001.5))
     fine = Table.from_text("unit ns\nevent a = 0 from can 0x100\n")
     times = [step.time for step in Log(path, fine).steps()]
     assert [time - times[0] for time in times] == [0, 250_000_000, 1_500_000_000] and times[0] % 10**6 == 0
-    data = path.read_bytes()
-    assert data[:4] == b"LOGG"
 
 
 def test_stamps_finer_than_the_unit_are_not_rounded_in_silence(tmp_path):
-    can = pytest.importorskip("can")
-    path = tmp_path / "a.blf"
-    with can.Logger(str(path)) as writer:
-        for time in (0.0, 0.0000015, 0.25):
-            writer(can.Message(timestamp=time, arbitration_id=0x100, is_extended_id=False))
+    path = written_blf(tmp_path / "a.blf", (0.0, 0.0000015, 0.25))
     table = Table.from_text("unit us\nevent a = 0 from can 0x100\n")
     with pytest.raises(LogError, match=r"frame 2: the stamp 1\d{3} ns is no whole number of us: take a finer unit in the table, or --round"):
         list(Log(path, table).steps())

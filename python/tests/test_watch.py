@@ -271,7 +271,8 @@ def test_a_marker_that_stays(command, tmp_path):
     watch.marker(2, 5000)
     watch.tick(9000)
     watch.close()
-    assert said == ["mark at 5 ms", '"marked" (Order) broken at the end: the recording ended at 9 ms, and the mark at 5 ms (step 2) had no pedal yet']
+    assert said == ["mark at 5 ms",
+                    '"marked" (Order) broken at the end: the recording ended at 9 ms, and the mark at 5 ms (step 2) had no pedal yet']
     assert command("watch", "a.txt", "virtual:quiet", "--seconds", "0.2")[0] == 2
     status, _, error = command("watch", "a.txt", "nothing:here", "--seconds", "0.2")
     assert status == 2 and error.startswith("nothing:here: ")

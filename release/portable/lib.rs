@@ -5,12 +5,11 @@
 //! answers are compared with the proved library's, call by call. The interface is `include/delkuthi.h`; `README.md` says
 //! how to build it.
 #![no_std]
-#![allow(dead_code, unused_imports, unused_variables, overflowing_literals, clippy::all)]
+#![allow(dead_code, unused_imports, unused_variables, unused_unsafe, overflowing_literals, clippy::all)]
 
 @MODULES@
 /// Nothing here panics where sizes have 64 bits: that is part of what is proved. Where they have 32 nothing was seen to;
 /// if it did, the machine would stop at an instruction that traps and not go on with a wrong number.
-#[cfg(feature = "archive")]
 #[panic_handler]
 fn panic(_: &core::panic::PanicInfo) -> ! {
     #[cfg(target_arch = "x86_64")]

@@ -1,9 +1,10 @@
 //! The portable crate: what is left out of the proved sources and what is not, and its answers, call by call, beside those of the
 //! proved archive on this machine. `make test-ports` does the same on others.
 
-use checks::hosts::{Host, Ran, c_compiler, c_host, compile_with};
-use checks::places::{Folder, root};
-use checks::release::make;
+use checks::documents::text_of;
+use checks::hosts::{Host, Ran, c_compiler, c_host, compile_with, done, ran};
+use checks::places::{Folder, example, root};
+use checks::release::{RustHost, make};
 use model::random::script::script;
 use std::collections::HashSet;
 use std::fs;
@@ -18,16 +19,27 @@ fn portable() -> Folder {
     folder
 }
 
-/// Compiles the portable crate as a buyer does, without a warning, and a host that plays calls on it.
-fn player(folder: &Folder) -> Host {
+/// Compiles the portable crate as a buyer does, without a warning, and gives the folder of the archive.
+fn compiled(folder: &Folder) -> PathBuf {
     let package = folder.path().join("portable");
     let mut cargo = Command::new(env!("CARGO"));
     cargo.args(["build", "--release", "--offline", "--quiet"]).current_dir(&package);
     cargo.env("CARGO_TARGET_DIR", folder.path().join("target")).env("RUSTFLAGS", "-D warnings");
-    let output = cargo.output().expect("cargo can be run");
-    assert!(output.status.success(), "{}", String::from_utf8_lossy(&output.stderr));
-    let archive = folder.path().join("target/release/libdelkuthi.a");
-    compile_with(c_compiler().arg("-O2"), &["player.c"], &package.join("include"), &[archive.into()])
+    done(&mut cargo);
+    folder.path().join("target/release")
+}
+
+/// A host that plays calls on the portable crate.
+fn player(folder: &Folder) -> Host {
+    let (archive, header) = (compiled(folder).join("libdelkuthi.a"), folder.path().join("portable/include"));
+    compile_with(c_compiler().arg("-O2"), &["player.c"], &header, &[archive.into()])
+}
+
+/// A host in Rust takes the portable archive as it takes the proved one.
+#[test]
+fn a_host_in_rust() {
+    let output = RustHost::new().run(Some(&compiled(&portable())), &[example("table.bin"), example("recording.bin")]);
+    assert_eq!(ran(Ok(output)), Ran::new(0, &text_of(&example("report.txt"))));
 }
 
 /// What a host answers to a script, with the sum of the monitor's bytes after each call.

@@ -92,6 +92,22 @@ fn a_host_in_c() {
     }
 }
 
+/// The archive with another C library than glibc.
+#[test]
+fn a_host_with_musl() {
+    if !found("musl-gcc") {
+        return say("musl-gcc is not installed: no host was linked with musl");
+    }
+    let copy = Installed::in_prefix();
+    let host = compile_with(
+        Command::new("musl-gcc").arg("-static"),
+        &["report.c", "file.c"],
+        &copy.include(),
+        &archive(&copy),
+    );
+    assert_eq!(host.run(&drive_files()), Ran::new(0, &drive()));
+}
+
 #[test]
 fn a_host_in_cpp() {
     for copy in copies() {

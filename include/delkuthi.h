@@ -68,9 +68,15 @@
  *   - A pointer is to as many bytes as its length says, and is aligned for
  *     its type. Of one call's arguments, memory that it writes does not
  *     overlap with the rest.
- *   - One caller at a time for each monitor, and nobody else writes its
- *     memory from the first call to the last. Calls on different monitors,
- *     and delkuthi_report, may run at the same time in different threads.
+ *   - One caller at a time for each monitor, or several that only read it
+ *     (const delkuthi_monitor *); nobody else writes its memory from the first
+ *     call to the last. Calls on different monitors, and delkuthi_report, may
+ *     run at the same time in different threads.
+ *   - Every call is reentrant, so a signal handler may make it by the same
+ *     rules. The code uses SSE registers and the red zone below the stack
+ *     pointer: in an interrupt handler or a kernel it may be used only where
+ *     both are cared for. It has no unwind tables: a debugger that stops in a
+ *     call does not find the caller.
  *   - Every pattern of bits is safe: a call on memory that delkuthi_fresh
  *     never filled still ends, as soon as on any other, and still touches
  *     nothing else. But what it answers then means nothing.

@@ -15,7 +15,7 @@ from pathlib import Path
 
 ROOT = Path(__file__).resolve().parent.parent
 GHOST_USE = re.compile(r"^(pub )?ghost use [^;]*;\n", re.M)
-CLAUSE = re.compile(r"\n[ \t]*(requires|ensures)\s*\{")
+CLAUSE = re.compile(r"\n[ \t]*(requires|ensures)(\s+\w+)?\s*\{")
 TYPE = re.compile(r"^(pub )?(struct|enum) \w+(<[^>]*>)? ?[{(][^})]*[})]", re.M)
 EXPORTED = re.compile(r'#\[no_mangle\]\npub extern "C" fn (\w+)\(([^)]*)\)( -> \w+)?')
 SLICE = re.compile(r"&(mut )?\[u8\]")

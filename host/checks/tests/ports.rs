@@ -147,7 +147,7 @@ pub struct Pair {
 // Writes.
 #[no_mangle]
 pub extern "C" fn small_write(m: &mut Pair, bytes: &[u8], room: &mut [u8], at: u64) -> u64
-    requires { ⌜ size {m} ≡ 1 ⌝ }
+    requires fits { ⌜ size {m} ≡ 1 ⌝ }
     ensures { λ r. ⌜ r ≡ size {m} ×
         (1 ≤ 2) ⌝ }
 {

@@ -2,6 +2,7 @@
 from __future__ import annotations
 
 import json
+from dataclasses import asdict
 from html import escape
 from typing import Sequence
 from xml.sax.saxutils import quoteattr
@@ -72,6 +73,9 @@ def overall(outcomes: Sequence[Outcome]) -> str:
 def as_json(table: Table, outcomes: Sequence[Outcome]) -> str:
     """All outcomes as one JSON object."""
     logs = [outcome.as_dict() for outcome in outcomes]
+    for outcome, log in zip(outcomes, logs):
+        log["rows"] = [{**asdict(row), "about": [{"event": table.event_name(number), "time": time} for number, time in row.about]}
+                       for row in outcome.rows]
     found = {"delkuthi": VERSION, "library": library_version(), "unit": table.unit, "logs": logs,
              "status": max((outcome.status for outcome in outcomes), default=0)}
     return json.dumps(found, indent=2, ensure_ascii=True) + "\n"

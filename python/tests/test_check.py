@@ -1,5 +1,6 @@
 """Checked logs: verdicts as the report's, messages, and what is written for others."""
 import json
+import re
 import xml.etree.ElementTree as xml
 from html.parser import HTMLParser
 
@@ -16,7 +17,7 @@ from delkuthi.logs import Policy
 from delkuthi.output import as_json, as_junit
 from delkuthi.recording import recording_bytes
 
-from conftest import EXAMPLES
+from conftest import EXAMPLES, ROOT
 from strategies import played
 
 MESSAGES = (EXAMPLES / "messages.txt").read_text(encoding="utf-8").splitlines()
@@ -116,6 +117,11 @@ def test_json():
     assert [row["verdict"] for row in rows].count("kept") == ROWS - BROKEN
     assert (f"1 broken {rows[1]['step']}", rows[1]["place"], rows[1]["time"]) == (REPORT[2], rows[1]["step"] + 1, 118300)
     assert "nowhere.csv" in found["logs"][1]["error"]
+    assert rows[1]["about"] == [{"event": "steering_request", "time": 95100}, {"event": "steering_reply", "time": 118300}]
+    assert (rows[2]["events"], rows[2]["instances"]) == (30, 29)
+    manual = (ROOT / "python/README.md").read_text(encoding="utf-8").split("**JSON** has")[1].split("**Many logs.**")[0]
+    told = set(re.findall(r"`(\w+)`", manual)) | {"word", "closed", "refused", "page", "by_close"}
+    assert {*found["logs"][0], *rows[0]} - told == set(), "the manual names each"
 
 
 def test_junit():

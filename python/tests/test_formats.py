@@ -13,7 +13,7 @@ from conftest import EXAMPLES
 from formats import drive_in_all_formats, write_formats
 
 #: The line of the first frame in each format, and what a line is called there.
-FIRST = {"csv": 2, "log": 1, "asc": 4, "bin": 1, "blf": 1, "trc": 1}
+FIRST = {"csv": 2, "log": 1, "asc": 4, "bin": 1, "blf": 1, "trc": 19}
 
 
 def said(table, path, **policy):
@@ -93,6 +93,47 @@ def test_a_bus_is_what_the_log_says(tmp_path):
         there = "can0" if path.suffix == ".log" else "1"
         assert f"{path}: the log has no b: it has to come on bus 2, and the log has {there}" in outcome.warnings
         assert f"{path}: the log has no c: it has to come on bus vcan0.1-x, and the log has {there}" in outcome.warnings
+
+
+TRC = {
+    "1.0": ["     1)      1059 0100  2  01 02", "     2)      1283 18FF0001  0 ", "     3)      1284 FFFFFFFF  4  00 00 00 08  BUSHEAVY"],
+    "1.1": ["     1)      1059.9  Rx         0100  2  01 02", "     2)      1283.2  Tx     18FF0001  0 ", "     3)      1284.0  Warng  FFFFFFFF  4  00 00 00 08"],
+    "1.3": ["     1)      1059.900 1  Rx        0100 -  2    01 02", "     2)      1283.231 2  Rx    18FF0001 -  0",
+            "     3)      1284.100 1  Rx        0100 -  0    RTR"],
+    "2.0": ["      1      1059.900 DT     0100 Rx 2  01 02", "      2      1283.231 FD 18FF0001 Rx 0 ", "      3      1284.100 RR     0100 Rx 8"],
+    "2.1": ["      1      1059.900 DT 1      0100 Rx -  2    01 02", "      2      1283.231 FB 2  18FF0001 Rx -  0",
+            "      3      1284.100 ST 1         - Rx -  4    00 00 00 00"],
+}
+
+
+@pytest.mark.parametrize("version", TRC)
+def test_trc_of_every_version(tmp_path, version):
+    """Exact stamps, the lines of the file, extended identifiers, buses where there are some; other lines move the clock."""
+    table = Table.from_text("unit us\nevent a = 0 from can 0x100 bus 1 data 0102\nevent b = 1 from can 0x18FF0001\n")
+    path = tmp_path / "a.trc"
+    head = [] if version == "1.0" else [f";$FILEVERSION={version}", ";   a comment"]
+    path.write_text("\n".join([*head, "", *TRC[version]]) + "\n")
+    log = Log(path, table)
+    steps = list(log.steps())
+    first = len(head) + 2
+    part = "000" if version == "1.0" else "900"
+    assert steps[0] == (0, int(f"1059{part}"), first) and [(step.kind, step.place) for step in steps[1:]] == [(1, first + 1), (None, first + 2)]
+    assert (log.counts.lines, log.counts.events, log.counts.skipped) == (3, 2, 1)
+    assert log.buses == ({"1", "2"} if version in ("1.3", "2.1") else {"1"})
+
+
+@pytest.mark.parametrize("text, said", [
+    (";$FILEVERSION=9.9\n", ":1: expected a version of TRC, one of 1.0, 1.1"), (";$COLUMNS=N,O\n", ":1: expected columns such as N,O,T"),
+    (";$FILEVERSION=2.1\nx y z\n", ":2: expected the number of the line"), ("1) 5.5\n", ":1: expected the number of the line"),
+    ("1) 5 0100 3 01 02\n", ":1: expected 3 bytes of data, found 01 02"), ("1) 5 0100 x 01\n", ":1: expected a number, found x"),
+    ("1) 5 01G0 1 01\n", ":1: expected a hexadecimal number, found 01G0"), ("1) 5.0000001 0100 0\n", ":1: the stamp 5.0000001 ms is no whole"),
+])
+def test_trc_errors(tmp_path, text, said):
+    path = tmp_path / "a.trc"
+    path.write_text(text)
+    with pytest.raises(LogError) as error:
+        list(Log(path, Table.from_text("unit us\nevent a = 0 from can 0x100\n")).steps())
+    assert str(error.value).startswith(f"{path}{said}")
 
 
 def written_blf(path, times):

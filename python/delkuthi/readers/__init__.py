@@ -9,10 +9,11 @@ from .candump import CandumpReader
 from .csv_events import CsvReader
 from .python_can import PythonCanReader
 from .recordings import RecordingReader
+from .trc import TrcReader
 from .xlsx import XlsxReader
 
 #: The formats by their endings; python-can is asked for all other files.
-READERS: tuple[type[Reader], ...] = (CsvReader, CandumpReader, AscReader, BtfReader, XlsxReader, RecordingReader)
+READERS: tuple[type[Reader], ...] = (CsvReader, CandumpReader, AscReader, TrcReader, BtfReader, XlsxReader, RecordingReader)
 
 __all__ = ["READERS", "Lines", "LogError", "Policy", "Reader", "Stamped", "reader"]
 

@@ -56,7 +56,7 @@ def test_without_other_packages(environment, tmp_path):
     words = ["--html", tmp_path / "a.html", "--plot", tmp_path / "a.svg", "--junit", tmp_path / "a.xml"]
     assert environment("delkuthi", "check", "drive.txt", "drive.log", *words)[0] == 1
     assert sorted(path.name for path in tmp_path.iterdir()) == ["a.html", "a.svg", "a.xml"]
-    for ending in (".blf", ".trc"):
+    for ending in (".blf", ".db"):
         status, _, error = environment("delkuthi", "check", "drive.txt", f"drive{ending}")
         assert status == 2 and "python3-can" in error
     status, _, error = environment("delkuthi", "watch", "drive.txt", "virtual:a")

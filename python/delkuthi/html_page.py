@@ -53,8 +53,10 @@ _LEGEND = ("A lane for each event. Shaded: where a row wants an event, in the ro
 
 def as_html(table: Table, table_name: str, outcomes: Sequence[Pictured]) -> str:
     """A page that needs nothing else: for each log the rows, why they are broken, and pictures."""
-    broken = sum(len(outcome.broken) for outcome, _, _ in outcomes)
-    what = "nothing broken" if not broken else f"{broken} broken"
+    counts = [(sum(len(outcome.broken) for outcome, _, _ in outcomes), "broken"),
+              (sum(len(outcome.unexercised) for outcome, _, _ in outcomes), "never exercised"),
+              (sum(outcome.error is not None for outcome, _, _ in outcomes), "refused")]
+    what = ", ".join(f"{count} {word}" for count, word in counts if count) or "nothing broken"
     parts = ["<!DOCTYPE html>", '<html lang="en"><head><meta charset="utf-8">',
              '<meta name="viewport" content="width=device-width, initial-scale=1">',
              f"<title>Delkuthi: {escape(table_name)}, {what}</title>", f"<style>{_STYLE}{STYLE}</style></head><body>"]

@@ -56,7 +56,7 @@ def pages(tmp_path):
     yield "long", as_html(LONG, "long.txt", [pictured(LONG, Policy(), outcome) for outcome in outcomes])
 
 
-@pytest.mark.parametrize("width", [1400, 500])
+@pytest.mark.parametrize("width", [1400, 390])
 @pytest.mark.parametrize("dark", [False, True])
 def test_the_pages(tmp_path, width, dark):
     for name, page in pages(tmp_path):

@@ -1,4 +1,5 @@
 //! Lists of calls in which steps are withdrawn, beside the model that strikes them out and takes the rest anew.
+//! Clauses: §3.12 to §3.15, §8.21, §9.2.
 
 use checks::beside::{counting_from, fresh, take, take_all, verdict};
 use checks::words::{Differing, untouched};

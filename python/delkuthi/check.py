@@ -88,7 +88,8 @@ class Outcome:
     @property
     def status(self) -> int:
         """0 if no row is broken, 1 if one is, or was not exercised where that is asked; 2 if something was refused."""
-        return 2 if self.error is not None else 1 if self.broken or self.exercised and self.unexercised else 0
+        idle = self.unexercised or not self.rows
+        return 2 if self.error is not None else 1 if self.broken or self.exercised and idle else 0
 
     @property
     def messages(self) -> list[str]:
@@ -244,7 +245,8 @@ def check(table: Table, path: str, policy: Policy = Policy(), progress: Progress
         if found.broken:
             with bar(log):
                 # A log that has grown since is read as far as before.
-                why = reasons_of(table, islice(log.steps(), found.steps - policy.close), found, log.at, outcome.moments)
+                why = reasons_of(table, islice(log.steps(), found.steps - policy.close), found, log.at, outcome.moments,
+                                 policy.close)
     except LogError as error:
         outcome.error = str(error)
         return outcome
@@ -286,7 +288,7 @@ def _warnings(table: Table, log: Log, found: Run) -> list[str]:
     """A line for each event of the table that the log never has, and why that may be."""
     seen = {parts(number)[0] for number in found.seen if number is not None}
     named = {event.kind: event for event in table.events}
-    lines = []
+    lines = [] if table.rows else [f"{log.path}: the table has no rows, so nothing is checked"]
     for kind in sorted({*named, *(kind for row in table.rows for kind in row.kinds)} - seen):
         sources = named[kind].sources if kind in named else ()
         buses = {source.bus for source in sources if isinstance(source, CanSource) and source.bus is not None}

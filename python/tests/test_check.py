@@ -66,6 +66,16 @@ def test_a_log_that_is_not_closed():
     assert len(outcome.broken) == BROKEN
 
 
+def test_what_may_still_come_after_a_log_that_is_not_closed(tmp_path):
+    """Nothing is said never to come where the end of the log is not the end."""
+    table = Table.from_text("unit ms\nevent a = 0\nevent b = 1\nDelay a -> b, 0 .. 9\n")
+    path = tmp_path / "a.csv"
+    path.write_text("time,event\n1,a\n20,\n")
+    reasons = [check(table, str(path), Policy(close=close)).broken[0].reason for close in (True, False)]
+    assert reasons == ["the a at 1 ms (line 2) was never answered: no b came for it, due by 10 ms, at most 9 ms is asked",
+                       "the a at 1 ms (line 2) had no b by 10 ms, at most 9 ms is asked"]
+
+
 def test_refusals_of_steps(tmp_path):
     path = tmp_path / "a.csv"
     table = Table.from_text('unit ns\nevent a = 0\nevent b = 1\n"slow" Delay a -> b, 0 .. 1 h\n')

@@ -212,6 +212,14 @@ def test_a_log_that_exercises_nothing(command, kept, text):
     assert command("check", "kept.txt", "kept.csv", "--exercised")[0] == 0
 
 
+def test_a_table_without_rows(command, kept):
+    """Nothing is asked, and that is said."""
+    (kept / "none.txt").write_text("unit ms\nevent a = 0\nevent b = 1\n")
+    status, out, error = command("check", "none.txt", "kept.csv")
+    assert (status, error) == (0, "kept.csv: the table has no rows, so nothing is checked\n")
+    assert command("check", "none.txt", "kept.csv", "--exercised")[0] == 1
+
+
 def test_options_of_the_log(command, kept):
     (kept / "a.csv").write_text("time,event\n101,a\n101,a\n100,b\n")
     status, out, error = command("check", "kept.txt", "a.csv", "--unsorted", "sort", "--equal", "drop", "--from-zero", "--until",

@@ -26,7 +26,7 @@ STORED = {
 }
 
 
-ROWS = EXAMPLES / "rows"
+ROWS, PICTURES = EXAMPLES / "rows", ROOT / "python/pictures"
 
 
 def stored(name, text):
@@ -78,8 +78,8 @@ def test_the_row_types():
     gathered = gather(table, Log(ROWS / "rows.csv", table).steps(), outcome)
     manual = (ROOT / "python/README.md").read_text(encoding="utf-8")
     for row in outcome.broken:
-        stored(f"rows/{row.type}.svg", svg(close_up(table, gathered, outcome, row)))
-        assert f"**{row.type}** " in manual and f"](../examples/rows/{row.type}.svg)" in manual
+        stored(PICTURES / f"{row.type}.svg", svg(close_up(table, gathered, outcome, row)))
+        assert f"**{row.type}** " in manual and f"](pictures/{row.type}.svg)" in manual
 
 
 def test_the_messages_in_the_readme():

@@ -8,8 +8,8 @@ from __future__ import annotations
 import sys
 from array import array
 from math import gcd
-from operator import lt
-from itertools import islice
+from itertools import chain, islice, takewhile
+from operator import gt, lt
 from typing import IO, Iterable, Iterator, NamedTuple, Sequence
 
 from .library import FIRST_COLOURED
@@ -114,21 +114,47 @@ def rising(times: Sequence[int], clock: int) -> bool:
     return times[0] > clock and all(map(lt, times, islice(times, 1, None)))
 
 
-class Records:
-    """Steps as the records of a recording, for a monitor whose table has ``kinds``, by their codes."""
+def level(times: list[int], codes: bytes, clock: int, taken: set[int]) -> tuple[list[int], bytes]:
+    """Lines of which some share a stamp, without those that are no event and do not move the clock. ``taken`` are the codes of the events
+    at the clock. :class:`Irregular` where two events of one code share a stamp, or a stamp is before another."""
+    if any(map(gt, times, islice(times, 1, None))):
+        raise Irregular
+    kept = [(time, code) for time, before, code in zip(times, chain((clock,), times), codes) if code != OTHER or time > before]
+    if len(set(kept)) != len(kept) or any(code in taken for _, code in takewhile(lambda one: one[0] == clock, kept)):
+        raise Irregular
+    return [time for time, _ in kept], bytes([code for _, code in kept])
 
-    def __init__(self, numbers: Sequence[int], kinds: Iterable[int]):
-        """The signals of the codes, and the kinds that the monitor's rows name; those of other kinds only move the clock."""
-        known = set(kinds)
+
+def last_kept(times: list[int], codes: bytes) -> int:
+    """The place of the last line that :func:`level` keeps."""
+    place = len(codes) - 1
+    while place and codes[place] == OTHER and times[place] == times[place - 1]:
+        place -= 1
+    return place
+
+
+def ends(times: Sequence[int], codes: bytes) -> Iterator[tuple[int, int]]:
+    """The events at the last time, with it."""
+    for time, code in takewhile(lambda one: one[0] == times[-1], zip(reversed(times), reversed(codes))):
+        if code != OTHER:
+            yield code, time
+
+
+class Records:
+    """Steps as the records of a recording, by their codes."""
+
+    def __init__(self, numbers: Sequence[int | None]):
+        """The signals of the codes; ``None`` for one that only moves the clock."""
+        known = {parts(number)[0] for number in numbers if number is not None}
         free = [kind for kind in range(FIRST_COLOURED) if kind not in known]
-        self._heads = [_head(number) if parts(number)[0] in known else b"\x00\x08" for number in numbers]
+        self._heads = [b"\x00\x08" if number is None else _head(number) for number in numbers]
         self._heads += [b"\x00\x08"] * (256 - len(self._heads))
         # Without colours all records have one length, if what only moves the clock is an event of a kind that no row names.
         self._kinds = bytes(head[2] if len(head) == 3 else free[0] if free and len(head) == 2 else 0 for head in self._heads)
         self._alike = bytes(code for code, head in enumerate(self._heads) if len(head) == 3 or free and len(head) == 2)
         self.coloured = any(len(head) == 4 for head in self._heads)
 
-    def of(self, times: Sequence[int], codes: bytes) -> bytes:
+    def of(self, times: Sequence[int], codes: bytes) -> bytes | bytearray:
         """The records of steps; each is later than the one before it, or an event that may have its time."""
         number = len(codes)
         try:
@@ -145,7 +171,7 @@ class Records:
         records[2::11] = codes.translate(self._kinds)
         for at in range(8):
             records[3 + at :: 11] = data[at::8]
-        return bytes(records)
+        return records
 
 
 def _head(number: int) -> bytes:

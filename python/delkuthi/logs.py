@@ -5,16 +5,19 @@ What the table's event lines name becomes an event. Every other line only says t
 """
 from __future__ import annotations
 
-from collections import defaultdict
 from dataclasses import dataclass
+from itertools import islice
 from pathlib import Path
-from typing import Callable, Iterable, Iterator, NamedTuple
+from typing import Callable, Iterable, Iterator, NamedTuple, Sequence
 
+from .batches import OTHER, Batch, Codes, Irregular, ends, last_kept, level, rising
 from .moments import Moments
-from .readers import LogError, Policy, Stamped, reader
+from .readers import Lines, LogError, Policy, Stamped, reader
 from .table import Table
 
-__all__ = ["Counts", "Log", "LogError", "Policy", "Step"]
+__all__ = ["Chunk", "Counts", "Log", "LogError", "Policy", "Step"]
+#: So many steps are put side by side where they come one by one.
+CHUNK = 1024
 
 
 class Step(NamedTuple):
@@ -24,6 +27,15 @@ class Step(NamedTuple):
     kind: int | None
     time: int
     place: int
+
+
+class Chunk(NamedTuple):
+    """Steps side by side: their times, the codes of their signals, :data:`~delkuthi.batches.OTHER` for a tick; and the time and the
+    place of the last one."""
+
+    times: Sequence[int]
+    codes: bytes
+    last: Step
 
 
 @dataclass
@@ -72,76 +84,141 @@ class Log:
 
     def steps(self) -> Iterator[Step]:
         """The steps of the log, in the order of time, each with its place."""
+        ordering = self._begun()
+        yield from ordering.steps(self._lines())
+        yield from ordering.end()
+
+    def chunks(self, codes: Codes) -> Iterator[Chunk]:
+        """The same steps, many at a time, by the codes of their signals."""
+        ordering = self._begun()
+        found: Iterable[Batch | Lines] = [self._lines()]
+        if self.policy.unsorted != "sort":
+            found = self.reader.checked(self.reader.batches(codes))
+        for lines in found:
+            if isinstance(lines, Batch):
+                try:
+                    yield ordering.chunk(lines, codes)
+                    continue
+                except Irregular:
+                    lines = self._counted(batch_lines(lines, codes))
+            elif self.policy.unsorted != "sort":
+                lines = self._counted(self.reader.checked(lines))
+            yield from _chunks(ordering.steps(lines), codes)
+        yield from _chunks(ordering.end(), codes)
+        self.counts.skipped, self.counts.rounded = self.reader.skipped, self.reader.rounded
+
+    def _begun(self) -> Ordering:
+        """The log from its beginning."""
         self.counts, self.moments = Counts(), Moments(self.table.unit)
         self.reader = reader(self.path, self.table, self.policy)
         self.reader.progress = self.progress
-        lines = self._counted(self.reader.checked_lines())
-        if self.policy.unsorted == "sort":
-            lines = iter(self._sorted(lines))
-        return self._ordered(self._placed(lines))
+        return Ordering(self)
 
-    def _counted(self, lines: Iterator[Stamped]) -> Iterator[Stamped]:
-        counts, number = self.counts, 0
+    def _lines(self) -> Iterator[Stamped]:
+        """The lines, sorted where that is asked for."""
+        lines = self._counted(self.reader.checked_lines())
+        return iter(self._sorted(lines)) if self.policy.unsorted == "sort" else lines
+
+    def _counted(self, lines: Iterable[Stamped]) -> Iterator[Stamped]:
+        counts, number, before = self.counts, 0, self.counts.lines
         try:
             for number, line in enumerate(lines, 1):
                 yield line
         finally:
-            counts.lines, counts.skipped, counts.rounded = number, self.reader.skipped, self.reader.rounded
+            counts.lines, counts.skipped, counts.rounded = before + number, self.reader.skipped, self.reader.rounded
 
     def _sorted(self, lines: Iterable[Stamped]) -> list[Stamped]:
         found = list(lines)
         self.counts.unsorted = sum(one.time < before.time for before, one in zip(found, found[1:]))
         return sorted(found, key=lambda line: line.time)
 
-    def _placed(self, lines: Iterator[Stamped]) -> Iterator[Stamped]:
-        """The lines at the monitor's times. Its clock is ahead of the stamps by the largest jitter of the table: a hidden point
-        is so long before its event at most, and none is below 0, so that the verdicts do not depend on where the stamps begin."""
-        first = next(lines, None)
-        if first is None:
-            return
-        room = 0 if self.policy.as_stamped else self.table.jitter
-        add = room - (first.time if self.policy.from_zero else min(first.time, 0))
-        self.moments = Moments(self.table.unit, room if self.policy.from_zero else add, first.time + add)
-        yield Stamped(first.time + add, first.kinds, first.place)
-        if not add:
-            yield from lines
-            return
-        for time, kinds, place in lines:
-            yield Stamped(time + add, kinds, place)
 
-    def _ordered(self, lines: Iterable[Stamped]) -> Iterator[Step]:
-        clock, stamp, place = 0, 0, 0
-        last: defaultdict[int, int] = defaultdict(lambda: -1)
-        counts, equal = self.counts, self.policy.equal
-        for time, kinds, place in lines:
-            if time < stamp:
-                raise self.error(place, f"the stamp {self.moments.at(time)} is before the one above it, {self.moments.at(stamp)}; "
-                                        "--unsorted sort would sort the log first")
-            stamp, time = time, max(time, clock)
+class Ordering:
+    """The lines of a log as steps: at the monitor's times, in their order, and with the policy on equal stamps."""
+
+    def __init__(self, log: Log):
+        self.log, self.counts = log, log.counts
+        #: How far the monitor's times are ahead of the stamps; not known before the first line.
+        self.add: int | None = None
+        self.clock = self.stamp = self.place = 0
+        self.last: dict[int, int] = {}
+
+    def _start(self, first: int) -> int:
+        """The monitor's clock is ahead of the stamps by the largest jitter of the table: a hidden point is so long before its event at
+        most, and none is below 0, so that the verdicts do not depend on where the stamps begin."""
+        log = self.log
+        room = 0 if log.policy.as_stamped else log.table.jitter
+        self.add = room - (first if log.policy.from_zero else min(first, 0))
+        log.moments = Moments(log.table.unit, room if log.policy.from_zero else self.add, first + self.add)
+        return self.add
+
+    def steps(self, lines: Iterable[Stamped]) -> Iterator[Step]:
+        """The steps of some lines."""
+        counts, equal, last = self.counts, self.log.policy.equal, self.last
+        for time, kinds, self.place in lines:
+            time += self._start(time) if self.add is None else self.add
+            if time < self.stamp:
+                at = self.log.moments.at
+                raise self.log.error(self.place, f"the stamp {at(time)} is before the one above it, {at(self.stamp)}; "
+                                                 "--unsorted sort would sort the log first")
+            self.stamp, time = time, max(time, self.clock)
             if not kinds:
-                if time > clock:
-                    yield Step(None, time, place)
-                    clock = time
+                if time > self.clock:
+                    self.clock = time
+                    yield Step(None, time, self.place)
                 continue
             for kind in kinds:
-                if time <= last[kind]:
+                if time <= last.get(kind, -1):
                     if equal == "drop":
                         counts.dropped += 1
                         continue
                     if equal == "refuse":
-                        raise self._twice(kind, time, place)
+                        raise self._twice(kind, time)
                     time = last[kind] + 1
                     counts.moved += 1
                 counts.events += 1
-                yield Step(kind, time, place)
-                last[kind] = clock = time
-        until = self.policy.until
-        if until is not None and until + self.moments.shift > clock:
-            yield Step(None, until + self.moments.shift, place)
+                last[kind] = self.clock = time
+                yield Step(kind, time, self.place)
 
-    def _twice(self, kind: int, time: int, place: int) -> LogError:
-        name = self.table.event_name(kind)
-        return self.error(place, f"a second {name} at {self.moments.at(time)}; a finer unit tells them apart, --equal drop leaves it "
-                                 "out, --equal later gives it the next time")
+    def chunk(self, batch: Batch, codes: Codes) -> Chunk:
+        """The steps of a batch; :class:`Irregular` where the policy on equal stamps has something to say."""
+        first, events, place = batch.times[0], batch.codes, batch.place + len(batch.codes) - 1
+        add = self._start(first) if self.add is None else self.add
+        times = [time + add for time in batch.times] if add else batch.times
+        if not rising(times, self.clock):
+            if times[0] < self.stamp or times[0] < self.clock:
+                raise Irregular
+            place = batch.place + last_kept(times, events)
+            times, events = level(times, events, self.clock, {codes.of[kind] for kind, time in self.last.items() if time == self.clock})
+        self.stamp = batch.times[-1] + add
+        self.counts.lines += len(batch.codes)
+        self.counts.events += len(events) - events.count(OTHER)
+        self.place = batch.place + len(batch.codes) - 1
+        if times:
+            self.clock = self.stamp
+            self.last.update((codes.numbers[code], time) for code, time in ends(times, events))
+        return Chunk(times, events, Step(None, self.clock, place))
+
+    def end(self) -> Iterator[Step]:
+        """The step that takes the clock on to where it is asked to go."""
+        until = self.log.policy.until
+        if until is not None and until + self.log.moments.shift > self.clock:
+            yield Step(None, until + self.log.moments.shift, self.place)
+
+    def _twice(self, kind: int, time: int) -> LogError:
+        name = self.log.table.event_name(kind)
+        return self.log.error(self.place, f"a second {name} at {self.log.moments.at(time)}; a finer unit tells them apart, --equal drop "
+                                          "leaves it out, --equal later gives it the next time")
 
 
+def batch_lines(batch: Batch, codes: Codes) -> Iterator[Stamped]:
+    """The lines of a batch, one by one."""
+    for place, (time, code) in enumerate(zip(batch.times, batch.codes), batch.place):
+        yield Stamped(time, () if code == OTHER else (codes.numbers[code],), place)
+
+
+def _chunks(steps: Iterable[Step], codes: Codes) -> Iterator[Chunk]:
+    """Steps as chunks."""
+    steps, of = iter(steps), codes.of
+    while some := list(islice(steps, CHUNK)):
+        yield Chunk([step.time for step in some], bytes(OTHER if step.kind is None else of[step.kind] for step in some), some[-1])

@@ -50,6 +50,10 @@ class _Skip(Exception):
     """A line that cannot be read because of a mistake in another one, which is said there."""
 
 
+#: So many mistakes of a text are shown at once.
+SHOWN = 20
+
+
 class TextError(Exception):
     """A text that is not a table: ``file``, ``line``, ``column`` (both from 1) and ``message``, what was expected there.
 
@@ -58,7 +62,8 @@ class TextError(Exception):
 
     def __init__(self, file: str, line: int, column: int, message: str, source: str | None = None, others: tuple[TextError, ...] = ()):
         self.file, self.line, self.column, self.message, self.source, self.others = file, line, column, message, source, others
-        Exception.__init__(self, "\n".join(one.shown() for one in (self, *others)))
+        more = [f"{file}: and {len(others) + 1 - SHOWN} more mistakes"] if len(others) >= SHOWN else []
+        Exception.__init__(self, "\n".join([*(one.shown() for one in (self, *others)[:SHOWN]), *more]))
 
     def shown(self) -> str:
         """This mistake alone, with its line and a caret below the place."""

@@ -133,6 +133,14 @@ def test_all_mistakes_are_said_at_once():
     assert not error.value.others
 
 
+def test_a_text_of_mistakes_alone():
+    """The first twenty are shown, and how many more there are."""
+    with pytest.raises(TextError) as error:
+        Table.from_text("what\n" * 5000, "t")
+    lines = str(error.value).splitlines()
+    assert len(lines) == 61 and lines[-1] == "t: and 4980 more mistakes" and len(error.value.others) == 4999
+
+
 @given(st.text(max_size=12))
 def test_row_names_of_every_class(name):
     """A name that is one line of text is read as it stands; any other is an error with its place."""

@@ -8,6 +8,7 @@ Times are those of the commit, owners are none, files stand in the order of thei
 """
 import gzip
 import hashlib
+import os
 import re
 import shutil
 import subprocess
@@ -130,6 +131,14 @@ def put_sources(folder):
             shutil.copy(ROOT / name, folder / name)
 
 
+def put_answers(folder, build):
+    """What the proved archive answers to the script of the portable crate, for a machine to be compared with."""
+    player = build / "dist/player"
+    said(os.environ.get("CC", "cc"), "-std=c99", "-O2", f"-I{folder}/include", f"{folder}/portable/test/player.c", f"{folder}/lib/libdelkuthi.a",
+         "-o", str(player))
+    (folder / "portable/test/answers").write_text(said(str(player), f"{folder}/portable/test/script"))
+
+
 def pack(folder, time):
     """The tarball of a folder."""
     def plain(entry):
@@ -159,6 +168,7 @@ def main():
     archive = Archive(folder / "lib/libdelkuthi.a")
     shutil.copytree(build / "portable", folder / "portable", ignore=shutil.ignore_patterns("target"))
     put_sources(folder / "source")
+    put_answers(folder, build)
     for name in ("LICENSE", "NOTICE"):
         shutil.copy(ROOT / name, folder / name)
     (folder / "README.md").write_text((ROOT / "release/README.md.in").read_text(encoding="utf-8").replace("@VERSION@", version), encoding="utf-8")

@@ -5,8 +5,8 @@
 
 FOLDER is made anew. It gets a module for each CRATE of crates.txt and for each crate that one of them uses, from the very
 sources: what is left out are `ghost use` items and the clauses `requires` and `ensures`. What is added: `derive(Clone,
-Copy)`, which a proved type has without saying so, and for each exported function one with pointers and lengths, as
-include/delkuthi.h declares it. Anything else that is not Rust stops the program: it guesses nothing.
+Copy)`, which a proved type has without saying so, for each exported function one with pointers and lengths, as
+include/delkuthi.h declares it, the headers, and a script of calls to be played on the machine. Anything else that is not Rust stops the program: it guesses nothing.
 """
 import re
 import shutil
@@ -116,13 +116,14 @@ def write(folder, names):
                 raise NotUnderstood(f"{file.relative_to(ROOT)}: {error}") from None
             (folder / "src" / name / to).write_text(text)
     version = (ROOT / "VERSION").read_text().strip()
-    for file in sorted((ROOT / "release/portable").iterdir()):
+    for file in sorted((ROOT / "release/portable").glob("*.*")):
         text = file.read_text().replace("@VERSION@", version)
         text = text.replace("@MODULES@", "".join(f"pub mod {name};\n" for name in modules))
         (folder / ("src" if file.suffix == ".rs" else ".") / file.name).write_text(text)
-    (folder / "include").mkdir()
-    for file in sorted((ROOT / "include").iterdir()):
-        shutil.copyfile(file, folder / "include" / file.name)
+    for place, files in (("include", ROOT.glob("include/*")), ("test", [ROOT / "host/c/player.c", ROOT / "release/portable/test/script"])):
+        (folder / place).mkdir()
+        for file in files:
+            shutil.copyfile(file, folder / place / file.name)
 
 
 if __name__ == "__main__":

@@ -1,7 +1,7 @@
 //! The release as a buyer gets it: made twice in different folders, unpacked, checked, and used without the kit.
 
 use checks::documents::text_of;
-use checks::hosts::{Ran, done, ran, say};
+use checks::hosts::{Ran, c_compiler, done, ran, say};
 use checks::places::{Folder, archive_folder, root};
 use checks::release::{make_in, path_without, version};
 use std::fs;
@@ -147,7 +147,7 @@ fn a_buyer_without_the_kit() {
     assert_eq!(report, text_of(&root().join("examples/report.txt")));
 }
 
-/// The portable sources of the tarball build by themselves.
+/// The portable sources of the tarball build by themselves, and answer the calls that come with them as the proved archive did.
 #[test]
 fn the_portable_sources_of_the_release() {
     let Some(release) = release() else { return };
@@ -156,5 +156,18 @@ fn the_portable_sources_of_the_release() {
     cargo.args(["build", "--release", "--offline", "--quiet", "--locked"]).current_dir(release.join("portable"));
     let said = done(cargo.env("CARGO_TARGET_DIR", target.path()));
     assert_eq!(said, "");
-    assert!(target.path().join("release/libdelkuthi.a").is_file());
+    let archive = target.path().join("release/libdelkuthi.a");
+    let (test, player) = (release.join("portable/test"), target.path().join("player"));
+    let mut compiler = c_compiler();
+    compiler
+        .arg("-I")
+        .arg(release.join("portable/include"))
+        .arg(test.join("player.c"))
+        .arg(archive)
+        .arg("-o")
+        .arg(&player);
+    assert_eq!(done(&mut compiler), "");
+    let answers = text_of(&test.join("answers"));
+    assert_eq!(ran(Command::new(player).arg(test.join("script")).output()), Ran::new(0, &answers));
+    assert!(answers.lines().count() > 1_000);
 }

@@ -121,6 +121,8 @@ fn a_slip_in_the_portable_crate_is_found() {
 fn stripped(source: &str, crates: &str, name: &str) -> (Folder, Output) {
     let files = [
         ("release/portable/lib.rs", "@MODULES@"),
+        ("release/portable/test/script", "close\n"),
+        ("host/c/player.c", ""),
         ("crates.txt", crates),
         ("VERSION", "1.2.3\n"),
         ("include/small.h", ""),

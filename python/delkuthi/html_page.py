@@ -47,8 +47,8 @@ p.note { color: var(--soft); font-size: 13px } p.over { font-size: 1.05rem; font
 @media print { body { margin: 0; max-width: none } .picture, .why { break-inside: avoid } .picture svg { min-width: 0 } }
 """
 
-_LEGEND = ("A lane for each event. Shaded: where a row wants an event, or counts them, in the row's colour; red: where none came. Dashed: the step that "
-           "broke a row. Ringed: the events that a reason is about. The pointer on a mark says more.")
+_LEGEND = ("A lane for each event. Shaded: where a row wants an event, or counts them, in the row's colour; red: where none came. Dashed: "
+           "the step that broke a row. Ringed: the events that a reason is about. The pointer on a mark says more.")
 
 
 def as_html(table: Table, table_name: str, outcomes: Sequence[Pictured]) -> str:

@@ -2,6 +2,7 @@
 from __future__ import annotations
 
 import json
+from collections import Counter
 from dataclasses import asdict
 from html import escape
 from typing import Sequence
@@ -50,7 +51,7 @@ def notes(outcome: Outcome, start: bool = True) -> list[str]:
     for count, word, said in (
         (counts.dropped, "event", "left out at equal stamps"), (counts.moved, "event", "moved one unit on at equal stamps"),
         (counts.unsorted, outcome.word, "out of order and sorted"), (counts.rounded, "stamp", "rounded"),
-        (counts.skipped, "blank " + outcome.word, "skipped"),
+        (counts.skipped, outcome.word, "skipped"),
     ):
         if count:
             read.append(f"{number_of(count, word)} {said}")
@@ -63,11 +64,18 @@ def notes(outcome: Outcome, start: bool = True) -> list[str]:
 
 def overall(outcomes: Sequence[Outcome]) -> str:
     """The last line over several logs."""
-    words = [number_of(len(outcomes), "log")]
-    for status, said in ((0, "kept"), (1, "broken"), (2, "refused")):
-        words.append(f"{sum(outcome.status == status for outcome in outcomes)} {said}")
-    idle = sum(bool(outcome.unexercised) for outcome in outcomes)
+    found = Counter(_word(outcome) for outcome in outcomes)
+    words = [number_of(len(outcomes), "log"), *(f"{found[word]} {word}" for word in ("kept", "broken", "refused"))]
+    idle = sum(bool(outcome.unexercised) and _word(outcome) != "never exercised" for outcome in outcomes)
+    words += [f"{found[word]} {word}" for word in ("open", "never exercised") if found[word]]
     return ", ".join(words) + (f"; {idle} with rows never exercised" if idle else "")
+
+
+def _word(outcome: Outcome) -> str:
+    """What a log is as a whole: as bad as the worst of its rows, and kept only if a row of it was exercised."""
+    if outcome.error is not None:
+        return "refused"
+    return next((word for word in ("broken", "open", "kept") if outcome.of(word)), "never exercised")
 
 
 def as_json(table: Table, outcomes: Sequence[Outcome]) -> str:

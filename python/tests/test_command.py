@@ -125,7 +125,7 @@ def test_every_count_is_said(command, kept):
     words = ["check", "kept.txt", "a.csv", "--unsorted", "sort", "--round", "--equal"]
     status, out, _ = command(*words, "drop")
     assert out.splitlines()[-1] == ("a.csv: 1 row, 0 kept, 1 broken; 3 events in 5 lines, 1 event left out at equal stamps, "
-                                    "2 lines out of order and sorted, 2 stamps rounded, 2 blank lines skipped")
+                                    "2 lines out of order and sorted, 2 stamps rounded, 2 lines skipped")
     status, out, _ = command(*words, "later", "--json")
     log = json.loads(out)["logs"][0]
     assert {name: log[name] for name in ("lines", "events", "dropped", "moved", "unsorted", "rounded", "skipped")} == {
@@ -161,6 +161,16 @@ def test_many_logs_in_one_junit_file(command, kept):
     assert ('4.csv:3: "answer" (Delay) broken at 7 ms: the a at 1 ms (line 2) was answered 1 ms late, by the b at 7 ms (line 3): '
             "after 6 ms, at most 5 ms is asked\n") in alone[1]
     assert alone[1].endswith("\n5 logs, 4 kept, 1 broken, 0 refused\n")
+
+
+def test_a_last_line_over_all(command, kept):
+    """A log of which nothing was exercised is not among those that are kept."""
+    (kept / "idle.csv").write_text("time,event\n")
+    (kept / "late.csv").write_text("time,event\n1,a\n30,b\n")
+    logs = ["kept.csv", "idle.csv", "late.csv", "none.csv"]
+    assert command("check", "kept.txt", *logs)[1].splitlines()[-1] == "4 logs, 1 kept, 1 broken, 1 refused, 1 never exercised"
+    assert command("check", "kept.txt", *logs, "--exercised")[1].splitlines()[-1] == "4 logs, 1 kept, 1 broken, 1 refused, 1 never exercised"
+    assert command("check", "kept.txt", "kept.csv", "idle.csv", "--no-close")[1].splitlines()[-1] == "2 logs, 0 kept, 0 broken, 0 refused, 2 open"
 
 
 def test_spread_by_gnu_parallel(tmp_path):

@@ -69,7 +69,7 @@ fn time_of(call: Call) -> u64
     }
 }
 
-// Whether a record falls away: a tick that is not later than the clock.
+// Whether a record is dropped: a tick that is not later than the clock.
 fn falls_away(clock: u64, call: Call) -> bool
     ensures { λ r. ⌜ r ≡ fallsAway clock (stepFor call) ⌝ }
 {

@@ -1,4 +1,4 @@
--- Rows that do not hear each other (§3.10, §3.11), in the buyers' words: what a row reads depends on the events of its own
+-- Rows that are independent of each other (§3.10, §3.11), in the buyers' words: what a row reads depends on the events of its own
 -- kinds, the clock and the close alone, so two tables that share a row may differ in all others.
 use Prim.Native.Nat.{ℕ, zero, suc}
 use native.Mathlib.Omega.{arith}

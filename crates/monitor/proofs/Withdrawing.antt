@@ -390,7 +390,7 @@ module _ (engine : (c : Constraint) → Sound c → Exact c) (rows : List Constr
   unfolding after
   remains-follows accepted requests remains = held-at accepted requests (remains .1) .part .follows
 
--- ---- demand 3
+-- ---- the promise
 
 module _ (engine : (c : Constraint) → Sound c → Exact c) where
   final : (rows : List Constraint) → Accepted rows → (requests further : List Request) {answers more : List Answer} {left end : Left}

@@ -155,9 +155,12 @@ module _ (bytes : List ℕ) (place : ℕ) (o : Order) where
   read-none not-there =
       record {
         taken = λ e. absurd (omega (arith, e));
-        call-is = λ e. absurd (omega (arith, e));
-        next-is = λ e. absurd (omega (arith, e));
         refused = λ more steps before. record-not-there [] steps bytes place not-there;
+        as-it-was = λ more. refl;
+        there = λ e. absurd (omega (arith, e));
+        call-is = λ whole. absurd (not-there whole);
+        next-is = λ whole. absurd (not-there whole);
+        none = λ _. refl;
       }
 
   pub read-call : (s : Call) (size : ℕ) (r : RecordRead) → CallAt (at bytes 0) bytes place s size → AsksCall o s (place + size) r → ReadsNext bytes place o r
@@ -167,9 +170,12 @@ module _ (bytes : List ℕ) (place : ℕ) (o : Order) where
           record-judged [] steps bytes place s size Taken read (given .0),
           subst (λ (x : Call). After (steps ++ (stepFor x ∷ [])) (r .order)) (sym (answered .call-is)) (given .1),
         );
-        call-is = λ e. read .call-read ∙ sym (answered .call-is);
-        next-is = λ e. (omega (arith, answered .next-is, read .size-read), omega (arith, answered .next-is, read .size-read, read .there .0 .1));
         refused = λ more steps before. record-judged [] steps bytes place s size (Refused (r .number)) read (answered .takes .refused more steps before);
+        as-it-was = answered .takes .as-it-was;
+        there = λ e. read .there;
+        call-is = λ whole. read .call-read ∙ sym (answered .call-is);
+        next-is = λ whole. (omega (arith, answered .next-is, read .size-read), omega (arith, answered .next-is, read .size-read, read .there .0 .1));
+        none = λ not-there. absurd (not-there (read .there));
       }
 
 -- ---- record by record

@@ -1,4 +1,4 @@
--- What a row does not hear: its machine looks at an event's kind only to ask whether it is one of the row's, so an event of no
+-- What does not concern a row: its machine looks at an event's kind only to ask whether it is one of the row's, so an event of no
 -- stream of the row's does to it what a tick to that time does.
 use Prim.Native.Nat.{ℕ, _<_}
 use mathlib.Core.Path.{_≡_, refl, ap, _∙_}

@@ -47,10 +47,10 @@ module _ (bytes : List ℕ) (a : Asked) where
       pub pass-more : r .number ≡ 0 → PassedTo bytes a (r .order) (callAfter a s (r .call)) (r .next)
       pass-more e =
           let taken = next .taken e (before .steps) (before .read .order) in
-          let asked = subst (λ (x : Call). Judged (questions [] (before .steps) x) Taken) (next .call-is e) (record-accepts bytes [] (before .steps) place (taken .0) .1) in
+          let asked = subst (λ (x : Call). Judged (questions [] (before .steps) x) Taken) (next .call-is (next .there e)) (record-accepts bytes [] (before .steps) place (taken .0) .1) in
           record {
             steps = before .steps ++ (stepFor (r .call) ∷ []);
-            read = up-to-more bytes place (before .steps) o (before .read) (r .call) (r .next) (r .order) there (next .call-is e) (next .next-is e .0) (taken .0) (taken .1);
+            read = up-to-more bytes place (before .steps) o (before .read) (r .call) (r .next) (r .order) there (next .call-is (next .there e)) (next .next-is (next .there e) .0) (taken .0) (taken .1);
             keeps = λ plain small. keeps-call a plain small (before .steps) s (before .keeps plain small) (r .call) (accepts-taken [] (before .steps) (r .call) asked);
           }
 

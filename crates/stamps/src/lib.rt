@@ -16,7 +16,7 @@ ghost use mathlib.Core.Bool.{_&&_};
 ghost use lib.Dec.{leb};
 ghost use Rattle.machine.specs.Parts.{plus};
 ghost use Rattle.constraint.specs.Stamps.{AnswersStamps};
-ghost use Rattle.stamps.specs.Words.{Spells};
+ghost use Rattle.stamps.specs.Words.{spelling};
 ghost use Rattle.stamps.specs.Machine.{nextLow, nextHigh, noStamps, firstStamp, pairFits, laterStamp, stampAfter, callAfter, closeVerdict, verdictAt, Passes, Finds};
 
 // A Repeat row of span 1, and by how much its stamps are late at most.
@@ -57,7 +57,7 @@ pub struct RowAsked {
     pub upper: u64,
 }
 
-// A word: the first len bytes.
+// A word: the first len bytes, and blanks behind them.
 pub struct Spelling {
     pub bytes: [u8; 6],
     pub len: usize,
@@ -65,7 +65,7 @@ pub struct Spelling {
 
 // The word for what a row reads: kept, broken or unsure.
 pub fn word(verdict: StampedVerdict) -> Spelling
-    ensures { λ r. ⌜ Spells verdict r ⌝ }
+    ensures { λ r. ⌜ r ≡ spelling verdict ⌝ }
 {
     match verdict {
         StampedVerdict::Kept => Spelling {

@@ -118,15 +118,15 @@ module _ (bytes streams times : List ℕ) where
         is =
             call-as (before .steps) (r .call)
             (accepts-taken [] (before .steps) (r .call)
-            (subst (λ (x : Call). Judged (questions [] (before .steps) x) Taken) (next .call-is e) (judged-all 14 _ _ (judged .0) .1)))
-            (λ close. never-close (at bytes 0) (bodyAt bytes place) (next .call-is e ∙ close))
+            (subst (λ (x : Call). Judged (questions [] (before .steps) x) Taken) (next .call-is (next .there e)) (judged-all 14 _ _ (judged .0) .1)))
+            (λ close. never-close (at bytes 0) (bodyAt bytes place) (next .call-is (next .there e) ∙ close))
 
         pub gather-more : (streams′ times′ : List ℕ) (count′ : ℕ) → Keeps streams times count (occurrenceBy (r .call) 0) streams′ times′ count′
             → GatheredTo bytes streams′ times′ (r .order) count′ (r .next)
         gather-more streams′ times′ count′ keeps =
             record {
               steps = before .steps ++ (stepFor (r .call) ∷ []);
-              read = up-to-more bytes place (before .steps) o (before .read) (r .call) (r .next) (r .order) there (next .call-is e) (next .next-is e .0) (judged .0) (judged .1);
+              read = up-to-more bytes place (before .steps) o (before .read) (r .call) (r .next) (r .order) there (next .call-is (next .there e)) (next .next-is (next .there e) .0) (judged .0) (judged .1);
               counted = by-cases (decLt count 256)
                   (λ room. omega (arith, keeps .room room .0, before .counted, length-append (before .steps) (stepFor (r .call) ∷ [])))
                   (λ full. omega (arith, keeps .full (omega (arith, full)) .0, before .counted, length-append (before .steps) (stepFor (r .call) ∷ [])));

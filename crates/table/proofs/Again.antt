@@ -9,15 +9,14 @@ use Rattle.constraint.specs.Bytes.{Bytes}
 use Rattle.constraint.specs.Questions.{Question, Judged}
 use Rattle.constraint.specs.Accepted.{rowsQuestions, Accepted}
 use Rattle.constraint.specs.Rows.{rowsOf}
-use Rattle.constraint.specs.Table.{tableBytes, writerQuestions, writtenTo, TableRead, table-of, table-refused, ReadsTable}
-use Rattle.constraint.specs.declared.Answer.{Answer}
+use Rattle.constraint.specs.Table.{tableBytes, writerQuestions, table-of, ReadsTable}
 use Rattle.constraint.specs.declared.Answer.the-variants.{Taken, Refused}
 use Rattle.constraint.specs.declared.Constraint.{Constraint}
 use Rattle.constraint.specs.declared.Table.{Table}
 use Rattle.constraint.proofs.Judged.{never, judged-none, judged-yes, judged-later, judged-parts, judged-once}
 use Rattle.constraint.proofs.Accepted.{rows-then}
 use Rattle.table.specs.Reading.{readAs, ReadsInto}
-use Rattle.table.specs.Writing.{answerOf, Writes}
+use Rattle.table.specs.Writing.{Writes}
 use Rattle.table.specs.Raw.{rawSize, RawRows, WritesRaw, all-read, stopped-at}
 use Rattle.table.specs.declared.ReadAnswer.{ReadAnswer}
 use Rattle.table.specs.declared.Reading.{Reading}

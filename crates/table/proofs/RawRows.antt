@@ -2,7 +2,7 @@
 -- next row is a 33rd or of no known type, 3 and 4 are asked after the rows before it.
 use Prim.Native.Nat.{ℕ, zero, suc, _+_, _-_, _*_, _≤_, _<_}
 use mathlib.Core.Path.{_≡_, refl, sym, ap, ap₂, subst, _∙_}
-use mathlib.Core.Bool.{Bool, true}
+use mathlib.Core.Bool.{Bool}
 use mathlib.Core.List.{List, [], _∷_, _++_}
 use native.Mathlib.Nat.{add-zero, add-sub-cancel-left}
 use native.Mathlib.Omega.{arith}
@@ -12,7 +12,7 @@ use lib.ListN.{length, getD, take, drop, length-append, length-drop, List·getD-
 use lib.Seq.{length-take-le, getD-take, getD-drop, getD-append-add}
 use Rattle.constraint.specs.Limits.{rowLimit}
 use Rattle.constraint.specs.Steps.{at}
-use Rattle.constraint.specs.Bytes.{Bytes, bytesAt}
+use Rattle.constraint.specs.Bytes.{Bytes}
 use Rattle.constraint.specs.Questions.{Judged, Decides}
 use Rattle.constraint.specs.Types.{lengths, lengthOf}
 use Rattle.constraint.specs.Accepted.{rowsQuestions}
@@ -33,7 +33,7 @@ use Rattle.table.specs.Writing.{Writes}
 use Rattle.table.specs.declared.WriteAnswer.{WriteAnswer}
 use Rattle.table.proofs.Bodies.{bytes-part}
 use Rattle.table.proofs.Types.{row-stands}
-use Rattle.table.proofs.Shapes.{length-unknown, length-plain, shape-asked}
+use Rattle.table.proofs.Shapes.{length-plain, shape-asked}
 
 -- The test of a row's type
 

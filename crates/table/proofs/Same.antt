@@ -9,7 +9,7 @@ use Rattle.constraint.specs.declared.Constraint.{Constraint}
 use Rattle.table.specs.Rows.{rowFrom}
 use Rattle.table.proofs.Types.{regular}
 
--- "Two rows are the same if type and fields are."
+-- §4.8: rows of the same type and the same fields are equal
 pub same-equal : (c d : Constraint) → Same c d → c ≡ d
 same-equal c d same =
     let again : ℕ → List Field → Constraint = λ t fields. rowFrom t (bytesIn fields ++ []) (timesIn fields ++ []) in

@@ -34,7 +34,7 @@ use Rattle.machine.proofs.Oldest.{front-at, due-or-pushed, due-within, due-reac
 use Rattle.machine.proofs.Spans.{apart-first, ApartFromNew, apart-new, apart-more, rising-apart, LastIs, last-none, last-new, far-enough}
 use Rattle.spans.specs.Repeat.{spanReached, leaving, dueWith, decideRepeat}
 
--- of any span + 1 consecutive events, last minus first is from lower to upper
+-- each event and the one span places after it are lower to upper apart
 abbrev pub MeetsSpan : Rule → List ℕ → Type 0
 MeetsSpan rule events = SpansApart (rule .span) (rule .lower) (rule .upper) events
 

@@ -1,12 +1,10 @@
 -- The loop reads row after row from its body.
 use native.Mathlib.Omega.{arith}
 use Prim.Native.Nat.{ℕ, _+_, _*_, _-_, _≤_}
-use mathlib.Core.Path.{_≡_, ap, subst, _∙_}
+use mathlib.Core.Path.{_≡_, subst, _∙_}
 use denote.Ref.{now}
 use lib.ListN.{length}
 use Rattle.constraint.specs.Bytes.{Bytes}
-use Rattle.constraint.specs.Types.{lengthOf}
-use Rattle.constraint.specs.declared.Table.{Table}
 use Rattle.constraint.proofs.Judged.{free}
 use Rattle.table.specs.Raw.{rawSize, RawTable}
 use Rattle.table.proofs.RawRows.{body-within, table-none, table-more}

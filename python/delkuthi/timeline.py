@@ -5,10 +5,12 @@
 from __future__ import annotations
 
 from array import array
+from bisect import bisect_left, bisect_right
 from dataclasses import dataclass, field
 from typing import Iterable
 
 from .check import Outcome, RowOutcome
+from .library import FIRST_COLOURED
 from .logs import Step
 from .moments import Moments
 from .signals import parts
@@ -118,9 +120,8 @@ def overview(table: Table, gathered: Gathered, outcome: Outcome) -> Scene:
 
 def close_up(table: Table, gathered: Gathered, outcome: Outcome, row: RowOutcome) -> Scene:
     """A broken row alone, around its break: from the last few events before it, and those that its reason is about, to a bit after."""
-    times = [gathered.times[kind] for kind in table.rows[row.number].signals]
     at = _time(outcome, row)
-    seen = sorted(time for some in times for time in some if time <= at)[-6:]
+    seen = sorted(time for kind in table.rows[row.number].signals for time in _between(gathered.times[kind], 0, at)[-6:])[-6:]
     about = [time + outcome.moments.shift for _, time in row.about]
     start, last = min([*seen, *about, at]), max([at, *about])
     room = max((last - start) // 8, 1)
@@ -137,7 +138,7 @@ def _scene(table: Table, gathered: Gathered, outcome: Outcome, rows: list[int], 
     picture = Scene(title, outcome.moments, begin, max(end, begin + 1))
     lanes = {kind: lane for lane, kind in enumerate(kinds)}
     for kind in kinds:
-        picture.lanes.append((table.event_name(kind), [time for time in gathered.times[kind] if begin <= time <= end]))
+        picture.lanes.append((table.event_name(kind), list(_between(gathered.times[kind], begin, end))))
     for number in rows:
         _shades(picture, table, outcome, number, gathered.times, lanes)
         picture.rows[number] = outcome.rows[number].name
@@ -157,12 +158,19 @@ def _time(outcome: Outcome, row: RowOutcome) -> int:
 def _shades(picture: Scene, table: Table, outcome: Outcome, number: int, times: dict[int, array[int]], lanes: dict[int, int]) -> None:
     row, found = table.rows[number], outcome.rows[number]
     for kind, begin, end, wanted in row.type.windows(row, times):
+        if begin > picture.end and kind < FIRST_COLOURED:
+            break  # Stretches come in the order of time, but for those of colours, which are few.
         if kind not in lanes or begin > picture.end or begin < picture.begin and (end is None or end < picture.begin):
             continue
         # The stretch that nothing came in, where the row is broken.
-        missed = wanted and found.verdict == "broken" and end is not None and end <= _time(outcome, found) and not any(
-            begin <= time <= end for time in times[kind])
+        missed = (wanted and found.verdict == "broken" and end is not None and end <= _time(outcome, found)
+                  and not len(_between(times[kind], begin, end)))
         picture.shades.append(Shade(number, lanes[kind], begin, end, missed))
+
+
+def _between(times: array[int], begin: int, end: int) -> array[int]:
+    """The times from the beginning to the end of a stretch, both included."""
+    return times[bisect_left(times, begin) : bisect_right(times, end)]
 
 
 def _decimal(place: int, size: int) -> str:

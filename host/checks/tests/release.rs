@@ -193,6 +193,37 @@ fn what_the_shared_library_shows() {
     assert!(dynamic.contains(&format!("Library soname: [libdelkuthi.so.{}]", interface())), "{dynamic}");
 }
 
+/// Two interfaces in one process: each caller gets the library that it was linked with.
+#[test]
+fn two_interfaces_in_one_process() {
+    let folder = Folder::new();
+    let library = |version: &str| {
+        let place = folder.path().join(version);
+        let output = make(&place, &["lib", &format!("VERSION={version}")]);
+        assert!(output.status.success(), "{}", String::from_utf8_lossy(&output.stderr));
+        place
+    };
+    let link = |place: &Path, words: &[&str], out: &str| {
+        let mut compiler = c_compiler();
+        compiler.args(words).arg("-fPIC").arg("-I").arg(root().join("include")).arg(root().join("host/c/which.c"));
+        compiler.arg(format!("-L{0}", place.display())).arg(format!(
+            "-Wl,-rpath,{0}:{1}",
+            place.display(),
+            folder.path().display()
+        ));
+        compiler.arg("-Wl,--no-as-needed").arg("-ldelkuthi").arg(format!("-L{}", folder.path().display()));
+        done(
+            compiler.args(if words.is_empty() { &["-lpart"][..] } else { &[] }).arg("-o").arg(folder.path().join(out)),
+        );
+    };
+    let (one, other) = (library("7.1.0"), library("7.2.0"));
+    link(&other, &["-shared", "-DPART"], "libpart.so");
+    link(&one, &[], "which");
+    let printed = done(&mut Command::new(folder.path().join("which")));
+    let files: Vec<&str> = printed.lines().map(|line| line.rsplit('/').next().expect("a name")).collect();
+    assert_eq!(files, ["libdelkuthi.so.7.1", "libdelkuthi.so.7.2"]);
+}
+
 /// The shared library needs glibc 2.14 and no later one, and has no variables; neither it nor the program has a stack that
 /// can be executed or an address that can be overwritten once it runs.
 #[test]

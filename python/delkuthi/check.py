@@ -151,11 +151,29 @@ def _ask(monitor: Monitor, found: Run, chunk: list[Step]) -> None:
 
 
 @dataclass(frozen=True)
+class Late:
+    """A reason that waits for an answer, which comes too late if it comes."""
+
+    case: Case
+    reason: Reason
+
+    def take(self, kind: int, time: int, place: int) -> str | None:
+        """One more event; what is to be said once all that was awaited has come."""
+        if kind in self.reason.needs:
+            self.case.of(kind).add(time, place)
+            if all(map(self.case.came, self.reason.awaited)):
+                return self.reason.say(True)
+        return None
+
+
+@dataclass(frozen=True)
 class Why:
     """Why a row is broken: the reason, and the signals and times of the events that it is about."""
 
     text: str
     about: tuple[tuple[int, int], ...] = ()
+    #: What the reason still waits for, while a bus is watched.
+    late: Late | None = None
 
 
 class _Reasons:
@@ -203,7 +221,8 @@ class _Reasons:
         """The reason of a row, now that nothing more is awaited."""
         case, reason = self.open.pop(row)
         about = tuple((one.signal, case.time(one)) for one in reason.about if case.came(one))
-        self.said[row] = Why(reason.say(ended), about)
+        waits = not ended and not all(map(case.came, reason.awaited))
+        self.said[row] = Why(reason.say(ended), about, Late(case, reason) if waits else None)
         self.needed = self.needs()
 
     @property

@@ -18,7 +18,7 @@ from contextlib import contextmanager
 from dataclasses import dataclass
 from typing import IO, Any, Callable, Collection, Iterator
 
-from .check import UNEXERCISED, UNKNOWN, Run, reasons_of
+from .check import UNEXERCISED, UNKNOWN, Late, Run, reasons_of
 from .library import Refused
 from .logs import LogError, Step
 from .mapping import CanMapping
@@ -68,6 +68,8 @@ class Watch:
         self.seen: Counter[int | None] = Counter()
         self._before: _Before | None = None
         self._since: list[Step] = []
+        #: Broken rows whose answer may still come.
+        self._late: dict[int, Late] = {}
         coloured = any(source.colour is not None for event in table.events for source in event.sources)
         self.spool.write(b"\x02" if coloured else b"\x01")
 
@@ -116,7 +118,7 @@ class Watch:
         if self._before is None:
             return False
         before, since = self._before, self._since
-        self._before, self._since = None, []
+        self._before, self._since, self._late = None, [], {}
         before.marked.withdraw()
         self.monitor, self.clock, self.number, self.last, self.seen = (
             before.marked, before.clock, before.number, before.last, before.seen)
@@ -150,7 +152,16 @@ class Watch:
         if self._before is not None:
             self._since.append(step)
         self.spool.write(record_bytes(step.kind, step.time))
+        self._answered(step)
         self._ask(step, silent)
+
+    def _answered(self, step: Step) -> None:
+        """Says each answer that comes too late, for a row that was said to be broken."""
+        for row, late in list(self._late.items()):
+            text = None if step.kind is None else late.take(step.kind, step.time, self.number)
+            if text is not None:
+                del self._late[row]
+                self.say(f"{self.table.row_name(row)}: {text}")
 
     def _ask(self, step: Step | None, silent: Collection[int]) -> None:
         """Says each row that is broken now and was not; those in ``silent`` have been said before."""
@@ -168,6 +179,9 @@ class Watch:
         for row in new:
             at = "at the end" if step is None else f"at {self.moments.at(self.clock)}"
             text = why[row].text if row in why else UNKNOWN
+            waiting = why[row].late if row in why else None
+            if waiting is not None:
+                self._late[row] = waiting
             self.say(f"{self.table.row_name(row)} ({self.table.rows[row].type.name}) broken {at}: {text}")
 
     def steps(self) -> Iterator[Step]:

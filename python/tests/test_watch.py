@@ -188,6 +188,17 @@ def test_the_clock_is_ahead_by_the_jitter():
     assert said == [] and watch.moments.at(watch.clock) == "9 ms"
 
 
+def test_an_answer_that_comes_late():
+    """The break is said when it is certain, and the answer with how late it is when it comes; once, and not the next one."""
+    said = []
+    watch = Watch(Table(TABLE.rows[:1], TABLE.events, TABLE.unit), said.append, io.BytesIO())
+    for kind, moment in ((0, 10_000), (1, 20_000), (0, 100_000), (None, 170_000), (0, 180_000), (1, 195_000), (1, 300_000)):
+        watch.tick(moment) if kind is None else watch.event(kind, moment)
+    assert said == [
+        '"brake light" (Delay) broken at 170 ms: the pedal at 100 ms (step 3) had no light by 160 ms, at most 60 ms is asked',
+        '"brake light": the pedal at 100 ms (step 3) was answered 35 ms late, by the light at 195 ms (step 6): after 95 ms, at most 60 ms is asked']
+
+
 def test_a_table_without_a_unit():
     with pytest.raises(LogError, match="needs a unit line"):
         Watch(Table([]), print, io.BytesIO())

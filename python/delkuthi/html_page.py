@@ -93,12 +93,15 @@ def _log_html(table: Table, table_name: str, number: int, outcome: Outcome, pict
         yield f'<p class="error">{escape(outcome.error)}</p>'
         return
     yield f"<p>Checked against {escape(table_name)}: {escape(_read(outcome))}.</p>"
-    if outcome.warnings:
-        yield f'<p class="warn">{"<br>".join(map(escape, outcome.warnings))}</p>'
+    lines = "<br>".join(map(escape, outcome.warnings))
+    if len(outcome.warnings) > 4:
+        yield f'<details class="warn"><summary>{len(outcome.warnings)} warnings</summary>{lines}</details>'
+    elif lines:
+        yield f'<p class="warn">{lines}</p>'
     yield from rows_html(table, number, outcome)
     if picture is not None:
         yield f'<h2>The log</h2><div class="picture">{svg(picture, style=False)}</div>'
-        yield f'<p class="note">{escape(picture.caption + ". " if picture.caption else "")}{_LEGEND}</p>'
+        yield f'<p class="note">{_LEGEND}</p>'
     for row in sorted(outcome.broken, key=lambda row: (row.step or 0, row.number)):
         yield f'<h2 id="log{number}-row{row.number}">{escape(row.name)}</h2>'
         yield f'<p class="why">{escape(row.message or "")}</p>'

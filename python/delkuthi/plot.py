@@ -41,7 +41,7 @@ def _draw(axes: Any, picture: Scene) -> None:
         alpha = 0.35 if shade.broken else 0.08 if shade.end is None else 0.22
         axes.broken_barh([(shade.begin, end - shade.begin)], (shade.lane - 0.38, 0.76), facecolors=colour, alpha=alpha)
     for lane, (_, times) in enumerate(picture.lanes):
-        axes.vlines(times, lane - 0.3, lane + 0.3, colors="#111", linewidth=1.6)
+        axes.vlines(times, lane - 0.3, lane + 0.3, colors="#111", linewidth=1.6 if len(times) < 150 else max(240 / len(times), 0.2))
         rings = [time for time in times if (lane, time) in picture.blamed]
         axes.plot(rings, [lane] * len(rings), "o", markersize=13, markerfacecolor="none", markeredgecolor=BROKEN, clip_on=False)
     for place, (time, label) in enumerate(picture.marks):

@@ -51,6 +51,8 @@ class _Drawing:
             out.append(f"<path class='dk-grid' d='M{at} {self.top} V{self.bottom + 4}' stroke='#ddd'/>")
             out.append(f"<text class='dk-text' x='{at}' y='{self.bottom + 17}' text-anchor='middle' fill='#444'>{number}</text>")
         out.append(f"<text class='dk-text' x='{_WIDTH - 20}' y='{self.bottom + 32}' text-anchor='end' fill='#444'>{escape(name)}</text>")
+        if self.picture.caption:
+            out.append(f"<text class='dk-text' x='20' y='{self.bottom + 32}' font-weight='bold' fill='#444'>{escape(self.picture.caption)}</text>")
         return out
 
     def lanes(self) -> list[str]:
@@ -67,12 +69,14 @@ class _Drawing:
         """A stroke for each event; those that a reason is about have a ring."""
         out = []
         for lane, (name, times) in enumerate(self.picture.lanes):
+            # Events that are close together are thinner, so that they can be told apart.
+            width = 1.8 if len(times) < self.inner / 5 else max(round(0.4 * self.inner / len(times), 1), 0.3)
             for time in times:
                 tip = escape(f"{name} at {self.picture.moments.at(time)}")
                 at, middle = self.x(time), self.middle(lane)
                 if (lane, time) in self.picture.blamed:
                     out.append(f"<circle class='dk-ring' cx='{at}' cy='{middle}' r='10' fill='none' stroke='{BROKEN}' stroke-width='1.6'/>")
-                out.append(f"<path class='dk-event' d='M{at} {middle - 8} v16' stroke='#111' stroke-width='1.8'><title>{tip}</title></path>")
+                out.append(f"<path class='dk-event' d='M{at} {middle - 8} v16' stroke='#111' stroke-width='{width}'><title>{tip}</title></path>")
         return out
 
     def marks(self) -> list[str]:

@@ -6,8 +6,8 @@ from __future__ import annotations
 
 from array import array
 from bisect import bisect_left, bisect_right
-from dataclasses import dataclass, field
-from typing import Iterable
+from dataclasses import dataclass, field, replace
+from typing import Iterable, Iterator
 
 from .check import Outcome, RowOutcome
 from .library import FIRST_COLOURED
@@ -132,16 +132,17 @@ def close_up(table: Table, gathered: Gathered, outcome: Outcome, row: RowOutcome
 def _scene(table: Table, gathered: Gathered, outcome: Outcome, rows: list[int], title: str, between: tuple[int, int]) -> Scene:
     begin, end = between
     kinds = sorted({kind for row in rows for kind in table.rows[row].signals})
-    # Of the colours those that have events.
-    coloured = {parts(kind)[1] for kind in kinds if len(gathered.times[kind])}
-    kinds = [kind for kind in kinds if kind < 256 or parts(kind)[1] in coloured]
     picture = Scene(title, outcome.moments, begin, max(end, begin + 1))
+    asked = [shade for number in rows for shade in _shades(picture, table, outcome, number, gathered.times)]
+    # A lane for what has an event in the log, or is asked for here; of the colours for those that have events.
+    coloured = {parts(kind)[1] for kind in kinds if len(gathered.times[kind])}
+    wanted = {kind for kind, _ in asked}
+    kinds = [kind for kind in kinds if (len(gathered.times[kind]) or kind in wanted if kind < 256 else parts(kind)[1] in coloured)]
     lanes = {kind: lane for lane, kind in enumerate(kinds)}
     for kind in kinds:
         picture.lanes.append((table.event_name(kind), list(_between(gathered.times[kind], begin, end))))
-    for number in rows:
-        _shades(picture, table, outcome, number, gathered.times, lanes)
-        picture.rows[number] = outcome.rows[number].name
+    picture.shades = [replace(shade, lane=lanes[kind]) for kind, shade in asked if kind in lanes]
+    picture.rows = {number: outcome.rows[number].name for number in rows}
     for row in sorted((outcome.rows[number] for number in rows), key=lambda row: row.step or 0):
         time = _time(outcome, row)
         if row.verdict == "broken" and begin <= time <= end:
@@ -155,17 +156,18 @@ def _time(outcome: Outcome, row: RowOutcome) -> int:
     return (row.time or 0) + outcome.moments.shift
 
 
-def _shades(picture: Scene, table: Table, outcome: Outcome, number: int, times: dict[int, array[int]], lanes: dict[int, int]) -> None:
+def _shades(picture: Scene, table: Table, outcome: Outcome, number: int, times: dict[int, array[int]]) -> Iterator[tuple[int, Shade]]:
+    """The stretches of a row that are in the picture, with their signals."""
     row, found = table.rows[number], outcome.rows[number]
     for kind, begin, end, wanted in row.type.windows(row, times):
         if begin > picture.end and kind < FIRST_COLOURED:
             break  # Stretches come in the order of time, but for those of colours, which are few.
-        if kind not in lanes or begin > picture.end or begin < picture.begin and (end is None or end < picture.begin):
+        if begin > picture.end or begin < picture.begin and (end is None or end < picture.begin):
             continue
         # The stretch that nothing came in, where the row is broken.
         missed = (wanted and found.verdict == "broken" and end is not None and end <= _time(outcome, found)
                   and not len(_between(times[kind], begin, end)))
-        picture.shades.append(Shade(number, lanes[kind], begin, end, missed))
+        yield kind, Shade(number, 0, begin, end, missed)
 
 
 def _between(times: array[int], begin: int, end: int) -> array[int]:

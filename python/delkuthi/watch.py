@@ -276,7 +276,7 @@ def watch_bus(watch: Watch, bus: Any, seconds: float | None, ticks: Clock, keys:
     start, offset, now = clock.monotonic(), None, 0.0
     while not stopped() and (seconds is None or now < seconds):
         left = ticks.wait(now) if seconds is None else min(ticks.wait(now), max(seconds - now, 0))
-        frame = bus.recv(timeout=left)
+        frame = _received(bus, left)
         now = clock.monotonic() - start
         if frame is not None:
             # The bus has a clock of its own; the first frame says how far it is from ours.
@@ -290,6 +290,18 @@ def watch_bus(watch: Watch, bus: Any, seconds: float | None, ticks: Clock, keys:
         if not _pressed(watch, keys(), now):
             break
     watch.tick(watch.units(now - ticks.lag))
+
+
+class BusFailed(Exception):
+    """A bus from which nothing more can be read."""
+
+
+def _received(bus: Any, seconds: float) -> Any:
+    """The next frame, if one comes in time."""
+    try:
+        return bus.recv(timeout=seconds)
+    except Exception as error:  # each interface of python-can has exceptions of its own
+        raise BusFailed(" ".join(str(error).split()) or type(error).__name__) from None
 
 
 def _pressed(watch: Watch, keys: str, now: float) -> bool:
@@ -373,7 +385,7 @@ def _spool(path: str | None) -> IO[bytes]:
 
 
 def watch_command(given: argparse.Namespace, table: Table) -> int:
-    """``delkuthi watch``: 0 if every row is kept in the end, 1 if one is broken, 2 if no frame ever came."""
+    """``delkuthi watch``: 0 if every row is kept in the end, 1 if one is broken, 2 if no frame ever came or the bus failed."""
     bus = _bus(given)
     with bus, _spool(given.record) as spool, _keyboard() as pressed, _signals(pressed) as (keys, stopped):
         watch = Watch(table, lambda text: screen.say(text), spool)
@@ -381,10 +393,17 @@ def watch_command(given: argparse.Namespace, table: Table) -> int:
         if watch.keys and sys.stdin is not None and sys.stdin.isatty():
             names = ", ".join(f"{key} {table.event_name(kind)}" for key, kind in watch.keys.items())
             complain(f"keys: {names}; backspace withdraws the last one, q ends")
-        watch_bus(watch, bus, given.seconds, Clock(watch, given.period, given.lag), keys, stopped, screen)
+        failed = None
+        try:
+            watch_bus(watch, bus, given.seconds, Clock(watch, given.period, given.lag), keys, stopped, screen)
+        except BusFailed as error:
+            failed = str(error)
         watch.close()
         screen.clear()
-        return _ended(watch, given.bus)
+        status = _ended(watch, given.bus)
+        if failed is not None:
+            complain(f"{given.bus}: the bus failed, and what came before is checked: {failed}")
+        return status if failed is None else 2
 
 
 def _ended(watch: Watch, name: str) -> int:

@@ -199,6 +199,34 @@ def test_an_answer_that_comes_late():
         '"brake light": the pedal at 100 ms (step 3) was answered 35 ms late, by the light at 195 ms (step 6): after 95 ms, at most 60 ms is asked']
 
 
+def test_a_bus_that_fails(monkeypatch, capsys, tmp_path):
+    """What came before is checked and said, with status 2."""
+    from delkuthi import watch as module
+    from delkuthi.command import main
+
+    class Failing:
+        def __init__(self):
+            self.frames = [frame(0x1A0), frame(0x2B4, b"\x01")]
+
+        def recv(self, timeout):
+            if not self.frames:
+                raise can.CanError("bus off")
+            return self.frames.pop(0)
+
+        def __enter__(self):
+            return self
+
+        def __exit__(self, *_):
+            pass
+
+    monkeypatch.setattr(module, "_bus", lambda given: Failing())
+    (tmp_path / "a.txt").write_text(TABLE.text())
+    assert main(["watch", str(tmp_path / "a.txt"), "virtual:x"]) == 2
+    said = capsys.readouterr()
+    assert "virtual:x: 2 rows, " in said.out and "2 frames" in said.out
+    assert said.err.endswith("virtual:x: the bus failed, and what came before is checked: bus off\n")
+
+
 def test_a_table_without_a_unit():
     with pytest.raises(LogError, match="needs a unit line"):
         Watch(Table([]), print, io.BytesIO())

@@ -16,6 +16,8 @@ def environment(tmp_path_factory):
     manual = (ROOT / "python/README.md").read_text(encoding="utf-8")
     lines = [line.strip() for line in manual.split("with one for both:\n\n")[1].split("\n\n")[0].splitlines()]
     make_environment, make_install, pip_install, first_check = lines
+    readme = (ROOT / "README.md").read_text(encoding="utf-8")
+    assert all(f"    {line.split('  ')[0]}\n" in readme for line in lines[:3]), "the README says the same"
     # No index can be reached, so whatever had to be fetched would fail. The library is not proved again.
     clean = {name: value for name, value in os.environ.items() if name not in ("PYTHONPATH", "DELKUTHI_LIB")}
     clean.update(PIP_INDEX_URL="http://127.0.0.1:9/simple", PIP_RETRIES="0", PIP_DISABLE_PIP_VERSION_CHECK="1", HOME=str(home),

@@ -9,13 +9,26 @@ use std::path::{Path, PathBuf};
 use std::process::Command;
 use std::sync::OnceLock;
 
-/// The tarball that a clone of the repository at this place gives; none where the sources are in no repository.
-fn tarball(clone: &Path) -> Option<PathBuf> {
+/// What the gate keeps of a run.
+const GATE: &str = "12 passed, 0 failed\n3 minutes on 2 processors\n";
+
+/// The commit, in a line.
+fn commit() -> String {
+    done(Command::new("git").args(["rev-parse", "HEAD"]).current_dir(root()))
+}
+
+/// The tarball that a clone of the repository at this place gives, with what the gate said of its commit if it ran; none where the
+/// sources are in no repository.
+fn tarball(clone: &Path, gate: Option<&str>) -> Option<PathBuf> {
     if !root().join(".git").exists() {
         say("the sources are in no git repository: no release was made");
         return None;
     }
     done(Command::new("git").arg("clone").arg("--quiet").arg(root()).arg(clone));
+    if let Some(text) = gate {
+        fs::create_dir(clone.join("target")).expect("a folder");
+        fs::write(clone.join("target/gate"), format!("{}{text}", commit())).expect("a file");
+    }
     done(make_in(clone).arg("dist"));
     Some(clone.join(format!("build/{}.tar.gz", release_name())))
 }
@@ -30,7 +43,7 @@ fn release() -> Option<&'static Path> {
     let made = || {
         let folder = Path::new(env!("OUT_DIR")).join("release");
         let _ = fs::remove_dir_all(&folder);
-        let packed = tarball(&folder.join("clone"))?;
+        let packed = tarball(&folder.join("clone"), Some(GATE))?;
         done(Command::new("tar").arg("-xzf").arg(packed).arg("-C").arg(&folder));
         Some(folder.join(release_name()))
     };
@@ -41,8 +54,10 @@ fn release() -> Option<&'static Path> {
 fn two_releases_are_the_same_to_the_byte() {
     let (one, other) = (Folder::new(), Folder::new());
     let places = [one.path().join("a"), other.path().join("another-folder/below")];
-    let [Some(first), Some(second)] = places.map(|place| tarball(&place)) else { return };
-    assert!(fs::read(first).expect("a tarball") == fs::read(second).expect("a tarball"));
+    let [Some(first), Some(second)] = places.map(|place| tarball(&place, None)) else { return };
+    assert!(fs::read(&first).expect("a tarball") == fs::read(second).expect("a tarball"));
+    let manifest = text_of(&first.with_file_name(release_name()).join("MANIFEST.md"));
+    assert!(manifest.contains("| gate, last line | not run on this commit"), "{manifest}");
 }
 
 #[test]
@@ -70,14 +85,18 @@ fn the_checksums() {
 fn the_manifest() {
     let Some(release) = release() else { return };
     let text = text_of(&release.join("MANIFEST.md"));
-    let commit = done(Command::new("git").args(["rev-parse", "HEAD"]).current_dir(root()));
+    let commit = commit();
     let kit = "rattle logic=";
     assert!(
         text.contains(&format!("| version | {} |", version()))
             && text.contains(&format!("| commit | {} |", commit.trim()))
     );
     let identity = text.split(kit).nth(1).expect("the kit").split('`').next().expect("its end");
-    assert!(identity.len() == 64 && text.contains("| gate, last line |"), "{identity}");
+    assert_eq!(identity.len(), 64);
+    assert!(
+        text.contains("| gate, last line | 12 passed, 0 failed |\n| gate, time | 3 minutes on 2 processors |\n"),
+        "{text}"
+    );
     let functions: Vec<Vec<&str>> = text
         .lines()
         .filter(|line| line.starts_with("| `") && line.contains("crates/"))

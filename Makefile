@@ -47,7 +47,7 @@ help:
 	@echo "make test-python the tests of the package in python/ alone"
 	@echo "make test-ports  the portable crate on ARM, 64 and 32 bits, beside the proved library; says which packages are missing"
 	@echo "make bench       the speed beside plain Rust"
-	@echo "make worst       the dearest calls, in cycles"
+	@echo "make worst       the slowest calls, in cycles"
 	@echo "make count       the instructions of a call beside plain Rust (needs valgrind)"
 	@echo "With DELKUTHI_LIB set, libdelkuthi.a is taken from the folder that it names, and rt is not needed."
 

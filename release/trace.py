@@ -93,8 +93,8 @@ def trace():
             missing.append(f"§{clause} has no row in docs/READING.md")
         if not by:
             missing.append(f"§{clause} has no test: name it after 'Clauses:' in the first lines of one in host/, or show it by an example")
-        told = [with_crates(cell, crates) for cell in row or ["none"] * 3]
-        lines.append(f"| §{clause} | {' | '.join(told)} | {', '.join(by) or 'none'} |\n")
+        written = [with_crates(cell, crates) for cell in row or ["none"] * 3]
+        lines.append(f"| §{clause} | {' | '.join(written)} | {', '.join(by) or 'none'} |\n")
     print("\n".join(missing), end="\n" if missing else "", file=sys.stderr)
     return HEADING + "".join(lines)
 

@@ -1,5 +1,5 @@
 /*
- * The dearest call: worst
+ * The slowest calls: worst
  *
  * Looks for situations in which a call takes long, over tables of 32 rows, and
  * prints for each sort of call the most cycles that it took and where. For each
@@ -32,8 +32,8 @@ struct call {
     uint64_t time;
 };
 
-/* The dearest call of a sort so far. */
-struct dearest {
+/* The slowest call of a sort so far. */
+struct slowest {
     const char *name;
     uint64_t cycles, cold;
     char where[112];
@@ -41,7 +41,7 @@ struct dearest {
 
 enum sort { EVENT, TICK, CLOSE, WITHDRAW, VERDICT, FRESH, SORTS };
 
-static struct dearest dearest[SORTS] = {{"delkuthi_event", 0, 0, ""},    {"delkuthi_tick", 0, 0, ""},
+static struct slowest slowest[SORTS] = {{"delkuthi_event", 0, 0, ""},    {"delkuthi_tick", 0, 0, ""},
                                         {"delkuthi_close", 0, 0, ""},    {"delkuthi_withdraw", 0, 0, ""},
                                         {"delkuthi_row_verdict", 0, 0, ""}, {"delkuthi_fresh", 0, 0, ""}};
 static delkuthi_monitor filled, copy;
@@ -110,7 +110,7 @@ static uint8_t take(delkuthi_monitor *monitor, struct call call)
 }
 
 /* Puts the monitor out of every cache. */
-static void chill(delkuthi_monitor *monitor)
+static void flush(delkuthi_monitor *monitor)
 {
     size_t i;
 
@@ -148,7 +148,7 @@ static uint64_t cycles_of(struct call first, struct call call, int cold)
         if (first.sort)
             (void)take(&copy, first);
         if (cold)
-            chill(&copy);
+            flush(&copy);
         start = now();
         sink = call.sort == 'v' ? delkuthi_row_verdict(&copy, 31)
                : call.sort == 'f' ? delkuthi_fresh(&copy, table, table_length) : take(&copy, call);
@@ -158,7 +158,7 @@ static uint64_t cycles_of(struct call first, struct call call, int cold)
     return times[cold ? REPEATS / 2 : 0];
 }
 
-/* Says where a call was dear: the rows, how many events were given before it and in which order of kinds, and the event itself. */
+/* Says where a call was slow: the rows, how many events were given before it and in which order of kinds, and the event itself. */
 static void say_where(char *text, size_t room, struct call call, int type, const char *order, int fill)
 {
     char rows[24], event[40] = "";
@@ -172,11 +172,11 @@ static void say_where(char *text, size_t room, struct call call, int type, const
     snprintf(text, room, "%s, after %d events of kinds %s%s", rows, fill, order, event);
 }
 
-/* Measures a call, and keeps it if it is the dearest of its sort. */
+/* Measures a call, and keeps it if it is the slowest of its sort. */
 static void measure(enum sort sort, struct call first, struct call call, int type, const char *order, int fill)
 {
     uint64_t cycles = cycles_of(first, call, 0);
-    struct dearest *found = &dearest[sort];
+    struct slowest *found = &slowest[sort];
 
     if (cycles <= found->cycles)
         return;
@@ -277,7 +277,7 @@ int main(void)
     }
     printf("| call | cycles | ns | cycles, cold | ns, cold | where |\n|---|---:|---:|---:|---:|---|\n");
     for (i = 0; i < SORTS; i++)
-        printf("| `%s` | %" PRIu64 " | %.0f | %" PRIu64 " | %.0f | %s |\n", dearest[i].name, dearest[i].cycles,
-               (double)dearest[i].cycles * unit, dearest[i].cold, (double)dearest[i].cold * unit, dearest[i].where);
+        printf("| `%s` | %" PRIu64 " | %.0f | %" PRIu64 " | %.0f | %s |\n", slowest[i].name, slowest[i].cycles,
+               (double)slowest[i].cycles * unit, slowest[i].cold, (double)slowest[i].cold * unit, slowest[i].where);
     return 0;
 }

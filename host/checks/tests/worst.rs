@@ -1,4 +1,4 @@
-//! The dearest calls: the search for them runs, and finds none that takes long.
+//! The slowest calls: the search for them runs, and finds none that takes long.
 
 use checks::hosts::c_host;
 

@@ -5,21 +5,25 @@ What is done for each line is done by what Python has in C: splitting, looking u
 """
 from __future__ import annotations
 
+import json
 import sys
 from array import array
 from math import gcd
 from itertools import chain, islice, takewhile
 from operator import gt, lt
-from typing import IO, Iterable, Iterator, NamedTuple, Sequence
+from typing import IO, TYPE_CHECKING, Iterator, NamedTuple, Sequence
 
 from .library import FIRST_COLOURED
-from .signals import parts
+from .signals import parts, signals_of
 from .units import UNITS
+
+if TYPE_CHECKING:
+    from .table import Table
 
 #: The code of a line that is no event of the table.
 OTHER = 255
 #: So many bytes of a log are looked at together.
-BLOCK = 1 << 18
+BLOCK = 1 << 16
 
 
 class Irregular(Exception):
@@ -37,11 +41,15 @@ class Batch(NamedTuple):
 class Codes:
     """A number below :data:`OTHER` for each signal of a table, so that the events of many lines are a string of bytes."""
 
-    def __init__(self, numbers: Iterable[int]):
-        self.numbers = sorted(set(numbers))
+    def __init__(self, table: Table):
+        """Codes for the signals of a table's event lines and of its rows; :class:`Irregular` if it has too many."""
+        named = {number for event in table.events for number in (event.kind, *signals_of(event.kind))}
+        self.numbers = sorted(named | {number for row in table.rows for number in row.signals})
         if len(self.numbers) >= OTHER - 1:
             raise Irregular
         self.of = {number: code for code, number in enumerate(self.numbers)}
+        #: The signal of each code; none for other lines.
+        self.signals: list[int | None] = [*self.numbers, *[None] * (256 - len(self.numbers))]
 
 
 def blocks(file: IO[bytes], size: int = BLOCK) -> Iterator[bytes]:
@@ -58,18 +66,28 @@ def blocks(file: IO[bytes], size: int = BLOCK) -> Iterator[bytes]:
         yield rest
 
 
-def table_of(block: bytes, delimiter: bytes, columns: int) -> list[bytes]:
-    """The cells of a block of lines that all have so many, and a cell of a line feed behind each line; none has quotes."""
-    if b"\r" in block:
-        block = block.replace(b"\r\n", b"\n")
-    if b'"' in block or b"\r" in block or not block.endswith(b"\n"):
-        raise Irregular
-    cells = block.replace(b"\n", delimiter + b"\n" + delimiter).split(delimiter)
-    ends = cells[columns :: columns + 1]
-    if len(cells) % (columns + 1) != 1 or ends.count(b"\n") != len(ends):
-        raise Irregular
-    cells.pop()
-    return cells
+class Shape:
+    """Lines that are all cut in the same way: by these characters, in this order, the last being the line feed."""
+
+    def __init__(self, marks: bytes, dropped: bytes = b""):
+        """``dropped`` are marks that only stand beside another one: no cell ends there."""
+        self._marks, self._dropped, self.cells = marks, dropped, len(marks) - len(dropped)
+        self._others = bytes(byte for byte in range(256) if byte not in marks)
+        self._cuts = bytes(10 if byte in marks else byte for byte in range(256))
+
+    def cut(self, block: bytes) -> list[bytes]:
+        """The cells of a block of lines, one behind the other; :class:`Irregular` if a line is cut in another way."""
+        if b"\r" in block:
+            block = block.replace(b"\r\n", b"\n")
+        found = block.translate(None, self._others)
+        if b'"' in block or b"\r" in block or not block.endswith(b"\n") or found != self._marks * (len(found) // len(self._marks)):
+            raise Irregular
+        if len(set(self._marks)) == 2:
+            cells = block.replace(b"\n", self._marks[:1]).split(self._marks[:1])
+        else:
+            cells = block.translate(self._cuts, self._dropped).split(b"\n")
+        cells.pop()
+        return cells
 
 
 class Scale:
@@ -80,13 +98,14 @@ class Scale:
 
     def times(self, cells: list[bytes]) -> list[int]:
         """The times of stamps that have all the same number of digits behind the point, or none."""
-        joined, digits = b"".join(cells), 0
+        joined, digits = b",".join(cells), 0
         try:
-            if not joined.isdigit():
-                digits = _digits(cells, joined)
-                cells = b"\n".join(cells).replace(b".", b"").split(b"\n")
-            times = list(map(int, cells))
-        except ValueError:
+            if b"." in joined:
+                digits = _digits(cells, joined.replace(b",", b""))
+                times = list(map(int, joined.replace(b".", b"").split(b",")))
+            else:
+                times = _whole(cells, joined)
+        except (ValueError, RecursionError):
             raise Irregular from None
         above, below = self.above, self.below * 10**digits
         common = gcd(above, below)
@@ -94,6 +113,21 @@ class Scale:
         if below > 1 and any([time % below for time in times]):
             raise Irregular
         return times if above == below == 1 else [time * above // below for time in times]
+
+
+def _whole(cells: list[bytes], joined: bytes) -> list[int]:
+    """Whole numbers; what is not one of them is no integer, or is found here."""
+    try:
+        # The reader of JSON takes a list of numbers in one call. What else it takes is no stamp: true and false have an e, of others
+        # there is no sum that is a whole number.
+        times: list[int] = json.loads(f"[{joined.decode('ascii')}]")
+        if len(times) == len(cells) and b"e" not in joined and type(sum(times)) is int:
+            return times
+    except (TypeError, ValueError):
+        pass
+    if not joined.replace(b",", b"").isdigit():
+        raise Irregular
+    return list(map(int, cells))
 
 
 def _digits(cells: list[bytes], joined: bytes) -> int:
@@ -152,14 +186,13 @@ class Records:
         # Without colours all records have one length, if what only moves the clock is an event of a kind that no row names.
         self._kinds = bytes(head[2] if len(head) == 3 else free[0] if free and len(head) == 2 else 0 for head in self._heads)
         self._alike = bytes(code for code, head in enumerate(self._heads) if len(head) == 3 or free and len(head) == 2)
-        self.coloured = any(len(head) == 4 for head in self._heads)
 
     def of(self, times: Sequence[int], codes: bytes) -> bytes | bytearray:
         """The records of steps; each is later than the one before it, or an event that may have its time."""
         number = len(codes)
         try:
             stamps = array("Q", times)
-        except OverflowError:
+        except (OverflowError, TypeError):
             raise Irregular from None
         if sys.byteorder == "little":
             stamps.byteswap()

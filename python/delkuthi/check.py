@@ -1,17 +1,21 @@
 """A log checked against a table: a verdict for each row, and for a broken one where, when and why."""
 from __future__ import annotations
 
-from collections import Counter
+from collections import Counter, deque
 from contextlib import AbstractContextManager, nullcontext
 from dataclasses import asdict, dataclass, field
 from itertools import islice
 from operator import itemgetter
-from typing import Callable, Iterable
+from typing import Callable, Iterable, Iterator
 
+from .batches import OTHER, Codes, Irregular
 from .library import Refused
 from .logs import Counts, Log, LogError, Policy, Step
+from .measure import Measuring
+from .measured import Described, described
 from .moments import Moments
 from .monitor import Monitor
+from .monitors import Monitors, Recorder, monitor_of
 from .reasons import Case, Kind, Reason
 from .rowtypes import judged
 from .signals import parts
@@ -50,6 +54,8 @@ class RowOutcome:
     #: The events that the reason is about: their signals and stamps.
     about: list[tuple[int, int]] = field(default_factory=list)
     message: str | None = None
+    #: What it measured, where that was asked for.
+    measured: Described | None = None
 
 
 @dataclass
@@ -123,7 +129,7 @@ class Run:
     seen: Counter[int | None] = field(default_factory=Counter)
 
 
-def run(monitor: Monitor, steps: Iterable[Step], close: bool) -> Run:
+def run(monitor: Monitor | Monitors, steps: Iterable[Step], close: bool) -> Run:
     """Gives the steps to the monitor, and closes it if asked; :class:`StepRefused` at the first that is refused."""
     found, steps = Run(), iter(steps)
     while chunk := list(islice(steps, CHUNK)):
@@ -141,7 +147,69 @@ def run(monitor: Monitor, steps: Iterable[Step], close: bool) -> Run:
     return found
 
 
-def _ask(monitor: Monitor, found: Run, chunk: list[Step]) -> None:
+def run_log(table: Table, log: Log, close: bool) -> tuple[Run, Monitor | Monitors]:
+    """Gives a log to the monitors of a table, many steps in one call where they are all alike; what the steps were that broke rows is
+    found when the log is read again. :class:`StepRefused` at the first step that is refused."""
+    try:
+        return _run_chunks(table, log, close)
+    except Irregular:
+        monitor = monitor_of(table)
+        return run(monitor, log.steps(), close), monitor
+
+
+def _run_chunks(table: Table, log: Log, close: bool) -> tuple[Run, Monitor | Monitors]:
+    """The same by chunks; :class:`Irregular` where they do not do."""
+    codes, found, counts, whole = Codes(table), Run(), Counter[int](), len(table.parts) == 1
+    recorders = [Recorder(Monitor(table if whole else part.data), codes, None if whole else part) for part in table.parts]
+    try:
+        for times, events, last in log.chunks(codes):
+            for recorder in recorders:
+                recorder.take(times, events)
+            counts.update(events)
+            found.steps, found.last = found.steps + len(events), last
+    except LogError:
+        _flush(log, recorders)
+        raise
+    _flush(log, recorders)
+    found.seen.update({None if code == OTHER else codes.numbers[code]: count for code, count in counts.items()})
+    for recorder in recorders if close else ():
+        recorder.monitor.close()
+    found.steps += close
+    for recorder in recorders:
+        for row in range(len(recorder.monitor.table.rows)):
+            number = recorder.monitor.step(row)
+            if number is not None and not whole:
+                raise Irregular  # its steps are not numbered as those of the whole table
+            if number is not None:
+                found.broken[row] = number, None
+    return found, recorders[0].monitor if whole else Monitors.closed(table, [recorder.monitor for recorder in recorders], found.steps)
+
+
+def _flush(log: Log, recorders: list[Recorder]) -> None:
+    """Gives the monitors what was kept for them; :class:`StepRefused` if a step was refused."""
+    for recorder in recorders:
+        recorder.flush()
+        if recorder.refused is not None:
+            if len(recorders) > 1 or recorder.refused[1] == 11:
+                raise Irregular  # what is out of order is for the policy, step by step
+            step = next(islice(Log(log.path, log.table, log.policy).steps(), recorder.refused[0], None))
+            raise StepRefused(step, Refused(recorder.refused[1]))
+
+
+def _noted(steps: Iterable[Step], found: Run, close: bool) -> Iterator[Step]:
+    """The steps once more, those noted that broke a row."""
+    wanted: dict[int, list[int]] = {}
+    for row, (number, _) in found.broken.items():
+        wanted.setdefault(number, []).append(row)
+    if close:
+        wanted.pop(found.steps, None)
+    for number, step in enumerate(steps, 1):
+        for row in wanted.get(number, ()):
+            found.broken[row] = number, step
+        yield step
+
+
+def _ask(monitor: Monitor | Monitors, found: Run, chunk: list[Step]) -> None:
     """Which rows are broken that were not, and by which of these steps; by the close if there are none."""
     for row in range(len(monitor.table.rows)):
         if row not in found.broken:
@@ -251,21 +319,25 @@ def _without(log: Log) -> AbstractContextManager[None]:
     return nullcontext()
 
 
-def check(table: Table, path: str, policy: Policy = Policy(), progress: Progress | None = None, exercised: bool = False) -> Outcome:
-    """Checks a log against a table. Nothing of the log is kept: where a row is broken it is read a second time."""
+def check(table: Table, path: str, policy: Policy = Policy(), progress: Progress | None = None, exercised: bool = False,
+          measured: bool = False) -> Outcome:
+    """Checks a log against a table, and measures its rows if asked. Nothing of the log is kept: where a row is broken, or for
+    measuring, it is read a second time."""
     log = Log(path, table, policy)
     outcome = Outcome(path, log.word, closed=policy.close, exercised=exercised)
-    monitor, bar = Monitor(table), progress or _without
+    measuring, bar, why = Measuring(table) if measured else None, progress or _without, {}
     try:
         with bar(log):
-            found = run(monitor, log.steps(), policy.close)
+            found, monitor = run_log(table, log, policy.close)
         outcome.counts, outcome.moments = log.counts, log.moments
-        outcome.warnings, why = _warnings(table, log, found), {}
-        if found.broken:
+        outcome.warnings = _warnings(table, log, found)
+        if found.broken or measuring is not None:
             with bar(log):
                 # A log that has grown since is read as far as before.
-                why = reasons_of(table, islice(log.steps(), found.steps - policy.close), found, log.at, outcome.moments,
-                                 policy.close)
+                again = _noted(islice(log.steps(), found.steps - policy.close), found, policy.close)
+                steps = again if measuring is None else measuring.taking(again)
+                why = reasons_of(table, steps, found, log.at, outcome.moments, policy.close)
+                deque(steps if measuring is not None else (), maxlen=0)
     except LogError as error:
         outcome.error = str(error)
         return outcome
@@ -278,6 +350,8 @@ def check(table: Table, path: str, policy: Policy = Policy(), progress: Progress
         return outcome
     outcome.steps, outcome.clock, outcome.page = found.steps, outcome.moments.stamp(found.last.time), monitor.page()
     outcome.rows = [_row(table, log, number, found, why, outcome.moments) for number in range(len(table.rows))]
+    for row, measure in zip(outcome.rows, [] if measuring is None else measuring.end(found.last.time, policy.close)):
+        row.measured = described(measure, outcome.moments.stamp, log.at)
     for row in outcome.rows:
         if row.verdict != "broken":
             row.verdict = monitor.verdict(row.number).word

@@ -6,6 +6,7 @@ What the table's event lines name becomes an event. Every other line only says t
 from __future__ import annotations
 
 from dataclasses import dataclass
+from functools import partial
 from itertools import islice
 from pathlib import Path
 from typing import Callable, Iterable, Iterator, NamedTuple, Sequence
@@ -85,26 +86,46 @@ class Log:
     def steps(self) -> Iterator[Step]:
         """The steps of the log, in the order of time, each with its place."""
         ordering = self._begun()
-        yield from ordering.steps(self._lines())
+        for found, codes in self._found():
+            if isinstance(found, Batch) and codes is not None:
+                try:
+                    yield from ordering.batch_steps(found, codes)
+                    continue
+                except Irregular:
+                    found = self._counted(batch_lines(found, codes))
+            assert not isinstance(found, Batch)
+            yield from ordering.steps(found)
         yield from ordering.end()
+        self._done()
 
     def chunks(self, codes: Codes) -> Iterator[Chunk]:
         """The same steps, many at a time, by the codes of their signals."""
         ordering = self._begun()
-        found: Iterable[Batch | Lines] = [self._lines()]
-        if self.policy.unsorted != "sort":
-            found = self.reader.checked(self.reader.batches(codes))
-        for lines in found:
-            if isinstance(lines, Batch):
+        for found, _ in self._found(codes):
+            if isinstance(found, Batch):
                 try:
-                    yield ordering.chunk(lines, codes)
+                    yield ordering.chunk(found, codes)
                     continue
                 except Irregular:
-                    lines = self._counted(batch_lines(lines, codes))
-            elif self.policy.unsorted != "sort":
-                lines = self._counted(self.reader.checked(lines))
-            yield from _chunks(ordering.steps(lines), codes)
+                    found = self._counted(batch_lines(found, codes))
+            yield from _chunks(ordering.steps(found), codes)
         yield from _chunks(ordering.end(), codes)
+        self._done()
+
+    def _found(self, codes: Codes | None = None) -> Iterator[tuple[Batch | Lines, Codes | None]]:
+        """What the reader finds: batches where it has a way for that, by the codes; else lines."""
+        try:
+            codes = codes or Codes(self.table)
+        except Irregular:
+            pass
+        if self.policy.unsorted == "sort" or codes is None:
+            yield self._lines(), None
+            return
+        for found in self.reader.checked(self.reader.batches(codes)):
+            yield found if isinstance(found, Batch) else self._counted(self.reader.checked(found)), codes
+
+    def _done(self) -> None:
+        """The log is at its end."""
         self.counts.skipped, self.counts.rounded = self.reader.skipped, self.reader.rounded
 
     def _begun(self) -> Ordering:
@@ -131,6 +152,10 @@ class Log:
         found = list(lines)
         self.counts.unsorted = sum(one.time < before.time for before, one in zip(found, found[1:]))
         return sorted(found, key=lambda line: line.time)
+
+
+#: A step of its three values, made without a call of Python's own.
+_STEP: Callable[[tuple[int | None, int, int]], Step] = partial(tuple.__new__, Step)  # type: ignore[assignment]
 
 
 class Ordering:
@@ -180,23 +205,38 @@ class Ordering:
                 last[kind] = self.clock = time
                 yield Step(kind, time, self.place)
 
-    def chunk(self, batch: Batch, codes: Codes) -> Chunk:
-        """The steps of a batch; :class:`Irregular` where the policy on equal stamps has something to say."""
-        first, events, place = batch.times[0], batch.codes, batch.place + len(batch.codes) - 1
-        add = self._start(first) if self.add is None else self.add
+    def batch_steps(self, batch: Batch, codes: Codes) -> Iterator[Step]:
+        """The steps of a batch whose stamps rise; :class:`Irregular` if they do not."""
+        add = self._start(batch.times[0]) if self.add is None else self.add
         times = [time + add for time in batch.times] if add else batch.times
         if not rising(times, self.clock):
-            if times[0] < self.stamp or times[0] < self.clock:
-                raise Irregular
-            place = batch.place + last_kept(times, events)
-            times, events = level(times, events, self.clock, {codes.of[kind] for kind, time in self.last.items() if time == self.clock})
-        self.stamp = batch.times[-1] + add
+            raise Irregular
+        self._passed(batch, times, batch.codes, codes)
+        numbers = map(codes.signals.__getitem__, batch.codes)
+        return map(_STEP, zip(numbers, times, range(batch.place, batch.place + len(times))))
+
+    def _passed(self, batch: Batch, times: Sequence[int], events: bytes, codes: Codes) -> None:
+        """The state after the steps of a batch."""
+        self.stamp = batch.times[-1] + (self.add or 0)
         self.counts.lines += len(batch.codes)
         self.counts.events += len(events) - events.count(OTHER)
         self.place = batch.place + len(batch.codes) - 1
         if times:
             self.clock = self.stamp
             self.last.update((codes.numbers[code], time) for code, time in ends(times, events))
+
+    def chunk(self, batch: Batch, codes: Codes) -> Chunk:
+        """The steps of a batch; :class:`Irregular` where the policy on equal stamps may have something to say."""
+        first, events, place = batch.times[0], batch.codes, batch.place + len(batch.codes) - 1
+        add = self._start(first) if self.add is None else self.add
+        times = [time + add for time in batch.times] if add else batch.times
+        # Where each line is an event, the library itself asks whether they are in order.
+        if OTHER in events and not rising(times, self.clock):
+            if times[0] < self.stamp or times[0] < self.clock:
+                raise Irregular
+            place = batch.place + last_kept(times, events)
+            times, events = level(times, events, self.clock, {codes.of[kind] for kind, time in self.last.items() if time == self.clock})
+        self._passed(batch, times, events, codes)
         return Chunk(times, events, Step(None, self.clock, place))
 
     def end(self) -> Iterator[Step]:
@@ -221,4 +261,8 @@ def _chunks(steps: Iterable[Step], codes: Codes) -> Iterator[Chunk]:
     """Steps as chunks."""
     steps, of = iter(steps), codes.of
     while some := list(islice(steps, CHUNK)):
-        yield Chunk([step.time for step in some], bytes(OTHER if step.kind is None else of[step.kind] for step in some), some[-1])
+        try:
+            events = bytes([OTHER if step.kind is None else of[step.kind] for step in some])
+        except KeyError:
+            raise Irregular from None
+        yield Chunk([step.time for step in some], events, some[-1])

@@ -9,7 +9,7 @@ from __future__ import annotations
 from collections import deque
 from dataclasses import dataclass, field
 from fractions import Fraction
-from typing import TYPE_CHECKING, Any, Callable, Iterable
+from typing import TYPE_CHECKING, Any, Callable, Iterable, Iterator, TypeVar
 
 from .library import NO_LIMIT
 from .signals import colours
@@ -131,6 +131,8 @@ def margin_of(value: int, lower: int, upper: int | None) -> int | None:
 
 
 Taker = Callable[[int, int], None]
+#: A step: its signal or ``None`` for a tick, its time, its place.
+_Step = TypeVar("_Step", bound="tuple[int | None, int, int]")
 
 
 class _Measuring:
@@ -617,6 +619,12 @@ class Measuring:
         """Takes an event by the number of its signal; a tick measures nothing."""
         for taker in self._takers.get(number, ()):
             taker(time, place)
+
+    def taking(self, steps: Iterable[_Step]) -> Iterator[_Step]:
+        """The same steps, each measured as it passes."""
+        for step in steps:
+            self.take(*step)
+            yield step
 
     def end(self, clock: int, closed: bool) -> list[Measure]:
         """The end of the log: what each row has measured."""

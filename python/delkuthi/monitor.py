@@ -2,11 +2,13 @@
 from __future__ import annotations
 
 import ctypes
+import io
 from dataclasses import dataclass
 from typing import Iterable, Sequence
 
 from . import library as lib
 from .library import Refused
+from .recording import records
 from .signals import NO_COLOUR, parts, signal
 from .table import Table
 
@@ -66,6 +68,18 @@ class Monitor:
                 return taken, 11 if answer == 10 and time < 0 else answer
             taken += 1
         return taken, 0
+
+    def take_recording(self, recording: bytearray) -> tuple[int, int]:
+        """Becomes fresh, and takes the records of a recording in one call, without the close: how many up to the first that is refused,
+        and the number of that refusal, or 0."""
+        data, buffer = self.table.bytes(), ctypes.create_string_buffer(lib.REPORT_LIMIT)
+        lent = (ctypes.c_char * len(recording)).from_buffer(recording)
+        written = self._library.delkuthi_report_on(self._memory, data, len(data), lent, len(recording), buffer, lib.REPORT_LIMIT)
+        word, number, *place = buffer.raw[:written].split(b"\n")[0].split()
+        if word == b"closed":
+            self.withdraw()
+            return int(number) - 1, 0
+        return sum(1 for _ in records(io.BytesIO(recording[1 : int(place[0])]))), int(number)
 
     def tick(self, time: int) -> None:
         """Moves the clock on without an event."""

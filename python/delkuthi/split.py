@@ -64,10 +64,10 @@ def _part(rows: Sequence[Row], group: list[int]) -> Part:
 
 class Local:
     """The steps of a table as a part takes them: what it has no kind for moves its clock, or is left out where that stands there
-    already. ``index`` has for each step that is given its number among those of the table."""
+    already. ``given`` counts the steps that it takes, and ``index`` has for each of the last ones its number among those of the table."""
 
     def __init__(self, part: Part):
-        self.part, self.clock = part, 0
+        self.part, self.clock, self.given = part, 0, 0
         self.index: list[int] = []
         self._numbers: dict[int | None, int | None] = {None: None}
 
@@ -82,5 +82,12 @@ class Local:
             if local is None and number is not None and time <= self.clock:
                 continue
             self.index.append(at)
+            self.given += 1
             self.clock = max(self.clock, time)
             yield local, time
+
+    def copy(self) -> Local:
+        """One of its own that goes on from here."""
+        other = Local(self.part)
+        other.clock, other.given = self.clock, self.given
+        return other

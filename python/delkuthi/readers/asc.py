@@ -1,15 +1,21 @@
 """ASC, the text log of CANoe and CANalyzer. Stamps are exact, from the start of the measurement or from the line before."""
 from __future__ import annotations
 
-from typing import Iterator
+from typing import Iterable, Iterator
 
+from ..batches import Batch, Codes, Irregular, blocks
 from ..mapping import CanMapping
 from ..timestamps import DECIMAL
-from .base import Reader, Stamped
+from .base import Lines, Reader, Stamped, lines_of
+from .frames import Frames, written_in_hex
 
 
 #: What lines of the header, comments, and the marks of a trigger block begin with.
 _HEADER = ("date", "internal", "no", "//", "Begin", "End")
+
+
+#: The lengths of data that many lines are read together with, and how many characters such data has.
+_SIZES = {b"%d" % size: 3 * size - 1 for size in range(1, 9)}
 
 
 class AscReader(Reader):
@@ -19,20 +25,45 @@ class AscReader(Reader):
     endings = (".asc",)
 
     def lines(self) -> Iterator[Stamped]:
-        self.mapping, self.base, relative, before = CanMapping(self.table), 0, False, "0"
-        for number, line in self.text_lines():
+        self._begin()
+        return self._read(self.text_lines())
+
+    def _begin(self) -> None:
+        #: The base of its numbers, not known before the header, and the last stamp, where each is counted from the one before it.
+        self.mapping, self.base, self.relative, self.before = CanMapping(self.table), 0, False, "0"
+
+    def _read(self, lines: Iterable[tuple[int, str]]) -> Iterator[Stamped]:
+        for number, line in lines:
             words = line.split()
             if words and DECIMAL.fullmatch(words[0]):
                 if not self.base:
                     raise self.error(number, "expected the header of an ASC file first, such as base hex  timestamps absolute")
-                before = _sum(before, words[0]) if relative else words[0]
+                self.before = _sum(self.before, words[0]) if self.relative else words[0]
                 if words[1:] != ["Start", "of", "measurement"]:
-                    yield Stamped(self.time(before, "s", number), self._kinds(words, number), number)
+                    yield Stamped(self.time(self.before, "s", number), self._kinds(words, number), number)
             elif words[:1] == ["base"]:
                 self.base = 10 if words[1:2] == ["dec"] else 16
-                relative = words[2:4] == ["timestamps", "relative"]
+                self.relative = words[2:4] == ["timestamps", "relative"]
             elif not words or words[0] not in _HEADER:
                 self.skipped += 1
+
+    def batches(self, codes: Codes) -> Iterator[Batch | Lines]:
+        if self.wide or self.table.unit is None:
+            yield self.lines()
+            return
+        self._begin()
+        frames, number = Frames(self, self.mapping, codes, written_in_hex("([0-9A-Fa-f]{1,8})([xX])?")), 1
+        with self.opened() as file:
+            for block in blocks(file):
+                self.advance(len(block))
+                lines = lines_of(block)
+                try:
+                    if self.base != 16 or self.relative:
+                        raise Irregular
+                    yield frames.found(*_columns(lines), number)
+                except Irregular:
+                    yield self._read((at, self.decoded(line, at)) for at, line in enumerate(lines, number))
+                number += len(lines)
 
     def _kinds(self, words: list[str], number: int) -> tuple[int, ...]:
         """The signals that the line of a data frame is an event of; none for every other line."""
@@ -56,6 +87,23 @@ class AscReader(Reader):
             raise self.error(number, f"expected {length} bytes of data, found {len(data)}")
         self.buses.add(bus)
         return self.mapping.kinds(word, extended, bus, data)
+
+
+def _columns(lines: list[bytes]) -> tuple[list[bytes], list[bytes], list[bytes], list[bytes]]:
+    """Stamps, channels, identifiers and data of lines that are all data frames of one to eight bytes; :class:`Irregular` if they are not."""
+    words = [line.split(None, 6) for line in lines]
+    if set(map(len, words)) != {7}:
+        raise Irregular
+    stamps, buses, identifiers, _, marks, sizes, data = (list(column) for column in zip(*words))
+    if set(marks) != {b"d"} or not set(sizes) <= _SIZES.keys() or not b"".join(buses).isdigit():
+        raise Irregular
+    ends = [_SIZES[size] for size in sizes]
+    found = [text[:end].replace(b" ", b"") for text, end in zip(data, ends)]
+    # As many bytes as the frame says, two digits each, and no further digit beside them.
+    if [2 * end + 2 for end in ends] != [3 * len(digits) for digits in found] or not {
+            text[end : end + 1] for text, end in zip(data, ends)} <= {b" ", b"\n", b"\r", b""}:
+        raise Irregular
+    return stamps, buses, identifiers, found
 
 
 def _sum(first: str, second: str) -> str:

@@ -179,3 +179,10 @@ def ending(path: str) -> str:
     """The ending of a file's name in small letters; of a packed one the ending before that."""
     suffixes = [suffix.lower() for suffix in Path(path).suffixes]
     return suffixes[-2] if suffixes and suffixes[-1] in PACKED and len(suffixes) > 1 else (suffixes or [""])[-1]
+
+
+def lines_of(block: bytes) -> list[bytes]:
+    """The lines of a block as a file has them: each with its line feed, but for the last, which may have none."""
+    lines = [line + b"\n" for line in block.split(b"\n")]
+    last = lines.pop()[:-1]
+    return [*lines, last] if last else lines

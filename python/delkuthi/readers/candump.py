@@ -2,13 +2,17 @@
 from __future__ import annotations
 
 import re
-from typing import Iterator
+from typing import Iterable, Iterator
 
+from ..batches import Batch, Codes, Irregular, Shape, blocks
 from ..mapping import CanMapping
 from ..units import NUMBER
-from .base import Reader, Stamped
+from .base import Lines, Reader, Stamped, lines_of
+from .frames import Frames, written_in_hex
 
 _LINE = re.compile(rf"\s*\(({NUMBER})\)\s+(\S+)\s+([0-9A-Fa-f]{{1,8}})#(#[0-9A-Fa-f])?([0-9A-Fa-f]*|R[0-9]*)(?:\s+[RT])?\s*$")
+#: A line as it nearly always is: (0.020500) can0 1A0#01
+_SHAPE = Shape(b"()  #\n", b"()")
 
 
 class CandumpReader(Reader):
@@ -17,8 +21,10 @@ class CandumpReader(Reader):
     endings = (".log", ".candump")
 
     def lines(self) -> Iterator[Stamped]:
-        mapping = CanMapping(self.table)
-        for number, line in self.text_lines():
+        return self._read(CanMapping(self.table), self.text_lines())
+
+    def _read(self, mapping: CanMapping, lines: Iterable[tuple[int, str]]) -> Iterator[Stamped]:
+        for number, line in lines:
             match = _LINE.match(line)
             if match is None:
                 if line.strip():
@@ -35,3 +41,21 @@ class CandumpReader(Reader):
             if len(data) % 2:
                 raise self.error(number, f"expected whole bytes, found {len(data)} digits of data")
             yield Stamped(time, mapping.kinds(word, len(identifier) > 3, bus, bytes.fromhex(data)), number)
+
+    def batches(self, codes: Codes) -> Iterator[Batch | Lines]:
+        if self.wide or self.table.unit is None:
+            yield self.lines()
+            return
+        mapping, number = CanMapping(self.table), 1
+        frames = Frames(self, mapping, codes, written_in_hex("([0-9A-Fa-f]{1,8})"))
+        with self.opened() as file:
+            for block in blocks(file):
+                self.advance(len(block))
+                try:
+                    cells = _SHAPE.cut(block)
+                    yield frames.found(cells[0::4], cells[1::4], cells[2::4], cells[3::4], number)
+                    number += len(cells) // 4
+                except Irregular:
+                    lines = lines_of(block)
+                    yield self._read(mapping, ((at, self.decoded(line, at)) for at, line in enumerate(lines, number)))
+                    number += len(lines)

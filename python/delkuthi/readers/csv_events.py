@@ -2,10 +2,12 @@
 from __future__ import annotations
 
 import csv
+from itertools import chain
+from operator import itemgetter
 from typing import Iterable, Iterator
 
-from ..batches import OTHER, Batch, Codes, Irregular, Scale, blocks, table_of
-from .base import Lines, Reader, Stamped, ending
+from ..batches import OTHER, Batch, Codes, Irregular, Scale, Shape, blocks
+from .base import Lines, Reader, Stamped, ending, lines_of
 from .python_can import PythonCanReader
 from .sheets import Columns, SheetReader
 
@@ -67,15 +69,16 @@ class CsvReader(SheetReader):
                 self.advance(len(block))
                 if b'"' in block:
                     # A cell in quotes may go on in the next block.
-                    yield self._one_by_one(columns, _lines(block, rest), number)
+                    yield self._one_by_one(columns, (line for one in chain([block], rest) for line in lines_of(one)), number)
                     return
                 try:
                     batch = several.batch(block, number)
                     number += len(batch.codes)
                     yield batch
                 except Irregular:
-                    yield self._one_by_one(columns, _lines(block, ()), number)
-                    number += block.count(b"\n")
+                    lines = lines_of(block)
+                    yield self._one_by_one(columns, lines, number)
+                    number += len(lines)
 
     def _one_by_one(self, columns: Columns, lines: Iterable[bytes], number: int) -> Iterator[Stamped]:
         """Lines from a number on, each by itself."""
@@ -86,33 +89,24 @@ class CsvReader(SheetReader):
                 self.skipped += 1
 
 
-def _lines(block: bytes, rest: Iterable[bytes]) -> Iterator[bytes]:
-    """The lines of a block, and those of the blocks behind it."""
-    yield from block.splitlines(keepends=True) if b"\r" not in block else _split(block)
-    for more in rest:
-        yield from _split(more)
-
-
-def _split(block: bytes) -> list[bytes]:
-    """The lines of a block as a file has them: each with its line feed."""
-    lines = [line + b"\n" for line in block.split(b"\n")]
-    last = lines.pop()[:-1]
-    return [*lines, last] if last else lines
-
-
-class _Cells(dict[bytes, int]):
+class _Events:
     """The codes of what stands in the events' column, kept from line to line."""
 
     def __init__(self, reader: Reader, columns: Columns, codes: Codes):
-        super().__init__()
         self.reader, self.columns, self.codes = reader, columns, codes
+        self._known: dict[bytes, int] = {}
 
-    def __missing__(self, cell: bytes) -> int:
-        kinds = self.columns.kinds.get(self.reader.decoded(cell, 2).strip(), ())
-        code = self.codes.of[kinds[0]] if kinds else OTHER
-        if len(self) < 10_000:
-            self[cell] = code
-        return code
+    def of(self, cells: list[bytes]) -> bytes:
+        """The codes of some cells."""
+        try:
+            return bytes(itemgetter(*cells, b"")(self._known))[:-1]
+        except KeyError:
+            if len(self._known) > 10_000:
+                self._known.clear()
+            for cell in {*cells, b""}:
+                kinds = self.columns.kinds.get(self.reader.decoded(cell, 2).strip(), ())
+                self._known[cell] = self.codes.of[kinds[0]] if kinds else OTHER
+            return bytes(map(self._known.__getitem__, cells))
 
 
 class _Blocks:
@@ -120,8 +114,8 @@ class _Blocks:
 
     def __init__(self, reader: CsvReader, columns: Columns, codes: Codes):
         self.reader, self.columns = reader, columns
-        self.number, self.delimiter = len(columns.header), reader.delimiter.encode()
-        self.cells = _Cells(reader, columns, codes)
+        self.shape = Shape(reader.delimiter.encode() * (len(columns.header) - 1) + b"\n")
+        self.events = _Events(reader, columns, codes)
         if columns.unit is not None and reader.table.unit is None:
             raise reader.error(2, f"the stamps are in {columns.unit}, but the table has no unit line")
         self.scale = Scale(columns.unit, reader.table.unit)
@@ -130,9 +124,8 @@ class _Blocks:
         """The lines of a block."""
         if not block.isascii():
             self.reader.decoded(block, 2)
-        cells = table_of(block, self.delimiter, self.number)
-        stamps = cells[self.columns.time :: self.number + 1]
+        cells, number_of = self.shape.cut(block), self.shape.cells
+        stamps = cells[self.columns.time :: number_of]
         if self.reader.comma:
             stamps = b"\n".join(stamps).replace(b",", b".").split(b"\n")
-        event = self.columns.event or 0
-        return Batch(self.scale.times(stamps), bytes(map(self.cells.__getitem__, cells[event :: self.number + 1])), number)
+        return Batch(self.scale.times(stamps), self.events.of(cells[self.columns.event or 0 :: number_of]), number)

@@ -52,10 +52,10 @@ class Codes:
         self.signals: list[int | None] = [*self.numbers, *[None] * (256 - len(self.numbers))]
 
 
-def blocks(file: IO[bytes], size: int = BLOCK) -> Iterator[bytes]:
+def blocks(file: IO[bytes]) -> Iterator[bytes]:
     """The rest of a file in blocks of whole lines, each ended by a line feed; but for the last line, which may have none."""
     rest = b""
-    while data := file.read(size):
+    while data := file.read(BLOCK):
         cut = data.rfind(b"\n") + 1
         if not cut:
             rest += data

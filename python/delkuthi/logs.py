@@ -258,11 +258,19 @@ def batch_lines(batch: Batch, codes: Codes) -> Iterator[Stamped]:
 
 
 def _chunks(steps: Iterable[Step], codes: Codes) -> Iterator[Chunk]:
-    """Steps as chunks."""
-    steps, of = iter(steps), codes.of
-    while some := list(islice(steps, CHUNK)):
+    """Steps as chunks; those before an error come before it."""
+    steps, wrong, some = iter(steps), None, [Step(None, 0, 0)]
+    while some and wrong is None:
+        some = []
         try:
-            events = bytes([OTHER if step.kind is None else of[step.kind] for step in some])
+            some.extend(islice(steps, CHUNK))
+        except LogError as error:
+            wrong = error
+        try:
+            events = bytes([OTHER if step.kind is None else codes.of[step.kind] for step in some])
         except KeyError:
             raise Irregular from None
-        yield Chunk([step.time for step in some], events, some[-1])
+        if some:
+            yield Chunk([step.time for step in some], events, some[-1])
+    if wrong is not None:
+        raise wrong

@@ -6,7 +6,7 @@ from contextlib import AbstractContextManager, nullcontext
 from dataclasses import asdict, dataclass, field
 from itertools import islice
 from operator import itemgetter
-from typing import Callable, Iterable, Iterator
+from typing import Callable, Iterable, Iterator, Sequence
 
 from .batches import OTHER, Codes, Irregular
 from .library import Refused
@@ -76,6 +76,8 @@ class Outcome:
     error: str | None = None
     refused: int | None = None
     page: str | None = None
+    #: The file, or the files, that the log is in.
+    files: str | tuple[str, ...] = ""
 
     @property
     def broken(self) -> list[RowOutcome]:
@@ -106,7 +108,7 @@ class Outcome:
 
     def as_dict(self) -> dict[str, object]:
         """For JSON: the fields by their names, times as the log's stamps."""
-        found = {name: value for name, value in asdict(self).items() if name not in ("counts", "moments", "exercised")}
+        found = {name: value for name, value in asdict(self).items() if name not in ("counts", "moments", "exercised", "files")}
         return {**found, **asdict(self.counts), "offset": self.moments.shift, "status": self.status}
 
 
@@ -159,7 +161,7 @@ def run_log(table: Table, log: Log, close: bool) -> tuple[Run, Monitor | Monitor
 
 def _run_chunks(table: Table, log: Log, close: bool) -> tuple[Run, Monitor | Monitors]:
     """The same by chunks; :class:`Irregular` where they do not do."""
-    codes, found, counts, whole = Codes(table), Run(), Counter[int](), len(table.parts) == 1
+    codes, found, counts, whole = Codes(table), Run(), Counter[int](), table.whole
     recorders = [Recorder(Monitor(table if whole else part.data), codes, None if whole else part) for part in table.parts]
     try:
         for times, events, last in log.chunks(codes):
@@ -192,7 +194,7 @@ def _flush(log: Log, recorders: list[Recorder]) -> None:
         if recorder.refused is not None:
             if len(recorders) > 1 or recorder.refused[1] == 11:
                 raise Irregular  # what is out of order is for the policy, step by step
-            step = next(islice(Log(log.path, log.table, log.policy).steps(), recorder.refused[0], None))
+            step = next(islice(Log(log.files, log.table, log.policy).steps(), recorder.refused[0], None))
             raise StepRefused(step, Refused(recorder.refused[1]))
 
 
@@ -319,12 +321,12 @@ def _without(log: Log) -> AbstractContextManager[None]:
     return nullcontext()
 
 
-def check(table: Table, path: str, policy: Policy = Policy(), progress: Progress | None = None, exercised: bool = False,
+def check(table: Table, path: str | Sequence[str], policy: Policy = Policy(), progress: Progress | None = None, exercised: bool = False,
           measured: bool = False) -> Outcome:
-    """Checks a log against a table, and measures its rows if asked. Nothing of the log is kept: where a row is broken, or for
-    measuring, it is read a second time."""
+    """Checks a log, or several files that are one, against a table, and measures its rows if asked. Nothing of the log is kept: where
+    a row is broken, or for measuring, it is read a second time."""
     log = Log(path, table, policy)
-    outcome = Outcome(path, log.word, closed=policy.close, exercised=exercised)
+    outcome = Outcome(log.path, log.word, closed=policy.close, exercised=exercised, files=log.files)
     measuring, bar, why = Measuring(table) if measured else None, progress or _without, {}
     try:
         with bar(log):
@@ -342,10 +344,10 @@ def check(table: Table, path: str, policy: Policy = Policy(), progress: Progress
         outcome.error = str(error)
         return outcome
     except OSError as error:
-        outcome.error = f"{path}: {error.strerror or error}"
+        outcome.error = f"{error.filename or log.path}: {error.strerror or error}"
         return outcome
     except StepRefused as refused:
-        outcome.error = f"{path}{log.where(refused.step.place)}: {_refusal(table, log.moments, refused)}"
+        outcome.error = f"{log.placed(refused.step.place)}: {_refusal(table, log.moments, refused)}"
         outcome.refused = refused.refusal.number
         return outcome
     outcome.steps, outcome.clock, outcome.page = found.steps, outcome.moments.stamp(found.last.time), monitor.page()
@@ -369,7 +371,7 @@ def _row(table: Table, log: Log, number: int, found: Run, why: dict[int, Why], m
     outcome.step, step = found.broken[number]
     outcome.verdict, outcome.by_close = "broken", step is None
     step = step or found.last
-    outcome.place, outcome.time, outcome.where = step.place, moments.stamp(step.time), f"{log.path}{log.where(step.place)}"
+    outcome.place, outcome.time, outcome.where = log.reader.number(step.place), moments.stamp(step.time), log.placed(step.place)
     at = "at the end" if outcome.by_close else f"at {moments.at(step.time)}"
     outcome.reason = why[number].text if number in why else UNKNOWN
     outcome.about = [(kind, moments.stamp(time)) for kind, time in why[number].about] if number in why else []

@@ -13,17 +13,21 @@ from typing import IO, Any, Iterator, Sequence
 
 from . import library as lib
 from .check import Outcome, check
+from .database import DatabaseError
 from .html_page import Pictured, as_html
 from .library import LibraryMissing, Refused
 from .logs import Log, LogError, Policy
+from .measured import text_lines
 from .monitor import report
 from .on_logs import join_logs, late_stamps, record, shrink
 from .output import as_json, as_junit, as_text, overall
 from .plot import PlotMissing, write_plot
-from .policies import add_options, policy
+from .policies import add_databases, add_options, policy, read_table
+from .readers.standard_input import NAME, kept
 from .table import Table
 from .text import TextError, grammar
 from .timeline import close_up, gather, overview
+from .trace import write_trace
 from .units import UNITS
 from .writing import NotWritten, complain, give_up_output, out, write
 
@@ -35,6 +39,9 @@ _EXAMPLES = """\
 examples:
   delkuthi check brake.txt drive.csv                    a message for each broken row; status 1 if there is one
   delkuthi check brake.txt drive.log --html drive.html  the same as a page, with pictures
+  delkuthi check brake.txt drive.asc --dbc car.dbc --measure   signals by name; what rows measure beside what they ask
+  delkuthi check brake.txt part_*.log --as-one          a drive in several files
+  delkuthi check tasks.txt trace.btf --trace out.json   a scheduler trace; a file for Perfetto
   delkuthi check brake.txt logs/*.blf --jobs 4 --junit result.xml --exercised
   delkuthi watch brake.txt socketcan:can0               says a broken row while frames come
   delkuthi table brake.txt -o table.bin                 the bytes that the library reads; and back to text
@@ -76,20 +83,24 @@ def progress_bar(log: Log) -> Iterator[None]:
 
 
 def _check(given: argparse.Namespace) -> int:
-    table = Table.read(given.table)
+    table = read_table(given)
     how = policy(given, table)
     outcomes: list[Outcome] = []
-    if len(given.log) == 1 or given.jobs == 1:
-        for path in given.log:
-            outcomes.append(check(table, path, how, progress_bar, given.exercised))
-            _tell(given, outcomes[-1])
+    measured = bool(given.measure or given.json or given.junit or given.html)
+    logs: list[str | list[str]] = [given.log] if given.as_one else list(given.log)
+    if len(logs) == 1 or given.jobs == 1:
+        for path in logs:
+            outcomes.append(check(table, path, how, progress_bar, given.exercised, measured))
+            _tell(given, table, outcomes[-1])
     else:
+        if NAME in given.log:
+            kept()
         with ProcessPoolExecutor(given.jobs) as pool:
-            found = pool.map(partial(_check_one, given.table, how, given.exercised), given.log)
+            found = pool.map(partial(_check_one, given, how, measured), logs)
             bar_of = _tqdm()
             for outcome in found if bar_of is None else bar_of(found, total=len(given.log), unit="log", leave=False):
                 outcomes.append(outcome)
-                _tell(given, outcome)
+                _tell(given, table, outcome)
     if len(outcomes) > 1 and not (given.json or given.page or given.quiet):
         out(overall(outcomes) + "\n")
     if given.json:
@@ -100,32 +111,36 @@ def _check(given: argparse.Namespace) -> int:
         write(given.html, as_html(table, given.table, [pictured(table, how, outcome) for outcome in outcomes]))
     if given.plot:
         _plot(given.plot, table, how, outcomes)
+    if given.trace:
+        _trace(given.trace, table, how, outcomes)
     return max(outcome.status for outcome in outcomes)
 
 
-def _check_one(table: str, how: Policy, exercised: bool, path: str) -> Outcome:
+def _check_one(given: argparse.Namespace, how: Policy, measured: bool, path: str | list[str]) -> Outcome:
     """One of many logs, in a process of its own."""
-    return check(Table.read(table), path, how, exercised=exercised)
+    return check(read_table(given), path, how, exercised=given.exercised, measured=measured)
 
 
-def _tell(given: argparse.Namespace, outcome: Outcome) -> None:
+def _tell(given: argparse.Namespace, table: Table, outcome: Outcome) -> None:
     """The messages and a last line, for a person; with ``--json`` only what goes to standard error."""
     for line in [outcome.error] if outcome.error is not None else outcome.warnings:
         complain(line)
     if outcome.error is None and not given.json:
         out(as_text(outcome, given.page, given.quiet))
+        rows = [(table.row_name(row.number), row.measured) for row in outcome.rows if row.measured is not None]
+        out("".join(f"  {line}\n" for line in text_lines(rows, table.unit)) if given.measure else "")
 
 
 def pictured(table: Table, how: Policy, outcome: Outcome) -> Pictured:
     """An outcome, the picture of its log, and one close up for each broken row; the log is read once more."""
     if outcome.error is not None:
         return outcome, None, {}
-    gathered = gather(table, Log(outcome.log, table, how).steps(), outcome)
+    gathered = gather(table, Log(outcome.files, table, how).steps(), outcome)
     return outcome, overview(table, gathered, outcome), {row.number: close_up(table, gathered, outcome, row) for row in outcome.broken}
 
 
-def _plot(path: str, table: Table, how: Policy, outcomes: Sequence[Outcome]) -> None:
-    """A picture for each log; of several logs the file's name has the log's in it, and a number where two are the same."""
+def _files(path: str, outcomes: Sequence[Outcome]) -> Iterator[tuple[str, Outcome]]:
+    """A file for each log that could be read; of several logs the file's name has the log's in it, and a number where two are the same."""
     taken: set[str] = set()
     for outcome in outcomes:
         name, number = path, 1
@@ -137,10 +152,26 @@ def _plot(path: str, table: Table, how: Policy, outcomes: Sequence[Outcome]) -> 
                 name = str(Path(path).with_stem(f"{stem}-{number}"))
         taken.add(name)
         if outcome.error is None:
-            try:
-                write_plot(overview(table, gather(table, Log(outcome.log, table, how).steps(), outcome), outcome), name)
-            except OSError as error:
-                raise NotWritten(f"{name}: {error.strerror or error}") from None
+            yield name, outcome
+
+
+def _plot(path: str, table: Table, how: Policy, outcomes: Sequence[Outcome]) -> None:
+    """A picture for each log."""
+    for name, outcome in _files(path, outcomes):
+        try:
+            write_plot(overview(table, gather(table, Log(outcome.files, table, how).steps(), outcome), outcome), name)
+        except OSError as error:
+            raise NotWritten(f"{name}: {error.strerror or error}") from None
+
+
+def _trace(path: str, table: Table, how: Policy, outcomes: Sequence[Outcome]) -> None:
+    """A trace for each log."""
+    for name, outcome in _files(path, outcomes):
+        try:
+            with open(name, "w", encoding="utf-8") as file:
+                write_trace(file, table, Log(outcome.files, table, how), outcome)
+        except OSError as error:
+            raise NotWritten(f"{name}: {error.strerror or error}") from None
 
 
 def _table(given: argparse.Namespace) -> int:
@@ -154,7 +185,7 @@ def _table(given: argparse.Namespace) -> int:
     if given.unit:
         if table.unit is not None:
             raise LogError(given.table, "", f"the table has the unit {table.unit} already")
-        table = Table(table.rows, table.events, given.unit)
+        table = Table(table.rows, table.events, given.unit, table.databases, table.folder)
     to_text = given.text or not given.bytes and (data[:1] == b"\x01" or given.output is None)
     write(given.output, table.text() if to_text else table.bytes())
     return KEPT
@@ -163,7 +194,7 @@ def _table(given: argparse.Namespace) -> int:
 def _watch(given: argparse.Namespace) -> int:
     from .watch import watch_command
 
-    return watch_command(given, Table.read(given.table))
+    return watch_command(given, read_table(given, True))
 
 
 def _program() -> int:
@@ -208,13 +239,16 @@ _PLAIN = argparse.RawDescriptionHelpFormatter
 def _add_check(commands: Any) -> None:
     one = commands.add_parser("check", help="check logs against a table", epilog=_EXAMPLES, formatter_class=_PLAIN)
     one.add_argument("table", metavar="TABLE", help="a text table, or table.bin")
-    one.add_argument("log", metavar="LOG", nargs="+", help=".csv, .log (candump), .bin; with python-can .asc, .blf, .trc ..")
+    one.add_argument("log", metavar="LOG", nargs="+", help=".csv, .tsv, .xlsx, .log (candump), .asc, .trc, .btf, .bin; with python-can .blf ..; - is the standard input")
     one.add_argument("--exercised", action="store_true", help="a row that the log never exercises is a failure: status 1")
+    one.add_argument("--measure", action="store_true", help="what each row measures beside what it asks, and the margin to its limit")
+    one.add_argument("--as-one", action="store_true", help="the logs are one drive, one behind the other")
     one.add_argument("--json", action="store_true", help="all of it as JSON on standard output")
     one.add_argument("--junit", metavar="FILE", help="a JUnit file for all logs")
     one.add_argument("--page", action="store_true", help="the library's printed page instead of the messages")
     one.add_argument("--html", metavar="FILE", help="a page with pictures that needs no network")
     one.add_argument("--plot", metavar="FILE", help="a picture: SVG, or PNG by matplotlib")
+    one.add_argument("--trace", metavar="FILE", help="a trace for Perfetto or chrome://tracing")
     one.add_argument("--jobs", metavar="N", type=_positive, default=1, help="check so many logs at a time")
     one.add_argument("--quiet", action="store_true", help="messages only, no last line")
     add_options(one)
@@ -231,6 +265,7 @@ def _add_watch(commands: Any) -> None:
     one.add_argument("--lag", type=_seconds, metavar="S", default=0.05, help="ticks stay so far behind the clock (0.05)")
     one.add_argument("--record", metavar="FILE", help="keep the recording")
     one.add_argument("--bitrate", type=_positive, metavar="N", help="of the bus, where the interface sets it")
+    add_databases(one)
     one.set_defaults(run=_watch)
 
 
@@ -301,7 +336,7 @@ def main(arguments: Sequence[str] | None = None) -> int:
         return _run(sys.argv[1:] if arguments is None else list(arguments))
     except SystemExit as ended:
         return ended.code if isinstance(ended.code, int) else REFUSED
-    except (TextError, LogError, PlotMissing, LibraryMissing) as error:
+    except (TextError, LogError, DatabaseError, PlotMissing, LibraryMissing) as error:
         complain(str(error))
         return REFUSED
     except KeyboardInterrupt:

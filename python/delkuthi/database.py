@@ -5,9 +5,10 @@ import difflib
 import logging
 import struct
 import warnings
+from contextlib import contextmanager
 from dataclasses import dataclass
 from fractions import Fraction
-from typing import Any, Callable, Iterable, Union
+from typing import Any, Callable, Iterable, Iterator, Union
 
 Raw = Union[int, float]
 
@@ -67,21 +68,31 @@ class Database:
                        Fraction(signal.factor), Fraction(signal.offset), names)
 
 
+@contextmanager
+def _silence() -> Iterator[None]:
+    """Without what canmatrix says about formats that it has no packages for."""
+    before = logging.root.manager.disable
+    logging.disable(logging.CRITICAL)
+    try:
+        yield
+    finally:
+        logging.disable(before)
+
+
 def _matrices(path: str) -> list[Any]:
     """What canmatrix reads in a file."""
-    try:
-        with warnings.catch_warnings():
-            warnings.simplefilter("ignore")
-            import canmatrix.formats  # type: ignore[import]
-    except ImportError:
-        raise DatabaseError(f"{path}: signals by name need canmatrix (Debian: python3-canmatrix)") from None
     with open(path, "rb"):
         pass  # a file that cannot be opened is an OSError of its own
-    logging.getLogger("canmatrix").setLevel(logging.CRITICAL)
-    try:
-        found = canmatrix.formats.loadp(path)
-    except Exception as error:  # canmatrix has no one exception for a file that it cannot read
-        raise DatabaseError(f"{path}: canmatrix cannot read it: {error or type(error).__name__}") from None
+    with warnings.catch_warnings(), _silence():
+        warnings.simplefilter("ignore")
+        try:
+            import canmatrix.formats
+
+            found = canmatrix.formats.loadp(path)
+        except ImportError:
+            raise DatabaseError(f"{path}: signals by name need canmatrix (Debian: python3-canmatrix)") from None
+        except Exception as error:  # canmatrix has no one exception for a file that it cannot read
+            raise DatabaseError(f"{path}: canmatrix cannot read it: {error or type(error).__name__}") from None
     matrices = [matrix for matrix in (found or {}).values() if matrix is not None]
     if not any(matrix.frames for matrix in matrices):
         raise DatabaseError(f"{path}: canmatrix finds no frames in it")

@@ -6,6 +6,7 @@ from typing import Iterator, Sequence
 
 from .check import Outcome, RowOutcome
 from .library import VERSION
+from .measured import html_table
 from .output import notes, overall, number_of
 from .svg import STYLE, svg
 from .table import Table
@@ -37,6 +38,9 @@ td.verdict { white-space: nowrap } td.name { overflow-wrap: anywhere } td.count 
 .error, .warn { background: var(--note); border-left: 4px solid #b07a00; padding: .5rem .8rem; margin: .6rem 0 }
 .picture { overflow-x: auto; border: 1px solid var(--line) } .picture svg { display: block; width: 100%; min-width: 680px; height: auto }
 p.note { color: var(--soft); font-size: 13px } p.over { font-size: 1.05rem; font-weight: 600 }
+.wide { overflow-x: auto } table.measured { font-size: 13px } table.measured td { white-space: nowrap } tr.bad td { color: var(--broken) }
+svg.histogram { width: 120px; height: 28px; display: block } .histogram .inside { fill: var(--kept) } .histogram .outside { fill: var(--broken) }
+.histogram .limit { stroke: var(--ink); stroke-width: 1; stroke-dasharray: 3 2; fill: none }
 @media (max-width: 640px) {
   body { margin: 1rem auto }
   table.rows tr { display: grid; grid-template-columns: minmax(0, 1fr) minmax(0, max-content); padding: .3rem 0;
@@ -47,6 +51,9 @@ p.note { color: var(--soft); font-size: 13px } p.over { font-size: 1.05rem; font
 @media print { body { margin: 0; max-width: none } .picture, .why { break-inside: avoid } .picture svg { min-width: 0 } }
 """
 
+_MEASURED = ("How many instances were judged, how many of them are outside what is asked or miss a partner, and the margin of the worst one to "
+             "the nearest limit. Bars: how often a value came; red: outside. Of a Sporadic and a Repetition the distances are shown, and the hidden "
+             "points of their events decide.")
 _LEGEND = ("A lane for each event. Shaded: where a row wants an event, or counts them, in the row's colour; red: where none came. Dashed: "
            "the step that broke a row. Ringed: the events that a reason is about. The pointer on a mark says more.")
 
@@ -99,6 +106,9 @@ def _log_html(table: Table, table_name: str, number: int, outcome: Outcome, pict
     elif lines:
         yield f'<p class="warn">{lines}</p>'
     yield from rows_html(table, number, outcome)
+    measured = [(row.name, row.measured) for row in outcome.rows if row.measured is not None]
+    if measured:
+        yield from ["<h2>Measured</h2>", *html_table(measured, table.unit), f'<p class="note">{_MEASURED}</p>']
     if picture is not None:
         yield f'<h2>The log</h2><div class="picture">{svg(picture, style=False)}</div>'
         yield f'<p class="note">{_LEGEND}</p>'

@@ -58,9 +58,12 @@ class Counts:
 class Log:
     """A log file, read by its ending."""
 
-    def __init__(self, path: str | Path, table: Table, policy: Policy = Policy()):
-        self.path, self.table, self.policy = str(path), table, policy
-        self.reader = reader(self.path, table, policy)
+    def __init__(self, path: str | Path | Sequence[str], table: Table, policy: Policy = Policy()):
+        """A log, or several files that are one."""
+        self.files: str | tuple[str, ...] = str(path) if isinstance(path, (str, Path)) else tuple(path)
+        self.table, self.policy = table, policy
+        self.reader = reader(self.files, table, policy)
+        self.path = self.reader.path
         self.word = self.reader.word
         self.counts, self.moments = Counts(), Moments(table.unit)
         #: Called with the number of bytes of each line, where they are known, for a progress bar.
@@ -69,6 +72,10 @@ class Log:
     def where(self, place: int) -> str:
         """A place as an editor takes it, ``:33``, or in words."""
         return self.reader.where(place)
+
+    def placed(self, place: int) -> str:
+        """A place with its file, as messages begin."""
+        return self.reader.placed(place)
 
     def at(self, place: int) -> str:
         """A place within a sentence."""
@@ -131,7 +138,7 @@ class Log:
     def _begun(self) -> Ordering:
         """The log from its beginning."""
         self.counts, self.moments = Counts(), Moments(self.table.unit)
-        self.reader = reader(self.path, self.table, self.policy)
+        self.reader = reader(self.files, self.table, self.policy)
         self.reader.progress = self.progress
         return Ordering(self)
 

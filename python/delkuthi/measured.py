@@ -81,37 +81,34 @@ def properties(found: Described, unit: str | None) -> list[tuple[str, str]]:
     return [(heading, value) for heading, value in named if value]
 
 
-_WIDTH, _HEIGHT = 160, 34
+_WIDTH, _HEIGHT = 120, 28
 
 
 def histogram_svg(found: Described, unit: str | None) -> str:
-    """A small histogram: a bar for each stretch of values, red outside what is asked, and the limits as lines."""
+    """A small histogram over the values and the limits: a bar for each stretch of values, red outside, and the limits as lines."""
     begin, width, counts = (found["histogram"][name] for name in ("begin", "width", "counts"))
     if not counts:
         return ""
-    size, top = _WIDTH / len(counts), max(counts)
-    lower, upper = found["lower"], found["upper"]
+    limits = [limit for limit in (found["lower"], found["upper"]) if limit is not None]
+    low, high = min([begin, *limits]), max([begin + width * len(counts), *limits])
+    scale, top = (_WIDTH - 4) / max(high - low, 1), max(counts)
     title = f"{found['quantity']} from {_amount(found['least'], unit)} to {_amount(found['greatest'], unit)}"
     out = [f'<svg class="histogram" viewBox="0 0 {_WIDTH} {_HEIGHT}" role="img"><title>{escape(title)}</title>']
-    for place, count in enumerate(counts):
-        first = begin + place * width
-        outside = lower is not None and first + width <= lower or upper is not None and first > upper
-        height = round(count / top * (_HEIGHT - 4), 1)
+    for first, count in zip(range(begin, begin + width * len(counts), width), counts):
+        outside = found["lower"] is not None and first + width <= found["lower"] or found["upper"] is not None and first > found["upper"]
+        height = round(max(count / top * (_HEIGHT - 4), 2), 1) if count else 0
         tip = f"{count} from {_amount(first, unit)} on"
-        out.append(f'<rect class="{"outside" if outside else "inside"}" x="{place * size:.1f}" y="{_HEIGHT - height}" '
-                   f'width="{max(size - 1, 1):.1f}" height="{height}"><title>{escape(tip)}</title></rect>')
-    for limit in (lower, upper):
-        if limit is not None and begin <= limit <= begin + width * len(counts):
-            x = (limit - begin) / width * size
-            out.append(f'<path class="limit" d="M{x:.1f} 0 V{_HEIGHT}"/>')
+        out.append(f'<rect class="{"outside" if outside else "inside"}" x="{2 + (first - low) * scale:.1f}" y="{_HEIGHT - height}" '
+                   f'width="{max(width * scale, 2):.1f}" height="{height}"><title>{escape(tip)}</title></rect>' if count else "")
+    out += [f'<path class="limit" d="M{2 + (limit - low) * scale:.1f} 0 V{_HEIGHT}"/>' for limit in limits]
     return "".join([*out, "</svg>"])
 
 
 def html_table(rows: Sequence[tuple[str, Described]], unit: str | None) -> list[str]:
     """The table of a page, with a small histogram for each row."""
-    out = ['<table class="measured"><tr>' + "".join(f"<th>{heading}</th>" for heading in (*HEADINGS, "")) + "</tr>"]
+    out = ['<div class="wide"><table class="measured"><tr>' + "".join(f"<th>{heading}</th>" for heading in (*HEADINGS, "")) + "</tr>"]
     for name, found in rows:
         bad = found["outside"] or found["missing"]
         line = "".join(f"<td>{escape(cell)}</td>" for cell in cells(name, found, unit))
         out.append(f'<tr class="{"bad" if bad else ""}">{line}<td>{histogram_svg(found, unit)}</td></tr>')
-    return [*out, "</table>"]
+    return [*out, "</table></div>"]

@@ -24,8 +24,9 @@ class Monitors:
         self._locals = [Local(part) for part in table.parts]
         self._monitors = [Monitor(part.data) for part in table.parts]
         self._places = {row: (at, local) for at, part in enumerate(table.parts) for local, row in enumerate(part.rows)}
-        #: The steps that broke rows, by the rows' numbers.
+        #: The steps that broke rows, by the rows' numbers, and how all was before the last step, if that can be withdrawn.
         self._broken: dict[int, int] = {}
+        self._before: Monitors | None = None
 
     @staticmethod
     def closed(table: Table, monitors: list[Monitor], steps: int) -> Monitors:
@@ -49,11 +50,19 @@ class Monitors:
         if refusal:
             self.__dict__.update(before.__dict__)
             raise Refused(refusal)
+        self._before = before
+
+    def withdraw(self) -> None:
+        """Withdraws the last step, once; 21 where nothing may be withdrawn."""
+        if self._before is None:
+            raise Refused(21)
+        self.__dict__.update(self._before.__dict__)
+        self._before = None
 
     def take_all(self, steps: Iterable[tuple[int | None, int]]) -> tuple[int, int]:
         """Takes steps up to the first that is refused: how many were taken, and the number of that refusal, or 0. After a refusal the
         monitors may have taken different numbers of steps: nothing more is to be asked of them."""
-        given = list(steps)
+        given, self._before = list(steps), None
         found = [(len(given), 0)]
         for local, monitor in zip(self._locals, self._monitors):
             before = local.given
@@ -69,7 +78,7 @@ class Monitors:
 
     def close(self) -> None:
         """Closes the recording."""
-        self.steps += 1
+        self._before, self.steps = self.copy(), self.steps + 1
         for local, monitor in zip(self._locals, self._monitors):
             monitor.close()
             for one, row in enumerate(local.part.rows):
@@ -125,7 +134,7 @@ class Monitors:
 
 def monitor_of(table: Table) -> Monitor | Monitors:
     """A monitor over a table; several behind one where it needs them."""
-    return Monitor(table) if len(table.parts) == 1 else Monitors(table)
+    return Monitor(table) if table.whole else Monitors(table)
 
 
 class Recorder:

@@ -9,7 +9,7 @@ from .check import reasons_of, run
 from .library import Refused
 from .logs import Log, LogError, Policy, Step
 from .monitor import JoinRefused, Monitor, join, stamps
-from .policies import policy, time_of
+from .policies import policy, read_table, time_of
 from .recording import Record, recording_bytes
 from .shrink import shortest, stretch_to
 from .table import Table
@@ -49,14 +49,14 @@ def _as_stamped(given: argparse.Namespace, table: Table) -> Policy:
 
 def record(given: argparse.Namespace) -> int:
     """``delkuthi record``."""
-    table = Table.read(given.table)
+    table = read_table(given, True)
     write_steps(given.output, _recorded(given.log, table, _as_stamped(given, table)))
     return 0
 
 
 def join_logs(given: argparse.Namespace) -> int:
     """``delkuthi join``."""
-    table = Table.read(given.table)
+    table = read_table(given, True)
     how = _as_stamped(given, table)
     first, second = (recording_bytes(_recorded(path, table, how)) for path in given.log)
     try:
@@ -87,7 +87,7 @@ def row_number(table: Table, given: str) -> int:
 
 def shrink(given: argparse.Namespace) -> int:
     """``delkuthi shrink``: 0 if the log keeps the row, 1 if it breaks it."""
-    table = Table.read(given.table)
+    table = read_table(given, True)
     row = row_number(table, given.row)
     log = Log(given.log, table, policy(given, table))
     steps = list(accepted(log, log.steps()))
@@ -135,7 +135,7 @@ def _lines(log: Log, stretch: Sequence[Step]) -> Iterator[str]:
 
 def late_stamps(given: argparse.Namespace) -> int:
     """``delkuthi stamps``: 0 if the row is kept, 1 if it is broken or unsure."""
-    table = Table.read(given.table)
+    table = read_table(given, True)
     row, late = row_number(table, given.row), time_of("LATE", given.late, table)
     log = Log(given.log, table, policy(given, table))
     recording = recording_bytes((kind, time) for kind, time, _ in accepted(log, log.steps()))

@@ -8,8 +8,9 @@ from html import escape
 from typing import Sequence
 from xml.sax.saxutils import quoteattr
 
-from .check import UNEXERCISED, Outcome
+from .check import UNEXERCISED, Outcome, RowOutcome
 from .library import VERSION, library_version
+from .measured import properties
 from .table import Table
 from .text import row_text
 from .units import shown
@@ -114,18 +115,24 @@ def _suite(table: Table, outcome: Outcome) -> tuple[dict[str, int], list[str]]:
     counts = {"tests": len(outcome.rows), "failures": 0, "errors": 0, "skipped": 0}
     cases = []
     for row in outcome.rows:
-        case = f"    <testcase classname={name} name={quoteattr(_xml(row.name))}"
-        asked = escape(_xml(row_text(table, table.rows[row.number])))
+        inner = _properties(table, row)
         if row.verdict == "broken" or row.verdict == UNEXERCISED and outcome.exercised:
             counts["failures"] += 1
-            text = quoteattr(_xml(row.message or row.verdict))
-            cases.append(f"{case}><failure type={quoteattr(row.type)} message={text}>{asked}</failure></testcase>")
-        elif row.verdict == "kept":
-            cases.append(f"{case}/>")
-        else:
+            asked, text = escape(_xml(row_text(table, table.rows[row.number]))), quoteattr(_xml(row.message or row.verdict))
+            inner += f"<failure type={quoteattr(row.type)} message={text}>{asked}</failure>"
+        elif row.verdict != "kept":
             counts["skipped"] += 1
-            cases.append(f"{case}><skipped message={quoteattr(row.verdict)}/></testcase>")
+            inner += f"<skipped message={quoteattr(row.verdict)}/>"
+        cases.append(f"    <testcase classname={name} name={quoteattr(_xml(row.name))}{f'>{inner}</testcase>' if inner else '/>'}")
     return counts, cases
+
+
+def _properties(table: Table, row: RowOutcome) -> str:
+    """What a row measured, as properties of its test."""
+    if row.measured is None:
+        return ""
+    found = "".join(f"<property name={quoteattr(name)} value={quoteattr(_xml(value))}/>" for name, value in properties(row.measured, table.unit))
+    return f"<properties>{found}</properties>"
 
 
 def _xml(text: str) -> str:

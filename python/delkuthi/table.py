@@ -201,10 +201,20 @@ class Table:
         return parse(text, file)
 
     def bytes(self) -> bytes:
-        """The table as the library reads it; :class:`Refused` with 3 if one monitor cannot take it."""
-        if len(self.parts) > 1:
-            raise Refused(3)
+        """The table as the library reads it; :class:`Refused` if one monitor cannot take it: with 3 for its rows, 9 for its kinds."""
+        if not self.whole:
+            raise Refused(3 if len(self.rows) > lib.ROW_LIMIT else 9)
         return self.parts[0].data
+
+    @property
+    def whole(self) -> bool:
+        """Does one monitor take it, with its kinds as they are?"""
+        return len(self.parts) == 1 and all(kind == local for kind, local in self.parts[0].kinds.items())
+
+    @property
+    def recordable(self) -> bool:
+        """Are all its kinds those of the library, so that a recording can have them?"""
+        return all(kind <= 255 for kind in {*self._names, *(kind for row in self.rows for kind in row.kinds)})
 
     def text(self) -> str:
         """The table as text, in its normal form."""

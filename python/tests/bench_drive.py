@@ -133,7 +133,7 @@ unit ms
 event pedal  from column "brake [%]" rises above 5
 event lamp   from column "lamp [V]" rises above 6
 event gear   from column gear changes
-"lamp"         Delay pedal -> lamp, 0 ms .. 60 ms
+"lamp"         Delay pedal -> lamp, 0 ms .. 55 ms
 "lamp order"   Order pedal -> lamp
 "gear change"  Burst gear maximum 1, length 500 ms, minimum 0
 """

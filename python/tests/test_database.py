@@ -94,8 +94,9 @@ def test_what_a_database_does_not_have(tmp_path):
 
 def test_without_canmatrix_one_line_names_it(tmp_path, monkeypatch):
     monkeypatch.setitem(sys.modules, "canmatrix.formats", None)
+    (tmp_path / "drive.dbc").write_text("")
     with pytest.raises(DatabaseError, match=r"drive.dbc: signals by name need canmatrix \(Debian: python3-canmatrix\)"):
-        Database("drive.dbc")
+        Database(str(tmp_path / "drive.dbc"))
 
 
 @pytest.mark.parametrize("condition, samples, events", [

@@ -4,7 +4,6 @@ from __future__ import annotations
 from typing import Iterable, Iterator
 
 from ..batches import Batch, Codes, Irregular, blocks
-from ..mapping import CanMapping
 from ..timestamps import DECIMAL
 from .base import Lines, Reader, Stamped, lines_of
 from .frames import Frames, written_in_hex
@@ -30,7 +29,7 @@ class AscReader(Reader):
 
     def _begin(self) -> None:
         #: The base of its numbers, not known before the header, and the last stamp, where each is counted from the one before it.
-        self.mapping, self.base, self.relative, self.before = CanMapping(self.table), 0, False, "0"
+        self.events, self.base, self.relative, self.before = self.mapping(), 0, False, "0"
 
     def _read(self, lines: Iterable[tuple[int, str]]) -> Iterator[Stamped]:
         for number, line in lines:
@@ -52,7 +51,7 @@ class AscReader(Reader):
             yield self.lines()
             return
         self._begin()
-        frames, number = Frames(self, self.mapping, codes, written_in_hex("([0-9A-Fa-f]{1,8})([xX])?")), 1
+        frames, number = Frames(self, self.events, codes, written_in_hex("([0-9A-Fa-f]{1,8})([xX])?")), 1
         with self.opened() as file:
             for block in blocks(file):
                 self.advance(len(block))
@@ -86,7 +85,7 @@ class AscReader(Reader):
         if len(data) != length:
             raise self.error(number, f"expected {length} bytes of data, found {len(data)}")
         self.buses.add(bus)
-        return self.mapping.kinds(word, extended, bus, data)
+        return self.events.kinds(word, extended, bus, data)
 
 
 def _columns(lines: list[bytes]) -> tuple[list[bytes], list[bytes], list[bytes], list[bytes]]:

@@ -15,6 +15,8 @@ from pathlib import Path
 from typing import IO, Any, Callable, ClassVar, Iterable, Iterator, NamedTuple, TypeVar, Union
 
 from ..batches import Batch, Codes
+from ..database import DatabaseError
+from ..mapping import CanMapping
 from ..table import Table
 from ..units import NotWhole, in_unit, nearest_in_unit
 
@@ -48,6 +50,7 @@ class Policy:
     - ``close``: the end of the log is the end of the recording; else rows that are not broken stay open.
     - ``time_column`` and the others: what the columns of a sheet are called, where they have not the usual names.
     - ``encoding``: how the characters of a text log are written.
+    - ``format``: the ending that says what the log is, where its own name does not.
     """
 
     equal: str = "refuse"
@@ -62,6 +65,7 @@ class Policy:
     task_column: str | None = None
     action_column: str | None = None
     encoding: str = "utf-8"
+    format: str | None = None
 
 
 class LogError(Exception):
@@ -87,6 +91,8 @@ class Reader:
         self.path, self.table, self.policy = path, table, policy
         #: Where the bytes are, if that is not the path that is said in messages.
         self.file = path if file is None else file
+        #: What goes on from one file to the next where several are one log: the samples before, and who waits.
+        self.state: dict[str, Any] = {}
         #: Lines that say nothing, such as blank ones, and stamps that were rounded.
         self.skipped = self.rounded = 0
         #: The buses of the frames that were read, as the log names them.
@@ -110,12 +116,29 @@ class Reader:
         """What was found in the file; what is wrong with the file itself is an error of the log."""
         try:
             yield from found
+        except DatabaseError as error:
+            raise LogError(self.path, "", str(error)) from None
         except UnicodeDecodeError as error:
             raise LogError(self.path, "", f"not a text file: {error.reason} at byte {error.start}") from None
         except csv.Error as error:
             raise LogError(self.path, "", f"not a CSV file: {error}") from None
         except (EOFError, gzip.BadGzipFile, zlib.error, lzma.LZMAError) as error:
             raise LogError(self.path, "", f"not a packed file: {error}") from None
+
+    def mapping(self) -> CanMapping:
+        """Which frames are which events."""
+        if "mapping" not in self.state:
+            self.state["mapping"] = CanMapping(self.table)
+        mapping: CanMapping = self.state["mapping"]
+        return mapping
+
+    def placed(self, place: int) -> str:
+        """A place with its file, as messages begin."""
+        return f"{self.path}{self.where(place)}"
+
+    def number(self, place: int) -> int:
+        """The number of a place in its file."""
+        return place
 
     def where(self, place: int) -> str:
         """A place as an editor takes it, ``:33``, or in words."""

@@ -26,7 +26,8 @@ class BtfReader(Reader):
     def lines(self) -> Iterator[Stamped]:
         #: How many lines had an event that no table can name, by the letters of their target's type.
         self.passed: dict[str, int] = {}
-        sources, scale, waiting = task_sources(self), "ns", Waiting()
+        sources, scale = task_sources(self), "ns"
+        waiting: Waiting = self.state.setdefault("waiting", Waiting())
         for number, line in self.text_lines():
             text = line.strip()
             if not text or text.startswith("#"):

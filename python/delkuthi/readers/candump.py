@@ -21,7 +21,7 @@ class CandumpReader(Reader):
     endings = (".log", ".candump")
 
     def lines(self) -> Iterator[Stamped]:
-        return self._read(CanMapping(self.table), self.text_lines())
+        return self._read(self.mapping(), self.text_lines())
 
     def _read(self, mapping: CanMapping, lines: Iterable[tuple[int, str]]) -> Iterator[Stamped]:
         for number, line in lines:
@@ -46,7 +46,7 @@ class CandumpReader(Reader):
         if self.wide or self.table.unit is None:
             yield self.lines()
             return
-        mapping, number = CanMapping(self.table), 1
+        mapping, number = self.mapping(), 1
         frames = Frames(self, mapping, codes, written_in_hex("([0-9A-Fa-f]{1,8})"))
         with self.opened() as file:
             for block in blocks(file):

@@ -27,7 +27,7 @@ class CsvReader(SheetReader):
 
     def _header(self, first: str) -> list[str]:
         """The names of the columns; from them it is seen what separates them."""
-        self.delimiter = "\t" if ending(self.path) == ".tsv" else max(",;\t", key=first.count)
+        self.delimiter = "\t" if ending(self.path) == ".tsv" or self.policy.format == ".tsv" else max(",;\t", key=first.count)
         self.comma = self.delimiter == ";"
         return next(csv.reader([first], delimiter=self.delimiter), [])
 
@@ -48,7 +48,7 @@ class CsvReader(SheetReader):
     def _frames(self) -> Iterator[Stamped]:
         """A file of python-can, whose first frame is in the second line."""
         frames = PythonCanReader(self.path, self.table, self.policy)
-        frames.buses, frames.progress = self.buses, self.progress
+        frames.buses, frames.progress, frames.state, frames.file = self.buses, self.progress, self.state, self.file
         for time, kinds, place in frames.lines():
             yield Stamped(time, kinds, place + 1)
             self.rounded = frames.rounded

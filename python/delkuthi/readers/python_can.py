@@ -5,7 +5,6 @@ import math
 from decimal import Decimal
 from typing import Any, Iterator
 
-from ..mapping import CanMapping
 from .base import LogError, Reader, Stamped, ending
 
 #: How python-can counts the channels of each format, beside how the file writes them.
@@ -18,7 +17,7 @@ class PythonCanReader(Reader):
     word = "frame"
 
     def lines(self) -> Iterator[Stamped]:
-        mapping, first = CanMapping(self.table), _FIRST_CHANNEL.get(ending(self.path), 0)
+        mapping, first = self.mapping(), _FIRST_CHANNEL.get(ending(self.path), 0)
         reader = self._reader()
         start = _exact_start(reader)
         file, read = getattr(reader, "file", None), 0
@@ -42,7 +41,7 @@ class PythonCanReader(Reader):
             name = ending(self.path) or "this"
             raise LogError(self.path, "", f"reading {name} needs python-can (Debian: python3-can)") from None
         try:
-            return can.LogReader(self.path)
+            return can.LogReader(self.file)
         except OSError:
             raise
         except Exception as error:  # python-can has no one exception for a file that it cannot read

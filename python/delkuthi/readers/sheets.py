@@ -47,7 +47,7 @@ class Columns:
         self.kinds = named_kinds(reader.table)
         self.samples = list(self._samples())
         self.tasks = self._tasks() if self.task is not None and self.action is not None else {}
-        self.waiting = Waiting()
+        self.waiting: Waiting = reader.state.setdefault("waiting", Waiting())
         if self.event is None and not self.samples and not self.tasks:
             raise self._lacks(policy.event_column or "event")
         used = [self.time, self.event, *(place for place, _, _, _ in self.samples), *((self.task, self.action) if self.tasks else ())]
@@ -85,7 +85,8 @@ class Columns:
             for source in event.sources:
                 if isinstance(source, ColumnSource) and source.column.strip().lower() in self.names:
                     place, number = self.names.index(source.column.strip().lower()), signal(event.kind, source.colour)
-                    yield place, Edge(source.condition), number, source.condition.word in ("rises above", "falls below")
+                    edge = self.reader.state.setdefault(f"edge {number} {source}", Edge(source.condition))
+                    yield place, edge, number, source.condition.word in ("rises above", "falls below")
 
     def _tasks(self) -> dict[tuple[str, str], tuple[int, ...]]:
         found: dict[tuple[str, str], tuple[int, ...]] = {}

@@ -24,7 +24,7 @@ class TrcReader(Reader):
     endings = (".trc",)
 
     def lines(self) -> Iterator[Stamped]:
-        mapping, columns = CanMapping(self.table), _COLUMNS["1.0"].split(",")
+        mapping, columns = self.mapping(), _COLUMNS["1.0"].split(",")
         for number, line in self.text_lines():
             text = line.strip()
             if text.startswith(";"):

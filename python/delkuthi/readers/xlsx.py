@@ -21,7 +21,7 @@ class XlsxReader(SheetReader):
 
     def _values(self) -> Iterator[tuple[Any, ...]]:
         try:
-            import openpyxl  # type: ignore[import]
+            import openpyxl
         except ImportError:
             raise LogError(self.path, "", "reading .xlsx needs openpyxl (Debian: python3-openpyxl)") from None
         with self.opened() as file:

@@ -2,6 +2,7 @@
 from __future__ import annotations
 
 import atexit
+import io
 import os
 import shutil
 import sys
@@ -27,7 +28,8 @@ def kept() -> str:
     file = tempfile.NamedTemporaryFile(prefix="delkuthi-", delete=False)
     atexit.register(_remove, file.name, os.getpid())
     with file:
-        shutil.copyfileobj(sys.stdin.buffer, file)
+        bytes_of = getattr(sys.stdin, "buffer", None)
+        shutil.copyfileobj(io.BytesIO(sys.stdin.read().encode()) if bytes_of is None else bytes_of, file)
     return file.name
 
 

@@ -69,7 +69,7 @@ class _Drawing:
         """A stroke for each event; those that a reason is about have a ring."""
         out = []
         for lane, (name, times) in enumerate(self.picture.lanes):
-            # Events that are close together are thinner, so that they can be told apart.
+            # Events that are close together are thinner, so that each can be seen.
             width = 1.8 if len(times) < self.inner / 5 else max(round(0.4 * self.inner / len(times), 1), 0.3)
             for time in times:
                 tip = escape(f"{name} at {self.picture.moments.at(time)}")

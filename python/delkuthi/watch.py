@@ -234,20 +234,20 @@ class Screen:
     def __init__(self, watch: Watch):
         self.watch = watch
         self.live = sys.stderr is not None and sys.stderr.isatty()
-        self.shown = self.heard = 0.0
+        self.shown = self.came = 0.0
         self.silent = False
 
     def frame(self, now: float) -> None:
         """A frame has come."""
         if self.silent:
-            self.line(f"frames again, after {now - self.heard:.1f} s")
-        self.heard, self.silent = now, False
+            self.line(f"frames again, after {now - self.came:.1f} s")
+        self.came, self.silent = now, False
 
     def look(self, now: float) -> None:
         """Once in a while: the status line, and whether frames come."""
-        if not self.silent and now - self.heard >= SILENT:
+        if not self.silent and now - self.came >= SILENT:
             self.silent = True
-            self.line(f"no frame for {now - self.heard:.0f} s" if self.watch.frames else f"no frame has come yet, after {now:.0f} s")
+            self.line(f"no frame for {now - self.came:.0f} s" if self.watch.frames else f"no frame has come yet, after {now:.0f} s")
         if self.live and now - self.shown >= SHOWN:
             self.shown = now
             sys.stderr.write(f"\r\x1b[K{self.watch.status(now)}")

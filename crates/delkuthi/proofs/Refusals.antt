@@ -70,7 +70,7 @@ makes-written bytes before after r n e writes =
       answer = WriteAnswer.Written n;
       writes = subst (λ (w : WriteAnswer). WritesRaw bytes before w after) e writes;
       equals = refl;
-      told = λ m refused. never (cc);
+      small = λ m refused. never (cc);
     }
 
 pub makes-refused : (bytes before after : List ℕ) (r : WriteAnswer) (n : ℕ) → n < 256 → r ≡ WriteAnswer.Refused n → WritesRaw bytes before r after
@@ -80,5 +80,5 @@ makes-refused bytes before after r n small e writes =
       answer = WriteAnswer.Refused n;
       writes = subst (λ (w : WriteAnswer). WritesRaw bytes before w after) e writes;
       equals = refl;
-      told = λ m refused. let same : n ≡ m = cc in (omega (arith, same, raw-number bytes before after r n e writes), omega (arith, same, small));
+      small = λ m refused. let same : n ≡ m = cc in (omega (arith, same, raw-number bytes before after r n e writes), omega (arith, same, small));
     }

@@ -51,13 +51,16 @@ Untouched (asked {h = h} {mid = mid} r number takes rest) = (0 < number → mid 
 -- what the exported readers answer is what the rows read after these steps: the word and the step of each row number, the number of rows, the page
 pub record ReadsAs (h : Memory) (rows : List Constraint) (steps : List Step) : Type 0 where
   pub verdicts : (i : ℕ) → (v : Option Verdict) × ReadsRow rows steps i v
-      × ((word : ℕ) → WordOfVerdict (monitorIn h) i word → word ≡ wordOf v) × ((step : ℕ) → StepOfVerdict (monitorIn h) i step → step ≡ stepIn v)
+      × ((word : ℕ) → WordOfVerdict (monitorIn h) i word → word ≡ wordOf v)
+      × ((step : ℕ) → StepOfVerdict (monitorIn h) i step → step ≡ stepIn v)
   pub counted : (number : ℕ) → NumberOfRows (monitorIn h) number → number ≡ length rows
-  pub paged : (buffer : List ℕ) (number : ℕ) (written : List ℕ) → WritesPage (monitorIn h) buffer number written → Pages rows steps buffer number written
+  pub paged : (buffer : List ℕ) (number : ℕ) (written : List ℕ) → WritesPage (monitorIn h) buffer number written
+      → Pages rows steps buffer number written
 
 -- after a recording: its steps and the close, or the steps before the record that was refused
 pub data ReadsRecorded (h : Memory) (rows : List Constraint) (recording : List ℕ) : Type 0 where
-  whole : (steps : List Step) → ReadsRecording rows recording (recording-of steps) → ReadsAs h rows (steps ++ (close ∷ [])) → ReadsRecorded h rows recording
+  whole : (steps : List Step) → ReadsRecording rows recording (recording-of steps) → ReadsAs h rows (steps ++ (close ∷ []))
+      → ReadsRecorded h rows recording
   cut : (n place : ℕ) (steps : List Step) → ReadsRecording rows recording (recording-refused n place) → StepsBefore rows recording place steps
       → ReadsAs h rows steps → ReadsRecorded h rows recording
 
@@ -73,13 +76,14 @@ pub record Reported (before : Memory) (table recording buffer : List ℕ) (numbe
 -- §3.6, §3.8 and §3.13 for the exported calls, over a table's bytes and any list of calls and withdrawals: the numbers are the answers of the questions, a
 -- refused call leaves the memory as it was, and the readers answer what the rows read after the steps that are left; and so does a report after
 -- them, or another `delkuthi_fresh`, which leaves the memory as it was where it is refused
-pub record LentExact (bytes : List ℕ) {h end : Memory} {requests : List Request} {numbers : List ℕ} (host : Host h requests numbers end) : Type 0 where
+pub record LentExact (bytes : List ℕ) {h end : Memory} {requests : List Request} {numbers : List ℕ} (host : Host h requests numbers end)
+    : Type 0 where
   pub rows : List Constraint
   pub read : ReadsTable bytes (table-of rows)
   pub left : Left
   pub run : Run rows noneLeft requests (map answerFrom numbers) left
   pub untouched : Untouched host
   pub reads : ReadsAs end rows (left .steps)
-  pub reported : (table recording buffer : List ℕ) (number : ℕ) (written : List ℕ) (after : Memory) → ReportsOn end table recording buffer number written after
-      → Reported end table recording buffer number written after
+  pub reported : (table recording buffer : List ℕ) (number : ℕ) (written : List ℕ) (after : Memory)
+      → ReportsOn end table recording buffer number written after → Reported end table recording buffer number written after
   pub refused : (table : List ℕ) (number : ℕ) (after : Memory) → Begins table end number after → 0 < number → after ≡ end

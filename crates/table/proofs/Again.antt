@@ -1,4 +1,5 @@
--- §4.9 and §4.10 of the functions: what `read` accepted `write` writes back to the same bytes, and what `write` has written `read` reads back to the same rows.
+-- §4.9 and §4.10 of the functions: what `read` accepted `write` writes back to the same bytes, and what `write` has written `read` reads back
+-- to the same rows.
 use Prim.Native.Nat.{ℕ, _+_, _*_, _≤_, _<_}
 use mathlib.Core.Path.{_≡_, refl, sym, ap, subst, _∙_}
 use mathlib.Core.List.{List, [], _∷_, _++_}
@@ -33,25 +34,28 @@ room rows before accepted h =
     (judged-later (rowsQuestions 0 rows []) ((16, length (tableBytes rows) ≤ length before) ∷ []) Taken accepted (judged-yes 16 _ [] Taken h judged-none))
 
 -- read, then written to a buffer that is long enough: the same bytes, and those behind them stay
+pub rows-write : (bytes before after : List ℕ) (rows : List Constraint) (w : WriteAnswer) → Bytes bytes → ReadsTable bytes (table-of rows)
+    → length bytes ≤ length before → Writes rows before w after
+    → (w ≡ WriteAnswer.Written (length bytes)) × (after ≡ bytes ++ drop (length bytes) before)
+rows-write bytes before after rows w all reads long writes = go w writes
+  where
+    same : tableBytes rows ≡ bytes
+    same = read-then-write bytes rows all reads
+
+    taken : Judged (writerQuestions rows before) Taken
+    taken = room rows before (read-accepted bytes rows reads) (omega (arith, ap length same))
+
+    go : (w : WriteAnswer) → Writes rows before w after → (w ≡ WriteAnswer.Written (length bytes)) × (after ≡ bytes ++ drop (length bytes) before)
+    go (WriteAnswer.Written n) writes =
+        (ap WriteAnswer.Written (writes .counted n refl ∙ ap length same), writes .buffer ∙ ap (λ (list : List ℕ). list ++ drop (length list) before) same)
+    go (WriteAnswer.Refused n) writes = let no = judged-once (writerQuestions rows before) Taken (Refused n) taken (writes .judged) in never (cc)
+
+-- of a table record
 pub read-write : (bytes before after : List ℕ) (r : Reading) (w : WriteAnswer) → Bytes bytes → ReadsInto bytes r → r .answer ≡ ReadAnswer.Accepted
     → length bytes ≤ length before → Writes (rowsOf (r .table)) before w after
     → (w ≡ WriteAnswer.Written (length bytes)) × (after ≡ bytes ++ drop (length bytes) before)
-read-write bytes before after r w all into e long writes = go w writes
-  where
-    reads : ReadsTable bytes (table-of (rowsOf (r .table)))
-    reads = reads-as bytes r ReadAnswer.Accepted e into
-
-    same : tableBytes (rowsOf (r .table)) ≡ bytes
-    same = read-then-write bytes (rowsOf (r .table)) all reads
-
-    taken : Judged (writerQuestions (rowsOf (r .table)) before) Taken
-    taken = room (rowsOf (r .table)) before (read-accepted bytes (rowsOf (r .table)) reads) (omega (arith, ap length same))
-
-    go : (w : WriteAnswer) → Writes (rowsOf (r .table)) before w after → (w ≡ WriteAnswer.Written (length bytes)) × (after ≡ bytes ++ drop (length bytes) before)
-    go (WriteAnswer.Written n) writes =
-        (ap WriteAnswer.Written (writes .counted n refl ∙ ap length same), writes .buffer ∙ ap (λ (list : List ℕ). list ++ drop (length list) before) same)
-    go (WriteAnswer.Refused n) writes =
-        let no = judged-once (writerQuestions (rowsOf (r .table)) before) Taken (Refused n) taken (writes .judged) in never (cc)
+read-write bytes before after r w all into e long writes =
+    rows-write bytes before after (rowsOf (r .table)) w all (reads-as bytes r ReadAnswer.Accepted e into) long writes
 
 -- written, then read: the bytes say the same rows
 pub written-read : (rows : List Constraint) (before after : List ℕ) (n : ℕ) → Writes rows before (WriteAnswer.Written n) after

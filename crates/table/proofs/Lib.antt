@@ -15,3 +15,4 @@ pub mod Answers
 pub mod Again
 pub mod Scanning
 pub mod RawRows
+pub mod RawAgain

@@ -37,8 +37,8 @@ use Rattle.table.proofs.Shapes.{length-plain, shape-asked}
 
 -- The test of a row's type
 
-pub known-test : (bytes : List ℕ) (i start t n : ℕ) (b : Bool) → start ≡ i * rawSize → t ≡ at bytes start → n ≡ at bytes (start + 1) → Decides (TypeKnown t n) b
-    → Decides (KnownAt bytes i) b
+pub known-test : (bytes : List ℕ) (i start t n : ℕ) (b : Bool) → start ≡ i * rawSize → t ≡ at bytes start → n ≡ at bytes (start + 1)
+    → Decides (TypeKnown t n) b → Decides (KnownAt bytes i) b
 known-test bytes i start t n b there first second d =
     let one : t ≡ at bytes (i * rawSize) = first ∙ ap (at bytes) there in
     let two : n ≡ at bytes (i * rawSize + 1) = second ∙ ap (λ (s : ℕ). at bytes (s + 1)) there in

@@ -35,15 +35,15 @@ use Rattle.inplace.proofs.Bytes.{slice, bytes-at}
 use Rattle.inplace.proofs.index.empty.Symbol as empty-def
 use Rattle.inplace.proofs.index.empty.Symbol.{name as #inplace·index·empty}
 use Rattle.inplace.proofs.index.empty.Met as empty-thm
-use Rattle.delkuthi.specs.Telling.{ToldAlone}
+use Rattle.delkuthi.specs.Telling.{SummaryAlone}
 use Rattle.delkuthi.proofs.Several.{Several, promised, Walk, machine, calls-several, enters-several, lends-cell, ends-cell}
-use Rattle.delkuthi.proofs.Lending.{told-type, told-on, all-hands, all-back}
-use Rattle.delkuthi.proofs.report.told_on.Symbol as on-def
-use Rattle.delkuthi.proofs.report.told_on.Symbol.{name as #delkuthi·report·told-on}
-use Rattle.delkuthi.proofs.report.told_on.Met as on-thm
-use Rattle.delkuthi.proofs.report.told_alone.Key.{name as #delkuthi·report·told-alone}
-use Rattle.delkuthi.proofs.report.told_alone.Statement as stated
-use Rattle.delkuthi.proofs.report.told_alone.Code as code
+use Rattle.delkuthi.proofs.Lending.{summary-type, summary-on, all-hands, all-back}
+use Rattle.delkuthi.proofs.report.summary_on.Symbol as on-def
+use Rattle.delkuthi.proofs.report.summary_on.Symbol.{name as #delkuthi·report·summary-on}
+use Rattle.delkuthi.proofs.report.summary_on.Met as on-thm
+use Rattle.delkuthi.proofs.report.summary_alone.Key.{name as #delkuthi·report·summary-alone}
+use Rattle.delkuthi.proofs.report.summary_alone.Statement as stated
+use Rattle.delkuthi.proofs.report.summary_alone.Code as code
 
 abbrev empty : Pure
 empty = record { front = []; result = indexed-type; asks = λ a. no-demand; gives = λ a r. r .monitor .len ≡ 0 }
@@ -64,15 +64,15 @@ bytes-spell κs = (slice-vals, (slice-vals, tt))
 bytes-tell : (κs : Lfts 2) → Tellss (typesAt bytes-slots κs) (Ises (typesAt bytes-slots κs)) (bytes-spell κs)
 bytes-tell κs = (shr-slice-tells (named 0) (κs .0) u8, (shr-slice-tells (named 1) (κs .1 .0) u8, tt))
 
-abbrev told-alone : Several
-told-alone =
+abbrev summary-alone : Several
+summary-alone =
     record {
       count = 2;
       slots = bytes-slots;
       kept = bytes-kept;
-      result = told-type;
+      result = summary-type;
       asks = λ κs a. no-demand;
-      gives = λ κs a r e. ToldAlone (a .0 .now) (a .1 .0 .now) r;
+      gives = λ κs a r e. SummaryAlone (a .0 .now) (a .1 .0 .now) r;
     }
 
 module _ {M : Type 1} (𝓤 : URA M) (H : Heap 𝓤) (A : Atoms 𝓤) (W : Given 𝓤 H A) where
@@ -94,8 +94,8 @@ module _ {M : Type 1} (𝓤 : URA M) (H : Heap 𝓤) (A : Atoms 𝓤) (W : Given
 module _
     {M : Type 1} (𝓤 : URA M) (H : Heap 𝓤) (A : Atoms 𝓤) (W : Given 𝓤 H A) (𝓣 : Tables 𝓤 H)
     (cites-empty : Triple 𝓤 (𝓣 .C #inplace·index·empty) (pure-triple empty 𝓤 H A))
-    (cites-on : Triple 𝓤 (𝓣 .C #delkuthi·report·told-on) (promised told-on 𝓤 H A)) where
-  walk : Walk told-alone bytes-stay bytes-spell 𝓤 H A W (𝓣 .C) (𝓣 .Λ) code.function
+    (cites-on : Triple 𝓤 (𝓣 .C #delkuthi·report·summary-on) (promised summary-on 𝓤 H A)) where
+  walk : Walk summary-alone bytes-stay bytes-spell 𝓤 H A W (𝓣 .C) (𝓣 .Λ) code.function
   walk κs qs a are free Kf ends bs =
       use1 W (‵ (flft κ q) ⊛ (‵ (flft κ′ q′) ⊛ ‵ ftrue)) (id⊢ 𝓤 _) $ split ! $ move ! (1 ∷ []) $ split ! $ move ! (1 ∷ []) $ drop ! $
       move ! (2 ∷ []) $ fsplit ! $ move ! (1 ∷ []) $ fsplit ! $ move ! (1 ∷ []) $ drop ! $ move ! (1 ∷ 3 ∷ 0 ∷ 2 ∷ []) $
@@ -106,15 +106,15 @@ module _
       sets ! (addr ! (from ! (stop !))) 9 refl (tt, tt) $
       move ! (7 ∷ []) $ lends-cell ! tt indexed-type (bs 3) 0 h h-is (λ α δ.
       move ! (0 ∷ 1 ∷ 3 ∷ 4 ∷ 5 ∷ 6 ∷ []) $ all-hands κ q s κ′ q′ s′ (bs 3) 0 h α δ !
-      (calls-several ! (fmOf 𝓤 H (W .laws) 𝓣) told-on cites-on (α ∷ [], (κ, (κ′, tt))) (fullShare, (q, (q′, tt))) (ref-to (bs 3) 0 h δ, (s, (s′, tt)))
+      (calls-several ! (fmOf 𝓤 H (W .laws) 𝓣) summary-on cites-on (α ∷ [], (κ, (κ′, tt))) (fullShare, (q, (q′, tt))) (ref-to (bs 3) 0 h δ, (s, (s′, tt)))
       (vptr (bs 3) 0 ∷ [], (slice s ∷ [], (slice s′ ∷ [], tt))) tt (and-then ! (copies ! 8 refl)
-      (and-then ! (copies ! 5 refl) (and-then ! (copies ! 6 refl) (no-more !)))) (λ told ws told-is said.
+      (and-then ! (copies ! 5 refl) (and-then ! (copies ! 6 refl) (no-more !)))) (λ summary ws summary-is said.
       all-back κ q s κ′ q′ s′ (bs 3) 0 h α δ ! (ws .0) (move ! (0 ∷ 6 ∷ 1 ∷ []) $ ends-cell ! tt indexed-type (bs 3) 0 (ws .0) α δ (λ h′-is.
       move ! (1 ∷ 2 ∷ 3 ∷ 4 ∷ 5 ∷ 6 ∷ 7 ∷ 0 ∷ []) $
-      lands-in ! 4 refl (typed 𝓤 H A W told-type told told-is) $
+      lands-in ! 4 refl (typed 𝓤 H A W summary-type summary summary-is) $
       move ! (1 ∷ 2 ∷ 3 ∷ []) $ group ! 3 $ move ! (1 ∷ 0 ∷ []) $
-      leaves ! (code.function .locals) tt bs (told-type .val told) refl (via 𝓤 _ (bytes-whole 𝓤 H A W κs qs s s′)
-      (ends told (tt, (tt, tt)) told-is (tt, (tt, tt)) (record { before = h; after = ws .0; told-on = said })))))))))
+      leaves ! (code.function .locals) tt bs (summary-type .val summary) refl (via 𝓤 _ (bytes-whole 𝓤 H A W κs qs s s′)
+      (ends summary (tt, (tt, tt)) summary-is (tt, (tt, tt)) (record { before = h; after = ws .0; summary-on = said })))))))))
     where
       κ : Lft
       κ = κs .0
@@ -134,15 +134,15 @@ module _
       s′ : RefT (List ℕ)
       s′ = a .1 .0
 
-pub told-alone-spec : {M : Type 1} → stated.statement M
+pub summary-alone-spec : {M : Type 1} → stated.statement M
 unfolding code.routine tablesOf
-told-alone-spec 𝓤 H 𝓜 𝓖 𝓡 =
-    enters-several told-alone bytes-stay bytes-spell bytes-tell 𝓤 H 𝓜 𝓖 𝓡 code.env #delkuthi·report·told-alone code.function
+summary-alone-spec 𝓤 H 𝓜 𝓖 𝓡 =
+    enters-several summary-alone bytes-stay bytes-spell bytes-tell 𝓤 H 𝓜 𝓖 𝓡 code.env #delkuthi·report·summary-alone code.function
     (code.unfolded 𝓤 H 𝓜 𝓡) (bytes-go 𝓤 H (𝓖 .A) (givenOf 𝓤 H 𝓜 𝓖))
     (λ κs a are. all-typed 𝓤 H (𝓖 .A) (typesAt bytes-slots κs) (bytes-lawful 𝓤 H (𝓖 .A) (givenOf 𝓤 H 𝓜 𝓖) κs) a
-    (machine told-alone bytes-stay bytes-spell κs a) are)
+    (machine summary-alone bytes-stay bytes-spell κs a) are)
     (walk 𝓤 H (𝓖 .A) (givenOf 𝓤 H 𝓜 𝓖) (tablesOf 𝓤 H 𝓜 (tables 𝓤 H 𝓜 𝓡 code.env))
     (cited 𝓤 H (pure-triple empty 𝓤 H (𝓖 .A)) 𝓜 𝓡 code.env #inplace·index·empty empty-def.routine code.calls-inplace·index·empty
     (empty-thm.met 𝓤 H 𝓜 𝓖 𝓡))
-    (cited 𝓤 H (promised told-on 𝓤 H (𝓖 .A)) 𝓜 𝓡 code.env #delkuthi·report·told-on on-def.routine code.calls-delkuthi·report·told-on
+    (cited 𝓤 H (promised summary-on 𝓤 H (𝓖 .A)) 𝓜 𝓡 code.env #delkuthi·report·summary-on on-def.routine code.calls-delkuthi·report·summary-on
     (on-thm.met 𝓤 H 𝓜 𝓖 𝓡)))

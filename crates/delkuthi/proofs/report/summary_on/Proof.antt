@@ -37,10 +37,10 @@ use Rattle.delkuthi.specs.Taking.{TakesRecords}
 use Rattle.delkuthi.specs.Reporting.{LeftBy}
 use Rattle.delkuthi.specs.Telling.{refusalOf}
 use Rattle.table.specs.declared.ReadAnswer.{ReadAnswer}
-use Rattle.delkuthi.proofs.Outcome.{begun-indexes, left-used, left-unused, told-so}
+use Rattle.delkuthi.proofs.Outcome.{begun-indexes, left-used, left-unused, summary-so}
 use Rattle.delkuthi.proofs.Several.{Several, promised, Walk, machine, calls-several-last, enters-several}
-use Rattle.delkuthi.proofs.Lending.{answer-type, told-type, told-by, fresh, take-recording, loan-of, calls-on-bytes, calls-on-bytes-last}
-use Rattle.delkuthi.proofs.Lending.{told-on, all-slots, all-stay, all-spell, all-tell, all-go, all-lawful, two-bytes, all-parts, all-whole}
+use Rattle.delkuthi.proofs.Lending.{answer-type, summary-type, summary-by, fresh, take-recording, loan-of, calls-on-bytes, calls-on-bytes-last}
+use Rattle.delkuthi.proofs.Lending.{summary-on, all-slots, all-stay, all-spell, all-tell, all-go, all-lawful, two-bytes, all-parts, all-whole}
 use Rattle.delkuthi.proofs.lent.delkuthi_fresh.Symbol as fresh-def
 use Rattle.delkuthi.proofs.lent.delkuthi_fresh.Symbol.{name as #delkuthi·lent·delkuthi-fresh}
 use Rattle.delkuthi.proofs.lent.delkuthi_fresh.Met as fresh-thm
@@ -50,13 +50,13 @@ use Rattle.delkuthi.proofs.records.take_recording.Met as take-thm
 use Rattle.delkuthi.proofs.report.refusal_of.Symbol as refusal-def
 use Rattle.delkuthi.proofs.report.refusal_of.Symbol.{name as #delkuthi·report·refusal-of}
 use Rattle.delkuthi.proofs.report.refusal_of.Met as refusal-thm
-use Rattle.delkuthi.proofs.report.told_by.Symbol as by-def
-use Rattle.delkuthi.proofs.report.told_by.Symbol.{name as #delkuthi·report·told-by}
-use Rattle.delkuthi.proofs.report.told_by.Met as by-thm
-use Rattle.delkuthi.proofs.report.told_on.Key.{name as #delkuthi·report·told-on}
-use Rattle.delkuthi.proofs.report.told_on.Statement as stated
-use Rattle.delkuthi.proofs.report.told_on.Code as code
-use Rattle.delkuthi.proofs.report.told_on.Code.Mir as code-mir
+use Rattle.delkuthi.proofs.report.summary_by.Symbol as by-def
+use Rattle.delkuthi.proofs.report.summary_by.Symbol.{name as #delkuthi·report·summary-by}
+use Rattle.delkuthi.proofs.report.summary_by.Met as by-thm
+use Rattle.delkuthi.proofs.report.summary_on.Key.{name as #delkuthi·report·summary-on}
+use Rattle.delkuthi.proofs.report.summary_on.Statement as stated
+use Rattle.delkuthi.proofs.report.summary_on.Code as code
+use Rattle.delkuthi.proofs.report.summary_on.Code.Mir as code-mir
 
 -- the function on a number that is called
 abbrev refusal : Several
@@ -75,8 +75,8 @@ module _
     (cites-fresh : Triple 𝓤 (𝓣 .C #delkuthi·lent·delkuthi-fresh) (promised fresh 𝓤 H A))
     (cites-take : Triple 𝓤 (𝓣 .C #delkuthi·records·take-recording) (promised take-recording 𝓤 H A))
     (cites-refusal : Triple 𝓤 (𝓣 .C #delkuthi·report·refusal-of) (promised refusal 𝓤 H A))
-    (cites-by : Triple 𝓤 (𝓣 .C #delkuthi·report·told-by) (lent-triple told-by 𝓤 H A)) where
-  walk : Walk told-on all-stay all-spell 𝓤 H A W (𝓣 .C) (𝓣 .Λ) code.function
+    (cites-by : Triple 𝓤 (𝓣 .C #delkuthi·report·summary-by) (lent-triple summary-by 𝓤 H A)) where
+  walk : Walk summary-on all-stay all-spell 𝓤 H A W (𝓣 .C) (𝓣 .Λ) code.function
   walk κs qs a are free Kf ends bs =
       -- [the monitor's reference; its token; the table's bytes; their token; the recording's; their token; _0; …]: _i is at 6 + i
       all-parts ! κs qs x s s′ $
@@ -149,20 +149,20 @@ module _
       rest number answer h₂ answer-is left =
           sets ! (of-opd ! (copies ! 14 refl)) 11 refl (typed 𝓤 H A W answer-type answer answer-is) $
           sets ! (addr ! (from ! (hop ! (look ! 7 refl) (stop !)))) 16 refl (tt, tt) $
-          calls-lent ! (fmOf 𝓤 H (W .laws) 𝓣) told-by cites-by L h₂ (λ _. (answer, tt)) (λ _. (answer-is, tt)) (λ _. tt)
-          (λ α δ. and-then ! (copies ! 16 refl) (and-then ! (copies ! 11 refl) (no-more !))) (λ κs′ told h₃ told-is said.
-          lands-in ! 6 refl (typed 𝓤 H A W told-type told told-is) $
+          calls-lent ! (fmOf 𝓤 H (W .laws) 𝓣) summary-by cites-by L h₂ (λ _. (answer, tt)) (λ _. (answer-is, tt)) (λ _. tt)
+          (λ α δ. and-then ! (copies ! 16 refl) (and-then ! (copies ! 11 refl) (no-more !))) (λ κs′ summary h₃ summary-is said.
+          lands-in ! 6 refl (typed 𝓤 H A W summary-type summary summary-is) $
           move ! (1 ∷ 2 ∷ 3 ∷ 4 ∷ 5 ∷ []) $ group ! 5 $ move ! (1 ∷ 0 ∷ []) $
-          leaves ! (code.function .locals) tt bs (told-type .val told) refl (via 𝓤 _ (all-whole 𝓤 H A W κs qs x s s′ h₃)
-          (ends told (h₃, (tt, (tt, tt))) told-is (tt, (tt, (tt, tt))) (told-so h (s .now) (s′ .now) answer h₂ h₃ told left (said .0) (said .1)))))
+          leaves ! (code.function .locals) tt bs (summary-type .val summary) refl (via 𝓤 _ (all-whole 𝓤 H A W κs qs x s s′ h₃)
+          (ends summary (h₃, (tt, (tt, tt))) summary-is (tt, (tt, (tt, tt))) (summary-so h (s .now) (s′ .now) answer h₂ h₃ summary left (said .0) (said .1)))))
 
-pub told-on-spec : {M : Type 1} → stated.statement M
+pub summary-on-spec : {M : Type 1} → stated.statement M
 unfolding code.routine tablesOf
-told-on-spec 𝓤 H 𝓜 𝓖 𝓡 =
-    enters-several told-on all-stay all-spell all-tell 𝓤 H 𝓜 𝓖 𝓡 code.env #delkuthi·report·told-on code.function (code.unfolded 𝓤 H 𝓜 𝓡)
+summary-on-spec 𝓤 H 𝓜 𝓖 𝓡 =
+    enters-several summary-on all-stay all-spell all-tell 𝓤 H 𝓜 𝓖 𝓡 code.env #delkuthi·report·summary-on code.function (code.unfolded 𝓤 H 𝓜 𝓡)
     (all-go 𝓤 H (𝓖 .A) (givenOf 𝓤 H 𝓜 𝓖))
     (λ κs a are. all-typed 𝓤 H (𝓖 .A) (typesAt all-slots κs) (all-lawful 𝓤 H (𝓖 .A) (givenOf 𝓤 H 𝓜 𝓖) κs) a
-    (machine told-on all-stay all-spell κs a) are)
+    (machine summary-on all-stay all-spell κs a) are)
     (walk 𝓤 H (𝓖 .A) (givenOf 𝓤 H 𝓜 𝓖) (tablesOf 𝓤 H 𝓜 (tables 𝓤 H 𝓜 𝓡 code.env))
     (cited 𝓤 H (promised fresh 𝓤 H (𝓖 .A)) 𝓜 𝓡 code.env #delkuthi·lent·delkuthi-fresh fresh-def.routine code.calls-delkuthi·lent·delkuthi-fresh
     (fresh-thm.met 𝓤 H 𝓜 𝓖 𝓡))
@@ -170,5 +170,5 @@ told-on-spec 𝓤 H 𝓜 𝓖 𝓡 =
     code.calls-delkuthi·records·take-recording (take-thm.met 𝓤 H 𝓜 𝓖 𝓡))
     (cited 𝓤 H (promised refusal 𝓤 H (𝓖 .A)) 𝓜 𝓡 code.env #delkuthi·report·refusal-of refusal-def.routine code.calls-delkuthi·report·refusal-of
     (refusal-thm.met 𝓤 H 𝓜 𝓖 𝓡))
-    (cited 𝓤 H (lent-triple told-by 𝓤 H (𝓖 .A)) 𝓜 𝓡 code.env #delkuthi·report·told-by by-def.routine code.calls-delkuthi·report·told-by
+    (cited 𝓤 H (lent-triple summary-by 𝓤 H (𝓖 .A)) 𝓜 𝓡 code.env #delkuthi·report·summary-by by-def.routine code.calls-delkuthi·report·summary-by
     (by-thm.met 𝓤 H 𝓜 𝓖 𝓡)))

@@ -73,9 +73,9 @@ pub record Reported (before : Memory) (table recording buffer : List ℕ) (numbe
 
 -- ---- the promise
 
--- §3.6, §3.8 and §3.13 for the exported calls, over a table's bytes and any list of calls and withdrawals: the numbers are the answers of the questions, a
--- refused call leaves the memory as it was, and the readers answer what the rows read after the steps that are left; and so does a report after
--- them, or another `delkuthi_fresh`, which leaves the memory as it was where it is refused
+-- §3.6, §3.8 and §3.13 for the exported calls, over a table's bytes and any list of calls and withdrawals: the numbers are the answers of the
+-- questions, a refused call leaves the memory as it was, and the readers answer what the rows read after the steps that are left. After the
+-- list a report is as §7.22 says, and a `delkuthi_fresh` that is refused leaves the memory as it was
 pub record LentExact (bytes : List ℕ) {h end : Memory} {requests : List Request} {numbers : List ℕ} (host : Host h requests numbers end)
     : Type 0 where
   pub rows : List Constraint

@@ -13,13 +13,13 @@ from .library import Refused
 from .logs import Counts, Log, LogError, Policy, Step
 from .measure import Measuring
 from .measured import Described, described
+from .missing import warnings
 from .moments import Moments
 from .monitor import Monitor
 from .monitors import Monitors, Recorder, monitor_of
 from .reasons import Case, Kind, Reason
 from .rowtypes import judged
-from .signals import parts
-from .table import CanSource, Row, Table
+from .table import Row, Table
 
 #: What watches a log while it is read.
 Progress = Callable[[Log], AbstractContextManager[None]]
@@ -332,7 +332,7 @@ def check(table: Table, path: str | Sequence[str], policy: Policy = Policy(), pr
         with bar(log):
             found, monitor = run_log(table, log, policy.close)
         outcome.counts, outcome.moments = log.counts, log.moments
-        outcome.warnings = _warnings(table, log, found)
+        outcome.warnings = warnings(table, log, found.seen)
         if found.broken or measuring is not None:
             with bar(log):
                 # A log that has grown since is read as far as before.
@@ -377,20 +377,6 @@ def _row(table: Table, log: Log, number: int, found: Run, why: dict[int, Why], m
     outcome.about = [(kind, moments.stamp(time)) for kind, time in why[number].about] if number in why else []
     outcome.message = f"{outcome.where}: {table.row_name(number)} ({row.type.name}) broken {at}: {outcome.reason}"
     return outcome
-
-
-def _warnings(table: Table, log: Log, found: Run) -> list[str]:
-    """A line for each event of the table that the log never has, and why that may be."""
-    seen = {parts(number)[0] for number in found.seen if number is not None}
-    named = {event.kind: event for event in table.events}
-    lines = [] if table.rows else [f"{log.path}: the table has no rows, so nothing is checked"]
-    for kind in sorted({*named, *(kind for row in table.rows for kind in row.kinds)} - seen):
-        sources = named[kind].sources if kind in named else ()
-        buses = {source.bus for source in sources if isinstance(source, CanSource) and source.bus is not None}
-        there = f"the log has {', '.join(sorted(log.buses))}" if log.buses else "the log names none"
-        why = f": it has to come on bus {' or '.join(sorted(buses))}, and {there}" if buses and not buses & log.buses else ""
-        lines.append(f"{log.path}: the log has no {table.event_name(kind)}{why}")
-    return lines
 
 
 def _refusal(table: Table, moments: Moments, refused: StepRefused) -> str:

@@ -22,6 +22,8 @@ class CanMapping:
 
     def __init__(self, table: Table):
         self._by_identifier: dict[tuple[int, bool], list[tuple[int, CanSource | None, _Test]]] = {}
+        #: The identifiers that were asked for, and whether they are extended: those that the log has.
+        self.met: set[tuple[int, bool]] = set()
         for event in table.events:
             for source in event.sources:
                 number = signal(event.kind, source.colour)
@@ -36,7 +38,9 @@ class CanMapping:
 
     def kinds(self, identifier: int, extended: bool, bus: str, data: bytes) -> tuple[int, ...]:
         """The signals that a data frame is an event of, in the order of the event lines."""
-        tests = self._by_identifier.get((identifier, extended))
+        key = identifier, extended
+        self.met.add(key)
+        tests = self._by_identifier.get(key)
         if tests is None:
             return ()
         found: list[int] = []
@@ -48,6 +52,7 @@ class CanMapping:
     def known(self, identifier: int, extended: bool) -> tuple[int, ...] | None:
         """The signals of the data frames of an identifier, where these do not depend on bus and data; ``None`` where they do."""
         found: list[int] = []
+        self.met.add((identifier, extended))
         for number, source, _ in self._by_identifier.get((identifier, extended), ()):
             if source is None or source.bus is not None or source.data is not None or source.change:
                 return None

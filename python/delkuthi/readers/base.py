@@ -31,6 +31,8 @@ class Stamped(NamedTuple):
 
 Lines = Iterable[Stamped]
 _Found = TypeVar("_Found")
+#: So many names that are no events of the table are noted.
+OTHERS = 500
 #: How the files of each ending are unpacked.
 PACKED: dict[str, Callable[..., Any]] = {".gz": gzip.open, ".bz2": bz2.open, ".xz": lzma.open}
 
@@ -97,6 +99,8 @@ class Reader:
         self.skipped = self.rounded = 0
         #: The buses of the frames that were read, as the log names them.
         self.buses: set[str] = set()
+        #: What stands where an event of the table could, some of it.
+        self.others: set[str] = set()
         #: Called with the number of bytes of each line, where they are known, for a progress bar.
         self.progress: Callable[[int], object] | None = None
 
@@ -131,6 +135,17 @@ class Reader:
             self.state["mapping"] = CanMapping(self.table)
         mapping: CanMapping = self.state["mapping"]
         return mapping
+
+    @property
+    def reads_frames(self) -> bool:
+        """Has it read frames of a bus?"""
+        return "mapping" in self.state
+
+    def other(self, name: str) -> tuple[int, ...]:
+        """Notes what stands where an event of the table could; it is none."""
+        if name and len(self.others) < OTHERS:
+            self.others.add(name)
+        return ()
 
     def placed(self, place: int) -> str:
         """A place with its file, as messages begin."""

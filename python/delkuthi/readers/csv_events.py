@@ -104,7 +104,8 @@ class _Events:
             if len(self._known) > 10_000:
                 self._known.clear()
             for cell in {*cells, b""}:
-                kinds = self.columns.kinds.get(self.reader.decoded(cell, 2).strip(), ())
+                name = self.reader.decoded(cell, 2).strip()
+                kinds = self.columns.kinds.get(name) or self.reader.other(name)
                 self._known[cell] = self.codes.of[kinds[0]] if kinds else OTHER
             return bytes(map(self._known.__getitem__, cells))
 

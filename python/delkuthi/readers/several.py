@@ -50,7 +50,7 @@ class SeveralReader(Reader):
         """The readers, one after the other, with what their places begin at; what they count is counted here."""
         skipped = rounded = 0
         for number, one in enumerate(self._readers):
-            one.progress, one.buses = self.progress, self.buses
+            one.progress, one.buses, one.others = self.progress, self.buses, self.others
             yield number << _BITS, one
             skipped, rounded = skipped + one.skipped, rounded + one.rounded
             self.skipped, self.rounded = skipped, rounded

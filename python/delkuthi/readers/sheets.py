@@ -101,7 +101,8 @@ class Columns:
         """What a line says."""
         if len(cells) <= self.last:
             raise self.reader.error(number, f"expected {len(self.header)} columns, found {len(cells)}")
-        kinds = () if self.event is None else self.kinds.get(cells[self.event].strip(), ())
+        name = "" if self.event is None else cells[self.event].strip()
+        kinds = self.kinds.get(name) or self.reader.other(name)
         if self.tasks:
             name, action = cells[self.task or 0].strip(), cells[self.action or 0].strip().lower()
             kinds += self.tasks.get((name, self.waiting.action((name,), action)), ())

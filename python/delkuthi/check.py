@@ -25,8 +25,9 @@ from .table import Row, Table
 Progress = Callable[[Log], AbstractContextManager[None]]
 #: What is said where no reason is found.
 UNKNOWN = "nothing that could still come would meet it"
-#: What a row reads that is kept because nothing of it was in the log.
-UNEXERCISED = "kept, never exercised"
+#: What is said behind the verdict of a row that is kept, or open, because nothing of it was in the log.
+IDLE = ", never exercised"
+UNEXERCISED = f"kept{IDLE}"
 #: So many steps are given to the monitor before its rows are asked.
 CHUNK = 1024
 #: The types in which something waits.
@@ -86,8 +87,8 @@ class Outcome:
 
     @property
     def unexercised(self) -> list[RowOutcome]:
-        """The rows that are kept and were never exercised."""
-        return self.of(UNEXERCISED)
+        """The rows that are kept, or open, and were never exercised."""
+        return [row for row in self.rows if row.verdict.endswith(IDLE)]
 
     def of(self, verdict: str) -> list[RowOutcome]:
         """The rows of a verdict."""
@@ -356,9 +357,7 @@ def check(table: Table, path: str | Sequence[str], policy: Policy = Policy(), pr
         row.measured = described(measure, outcome.moments.stamp, log.at)
     for row in outcome.rows:
         if row.verdict != "broken":
-            row.verdict = monitor.verdict(row.number).word
-            if row.verdict == "kept" and not row.instances:
-                row.verdict = UNEXERCISED
+            row.verdict = monitor.verdict(row.number).word + ("" if row.instances else IDLE)
     return outcome
 
 

@@ -8,7 +8,7 @@ from html import escape
 from typing import Sequence
 from xml.sax.saxutils import quoteattr
 
-from .check import UNEXERCISED, Outcome, RowOutcome
+from .check import Outcome, RowOutcome
 from .library import VERSION, library_version
 from .measured import properties
 from .table import Table
@@ -24,7 +24,7 @@ def as_text(outcome: Outcome, page: bool, quiet: bool) -> str:
     lines = [*outcome.messages]
     for row in outcome.unexercised:
         name = f'"{row.name}"' if row.name != f"row {row.number}" else row.name
-        lines.append(f"{outcome.log}: {name} ({row.type}) {UNEXERCISED}: {number_of(row.events, 'event')} of its kinds, nothing to judge")
+        lines.append(f"{outcome.log}: {name} ({row.type}) {row.verdict}: {number_of(row.events, 'event')} of its kinds, nothing to judge")
     if not quiet:
         lines.append(f"{outcome.log}: {_summary(outcome)}")
     return "".join(line + "\n" for line in lines)
@@ -116,7 +116,7 @@ def _suite(table: Table, outcome: Outcome) -> tuple[dict[str, int], list[str]]:
     cases = []
     for row in outcome.rows:
         inner = _properties(table, row)
-        if row.verdict == "broken" or row.verdict == UNEXERCISED and outcome.exercised:
+        if row.verdict == "broken" or row in outcome.unexercised and outcome.exercised:
             counts["failures"] += 1
             asked, text = escape(_xml(row_text(table, table.rows[row.number]))), quoteattr(_xml(row.message or row.verdict))
             inner += f"<failure type={quoteattr(row.type)} message={text}>{asked}</failure>"

@@ -170,7 +170,8 @@ def test_a_last_line_over_all(command, kept):
     logs = ["kept.csv", "idle.csv", "late.csv", "none.csv"]
     assert command("check", "kept.txt", *logs)[1].splitlines()[-1] == "4 logs, 1 kept, 1 broken, 1 refused, 1 never exercised"
     assert command("check", "kept.txt", *logs, "--exercised")[1].splitlines()[-1] == "4 logs, 1 kept, 1 broken, 1 refused, 1 never exercised"
-    assert command("check", "kept.txt", "kept.csv", "idle.csv", "--no-close")[1].splitlines()[-1] == "2 logs, 0 kept, 0 broken, 0 refused, 2 open"
+    assert command("check", "kept.txt", "kept.csv", "idle.csv", "--no-close")[1].splitlines()[-1] == (
+        "2 logs, 0 kept, 0 broken, 0 refused, 1 open, 1 never exercised")
 
 
 def test_spread_by_gnu_parallel(tmp_path):
@@ -219,6 +220,8 @@ def test_a_log_that_exercises_nothing(command, kept, text):
     assert command("check", "kept.txt", "other.csv", "--page")[1].endswith("\nnever exercised: 0\n")
     status, out, _ = command("check", "kept.txt", "other.csv", "--exercised", "--junit", "a.xml")
     assert status == 1 and xml.parse(kept / "a.xml").getroot().get("failures") == "1"
+    status, out, _ = command("check", "kept.txt", "other.csv", "--exercised", "--no-close")
+    assert status == 1 and '"answer" (Delay) open, never exercised: ' in out and "1 row, 0 open, 1 never exercised, 0 broken; " in out
     assert command("check", "kept.txt", "kept.csv", "--exercised")[0] == 0
 
 

@@ -26,7 +26,7 @@ use Rattle.row.specs.declared.Row.{Row}
 use Rattle.row.specs.declared.RowStep.{RowStep}
 use Rattle.row.proofs.Exact.{Sound, Exact}
 use Rattle.row.proofs.Steps.{Fits, After, seen, fits-start, fits-step, close-calm, fits-reads}
-use Rattle.row.proofs.Unheard.{event-as-tick}
+use Rattle.row.proofs.Independent.{event-as-tick}
 use Rattle.row.proofs.Engine.{engine}
 use Rattle.monitor.specs.Beside.{OtherAt, Beside, same-event, others, closes, EachBeside, no-more, place, allTaken, Takes}
 

@@ -17,16 +17,16 @@ use Rattle.row.proofs.Exact.{Sound, OfStream}
 use Rattle.row.proofs.OwnKinds.{concerns-own, among-own, concerns-none}
 
 -- two occurrences that are none of the row's, alike but for the kind and the stream
-unheard : (r : Row) (o p : Occurrence) (number : ℕ) → concerns (r .rule) (o .kind) ≡ false → concerns (r .rule) (p .kind) ≡ false
+unconcerned : (r : Row) (o p : Occurrence) (number : ℕ) → concerns (r .rule) (o .kind) ≡ false → concerns (r .rule) (p .kind) ≡ false
     → o .time ≡ p .time → o .closes ≡ p .closes → rowStep r o number ≡ rowStep r p number
 unfolding rowStep
-unheard r o p number quiet quiet′ same-time same-close = rw (quiet, quiet′, same-time, same-close)
+unconcerned r o p number quiet quiet′ same-time same-close = rw (quiet, quiet′, same-time, same-close)
 
 -- an event of no stream of the row's, and a tick
 pub event-as-tick : (c : Constraint) → Sound c → (r : Row) → r .rule ≡ ruleOf c → (s t number : ℕ) → s < streamCount
     → ¬ OfStream c s → rowStep r (eventAt s t) number ≡ rowStep r (tickAt t) number
 event-as-tick c sound r rule s t number small other =
-    unheard r (eventAt s t) (tickAt t) number
+    unconcerned r (eventAt s t) (tickAt t) number
     (of-rule (kindOf s) (concerns-own c (sound .kinds-suit) s small
     ∙ split (among s (streams c)) (λ b. b ≡ false) (λ e. absurd (other (among-own c s e))) (λ e. refl)))
     (of-rule noEvent (concerns-none c (sound .kinds-fit))) refl refl

@@ -147,9 +147,9 @@ module _
   answers-alike = same-runs rows rows′ calls (run .1) (run′ .1) free free′ .0
 
   -- and then adding rows, or taking some away, changes no verdict of the others
-  pub other-rows-unheard : (i j : ℕ) (c : Constraint) → getElem? rows i ≡ some c → getElem? rows′ j ≡ some c
+  pub other-rows-alike : (i j : ℕ) (c : Constraint) → getElem? rows i ≡ some c → getElem? rows′ j ≡ some c
       → (n : ℕ) → verdictOf (after rows (map asks (take n calls))) i ≡ verdictOf (after rows′ (map asks (take n calls))) j
-  other-rows-unheard i j c there there′ n =
+  other-rows-alike i j c there there′ n =
       let front = run-front rows n calls (run .1) in
       let front′ = run-front rows′ n calls (run′ .1) in
       let free-n = free-front n (answersTo rows calls) free in

@@ -47,7 +47,8 @@ svg.histogram { width: 120px; height: 28px; display: block } .histogram .inside 
     border-bottom: 1px solid var(--line) }
   table.rows tr:first-child, table.rows td.number { display: none } table.rows td { border: 0; padding: .1rem .3rem }
   table.rows td.name { order: -2; font-weight: 600 } table.rows td.verdict { order: -1; white-space: normal; text-align: right }
-  table.rows td.count { text-align: right; color: var(--soft) } table.rows td.count::after { content: " judged" } }
+  table.rows td.asks, table.rows td.count { grid-column: 1 / -1 }
+  table.rows td.count { text-align: left; color: var(--soft) } table.rows td.count::after { content: " judged" } }
 @media print { body { margin: 0; max-width: none } .picture, .why { break-inside: avoid } .picture svg { min-width: 0 } }
 """
 

@@ -48,11 +48,11 @@ event b = 1
 
 def pages(tmp_path):
     table = Table.read(EXAMPLES / "drive.txt")
-    yield "drive", as_html(table, "drive.txt", [pictured(table, Policy(), check(table, str(EXAMPLES / "drive.csv")))])
+    yield "drive", as_html(table, "drive.txt", [pictured(table, Policy(), check(table, str(EXAMPLES / "drive.csv"), measured=True))])
     path = tmp_path / "a.csv"
     name = LONG.events[0].name
     path.write_text("time_s,event\n" + "".join(f"1600000000.{number:06d},{name if number % 3 else 'b'}\n" for number in range(0, 500000, 7001)))
-    outcomes = [check(LONG, str(path)), check(LONG, "nowhere.csv")]
+    outcomes = [check(LONG, str(path), measured=True), check(LONG, "nowhere.csv")]
     yield "long", as_html(LONG, "long.txt", [pictured(LONG, Policy(), outcome) for outcome in outcomes])
 
 

@@ -11,7 +11,6 @@ import shutil
 import pytest
 
 from delkuthi.command import main
-from delkuthi.table import Table
 
 from conftest import EXAMPLES
 from formats import drive_in_all_formats
@@ -59,7 +58,7 @@ def options(chance):
     return found
 
 
-def command(chance, table, log, rows):
+def command(chance, table, log):
     """Some command on a table and a log."""
     row = chance.choice(["0", "1", "99", "²", "-1", "tyre pressure", "9" * 30, ""])
     what = chance.randrange(12)
@@ -73,7 +72,8 @@ def command(chance, table, log, rows):
         return ["shrink", table, log, row, *options(chance)]
     if what == 4:
         return ["stamps", table, log, row, chance.choice(["1 ms", "0", "9" * 30, "-1", "1.0000001 s"]), *options(chance)]
-    shown = chance.choice(([], [], ["--json"], ["--junit", "out.xml"], ["--html", "out.html"], ["--plot", "out.svg"], ["--page"], ["--exercised"]))
+    shown = chance.choice(([], [], ["--json"], ["--junit", "out.xml"], ["--html", "out.html"], ["--plot", "out.svg"], ["--page"], ["--exercised"], ["--measure"],
+                           ["--trace", "out.json"], ["--measure", "--html", "out.html"], ["--as-one", log]))
     return ["check", table, log, *shown, *options(chance)]
 
 
@@ -85,20 +85,29 @@ def run(words):
     return status, error.getvalue()
 
 
+def pairs(folder):
+    """Tables and logs that belong together, in the folder: the drive in all formats, and that of the bench."""
+    for name in ("drive.txt", "table.bin"):
+        shutil.copy(EXAMPLES / name, folder)
+    logs = [path.name for path in drive_in_all_formats(folder)]
+    found = [(table, log) for table in ("drive.txt", "drive.txt", "table.bin") for log in logs]
+    for path in (EXAMPLES / "bench").iterdir():
+        shutil.copy(path, folder)
+    return found + 3 * [("bus.txt", "bus.log"), ("tasks.txt", "tasks.btf"), ("samples.txt", "samples.csv")]
+
+
 def test_damaged_files(tmp_path, monkeypatch):
     monkeypatch.chdir(tmp_path)
-    shutil.copy(EXAMPLES / "drive.txt", tmp_path)
-    (tmp_path / "table.bin").write_bytes((EXAMPLES / "table.bin").read_bytes())
-    table = Table.read("drive.txt")
-    logs = drive_in_all_formats(tmp_path)
-    whole = {path.name: path.read_bytes() for path in (*logs, tmp_path / "drive.txt", tmp_path / "table.bin")}
+    chosen = pairs(tmp_path)
+    whole = {path.name: path.read_bytes() for path in tmp_path.iterdir()}
     chance, seen = random.Random(2026), set()
     for number in range(NUMBER):
-        table_name, log_name = chance.choice(("drive.txt", "drive.txt", "table.bin")), chance.choice([path.name for path in logs])
+        table_name, log_name = chance.choice(chosen)
         names = chance.choice(([table_name], [log_name], [log_name], [table_name, log_name]))
         for name in names:
             (tmp_path / f"bad-{name}").write_bytes(damaged(chance, whole[name]))
-        words = command(chance, *(f"bad-{name}" if name in names else name for name in (table_name, log_name)), table.rows)
+        (tmp_path / "drive.dbc").write_bytes(damaged(chance, whole["drive.dbc"]) if chance.randrange(3) == 0 else whole["drive.dbc"])
+        words = command(chance, *(f"bad-{name}" if name in names else name for name in (table_name, log_name)))
         status, error = run(words)
         case = f"{number}: {words}: {error}"
         assert status in (0, 1, 2), case

@@ -2,12 +2,13 @@
 from __future__ import annotations
 
 import argparse
+from dataclasses import replace
 from itertools import islice
 from typing import Iterable, Iterator, Sequence
 
 from .check import reasons_of, run
 from .library import Refused
-from .logs import Log, LogError, Policy, Step
+from .logs import Log, LogError, Step
 from .monitor import JoinRefused, Monitor, join, stamps
 from .policies import policy, read_table, time_of
 from .recording import Record, recording_bytes
@@ -31,34 +32,32 @@ def _refused(log: Log, step: Step, number: int) -> LogError:
     return log.error(step.place, f"{what} at {log.moments.at(step.time)} {Refused(number)}")
 
 
-def _recorded(path: str, table: Table, how: Policy) -> Iterator[Record]:
-    """The records of a log, at its own stamps."""
-    log = Log(path, table, how)
-    for kind, time, place in accepted(log, log.steps()):
-        stamp = log.moments.stamp(time)
+def _recorded(log: Log, steps: Iterable[Step], start: int = 0) -> Iterator[Record]:
+    """The records of a log, at its own stamps or counted from a start; a tick at 0 would move nothing."""
+    for kind, time, place in steps:
+        stamp = log.moments.stamp(time) - start
         if stamp < 0:
             raise log.error(place, "a recording has no times below 0; --from-zero counts the stamps from the first one")
-        yield kind, stamp
-
-
-def _as_stamped(given: argparse.Namespace, table: Table) -> Policy:
-    """The policy of a recording, whose times are the log's stamps."""
-    given.as_stamped = True
-    return policy(given, table)
+        if stamp or kind is not None:
+            yield kind, stamp
 
 
 def record(given: argparse.Namespace) -> int:
-    """``delkuthi record``."""
+    """``delkuthi record``: the steps at the log's stamps."""
     table = read_table(given, True)
-    write_steps(given.output, _recorded(given.log, table, _as_stamped(given, table)))
+    log = Log(given.log, table, replace(policy(given, table), as_stamped=True))
+    write_steps(given.output, _recorded(log, accepted(log, log.steps())))
     return 0
 
 
 def join_logs(given: argparse.Namespace) -> int:
-    """``delkuthi join``."""
+    """``delkuthi join``. Both logs have one clock, so from zero means from the earlier of their first stamps."""
     table = read_table(given, True)
-    how = _as_stamped(given, table)
-    first, second = (recording_bytes(_recorded(path, table, how)) for path in given.log)
+    how = replace(policy(given, table), as_stamped=True, from_zero=False)
+    logs = [Log(path, table, how) for path in given.log]
+    steps = [list(accepted(log, log.steps())) for log in logs]
+    start = min(log.moments.stamp(log.moments.start) for log in logs) if given.from_zero else 0
+    first, second = (recording_bytes(_recorded(log, some, start)) for log, some in zip(logs, steps))
     try:
         write(given.output, join(first, second))
     except JoinRefused as refusal:

@@ -1,4 +1,5 @@
 """The command: statuses, options, many logs, text and bytes, and what the program of the same name does."""
+import io
 import json
 import os
 import re
@@ -11,6 +12,7 @@ import pytest
 
 from delkuthi import Table, __version__
 from delkuthi.check import check
+from delkuthi.recording import records
 
 from conftest import EXAMPLES, ROOT
 
@@ -274,6 +276,20 @@ def test_two_logs_joined(command, tmp_path):
     assert status == 1 and out.splitlines()[-1] == last.replace("drive.csv", "joined.bin").replace("lines", "records")
     status, _, error = command("join", TABLE, CSV, CSV, "-o", "twice.bin")
     assert (status, error) == (2, f"{CSV}: wheel_speed is in the other log too; refused with 20: a kind is found in both recordings\n")
+
+
+def test_two_logs_joined_from_zero(command, tmp_path):
+    """They have one clock: the earlier of their first stamps is 0, and what lies between them stays."""
+    (tmp_path / "t.txt").write_text(KEPT)
+    (tmp_path / "a.csv").write_text("time_s,event\n1600000000.000,\n1600000000.001,a\n")
+    (tmp_path / "b.csv").write_text("time_s,event\n1600000000.004,b\n")
+    assert command("join", "t.txt", "a.csv", "b.csv", "-o", "ab.bin", "--from-zero")[0] == 0
+    assert [(kind, time) for _, kind, time in records(io.BytesIO((tmp_path / "ab.bin").read_bytes()[1:]))] == [(0, 1), (1, 4)]
+    assert command("check", "t.txt", "ab.bin")[0] == 0
+    (tmp_path / "early.csv").write_text("time,event\n-3,a\n1,\n")
+    status, _, error = command("record", "t.txt", "early.csv", "-o", "x.bin")
+    assert status == 2 and "early.csv:2: a recording has no times below 0; --from-zero" in error
+    assert command("record", "t.txt", "early.csv", "-o", "x.bin", "--from-zero")[0] == 0
 
 
 def test_the_lines_that_matter(command, tmp_path):

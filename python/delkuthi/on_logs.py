@@ -7,7 +7,7 @@ from itertools import islice
 from typing import Iterable, Iterator, Sequence
 
 from .check import reasons_of, run
-from .library import Refused
+from .library import LAST_TIME, Refused
 from .logs import Log, LogError, Step
 from .monitor import JoinRefused, Monitor, join, stamps
 from .policies import policy, read_table, time_of
@@ -137,9 +137,11 @@ def late_stamps(given: argparse.Namespace) -> int:
     table = read_table(given, True)
     row, late = row_number(table, given.row), time_of("LATE", given.late, table)
     log = Log(given.log, table, policy(given, table))
-    recording = recording_bytes((kind, time) for kind, time, _ in accepted(log, log.steps()))
+    steps = list(accepted(log, log.steps()))
+    # A true time is not below 0: with room for the lateness the answer does not depend on where the stamps begin.
+    room = late if not log.policy.as_stamped and steps and steps[-1].time + late <= LAST_TIME else 0
     try:
-        word = stamps(table, recording, row, late)
+        word = stamps(table, recording_bytes((kind, time + room) for kind, time, _ in steps), row, late)
     except Refused as refusal:
         what = "LATE" if refusal.number == 10 else "ROW"
         raise LogError(what, "", f"{table.row_name(row)}: {Refused(refusal.number)}") from None

@@ -329,6 +329,16 @@ def test_stamps_that_may_be_late(command):
     assert command("stamps", TABLE, CSV, "wheel speed", "soon")[0] == 2
 
 
+def test_late_stamps_at_the_beginning(command, tmp_path):
+    """Whether the stamps begin at 0 or later, the answer is the same; with the stamps themselves no true time is below 0."""
+    (tmp_path / "t.txt").write_text("unit ms\nevent a = 0\nRepeat a span 1, 1 .. 10\n")
+    for start in (0, 100):
+        (tmp_path / "a.csv").write_text(f"time,event\n{start},a\n{start + 10},a\n")
+        assert command("stamps", "t.txt", "a.csv", "0", "5 ms")[1] == "a.csv: row 0 is unsure with stamps late by up to 5 ms\n"
+    (tmp_path / "a.csv").write_text("time,event\n0,a\n10,a\n")
+    assert command("stamps", "t.txt", "a.csv", "0", "5 ms", "--as-stamped")[1] == "a.csv: row 0 is kept with stamps late by up to 5 ms\n"
+
+
 def test_without_arguments_it_is_the_program(command, tmp_path):
     """The report on table.bin and recording.bin, as the program `delkuthi` in C prints it, with its statuses."""
     assert command(cwd=EXAMPLES)[:2] == (1, (EXAMPLES / "report.txt").read_text())

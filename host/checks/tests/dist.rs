@@ -144,12 +144,10 @@ fn a_buyer_without_the_kit() {
     let lines: Vec<&str> = readme.lines().filter_map(|line| line.strip_prefix("    ")).collect();
     let shell = |text: &str| done(Command::new("sh").arg("-ec").arg(text).current_dir(release).env("PATH", &path));
     let out = Folder::new();
-    let here = lines.join("\n").replace("-o bench_loop", &format!("-o {}/bench_loop", out.path().display()));
-    let here = here.replace(
-        "./bench_loop table.bin recording.bin",
-        &format!("{}/bench_loop table.bin recording.bin || test $? -eq 1", out.path().display()),
-    );
-    assert!(shell(&here).ends_with("row 1 broken at step 38\n"), "{here}");
+    let here = lines.join("\n").replace("-o report", &format!("-o {}/report", out.path().display()));
+    let here = here.replace("./report", &format!("{}/report", out.path().display()));
+    let drive = text_of(&root().join("examples/report.txt"));
+    assert_eq!(shell(&here), drive, "{here}");
     assert_eq!(shell("bin/delkuthi --version"), format!("delkuthi {}\n", version()));
     if !checks::hosts::found("pkg-config") {
         return say("pkg-config is not installed: the release's file for it was not used");
@@ -163,7 +161,7 @@ fn a_buyer_without_the_kit() {
     shell(&build);
     let examples = "share/doc/delkuthi/examples";
     let report = shell(&format!("{}/report {examples}/table.bin {examples}/recording.bin", out.path().display()));
-    assert_eq!(report, text_of(&root().join("examples/report.txt")));
+    assert_eq!(report, drive);
 }
 
 /// The portable sources of the tarball build by themselves, and answer the calls that come with them as the proved archive did.

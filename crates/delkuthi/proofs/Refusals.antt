@@ -12,7 +12,7 @@ use Rattle.constraint.specs.declared.Constraint.{Constraint}
 use Rattle.constraint.proofs.Judged.{never, judged-parts}
 use Rattle.constraint.proofs.Accepted.{rows-then, rows-room}
 use Rattle.table.specs.Raw.{WritesRaw, all-read, stopped-at}
-use Rattle.table.specs.Writing.{Writes, answerOf}
+use Rattle.table.specs.Writing.{Writes, answerIn}
 use Rattle.table.specs.declared.WriteAnswer.{WriteAnswer}
 use Rattle.table.proofs.Bodies.{row-length}
 use Rattle.table.proofs.Standing.{body-short}
@@ -35,7 +35,7 @@ two-above m n asked also first second = (first, one-above n also second)
 writer-number : (rows : List Constraint) (before after : List ℕ) (r : WriteAnswer) (n : ℕ) → r ≡ WriteAnswer.Refused n → Writes rows before r after → 0 < n
 writer-number rows before after r n e writes =
     number-above (writerQuestions rows before) n (rows-above 0 rows _ (one-above 16 _ (omega arith)))
-    (subst (λ (w : WriteAnswer). Judged (writerQuestions rows before) (answerOf w)) e (writes .judged))
+    (subst (λ (w : WriteAnswer). Judged (writerQuestions rows before) (answerIn w)) e (writes .judged))
 
 raw-number : (bytes before after : List ℕ) (r : WriteAnswer) (n : ℕ) → r ≡ WriteAnswer.Refused n → WritesRaw bytes before r after → 0 < n
 raw-number bytes before after r n e (all-read rows raw past writes) = writer-number rows before _ _ n e writes
@@ -54,7 +54,7 @@ table-short rows = omega (arith, rows-short rows)
 
 writer-short : (rows : List Constraint) (before after : List ℕ) (r : WriteAnswer) (n : ℕ) → r ≡ WriteAnswer.Written n → Writes rows before r after → n ≤ 1281
 writer-short rows before after r n e writes =
-    let judged = subst (λ (w : WriteAnswer). Judged (writerQuestions rows before) (answerOf w)) e (writes .judged) in
+    let judged = subst (λ (w : WriteAnswer). Judged (writerQuestions rows before) (answerIn w)) e (writes .judged) in
     let parts = judged-parts (rowsQuestions 0 rows []) _ (subst (λ (qs : List Question). Judged qs Taken) (rows-then 0 rows _) judged) in
     omega (arith, rows-room 0 rows (omega arith) (parts .0), table-short rows, writes .counted n e)
 

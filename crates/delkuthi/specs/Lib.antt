@@ -8,3 +8,4 @@ pub mod Printed
 pub mod Stamps
 pub mod Joining
 pub mod LentExact
+pub mod Program

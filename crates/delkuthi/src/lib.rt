@@ -9,7 +9,8 @@ pub mod tables;
 
 use inplace::index::Indexed;
 use text::Text;
-ghost use Rattle.constraint.specs.Report.{Reports, Prints};
+ghost use Rattle.constraint.specs.Report.{Reports};
+ghost use Rattle.delkuthi.specs.Program.{Prints};
 ghost use Rattle.delkuthi.specs.Telling.{Tells};
 ghost use Rattle.delkuthi.specs.Reporting.{ReportsOn};
 

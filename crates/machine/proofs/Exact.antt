@@ -9,7 +9,8 @@ use Rattle.constraint.specs.Steps.{Step, event, tick, at, own, clock, closed}
 use Rattle.constraint.specs.Meets.{Meets}
 use Rattle.constraint.specs.Continuation.{Open}
 use Rattle.constraint.specs.Waiting.{waiting}
-use Rattle.constraint.specs.Accepted.{kinds, streams, KindsFit, KindsSuit, InRange, LowerFirst}
+use Rattle.constraint.specs.Accepted.{kinds, KindsFit, KindsSuit, InRange, LowerFirst}
+use Rattle.constraint.proofs.Streams.{streams}
 use Rattle.constraint.specs.declared.Constraint.{Constraint}
 use Rattle.constraint.proofs.History.{Accepts, Past}
 use Rattle.queue.specs.Ring.{changed}

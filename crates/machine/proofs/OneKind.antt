@@ -12,7 +12,7 @@ use Rattle.constraint.specs.Steps.{Step, event, tick, at, times, own, clock}
 use Rattle.constraint.specs.Meets.{Meets}
 use Rattle.constraint.specs.Continuation.{Open, stop}
 use Rattle.constraint.specs.Waiting.{waiting}
-use Rattle.constraint.specs.Accepted.{streams}
+use Rattle.constraint.proofs.Streams.{streams}
 use Rattle.constraint.specs.declared.Constraint.{Constraint}
 use Rattle.constraint.proofs.Lists.{Each, Rising, rising-snoc}
 use Rattle.constraint.proofs.History.{Accepts, Past, times-append, times-own, times-tick, clock-event, clock-tick}

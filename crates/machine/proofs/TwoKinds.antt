@@ -11,7 +11,8 @@ use Rattle.constraint.specs.Steps.{Step, event, tick, at, times, own, clock, cl
 use Rattle.constraint.specs.Meets.{Meets}
 use Rattle.constraint.specs.Continuation.{Continues, Open}
 use Rattle.constraint.specs.Waiting.{waiting}
-use Rattle.constraint.specs.Accepted.{kinds, streams, KindsFit}
+use Rattle.constraint.specs.Accepted.{kinds, KindsFit}
+use Rattle.constraint.proofs.Streams.{streams}
 use Rattle.constraint.specs.declared.Constraint.{Constraint}
 use Rattle.constraint.proofs.Lists.{Each, Rising}
 use Rattle.constraint.proofs.History.{Accepts, Past, times-append, times-own, times-other, times-tick, clock-event, clock-tick}

@@ -26,7 +26,7 @@ use Rattle.constraint.proofs.Sanity.{run-once}
 use Rattle.row.proofs.Exact.{Sound}
 use Rattle.monitor.specs.Machine.{verdictOf}
 use Rattle.monitor.specs.Contract.{after}
-use Rattle.monitor.specs.Beside.{OwnStream, Beside, same-event, others, EachBeside, no-more, place, allTaken, Takes, answersTo, NoneFull}
+use Rattle.monitor.specs.Beside.{OwnStream, Beside, same-event, others, EachBeside, no-more, place, allTaken, TakesAll, answersTo, NoneFull}
 use Rattle.monitor.proofs.FittingRows.{SoundRows}
 use Rattle.monitor.proofs.Demand.{accepted-sound}
 use Rattle.monitor.proofs.Theorem.{monitor-is-exact, row-reads}
@@ -39,7 +39,7 @@ sound-row (d ∷ rows) sound (suc i) c there = sound-row rows (sound .1) i c the
 
 -- a list of calls is an accepted one exactly when the monitor takes each call
 pub takes-exactly : (rows : List Constraint) → Accepted rows → (calls : List Call)
-    → (answersTo rows calls ≡ allTaken calls) ↔ ((steps : List Step) × Takes rows calls steps)
+    → (answersTo rows calls ≡ allTaken calls) ↔ ((steps : List Step) × TakesAll rows calls steps)
 takes-exactly rows accepted calls =
     let played = monitor-is-exact .exact rows accepted (map asks calls) in (
       λ all. (played .0 .steps, (played .0 .may, subst (λ (answers : List Answer). Run rows noneLeft (map asks calls) answers (played .0)) all (played .1))),
@@ -58,12 +58,12 @@ verdict-read rows calls answers left accepted run i c there v reads =
 module _
     (rows rows′ : List Constraint) (accepted : Accepted rows) (accepted′ : Accepted rows′)
     (i j : ℕ) (c : Constraint) (there : getElem? rows i ≡ some c) (there′ : getElem? rows′ j ≡ some c)
-    (calls calls′ : List Call) (steps steps′ : List Step) (taken : Takes rows calls steps) (taken′ : Takes rows′ calls′ steps′)
+    (calls calls′ : List Call) (steps steps′ : List Step) (taken : TakesAll rows calls steps) (taken′ : TakesAll rows′ calls′ steps′)
     (beside : EachBeside c steps steps′) (n : ℕ) where
-  taken-n : Takes rows (take n calls) (take n steps)
+  taken-n : TakesAll rows (take n calls) (take n steps)
   taken-n = takes-first rows n calls steps taken
 
-  taken-n′ : Takes rows′ (take n calls′) (take n steps′)
+  taken-n′ : TakesAll rows′ (take n calls′) (take n steps′)
   taken-n′ = takes-first rows′ n calls′ steps′ taken′
 
   -- what the row reads after place n of both
@@ -79,7 +79,7 @@ module _
     λ reads. subst (Reads c (take n steps)) (once rows′ (take n calls′) taken-n′ (both-read .2) reads) (both-read .1),
   )
     where
-      once : (table : List Constraint) (first : List Call) {past : List Step} → Takes table first past
+      once : (table : List Constraint) (first : List Call) {past : List Step} → TakesAll table first past
           → Reads c past (both-read .0) → Reads c past v → both-read .0 ≡ v
       once table first {past} run = reads-once c past (run-valid (run .1) valid-none) (both-read .0) v
 

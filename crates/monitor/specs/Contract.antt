@@ -5,9 +5,9 @@ use mathlib.Core.List.{List, [], _∷_, _++_}
 use mathlib.Core.Option.{Option, none, some}
 use Rattle.constraint.specs.Questions.{Judged}
 use Rattle.constraint.specs.Accepted.{rowsQuestions, Accepted}
-use Rattle.constraint.specs.Rows.{rowsOf}
+use Rattle.constraint.specs.Records.{rowsOf}
 use Rattle.constraint.specs.Run.{Request, asks, withdraws, Left, noneLeft, requestQuestions, Run}
-use Rattle.constraint.specs.Promise.{ReadsRow, play}
+use Rattle.constraint.specs.Promise.{Outcome, ReadsRow, play}
 use Rattle.constraint.specs.declared.Answer.{Answer}
 use Rattle.constraint.specs.declared.Answer.the-variants.{Taken, Refused}
 use Rattle.constraint.specs.declared.Constraint.{Constraint}
@@ -24,7 +24,7 @@ resultOf m (asks s) = stepOf m s
 resultOf m withdraws = withdrawOf m
 
 -- §3.4: a request, and the monitor that it is put to
-abbrev pub step : Monitor → Request → Rattle.constraint.specs.Promise.Stepped Monitor
+abbrev pub step : Monitor → Request → Outcome Monitor
 step m r = record { answer = resultOf m r .answer; monitor = resultOf m r .monitor }
 
 -- §3.4, §3.13: the monitor after a list of requests, from a fresh one over the rows

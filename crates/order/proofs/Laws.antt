@@ -34,7 +34,7 @@ use Rattle.monitor.proofs.Following.{Follows}
 use Rattle.monitor.proofs.Withdrawing.{takes-more, after-call, remains-follows, steps-keep}
 use Rattle.recording.specs.Record.{CallAt}
 use Rattle.recording.proofs.Records.{record-judged, record-refused as record-not-there}
-use Rattle.order.specs.Order.{orderOf, After, Takes, refusedRead, AsksCall, ReadsNext}
+use Rattle.order.specs.Order.{orderOf, After, TakesCall, refusedRead, AsksCall, ReadsNext}
 use Rattle.order.specs.declared.RecordRead.{RecordRead}
 use Rattle.order.specs.declared.Order.{Order}
 
@@ -134,7 +134,7 @@ module _ (steps : List Step) (o : Order) (before : After steps o) where
 -- ---- what the code promises of a call and of a record
 
 module _ (o : Order) (s : Call) (n : ℕ) (is : n ≡ refusalOf o s) where
-  pub takes-refused : 0 < n → Takes o s (record { number = n; order = o })
+  pub takes-refused : 0 < n → TakesCall o s (record { number = n; order = o })
   takes-refused h =
       record {
         taken = λ e. absurd (omega (arith, e, h));
@@ -142,7 +142,7 @@ module _ (o : Order) (s : Call) (n : ℕ) (is : n ≡ refusalOf o s) where
         as-it-was = λ more. refl;
       }
 
-  pub takes-taken : n ≤ 0 → (later : Order) → later ≡ orderAfter o s → Takes o s (record { number = 0; order = later })
+  pub takes-taken : n ≤ 0 → (later : Order) → later ≡ orderAfter o s → TakesCall o s (record { number = 0; order = later })
   takes-taken h later e =
       record {
         taken = λ zero steps before. subst (λ (x : Order). Judged (questions [] steps s) Taken × After (steps ++ (stepFor s ∷ [])) x) (sym e) (call-taken steps o before s (omega (arith, is, h)));

@@ -11,7 +11,7 @@ use Rattle.constraint.specs.Recording.{RecordAt, callAt, recordQuestions}
 use Rattle.constraint.specs.declared.Answer.the-variants.{Taken, Refused}
 use Rattle.constraint.specs.declared.Call.{Call}
 use Rattle.monitor.specs.Contract.{after}
-use Rattle.monitor.specs.Beside.{Takes as TakesAll}
+use Rattle.monitor.specs.Beside.{TakesAll}
 use Rattle.monitor.specs.declared.Monitor.{Monitor}
 use Rattle.order.specs.declared.Order.{Order}
 use Rattle.order.specs.declared.RecordRead.{RecordRead}
@@ -32,7 +32,7 @@ abbrev pub Starts : Order → Type 0
 Starts o = After [] o
 
 -- a call: 0 where its questions but 12 are all answered "yes", and the order after it; else the number of the first "no", and the order as it was
-pub record Takes (o : Order) (call : Call) (r : Answered) : Type 0 where
+pub record TakesCall (o : Order) (call : Call) (r : Answered) : Type 0 where
   pub taken : r .number ≡ 0 → (steps : List Step) → After steps o
       → Judged (questions [] steps call) Taken × After (steps ++ (stepFor call ∷ [])) (r .order)
   pub refused : 0 < r .number → (steps : List Step) → After steps o → Judged (questions [] steps call) (Refused (r .number))
@@ -44,7 +44,7 @@ refusedRead o n = record { number = n; call = Call.Close; next = 0; order = o }
 
 -- the answer to a record that has a call and ends before a place
 pub record AsksCall (o : Order) (call : Call) (next : ℕ) (r : RecordRead) : Type 0 where
-  pub takes : Takes o call (record { number = r .number; order = r .order })
+  pub takes : TakesCall o call (record { number = r .number; order = r .order })
   pub call-is : r .call ≡ call
   pub next-is : r .next ≡ next
 

@@ -6,7 +6,7 @@ use mathlib.Core.List.{List}
 use lib.Dec.{eqb}
 use Rattle.constraint.specs.Limits.{noLimit}
 use Rattle.queue.specs.declared.Edit.the-variants.{Drop}
-use Rattle.machine.specs.Parts.{plus, marksOf, earlyOf, withLast, goesOn}
+use Rattle.machine.specs.Parts.{plus, marksOf, earlyOf, withLast, continuesWith}
 use Rattle.machine.specs.declared.Rule.{Rule}
 use Rattle.machine.specs.declared.Marks.{Marks}
 use Rattle.machine.specs.declared.Change.{Change}
@@ -22,7 +22,7 @@ withAhead m ahead = marksOf (m .last) ahead (m .second) m
 -- the change to other marks: a target beyond needs its source at once, and the row is kept where nothing is beyond
 unfoldable pub changesTo : Marks → Change
 changesTo marks =
-    cond (eqb (earlyOf marks) 0) (goesOn (Drop 0) marks noLimit (eqb (aheadOf marks) 0)) (goesOn (Drop 0) marks (earlyOf marks - 1) false)
+    cond (eqb (earlyOf marks) 0) (continuesWith (Drop 0) marks noLimit (eqb (aheadOf marks) 0)) (continuesWith (Drop 0) marks (earlyOf marks - 1) false)
 
 -- a source: the partner of the target beyond, or one more beyond; a target: the partner of a source beyond, or one beyond
 unfoldable pub decideOrder : Rule → Marks → List ℕ → ℕ → ℕ → Change

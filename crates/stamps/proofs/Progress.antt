@@ -20,7 +20,7 @@ use Rattle.order.specs.Order.{After, ReadsNext}
 use Rattle.order.specs.declared.Order.{Order}
 use Rattle.order.specs.declared.RecordRead.{RecordRead}
 use Rattle.order.proofs.Laws.{ReadUpTo, up-to-start, up-to-more, up-to-refused, up-to-end, after-valid, after-clock}
-use Rattle.stamps.specs.Machine.{noStamps, callAfter, verdictAt}
+use Rattle.stamps.specs.Machine.{noStamps, callAfter, stampsVerdict}
 use Rattle.stamps.specs.declared.Asked.{Asked}
 use Rattle.stamps.specs.declared.Stamps.{Stamps}
 use Rattle.stamps.proofs.Laws.{Keeps, keeps-none, keeps-call, reads-now}
@@ -58,12 +58,12 @@ module _ (bytes : List ℕ) (a : Asked) where
       pass-refused h = up-to-refused bytes place (before .steps) o (before .read) (r .number) there (next .refused h (before .steps) (before .read .order))
 
     pub pass-end : length bytes ≤ place → (steps : List Step) × ReadsInOrder bytes (recording-of steps)
-        × (a .event < firstColoured → a .lower ≤ lastTime → ReadsStamps (a .late) (a .lower) (a .upper) (times (a .event) steps) (clock steps) (verdictAt a s (o .clock)))
+        × (a .event < firstColoured → a .lower ≤ lastTime → ReadsStamps (a .late) (a .lower) (a .upper) (times (a .event) steps) (clock steps) (stampsVerdict a s (o .clock)))
     pass-end end = (
       before .steps,
       up-to-end bytes place (before .steps) o (before .read) end,
       λ plain small.
-          subst (λ (now : ℕ). ReadsStamps (a .late) (a .lower) (a .upper) (times (a .event) (before .steps)) (clock (before .steps)) (verdictAt a s now))
+          subst (λ (now : ℕ). ReadsStamps (a .late) (a .lower) (a .upper) (times (a .event) (before .steps)) (clock (before .steps)) (stampsVerdict a s now))
           (sym (after-clock (before .steps) o (before .read .order)))
           (reads-now a (times (a .event) (before .steps)) (clock (before .steps)) (past-of (after-valid (before .steps) o (before .read .order)) .small) s (before .keeps plain small)),
     )

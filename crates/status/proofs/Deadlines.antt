@@ -11,7 +11,7 @@ use borrow.Author.Tests.{ltb-true, ltb-false, lt-ltb, le-ltb}
 use Rattle.constraint.specs.Limits.{lastTime, noLimit}
 use Rattle.constraint.specs.Steps.{Step, tick, own, clock, closed}
 use Rattle.constraint.specs.Continuation.{Open}
-use Rattle.constraint.specs.Accepted.{streams}
+use Rattle.constraint.proofs.Streams.{streams}
 use Rattle.constraint.specs.declared.Constraint.{Constraint}
 use Rattle.constraint.proofs.Lists.{split, both}
 use Rattle.constraint.proofs.Judged.{never}
@@ -21,7 +21,7 @@ use Rattle.machine.specs.declared.State.{State}
 use Rattle.row.specs.declared.Row.{Row}
 use Rattle.row.proofs.Exact.{Sound, Exact}
 use Rattle.row.proofs.Steps.{Going, Broken, Fits}
-use Rattle.constraint.specs.Deadlines.{DeadlineWhileOpen, until, endless, Deadline, running, over, RowDeadline, row, no-row}
+use Rattle.status.specs.Deadlines.{DeadlineWhileOpen, until, endless, Deadline, running, over, RowDeadline, row, no-row}
 use Rattle.status.specs.Numbers.{deadlineBy}
 
 module _ (c : Constraint) (exact : Exact c) (steps : List Step) (valid : Valid steps) where

@@ -13,7 +13,7 @@ use borrow.Author.Tests.{ltb-true, lt-ltb, le-ltb}
 use Rattle.constraint.specs.Limits.{noLimit, rowLimit}
 use Rattle.constraint.specs.Steps.{Step, closed}
 use Rattle.constraint.specs.Continuation.{Open}
-use Rattle.constraint.specs.Deadlines.{RowDeadline, row, no-row, LeastDeadline}
+use Rattle.status.specs.Deadlines.{RowDeadline, row, no-row, LeastDeadline}
 use Rattle.constraint.specs.declared.Call.{Call}
 use Rattle.constraint.specs.declared.Constraint.{Constraint}
 use Rattle.constraint.proofs.Lists.{split, both}

@@ -14,7 +14,7 @@ use Rattle.constraint.specs.Waiting.{waiting}
 use Rattle.constraint.specs.Questions.{Judged}
 use Rattle.constraint.specs.Accepted.{Accepted}
 use Rattle.constraint.specs.Run.{stepFor, questions, Request, Left}
-use Rattle.constraint.specs.Deadlines.{RowDeadline, LeastDeadline}
+use Rattle.status.specs.Deadlines.{RowDeadline, LeastDeadline}
 use Rattle.constraint.specs.declared.Answer.the-variants.{Refused}
 use Rattle.constraint.specs.declared.Call.{Call}
 use Rattle.constraint.specs.declared.Constraint.{Constraint}

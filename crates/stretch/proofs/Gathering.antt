@@ -29,7 +29,7 @@ use Rattle.order.specs.Order.{After, ReadsNext}
 use Rattle.order.specs.declared.Order.{Order}
 use Rattle.order.specs.declared.RecordRead.{RecordRead}
 use Rattle.order.proofs.Laws.{ReadUpTo, up-to-start, up-to-more, up-to-refused, up-to-end}
-use Rattle.stretch.specs.Machine.{stepAs, Kept, Keeps}
+use Rattle.stretch.specs.Machine.{stepAs, Kept, KeepsRecord}
 
 -- ---- a record's numbers
 
@@ -121,7 +121,7 @@ module _ (bytes streams times : List ℕ) where
             (subst (λ (x : Call). Judged (questions [] (before .steps) x) Taken) (next .call-is (next .there e)) (judged-all 14 _ _ (judged .0) .1)))
             (λ close. never-close (at bytes 0) (bodyAt bytes place) (next .call-is (next .there e) ∙ close))
 
-        pub gather-more : (streams′ times′ : List ℕ) (count′ : ℕ) → Keeps streams times count (occurrenceBy (r .call) 0) streams′ times′ count′
+        pub gather-more : (streams′ times′ : List ℕ) (count′ : ℕ) → KeepsRecord streams times count (occurrenceBy (r .call) 0) streams′ times′ count′
             → GatheredTo bytes streams′ times′ (r .order) count′ (r .next)
         gather-more streams′ times′ count′ keeps =
             record {

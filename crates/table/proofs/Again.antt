@@ -9,7 +9,7 @@ use lib.Seq.{take-append-seam}
 use Rattle.constraint.specs.Bytes.{Bytes}
 use Rattle.constraint.specs.Questions.{Question, Judged}
 use Rattle.constraint.specs.Accepted.{rowsQuestions, Accepted}
-use Rattle.constraint.specs.Rows.{rowsOf}
+use Rattle.constraint.specs.Records.{rowsOf}
 use Rattle.constraint.specs.Table.{tableBytes, writerQuestions, table-of, ReadsTable}
 use Rattle.constraint.specs.declared.Answer.the-variants.{Taken, Refused}
 use Rattle.constraint.specs.declared.Constraint.{Constraint}

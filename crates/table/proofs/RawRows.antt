@@ -13,11 +13,10 @@ use lib.Seq.{length-take-le, getD-take, getD-drop, getD-append-add}
 use Rattle.constraint.specs.Limits.{rowLimit}
 use Rattle.constraint.specs.Steps.{at}
 use Rattle.constraint.specs.Bytes.{Bytes}
-use Rattle.constraint.specs.Questions.{Judged, Decides}
+use Rattle.constraint.specs.Questions.{Judged}
+use Rattle.constraint.specs.Records.{Decides, filler, rowsOf, tableOf, withOneMore, Adds}
 use Rattle.constraint.specs.Types.{lengths, lengthOf}
 use Rattle.constraint.specs.Accepted.{rowsQuestions}
-use Rattle.constraint.specs.Rows.{filler, tableOf, rowsOf}
-use Rattle.constraint.specs.Records.{withRow, Adds}
 use Rattle.constraint.specs.Table.{ShapeFits, StandsFor}
 use Rattle.constraint.specs.declared.Answer.{Answer}
 use Rattle.constraint.specs.declared.Answer.the-variants.{Taken, Refused}
@@ -139,7 +138,7 @@ table-more bytes i start t n table next row each room known whole there first se
       counted = length-append (held .rows) (row ∷ []) ∙ ap (λ (k : ℕ). k + 1) (held .counted);
       holds =
           adds .room (omega (arith, record-count table (held .rows) (held .holds), held .counted))
-          ∙ ap (λ (x : Table). withRow x row) (held .holds)
+          ∙ ap (λ (x : Table). withOneMore x row) (held .holds)
           ∙ record-more (held .rows) row (omega (arith, held .counted));
     }
   where

@@ -9,7 +9,7 @@ use Rattle.constraint.specs.Bytes.{bytesAt}
 use Rattle.constraint.specs.Questions.{Judged}
 use Rattle.constraint.specs.Types.{lengths, lengthOf}
 use Rattle.constraint.specs.Accepted.{rowsQuestions}
-use Rattle.constraint.specs.Rows.{filler, tableOf}
+use Rattle.constraint.specs.Records.{filler, tableOf}
 use Rattle.constraint.specs.Table.{StandsFor}
 use Rattle.constraint.specs.declared.Answer.the-variants.{Refused}
 use Rattle.constraint.specs.declared.Constraint.{Constraint}

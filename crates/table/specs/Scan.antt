@@ -5,7 +5,7 @@ use mathlib.Core.List.{List}
 use lib.ListN.{length}
 use Rattle.constraint.specs.Limits.{rowLimit}
 use Rattle.constraint.specs.Accepted.{Accepted}
-use Rattle.constraint.specs.Rows.{filler}
+use Rattle.constraint.specs.Records.{filler}
 use Rattle.constraint.specs.Table.{TableRead, table-of, table-refused, lengthAt, bodyAt, WholeAt, RowAt, ReadsRows, ReadsTable}
 use Rattle.constraint.specs.declared.Constraint.{Constraint}
 use Rattle.table.specs.Rows.{constraintOf}

@@ -4,10 +4,10 @@ ghost use mathlib.Core.Path.{_≡_};
 ghost use mathlib.Core.List.{[], _∷_};
 ghost use Prim.Native.Nat.{_/_, _%_};
 ghost use lib.ListN.{length};
-ghost use Rattle.constraint.specs.Questions.{Decides};
+ghost use Rattle.constraint.specs.Records.{Decides};
 ghost use Rattle.constraint.specs.Types.{lengthOf};
 ghost use Rattle.constraint.specs.Table.{ShapeFits};
-ghost use Rattle.table.specs.Rows.{groupFrom, rowFrom, constraintOf};
+ghost use Rattle.table.specs.Rows.{groupFrom, rowRead, constraintOf};
 
 // The length expected for each type, by the type byte; to a StrongSynchronization's its n is added.
 const LENGTHS: [usize; 11] = [0, 19, 19, 19, 34, 19, 3, 10, 21, 19, 27];
@@ -101,7 +101,7 @@ fn row_from(
     z: u64,
     w: u64,
 ) -> Constraint
-    ensures { λ r. ⌜ r ≡ rowFrom form (a ∷ b ∷ c ∷ d ∷ e ∷ []) (x ∷ y ∷ z ∷ w ∷ []) ⌝ }
+    ensures { λ r. ⌜ r ≡ rowRead form (a ∷ b ∷ c ∷ d ∷ e ∷ []) (x ∷ y ∷ z ∷ w ∷ []) ⌝ }
 {
     match form {
         1 => Constraint::Delay {

@@ -5,7 +5,7 @@ use super::body::row_of;
 use constraint::Answer;
 use constraint::Table;
 ghost use mathlib.Core.Path.{_≡_};
-ghost use Rattle.constraint.specs.Questions.{Decides};
+ghost use Rattle.constraint.specs.Records.{Decides};
 ghost use Rattle.table.specs.Raw.{TypeKnown, Known, RawTable, WritesRaw};
 
 // How many bytes each row is given, which the longest type needs.

@@ -7,7 +7,7 @@ ghost use Prim.Native.Nat.{_+_, _≤_};
 ghost use lib.ListN.{length, take};
 ghost use lib.Seq.{sets};
 ghost use Rattle.constraint.specs.Limits.{rowLimit};
-ghost use Rattle.constraint.specs.Rows.{rowsOf};
+ghost use Rattle.constraint.specs.Records.{rowsOf};
 ghost use Rattle.constraint.specs.Table.{rowBody, rowBytes, rowsBytes, tableBytes};
 ghost use Rattle.table.specs.Rows.{timesBytes};
 

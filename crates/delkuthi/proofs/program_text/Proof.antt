@@ -3,7 +3,7 @@ use native.Mathlib.Omega.{arith}
 use borrow.Author.Needs.{needs}
 use borrow.Author.Tests.{ltb-true, ltb-false}
 use mathlib.Core.Logic.{⊎-elim}
-use Rattle.constraint.specs.Report.{too-large, fits}
+use Rattle.delkuthi.specs.Program.{too-large, fits}
 use Rattle.delkuthi.proofs.Telling.{tells-refusal, tells-summary}
 use Rattle.delkuthi.proofs.program_text.Statement.{statement}
 use Rattle.delkuthi.proofs.program_text.Tie as tie

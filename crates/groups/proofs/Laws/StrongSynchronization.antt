@@ -11,7 +11,8 @@ use Rattle.constraint.specs.Steps.{Step, event, tick, at, own, clock, closed}
 use Rattle.constraint.specs.Meets.{Meets, MeetsStrongSynchronization}
 use Rattle.constraint.specs.Continuation.{Open}
 use Rattle.constraint.specs.Waiting.{waiting, begunIncomplete}
-use Rattle.constraint.specs.Accepted.{kinds, streams, KindsFit}
+use Rattle.constraint.specs.Accepted.{kinds, KindsFit}
+use Rattle.constraint.proofs.Streams.{streams}
 use Rattle.constraint.specs.declared.Constraint.{Constraint}
 use Rattle.constraint.specs.declared.Constraint.the-variants.{StrongSynchronization2, StrongSynchronization3, StrongSynchronization4}
 use Rattle.constraint.proofs.History.{Accepts, Past}

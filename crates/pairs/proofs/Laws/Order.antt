@@ -16,7 +16,7 @@ use Rattle.constraint.specs.declared.Constraint.the-variants.{Order}
 use Rattle.constraint.proofs.Lists.{split, both, Each, each-right, Rising, rising-by}
 use Rattle.machine.specs.Rule.{ruleOf}
 use Rattle.queue.specs.declared.Edit.the-variants.{Drop}
-use Rattle.machine.specs.Parts.{noMarks, plus, earlyOf, withLast, goesOn}
+use Rattle.machine.specs.Parts.{noMarks, plus, earlyOf, withLast, continuesWith}
 use Rattle.machine.specs.declared.Rule.{Rule}
 use Rattle.machine.specs.declared.Marks.{Marks}
 use Rattle.machine.proofs.Exact.{Sound, GoesOn, ByOutcome, Exact}
@@ -64,7 +64,7 @@ module _ (source target : ℕ) (sound : Sound (Order source target)) where
   goes-to sources targets marks times t live in-time =
       split (eqb (earlyOf marks) 0)
       (λ x. eqb (earlyOf marks) 0 ≡ x → ByOutcome (Lost t (Paired _≤_) sources targets) (GoesOn (LiveOrder sources targets) due kept times t)
-      (cond x (goesOn (Drop 0) marks noLimit (eqb (aheadOf marks) 0)) (goesOn (Drop 0) marks (earlyOf marks - 1) false)))
+      (cond x (continuesWith (Drop 0) marks noLimit (eqb (aheadOf marks) 0)) (continuesWith (Drop 0) marks (earlyOf marks - 1) false)))
       (λ e f. record { live = live; due-is = rw f; kept-is = rw f; in-time = rw f at in-time })
       (λ e f. record { live = live; due-is = rw f; kept-is = rw f; in-time = rw f at in-time })
       refl

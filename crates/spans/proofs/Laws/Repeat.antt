@@ -24,7 +24,7 @@ use Rattle.constraint.proofs.History.{times-append}
 use Rattle.constraint.proofs.Continuations.{not-later-earlier, continues-late, continues-clock}
 use Rattle.queue.specs.declared.Edit.the-variants.{Push}
 use Rattle.machine.specs.Rule.{ruleOf}
-use Rattle.machine.specs.Parts.{noMarks, plus, withLast, goesOn, breaking, front, dueOldest}
+use Rattle.machine.specs.Parts.{noMarks, plus, withLast, continuesWith, breaking, front, dueOldest}
 use Rattle.machine.specs.declared.Rule.{Rule}
 use Rattle.machine.specs.declared.Marks.{Marks}
 use Rattle.machine.proofs.Exact.{Sound, Exact}
@@ -126,7 +126,7 @@ module _ (rule : Rule) (events : List ℕ) (marks : Marks) (kept : List ℕ) (ke
       where
         turn : {test : Bool} → Tells (AtLeastApart (rule .minimum) (events ++ (t ∷ [])) × MeetsSpan rule (events ++ (t ∷ []))) test
             → Turns Says (KeepsRepeat rule) (dueRepeat rule) events kept t
-            (cond test (goesOn (Push (leaving rule (length kept)) t) (withLast marks (plus t 1)) (dueWith rule kept t) true) breaking)
+            (cond test (continuesWith (Push (leaving rule (length kept)) t) (withLast marks (plus t 1)) (dueWith rule kept t) true) breaking)
         turn (holds m) =
             record {
               live = record { spans = m .1; apart = m .0; newest = kept-new; last-is = last-new events t (plus t 1) (omega arith) };

@@ -5,7 +5,7 @@ use mathlib.Core.Path.{_≡_}
 use denote.Ref.{now}
 use lib.ListN.{length}
 use Rattle.constraint.specs.Limits.{rowLimit}
-use Rattle.constraint.specs.Questions.{Decides}
+use Rattle.constraint.specs.Records.{Decides}
 use Rattle.constraint.proofs.Judged.{free, passed, failed}
 use Rattle.table.specs.Raw.{rawSize, KnownAt}
 use Rattle.table.proofs.RawRows.{known-test, known-more}

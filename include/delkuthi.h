@@ -5,9 +5,10 @@
  * events of a bench, and says for each row, while the recording runs, whether
  * it is open, kept, or broken, and at which step it broke.
  *
- * It is for x86-64 Linux with glibc 2.34 or newer. Link libdelkuthi.a or
- * libdelkuthi.so (pkg-config --cflags --libs delkuthi). Of the C library the
- * archive needs no more than memcpy, memmove, memset and memcmp.
+ * It is for x86-64 Linux. Link libdelkuthi.a, or libdelkuthi.so, which needs
+ * glibc 2.14 or newer (pkg-config --cflags --libs delkuthi). Of the C library
+ * the archive needs no more than memcpy, memmove, memset and memcmp, and any
+ * that has them will do.
  *
  *
  * THE PROMISE
@@ -22,11 +23,12 @@
  *     was so. Else it reads open, or kept once the recording is closed.
  *   - A broken row stays broken, at the same step, until a step is withdrawn:
  *     then the rows read what they would read had it never been taken.
- * A machine has checked this, not tests: the first point is the contract of
- * each call, the others are the theorem monitor-is-exact over all calls and
- * withdrawals.
- * docs/DATASHEET.md has what they say, what they assume, and what is not
- * promised; docs/CONTRACT.md says all of it in words, in numbered clauses,
+ * A machine has checked this. It is one theorem, lent-is-exact, over the bytes
+ * given to delkuthi_fresh, any list of the calls below and what the calls that
+ * only read answer after it; that no call leaves what it is lent or runs
+ * without end is the contract of each call.
+ * DATASHEET.md has what they say, what they assume, and what is not
+ * promised; CONTRACT.md says all of it in words, in numbered clauses,
  * with examples to check a verdict by hand.
  *
  *
@@ -67,9 +69,15 @@
  *   - A pointer is to as many bytes as its length says, and is aligned for
  *     its type. Of one call's arguments, memory that it writes does not
  *     overlap with the rest.
- *   - One caller at a time for each monitor, and nobody else writes its
- *     memory from the first call to the last. Calls on different monitors,
- *     and delkuthi_report, may run at the same time in different threads.
+ *   - One caller at a time for each monitor, or several that only read it
+ *     (const delkuthi_monitor *); nobody else writes its memory from the first
+ *     call to the last. Calls on different monitors, and delkuthi_report, may
+ *     run at the same time in different threads.
+ *   - Every call is reentrant, so a signal handler may make it by the same
+ *     rules. The code uses SSE registers and the red zone below the stack
+ *     pointer: in an interrupt handler or a kernel it may be used only where
+ *     both are cared for. It has no unwind tables: a debugger that stops in a
+ *     call does not find the caller.
  *   - Every pattern of bits is safe: a call on memory that delkuthi_fresh
  *     never filled still ends, as soon as on any other, and still touches
  *     nothing else. But what it answers then means nothing.
@@ -145,7 +153,7 @@
  *
  * WHAT EACH ROW ASKS
  *
- * Bounds include their ends. docs/CONTRACT.md has the corners and examples of
+ * Bounds include their ends. CONTRACT.md has the corners and examples of
  * each type, from clause 5.1 on.
  *
  *   1 Delay       For each source, at time s, a target comes at s + lower or
@@ -213,7 +221,7 @@
  * A BENCH LOOP
  *
  * It has a monitor, gives it each step when it comes, and stops at the first
- * broken row. next_step is the bench's own; host/c/bench_loop.c has one that
+ * broken row. next_step is the bench's own; examples/bench_loop.c has one that
  * reads a recording.
 
 #include "delkuthi.h"
@@ -397,9 +405,11 @@ enum delkuthi_refusal {
                                        part of it */
     DELKUTHI_NO_STRETCH = 23, /* no stretch of it breaks the row */
 
-    /* A row for late stamps (delkuthi_stamps). Ask for another row. */
+    /* A withdrawal (delkuthi_withdraw). Take a step first. */
     DELKUTHI_NOTHING_TO_WITHDRAW = 21, /* no step was taken since the last
-                                          withdrawal: take a step first */
+                                          withdrawal, or none at all */
+
+    /* A row for late stamps (delkuthi_stamps). Ask for another row. */
     DELKUTHI_NOT_REPEAT = 25 /* the row is not a Repeat of span 1 */
 
     /*
@@ -648,8 +658,8 @@ static inline uint64_t delkuthi_make_table(const delkuthi_row *rows,
  * moves to its time.
  *
  * Returns DELKUTHI_TAKEN, or a refusal, which is one of DELKUTHI_CLOSED,
- * DELKUTHI_KIND, DELKUTHI_FORM, DELKUTHI_TIME_RANGE, DELKUTHI_TIME_ORDER and
- * DELKUTHI_CROWDED and leaves the monitor as it was.
+ * DELKUTHI_COUNT_FULL, DELKUTHI_KIND, DELKUTHI_FORM, DELKUTHI_TIME_RANGE,
+ * DELKUTHI_TIME_ORDER and DELKUTHI_CROWDED, and leaves the monitor as it was.
  */
 uint8_t delkuthi_event(delkuthi_monitor *monitor, uint8_t kind, uint64_t time);
 
@@ -668,15 +678,16 @@ uint8_t delkuthi_coloured_event(delkuthi_monitor *monitor, uint8_t kind,
  * runs on without events learns by ticks that a row's answer did not come.
  *
  * Returns DELKUTHI_TAKEN, or a refusal, which is one of DELKUTHI_CLOSED,
- * DELKUTHI_TIME_RANGE and DELKUTHI_TIME_ORDER and leaves the monitor as it
- * was.
+ * DELKUTHI_COUNT_FULL, DELKUTHI_TIME_RANGE and DELKUTHI_TIME_ORDER, and leaves
+ * the monitor as it was.
  */
 uint8_t delkuthi_tick(delkuthi_monitor *monitor, uint64_t time);
 
 /*
  * Closes the recording. No step is taken after it, and no row is open.
  *
- * Returns DELKUTHI_TAKEN, or DELKUTHI_CLOSED if it is closed already.
+ * Returns DELKUTHI_TAKEN; or DELKUTHI_CLOSED if it is closed already, or
+ * DELKUTHI_COUNT_FULL, which leave the monitor as it was.
  */
 uint8_t delkuthi_close(delkuthi_monitor *monitor);
 
@@ -684,7 +695,8 @@ uint8_t delkuthi_close(delkuthi_monitor *monitor);
  * Withdraws the last step that was taken, be it an event, a tick or the close:
  * rows, clock and count are as if it had never been taken. Only the last step
  * can be withdrawn, and once: after that another step must be taken first. A
- * call that is refused does not use it up. A withdrawal is no step itself.
+ * call that is refused changes nothing about that. A withdrawal is no step
+ * itself.
  *
  * Returns DELKUTHI_TAKEN, or DELKUTHI_NOTHING_TO_WITHDRAW, which leaves the
  * monitor as it was.
@@ -714,7 +726,10 @@ uint8_t delkuthi_row_verdict(const delkuthi_monitor *monitor, uint64_t row);
  */
 uint64_t delkuthi_row_step(const delkuthi_monitor *monitor, uint64_t row);
 
-/* Returns the number of rows of the monitor's table, 0 to 32. */
+/*
+ * Returns the number of rows of the monitor's table: 0 to 32, on memory in which
+ * delkuthi_fresh made a monitor.
+ */
 uint64_t delkuthi_rows(const delkuthi_monitor *monitor);
 
 /*
@@ -784,13 +799,13 @@ size_t delkuthi_report_on(delkuthi_monitor *monitor,
 
 /*
  * Says what a Repeat row of span 1 reads at the close of a recording whose
- * stamps may be late by up to `late`. A true time lies from `late` before its
- * stamp to the stamp, not below 0, and the true times of the row's events rise
- * strictly; the clock stands as recorded. The row's number counts from 0.
+ * stamps may be late by up to `late`. Each event of the row then happened at a
+ * time t with stamp - late <= t <= stamp and 0 <= t, each after the one before;
+ * of the clock the recording is right. The row's number counts from 0.
  *
  * Returns a word as below; or, if DELKUTHI_NUMBER of the answer is not
  * DELKUTHI_TAKEN, a refusal with that number and DELKUTHI_PLACE: of the table
- * (1 to 7), of a record or its step (8 to 14, never DELKUTHI_CROWDED); then, with
+ * (1 to 7 and 18), of a record or its step (9 to 11, 13, 14 and 19); then, with
  * the place 0, DELKUTHI_NO_ROW, DELKUTHI_NOT_REPEAT, and DELKUTHI_TIME_RANGE if
  * `late` is above DELKUTHI_LAST_TIME. A place above 2^56 - 1 is given as that.
  */
@@ -812,14 +827,14 @@ uint64_t delkuthi_stamps(const uint8_t *table, size_t table_length,
  * Joins two recordings that have no kind in common, and writes the joined one
  * to the front of a buffer. Records stand by time, at equal times those of the
  * first before those of the second; a tick that is not later than the joined
- * clock falls away. The version is the higher of the two. A buffer of as many
+ * clock is dropped. The version is the higher of the two. A buffer of as many
  * bytes as both recordings have together is always long enough. Bytes behind
  * the joined recording stay as they were.
  *
  * Returns the number of bytes, DELKUTHI_LENGTH of the answer; or, if
  * DELKUTHI_JOIN_NUMBER of it is not DELKUTHI_TAKEN, a refusal with that number and
- * DELKUTHI_PLACE: of a record of the first recording or its step (8 to 14 and 19,
- * never DELKUTHI_CROWDED), then of the second; then DELKUTHI_COMMON_KIND, with
+ * DELKUTHI_PLACE: of a record of the first recording or its step (9 to 11, 13, 14
+ * and 19), then of the second; then DELKUTHI_COMMON_KIND, with
  * the place of the second's first record of such a kind; then
  * DELKUTHI_TABLE_ROOM, with the place 0. DELKUTHI_JOIN_SECOND tells whether it
  * is the second recording that is refused. A place or a length above 2^56 - 1
@@ -847,10 +862,10 @@ uint64_t delkuthi_join(const uint8_t *first, size_t first_length,
  *
  * Returns a stretch as below; or, if DELKUTHI_NUMBER of the answer is not
  * DELKUTHI_TAKEN, a refusal with that number and DELKUTHI_PLACE: of the table
- * (1 to 7, 18), of a record or its step (8 to 14 and 19, never
- * DELKUTHI_CROWDED); then, with the place 0, DELKUTHI_TOO_MANY_RECORDS,
- * DELKUTHI_NO_ROW, and DELKUTHI_NO_STRETCH if no stretch breaks the row. A place
- * above 2^56 - 1 is given as that.
+ * (1 to 7 and 18), of a record or its step (9 to 11, 13, 14 and 19); then, with
+ * the place 0, DELKUTHI_TOO_MANY_RECORDS, DELKUTHI_NO_ROW, and
+ * DELKUTHI_NO_STRETCH if no stretch breaks the row. A place above 2^56 - 1 is
+ * given as that.
  */
 uint64_t delkuthi_shortest_stretch(const uint8_t *table, size_t table_length,
                                    const uint8_t *recording,

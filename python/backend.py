@@ -9,43 +9,53 @@ import tarfile
 import tomllib
 import zipfile
 from pathlib import Path
+from typing import Any, Iterator
 
 HERE = Path(__file__).parent
 PACKAGE = HERE / "delkuthi"
 
 
-def _project():
-    return tomllib.loads((HERE / "pyproject.toml").read_text(encoding="utf-8"))["project"]
+def _project() -> dict[str, Any]:
+    """What pyproject.toml says of the project."""
+    project: dict[str, Any] = tomllib.loads((HERE / "pyproject.toml").read_text(encoding="utf-8"))["project"]
+    return project
 
 
-def _version():
+def _version() -> str:
     return (PACKAGE / "VERSION").read_text(encoding="ascii").strip()
 
 
-def _metadata():
+def _metadata() -> str:
     """The name, the version, and what is needed for more."""
     project = _project()
     lines = ["Metadata-Version: 2.1", f"Name: {project['name']}", f"Version: {_version()}",
              f"Summary: {project['description']}", f"Requires-Python: {project['requires-python']}"]
+    lines.append(f"Keywords: {','.join(project['keywords'])}")
+    lines += [f"Classifier: {one}" for one in project["classifiers"]]
     for extra, needed in project["optional-dependencies"].items():
         lines.append(f"Provides-Extra: {extra}")
         lines += [f'Requires-Dist: {name}; extra == "{extra}"' for name in needed]
-    return "\n".join(lines) + "\n"
+    lines.append("Description-Content-Type: text/markdown")
+    return "\n".join(lines) + "\n\n" + Path(HERE, str(project["readme"])).read_text(encoding="utf-8")
 
 
-def _files():
+def _sources() -> list[Path]:
+    """The files of the package."""
+    return sorted(path for path in PACKAGE.rglob("*") if path.is_file() and "__pycache__" not in path.parts)
+
+
+def _files() -> Iterator[tuple[str, bytes]]:
     """The files of the wheel, without its list of them."""
     info = f"delkuthi-{_version()}.dist-info"
-    for path in sorted(PACKAGE.iterdir()):
-        if path.is_file():
-            yield f"delkuthi/{path.name}", path.read_bytes()
+    for path in _sources():
+        yield f"delkuthi/{path.relative_to(PACKAGE)}", path.read_bytes()
     scripts = "".join(f"{name} = {place}\n" for name, place in _project()["scripts"].items())
     yield f"{info}/METADATA", _metadata().encode()
     yield f"{info}/WHEEL", b"Wheel-Version: 1.0\nGenerator: delkuthi\nRoot-Is-Purelib: true\nTag: py3-none-any\n"
     yield f"{info}/entry_points.txt", f"[console_scripts]\n{scripts}".encode()
 
 
-def build_wheel(wheel_directory, config_settings=None, metadata_directory=None):
+def build_wheel(wheel_directory: str, config_settings: object = None, metadata_directory: object = None) -> str:
     """Writes the wheel and answers its name."""
     name = f"delkuthi-{_version()}-py3-none-any.whl"
     record = ""
@@ -59,13 +69,12 @@ def build_wheel(wheel_directory, config_settings=None, metadata_directory=None):
     return name
 
 
-def build_sdist(sdist_directory, config_settings=None):
+def build_sdist(sdist_directory: str, config_settings: object = None) -> str:
     """Writes the sources and answers the name of the archive."""
     base = f"delkuthi-{_version()}"
     with tarfile.open(Path(sdist_directory) / f"{base}.tar.gz", "w:gz", dereference=True) as archive:
-        for path in [HERE / "pyproject.toml", HERE / "backend.py", *sorted(PACKAGE.iterdir())]:
-            if path.is_file():
-                archive.add(path, f"{base}/{path.relative_to(HERE)}")
+        for path in [HERE / "pyproject.toml", HERE / "backend.py", HERE / "README.md", *_sources()]:
+            archive.add(path, f"{base}/{path.relative_to(HERE)}")
         data = _metadata().encode()
         entry = tarfile.TarInfo(f"{base}/PKG-INFO")
         entry.size = len(data)

@@ -2,7 +2,7 @@
  * A bench loop over a recorded drive: bench_loop TABLE RECORDING
  *
  * It gives the monitor each record as it comes and stops at the first broken
- * row. The loop is the one in the manual, include/delkuthi.h.
+ * row. The loop is the one in the manual, delkuthi.h.
  */
 #include "delkuthi.h"
 #include <inttypes.h>

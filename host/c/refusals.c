@@ -2,12 +2,90 @@
  * What every number of a refusal says: refusals
  *
  * A line for each number from 0 to 255. Before that it has every macro of the
- * header stand where a host would have it, so that a compiler can complain.
+ * header stand where a host would have it, so that a compiler can complain; and
+ * it compares every byte of a monitor before and after a refusal of each number
+ * that a call on a monitor can be refused with, but for the end of the count.
  */
 #include "delkuthi.h"
 #include <stdio.h>
+#include <string.h>
 
-static delkuthi_monitor monitor;
+static delkuthi_monitor monitor, before;
+
+/* Whether an answer has the number of a refusal, and all is as it was. */
+static int left(uint64_t answer, uint8_t number)
+{
+    return DELKUTHI_NUMBER(answer) == number && memcmp(&monitor, &before, sizeof monitor) == 0;
+}
+
+/* The same of a table: by fresh, and by the report on the monitor. */
+static int table_left(const uint8_t *table, size_t length, uint8_t number)
+{
+    static const uint8_t recording[1] = {1};
+    uint8_t report[64];
+
+    return left(delkuthi_fresh(&monitor, table, length), number)
+        && delkuthi_report_on(&monitor, table, length, recording, sizeof recording, report, sizeof report) > 0
+        && left(number, number);
+}
+
+/* Tables that are refused, each with its number. */
+static int tables_left(void)
+{
+    /* 33 rows, each an Order of kinds 0 and 1 */
+    static uint8_t rows[1 + 33 * 5];
+    static const uint8_t version[1] = {2}, cut[2] = {1, 0}, shape[6] = {1, 0, 3, 11, 0, 1},
+                         kinds[6] = {1, 0, 3, 6, 0, 64}, sort[6] = {1, 0, 3, 6, 0, 48};
+    /* a Repeat of span 0, and a Repeat from 2 to 1 */
+    static const uint8_t range[22] = {1, 0, 19, 3}, bounds[22] = {1, 0, 19, 3, 0, 1, 0, 0, 0, 0, 0, 0, 0, 2,
+                                                                 0, 0, 0, 0, 0, 0, 0, 1};
+    size_t i;
+
+    rows[0] = 1;
+    for (i = 0; i < 33; i++)
+        memcpy(rows + 1 + 5 * i, "\0\3\6\0\1", 5);
+    return table_left(version, sizeof version, DELKUTHI_TABLE_VERSION)
+        && table_left(cut, sizeof cut, DELKUTHI_ROW_CUT)
+        && table_left(rows, sizeof rows, DELKUTHI_ROW_TOO_MANY)
+        && table_left(shape, sizeof shape, DELKUTHI_ROW_SHAPE)
+        && table_left(kinds, sizeof kinds, DELKUTHI_ROW_KINDS)
+        && table_left(sort, sizeof sort, DELKUTHI_ROW_SORT)
+        && table_left(range, sizeof range, DELKUTHI_ROW_RANGE)
+        && table_left(bounds, sizeof bounds, DELKUTHI_ROW_BOUNDS);
+}
+
+/* Steps that are refused, each with its number, where 64 wait, after a withdrawal, and after the close. */
+static int steps_left(void)
+{
+    /* a Delay from kind 0 to kind 1, 0 to 1,000 */
+    static const uint8_t delay[22] = {1, 0, 19, 1, 0, 1, 0, 0, 0, 0, 0, 0, 0, 0, 0, 0, 0, 0, 0, 0, 3, 232};
+    uint64_t time;
+
+    if (delkuthi_fresh(&monitor, delay, sizeof delay) != DELKUTHI_TAKEN)
+        return 0;
+    for (time = 1; time <= DELKUTHI_WAITING_LIMIT; time++)
+        if (delkuthi_event(&monitor, 0, time) != DELKUTHI_TAKEN)
+            return 0;
+    if (delkuthi_tick(&monitor, 65) != DELKUTHI_TAKEN || delkuthi_withdraw(&monitor) != DELKUTHI_TAKEN)
+        return 0;
+    before = monitor;
+    return left(delkuthi_event(&monitor, 0, 65), DELKUTHI_CROWDED)
+        && left(delkuthi_withdraw(&monitor), DELKUTHI_NOTHING_TO_WITHDRAW)
+        && left(delkuthi_event(&monitor, DELKUTHI_LAST_KIND + 1, 65), DELKUTHI_KIND)
+        && left(delkuthi_coloured_event(&monitor, DELKUTHI_LAST_KIND + 1, 0, 65), DELKUTHI_KIND)
+        && left(delkuthi_event(&monitor, DELKUTHI_FIRST_COLOURED, 65), DELKUTHI_FORM)
+        && left(delkuthi_coloured_event(&monitor, 0, 0, 65), DELKUTHI_FORM)
+        && left(delkuthi_event(&monitor, 1, DELKUTHI_LAST_TIME + 1), DELKUTHI_TIME_RANGE)
+        && left(delkuthi_tick(&monitor, DELKUTHI_LAST_TIME + 1), DELKUTHI_TIME_RANGE)
+        && left(delkuthi_event(&monitor, 0, 64), DELKUTHI_TIME_ORDER)
+        && left(delkuthi_coloured_event(&monitor, DELKUTHI_FIRST_COLOURED, 0, 63), DELKUTHI_TIME_ORDER)
+        && left(delkuthi_tick(&monitor, 64), DELKUTHI_TIME_ORDER)
+        && tables_left()
+        && delkuthi_close(&monitor) == DELKUTHI_TAKEN && (before = monitor, 1)
+        && left(delkuthi_event(&monitor, 1, 65), DELKUTHI_CLOSED)
+        && left(delkuthi_tick(&monitor, 65), DELKUTHI_CLOSED)
+        && left(delkuthi_close(&monitor), DELKUTHI_CLOSED);
+}
 
 /* Every macro in use. Returns whether all is as the header says. */
 static int macros(void)
@@ -45,5 +123,5 @@ int main(void)
 
     for (number = 0; number < 256; number++)
         printf("%s\n", delkuthi_refusal_text((uint8_t)number));
-    return macros() ? 0 : 1;
+    return macros() && steps_left() ? 0 : 1;
 }

@@ -1,45 +1,62 @@
 """A log checked against a table: a verdict for each row, and for a broken one where, when and why."""
 from __future__ import annotations
 
+from collections import Counter, deque
 from contextlib import AbstractContextManager, nullcontext
-from dataclasses import dataclass, field
+from dataclasses import asdict, dataclass, field
 from itertools import islice
-from typing import Callable, Iterable
+from operator import itemgetter
+from typing import Callable, Iterable, Iterator, Sequence
 
+from .batches import OTHER, Codes, Irregular
 from .library import Refused
-from .logs import Log, LogError, Policy, Step
+from .logs import Counts, Log, LogError, Policy, Step
+from .measure import Measuring
+from .measured import Described, described
+from .missing import warnings
+from .moments import Moments
 from .monitor import Monitor
-from .reasons import Case, Kind
-from .signals import parts
-from .table import Table
-from .units import shown
+from .monitors import Monitors, Recorder, monitor_of
+from .reasons import Case, Kind, Reason
+from .rowtypes import judged
+from .table import Row, Table
 
 #: What watches a log while it is read.
-Progress = Callable[[Log], AbstractContextManager]
+Progress = Callable[[Log], AbstractContextManager[None]]
 #: What is said where no reason is found.
 UNKNOWN = "nothing that could still come would meet it"
+#: What is said behind the verdict of a row that is kept, or open, because nothing of it was in the log.
+IDLE = ", never exercised"
+UNEXERCISED = f"kept{IDLE}"
 #: So many steps are given to the monitor before its rows are asked.
-_CHUNK = 1024
-#: What a call can be given as a time; the library says which times are in range.
-_LARGEST = 2**64 - 1
+CHUNK = 1024
 #: The types in which something waits.
 _WAITING = ("Delay", "StrongDelay", "StrongSynchronization")
+_SIGNAL, _PAIR = itemgetter(0), itemgetter(0, 1)
 
 
 @dataclass
 class RowOutcome:
-    """What a row reads in the end; for a broken one the step, its place in the log, its time, and the reason."""
+    """What a row reads in the end, and how much of it was in the log: events of its kinds, and instances that were judged.
+    For a broken one the step, its place in the log, its stamp, and the reason."""
 
     number: int
     name: str
     type: str
     verdict: str
+    events: int = 0
+    instances: int = 0
     step: int | None = None
     place: int | None = None
     where: str | None = None
     time: int | None = None
     by_close: bool = False
+    reason: str | None = None
+    #: The events that the reason is about: their signals and stamps.
+    about: list[tuple[int, int]] = field(default_factory=list)
     message: str | None = None
+    #: What it measured, where that was asked for.
+    measured: Described | None = None
 
 
 @dataclass
@@ -50,23 +67,38 @@ class Outcome:
     word: str = "line"
     rows: list[RowOutcome] = field(default_factory=list)
     steps: int = 0
-    lines: int = 0
-    events: int = 0
+    counts: Counts = field(default_factory=Counts)
     clock: int = 0
     closed: bool = False
+    #: Is a row that was never exercised a failure?
+    exercised: bool = False
+    moments: Moments = Moments()
+    warnings: list[str] = field(default_factory=list)
     error: str | None = None
     refused: int | None = None
     page: str | None = None
+    #: The file, or the files, that the log is in.
+    files: str | tuple[str, ...] = ""
 
     @property
     def broken(self) -> list[RowOutcome]:
         """The rows that are broken."""
-        return [row for row in self.rows if row.verdict == "broken"]
+        return self.of("broken")
+
+    @property
+    def unexercised(self) -> list[RowOutcome]:
+        """The rows that are kept, or open, and were never exercised."""
+        return [row for row in self.rows if row.verdict.endswith(IDLE)]
+
+    def of(self, verdict: str) -> list[RowOutcome]:
+        """The rows of a verdict."""
+        return [row for row in self.rows if row.verdict == verdict]
 
     @property
     def status(self) -> int:
-        """0 if no row is broken, 1 if one is, 2 if something was refused."""
-        return 2 if self.error is not None else 1 if self.broken else 0
+        """0 if no row is broken, 1 if one is, or was not exercised where that is asked; 2 if something was refused."""
+        idle = self.unexercised or not self.rows
+        return 2 if self.error is not None else 1 if self.broken or self.exercised and idle else 0
 
     @property
     def messages(self) -> list[str]:
@@ -74,6 +106,11 @@ class Outcome:
         if self.error is not None:
             return [self.error]
         return [row.message or "" for row in sorted(self.broken, key=lambda row: (row.step or 0, row.number))]
+
+    def as_dict(self) -> dict[str, object]:
+        """For JSON: the fields by their names, times as the log's stamps."""
+        found = {name: value for name, value in asdict(self).items() if name not in ("counts", "moments", "exercised", "files")}
+        return {**found, **asdict(self.counts), "offset": self.moments.shift, "status": self.status}
 
 
 class StepRefused(Exception):
@@ -86,30 +123,23 @@ class StepRefused(Exception):
 
 @dataclass
 class Run:
-    """What a run of a monitor over steps found: for each broken row its step, and what that step was."""
+    """What a run of a monitor over steps found: for each broken row its step, and what that step was; and how many events
+    of each signal there were."""
 
     broken: dict[int, tuple[int, Step | None]] = field(default_factory=dict)
     steps: int = 0
     last: Step = Step(None, 0, 0)
+    seen: Counter[int | None] = field(default_factory=Counter)
 
 
-def run(monitor: Monitor, steps: Iterable[Step], close: bool) -> Run:
+def run(monitor: Monitor | Monitors, steps: Iterable[Step], close: bool) -> Run:
     """Gives the steps to the monitor, and closes it if asked; :class:`StepRefused` at the first that is refused."""
-    library, memory = monitor._library, monitor._memory
-    event, coloured, tick = library.delkuthi_event, library.delkuthi_coloured_event, library.delkuthi_tick
-    found = Run()
-    steps = iter(steps)
-    while chunk := list(islice(steps, _CHUNK)):
-        for step in chunk:
-            kind, time, _ = step
-            if time > _LARGEST:
-                raise StepRefused(step, Refused(10))
-            if kind is None:
-                answer = tick(memory, time)
-            else:
-                answer = event(memory, kind, time) if kind < 256 else coloured(memory, *parts(kind), time)
-            if answer:
-                raise StepRefused(step, Refused(answer))
+    found, steps = Run(), iter(steps)
+    while chunk := list(islice(steps, CHUNK)):
+        taken, refusal = monitor.take_all(map(_PAIR, chunk))
+        if refusal:
+            raise StepRefused(chunk[taken], Refused(refusal))
+        found.seen.update(map(_SIGNAL, chunk))
         _ask(monitor, found, chunk)
         found.steps += len(chunk)
         found.last = chunk[-1]
@@ -120,93 +150,247 @@ def run(monitor: Monitor, steps: Iterable[Step], close: bool) -> Run:
     return found
 
 
-def _ask(monitor: Monitor, found: Run, chunk: list[Step]) -> None:
+def run_log(table: Table, log: Log, close: bool) -> tuple[Run, Monitor | Monitors]:
+    """Gives a log to the monitors of a table, many steps in one call where they are all alike; what the steps were that broke rows is
+    found when the log is read again. :class:`StepRefused` at the first step that is refused."""
+    try:
+        return _run_chunks(table, log, close)
+    except Irregular:
+        monitor = monitor_of(table)
+        return run(monitor, log.steps(), close), monitor
+
+
+def _run_chunks(table: Table, log: Log, close: bool) -> tuple[Run, Monitor | Monitors]:
+    """The same by chunks; :class:`Irregular` where they do not do."""
+    codes, found, counts, whole = Codes(table), Run(), Counter[int](), table.whole
+    recorders = [Recorder(Monitor(table if whole else part.data), codes, None if whole else part) for part in table.parts]
+    try:
+        for times, events, last in log.chunks(codes):
+            for recorder in recorders:
+                recorder.take(times, events)
+            counts.update(events)
+            found.steps, found.last = found.steps + len(events), last
+    except LogError:
+        _flush(log, recorders)
+        raise
+    _flush(log, recorders)
+    found.seen.update({None if code == OTHER else codes.numbers[code]: count for code, count in counts.items()})
+    for recorder in recorders if close else ():
+        recorder.monitor.close()
+    found.steps += close
+    for recorder in recorders:
+        for row in range(len(recorder.monitor.table.rows)):
+            number = recorder.monitor.step(row)
+            if number is not None and not whole:
+                raise Irregular  # its steps are not numbered as those of the whole table
+            if number is not None:
+                found.broken[row] = number, None
+    return found, recorders[0].monitor if whole else Monitors.closed(table, [recorder.monitor for recorder in recorders], found.steps)
+
+
+def _flush(log: Log, recorders: list[Recorder]) -> None:
+    """Gives the monitors what was kept for them; :class:`StepRefused` if a step was refused."""
+    for recorder in recorders:
+        recorder.flush()
+        if recorder.refused is not None:
+            if len(recorders) > 1 or recorder.refused[1] == 11:
+                raise Irregular  # what is out of order is for the policy, step by step
+            step = next(islice(Log(log.files, log.table, log.policy).steps(), recorder.refused[0], None))
+            raise StepRefused(step, Refused(recorder.refused[1]))
+
+
+def _noted(steps: Iterable[Step], found: Run, close: bool) -> Iterator[Step]:
+    """The steps once more, those noted that broke a row."""
+    wanted: dict[int, list[int]] = {}
+    for row, (number, _) in found.broken.items():
+        wanted.setdefault(number, []).append(row)
+    if close:
+        wanted.pop(found.steps, None)
+    for number, step in enumerate(steps, 1):
+        for row in wanted.get(number, ()):
+            found.broken[row] = number, step
+        yield step
+
+
+def _ask(monitor: Monitor | Monitors, found: Run, chunk: list[Step]) -> None:
     """Which rows are broken that were not, and by which of these steps; by the close if there are none."""
     for row in range(len(monitor.table.rows)):
         if row not in found.broken:
-            number = monitor._library.delkuthi_row_step(monitor._memory, row)
-            if number:
+            number = monitor.step(row)
+            if number is not None:
                 found.broken[row] = number, (chunk[number - found.steps - 1] if chunk else None)
 
 
-def reasons_of(table: Table, steps: Iterable[Step], found: Run, at: Callable[[int], str]) -> dict[int, str]:
-    """Why each broken row is broken, from the same steps once more."""
-    ends: dict[int, list[int]] = {}
-    for row, (number, step) in found.broken.items():
-        ends.setdefault(number, []).append(row)
-    said: dict[int, str] = {}
-    events = {kind: Kind() for row in found.broken for kind in table.rows[row].hears}
+@dataclass(frozen=True)
+class Late:
+    """A reason that waits for an answer, which comes too late if it comes."""
+
+    case: Case
+    reason: Reason
+
+    def take(self, kind: int, time: int, place: int) -> str | None:
+        """One more event; what is to be said once all that was awaited has come."""
+        if kind in self.reason.needs:
+            self.case.of(kind).add(time, place)
+            if all(map(self.case.came, self.reason.awaited)):
+                return self.reason.say(True)
+        return None
+
+
+@dataclass(frozen=True)
+class Why:
+    """Why a row is broken: the reason, and the signals and times of the events that it is about."""
+
+    text: str
+    about: tuple[tuple[int, int], ...] = ()
+    #: What the reason still waits for, while a bus is watched.
+    late: Late | None = None
+
+
+class _Reasons:
+    """The reasons of a run, found in the same steps once more."""
+
+    def __init__(self, table: Table, found: Run, at: Callable[[int], str], moments: Moments):
+        self.table, self.at, self.moments = table, at, moments
+        self.said: dict[int, Why] = {}
+        self.open: dict[int, tuple[Case, Reason]] = {}
+        self.ends: dict[int, list[int]] = {}
+        for row, (number, _) in found.broken.items():
+            self.ends.setdefault(number, []).append(row)
+        self.events: dict[int, Kind] = {}
+        self.needed = self.needs()
+
+    def needs(self) -> set[int]:
+        """The signals whose events are looked at from now on."""
+        rows = [row for rows in self.ends.values() for row in rows]
+        late = {number for _, reason in self.open.values() for number in reason.needs}
+        return late | {number for row in rows for number in self.table.rows[row].signals}
+
+    def take(self, number: int, step: Step) -> None:
+        """The step of a number: an event more, rows that it broke, answers that came late."""
+        kind, time, place = step
+        if kind in self.needed:
+            assert kind is not None
+            self.events.setdefault(kind, Kind()).add(time, place)
+            for row in [row for row, (case, reason) in self.open.items() if all(map(case.came, reason.awaited))]:
+                self.say(row, True)
+        self.broken(number, time, False)
+
+    def broken(self, number: int, time: int, closed: bool) -> None:
+        """The rows that the step of a number broke."""
+        rows = self.ends.pop(number, ())
+        for row in rows:
+            case = Case(self.table, self.table.rows[row], self.events, time, closed, self.at, self.moments)
+            reason = self.table.rows[row].type.reason(case)
+            self.open[row] = case, reason or Reason(lambda ended: UNKNOWN)
+            if reason is None or all(map(case.came, reason.awaited)):
+                self.say(row, True)
+        if rows:
+            self.needed = self.needs()
+
+    def say(self, row: int, ended: bool) -> None:
+        """The reason of a row, now that nothing more is awaited."""
+        case, reason = self.open.pop(row)
+        about = tuple((one.signal, case.time(one)) for one in reason.about if case.came(one))
+        waits = not ended and not all(map(case.came, reason.awaited))
+        self.said[row] = Why(reason.say(ended), about, Late(case, reason) if waits else None)
+        self.needed = self.needs()
+
+    @property
+    def done(self) -> bool:
+        """Is there nothing more to look for?"""
+        return not self.ends and not self.open
+
+
+def reasons_of(table: Table, steps: Iterable[Step], found: Run, at: Callable[[int], str], moments: Moments,
+               ended: bool = True) -> dict[int, Why]:
+    """Why each broken row is broken, from the same steps once more. Unless the log is at its end, what has not come may still."""
+    reasons = _Reasons(table, found, at, moments)
     number, last = 0, Step(None, 0, 0)
-
-    def say(closed: bool) -> None:
-        for row in ends.pop(number, ()):
-            case = Case(table, table.rows[row], events, last.time, closed, at)
-            said[row] = table.rows[row].type.reason(case) or UNKNOWN
-
     for number, last in enumerate(steps, 1):
-        if last.kind in events:
-            events[last.kind].add(last.time, last.place)
-        say(False)
-        if not ends:
-            return said
-    number += 1
-    say(True)
-    return said
+        reasons.take(number, last)
+        if reasons.done:
+            break
+    reasons.broken(number + 1, last.time, True)
+    for row in list(reasons.open):
+        reasons.say(row, ended)
+    return reasons.said
 
 
-def check(table: Table, path: str, policy: Policy = Policy(), progress: Progress | None = None) -> Outcome:
-    """Checks a log against a table. Nothing of the log is kept: where a row is broken it is read a second time."""
+def _without(log: Log) -> AbstractContextManager[None]:
+    """Nothing that watches a log."""
+    return nullcontext()
+
+
+def check(table: Table, path: str | Sequence[str], policy: Policy = Policy(), progress: Progress | None = None, exercised: bool = False,
+          measured: bool = False) -> Outcome:
+    """Checks a log, or several files that are one, against a table, and measures its rows if asked. Nothing of the log is kept: where
+    a row is broken, or for measuring, it is read a second time."""
     log = Log(path, table, policy)
-    outcome = Outcome(path, log.word, closed=policy.close)
-    monitor = Monitor(table)
+    outcome = Outcome(log.path, log.word, closed=policy.close, exercised=exercised, files=log.files)
+    measuring, bar, why = Measuring(table) if measured else None, progress or _without, {}
     try:
-        with nullcontext() if progress is None else progress(log):
-            found = run(monitor, log.steps(), policy.close)
-        outcome.lines, outcome.events = log.read, log.events
-        # A log that has grown since is read as far as before.
-        again = islice(log.steps(), found.steps - policy.close)
-        why = reasons_of(table, again, found, log.at) if found.broken else {}
+        with bar(log):
+            found, monitor = run_log(table, log, policy.close)
+        outcome.counts, outcome.moments = log.counts, log.moments
+        outcome.warnings = warnings(table, log, found.seen)
+        if found.broken or measuring is not None:
+            with bar(log):
+                # A log that has grown since is read as far as before.
+                again = _noted(islice(log.steps(), found.steps - policy.close), found, policy.close)
+                steps = again if measuring is None else measuring.taking(again)
+                why = reasons_of(table, steps, found, log.at, outcome.moments, policy.close)
+                deque(steps if measuring is not None else (), maxlen=0)
     except LogError as error:
         outcome.error = str(error)
         return outcome
     except OSError as error:
-        outcome.error = f"{path}: {error.strerror or error}"
+        outcome.error = f"{error.filename or log.path}: {error.strerror or error}"
         return outcome
     except StepRefused as refused:
-        outcome.error = f"{path}{log.where(refused.step.place)}: {_refusal(table, refused)}"
+        outcome.error = f"{log.placed(refused.step.place)}: {_refusal(table, log.moments, refused)}"
         outcome.refused = refused.refusal.number
         return outcome
-    outcome.steps, outcome.clock, outcome.page = found.steps, found.last.time, monitor.page()
-    outcome.rows = [_row(table, log, number, found, why) for number in range(len(table.rows))]
+    outcome.steps, outcome.clock, outcome.page = found.steps, outcome.moments.stamp(found.last.time), monitor.page()
+    outcome.rows = [_row(table, log, number, found, why, outcome.moments) for number in range(len(table.rows))]
+    for row, measure in zip(outcome.rows, [] if measuring is None else measuring.end(found.last.time, policy.close)):
+        row.measured = described(measure, outcome.moments.stamp, log.at)
     for row in outcome.rows:
         if row.verdict != "broken":
-            row.verdict = monitor.verdict(row.number).word
+            row.verdict = monitor.verdict(row.number).word + ("" if row.instances else IDLE)
     return outcome
 
 
-def _row(table: Table, log: Log, number: int, found: Run, why: dict[int, str]) -> RowOutcome:
+def _row(table: Table, log: Log, number: int, found: Run, why: dict[int, Why], moments: Moments) -> RowOutcome:
     row = table.rows[number]
-    outcome = RowOutcome(number, row.name or f"row {number}", row.type.name, "open")
+    outcome = RowOutcome(number, row.name or f"row {number}", row.type.name, "open", sum(found.seen[kind] for kind in row.signals),
+                         judged(row.type, row.values, found.seen))
     if number not in found.broken:
         return outcome
     outcome.step, step = found.broken[number]
     outcome.verdict, outcome.by_close = "broken", step is None
     step = step or found.last
-    outcome.place, outcome.time, outcome.where = step.place, step.time, f"{log.path}{log.where(step.place)}"
-    at = "at the end" if outcome.by_close else f"at {shown(step.time, table.unit)}"
-    outcome.message = f"{outcome.where}: {table.row_name(number)} ({row.type.name}) broken {at}: {why.get(number, UNKNOWN)}"
+    outcome.place, outcome.time, outcome.where = log.reader.number(step.place), moments.stamp(step.time), log.placed(step.place)
+    at = "at the end" if outcome.by_close else f"at {moments.at(step.time)}"
+    outcome.reason = why[number].text if number in why else UNKNOWN
+    outcome.about = [(kind, moments.stamp(time)) for kind, time in why[number].about] if number in why else []
+    outcome.message = f"{outcome.where}: {table.row_name(number)} ({row.type.name}) broken {at}: {outcome.reason}"
     return outcome
 
 
-def _refusal(table: Table, refused: StepRefused) -> str:
+def _refusal(table: Table, moments: Moments, refused: StepRefused) -> str:
     """What to do about a refused step."""
-    kind, time, number = refused.step.kind, shown(refused.step.time, table.unit), refused.refusal.number
+    kind, number = refused.step.kind, refused.refusal.number
     what = "the clock" if kind is None else table.event_name(kind)
-    text = f"{what} at {time} {refused.refusal}"
+    text = f"{what} at {moments.at(refused.step.time)} {refused.refusal}"
     if number == 10:
         return text + "; --from-zero counts the stamps from the first one"
     if number == 12 and kind is not None:
-        rows = [table.row_name(number) for number, row in enumerate(table.rows) if row.type.name in _WAITING
-                and kind in (row.kinds if "kinds" in row.values else row.kinds[:1])]
+        rows = [f"{table.row_name(number)}" for number, row in enumerate(table.rows) if _waits(row, kind)]
         return text + f" (one of {', '.join(rows)}): ask for less patience there" if rows else text
     return text
+
+
+def _waits(row: Row, kind: int) -> bool:
+    """Can an event of this kind begin to wait in the row?"""
+    return row.type.name in _WAITING and kind in (row.kinds if "kinds" in row.values else row.kinds[:1])

@@ -2,12 +2,11 @@
 from __future__ import annotations
 
 import ctypes
-import ctypes.util
 import os
 import sys
 from functools import lru_cache
 from pathlib import Path
-from typing import Iterator
+from typing import Any, Iterator
 
 #: The package's version. It works with each library of the same first two numbers.
 VERSION = (Path(__file__).parent / "VERSION").read_text(encoding="ascii").strip()
@@ -18,7 +17,9 @@ LAST_KIND = 63
 FIRST_COLOURED = 48
 LAST_COLOUR = 7
 NO_LIMIT = 2**64 - 1
+ROW_LIMIT = 32
 TABLE_LIMIT = 2048
+RECORDING_LIMIT = 61_440
 REPORT_LIMIT = 1024
 PAGE_LIMIT = 2482
 
@@ -43,6 +44,8 @@ REFUSALS = {
     17: "a file is too large",
     18: "a row has a plain kind where its type takes coloured ones, or a coloured one where it takes plain ones",
     19: "an event has no colour and a coloured kind, or a colour and a plain kind, or no such colour",
+    20: "a kind is found in both recordings",
+    21: "there is no step to withdraw",
     22: "the recording has more than 256 records",
     23: "no stretch of the recording breaks the row",
     24: "the count of steps is full",
@@ -64,7 +67,7 @@ class Refused(Exception):
         where = "" if place is None else f" at byte {place}"
         super().__init__(f"refused with {number}{where}: {self.text}")
 
-    def __reduce__(self):
+    def __reduce__(self) -> tuple[Any, ...]:
         return (Refused, (self.number, self.place))
 
 
@@ -72,25 +75,33 @@ class LibraryMissing(Exception):
     """The shared library was not found, or is not of this package's version."""
 
 
-def _calls() -> dict[str, tuple]:
-    data, length, monitor, number = ctypes.c_char_p, ctypes.c_size_t, ctypes.c_void_p, ctypes.c_uint64
-    return {
-        "delkuthi_version": (ctypes.c_uint32, []),
-        "delkuthi_monitor_size": (number, []),
-        "delkuthi_fresh": (number, [monitor, data, length]),
-        "delkuthi_event": (ctypes.c_uint8, [monitor, ctypes.c_uint8, number]),
-        "delkuthi_coloured_event": (ctypes.c_uint8, [monitor, ctypes.c_uint8, ctypes.c_uint8, number]),
-        "delkuthi_tick": (ctypes.c_uint8, [monitor, number]),
-        "delkuthi_close": (ctypes.c_uint8, [monitor]),
-        "delkuthi_withdraw": (ctypes.c_uint8, [monitor]),
-        "delkuthi_row_verdict": (ctypes.c_uint8, [monitor, number]),
-        "delkuthi_row_step": (number, [monitor, number]),
-        "delkuthi_rows": (number, [monitor]),
-        "delkuthi_page": (length, [monitor, data, length]),
-        "delkuthi_stamps": (number, [data, length, data, length, number, number]),
-        "delkuthi_shortest_stretch": (number, [data, length, data, length, number]),
-        "delkuthi_report": (length, [data, length, data, length, data, length]),
-    }
+_DATA, _LENGTH, _MONITOR, _NUMBER, _BYTE = ctypes.c_char_p, ctypes.c_size_t, ctypes.c_void_p, ctypes.c_uint64, ctypes.c_uint8
+#: The calls that the package needs: what each answers, and what it is given.
+CALLS: dict[str, tuple[Any, list[Any]]] = {
+    "delkuthi_version": (ctypes.c_uint32, []),
+    "delkuthi_monitor_size": (_NUMBER, []),
+    "delkuthi_fresh": (_NUMBER, [_MONITOR, _DATA, _LENGTH]),
+    "delkuthi_event": (_BYTE, [_MONITOR, _BYTE, _NUMBER]),
+    "delkuthi_coloured_event": (_BYTE, [_MONITOR, _BYTE, _BYTE, _NUMBER]),
+    "delkuthi_tick": (_BYTE, [_MONITOR, _NUMBER]),
+    "delkuthi_close": (_BYTE, [_MONITOR]),
+    "delkuthi_withdraw": (_BYTE, [_MONITOR]),
+    "delkuthi_row_verdict": (_BYTE, [_MONITOR, _NUMBER]),
+    "delkuthi_row_step": (_NUMBER, [_MONITOR, _NUMBER]),
+    "delkuthi_rows": (_NUMBER, [_MONITOR]),
+    "delkuthi_page": (_LENGTH, [_MONITOR, _DATA, _LENGTH]),
+    "delkuthi_stamps": (_NUMBER, [_DATA, _LENGTH, _DATA, _LENGTH, _NUMBER, _NUMBER]),
+    "delkuthi_shortest_stretch": (_NUMBER, [_DATA, _LENGTH, _DATA, _LENGTH, _NUMBER]),
+    "delkuthi_join": (_NUMBER, [_DATA, _LENGTH, _DATA, _LENGTH, _DATA, _LENGTH]),
+    "delkuthi_report": (_LENGTH, [_DATA, _LENGTH, _DATA, _LENGTH, _DATA, _LENGTH]),
+    "delkuthi_report_on": (_LENGTH, [_MONITOR, _DATA, _LENGTH, _MONITOR, _LENGTH, _DATA, _LENGTH]),
+}
+#: The calls that are used where the library has them.
+FURTHER: dict[str, tuple[Any, list[Any]]] = {
+    "delkuthi_deadline": (_NUMBER, [_MONITOR]),
+    "delkuthi_row_deadline": (_NUMBER, [_MONITOR, _NUMBER]),
+    "delkuthi_row_waiting": (_NUMBER, [_MONITOR, _NUMBER]),
+}
 
 
 def candidates() -> Iterator[str]:
@@ -124,9 +135,15 @@ def library() -> ctypes.CDLL:
             f"libdelkuthi.so.{INTERFACE} was not found: `make install` installs it, and DELKUTHI_LIB can name its folder "
             f"(tried {', '.join(tried)})"
         )
-    for name, (result, arguments) in _calls().items():
+    for name, (result, arguments) in CALLS.items():
+        if not hasattr(found, name):
+            raise LibraryMissing(f"{path} has no call {name}: it is not a library of version {INTERFACE}; install both anew")
         call = getattr(found, name)
         call.restype, call.argtypes = result, arguments
+    for name, (result, arguments) in FURTHER.items():
+        if hasattr(found, name):
+            call = getattr(found, name)
+            call.restype, call.argtypes = result, arguments
     version = found.delkuthi_version()
     interface = f"{version // 1_000_000}.{version // 1000 % 1000}"
     if interface != INTERFACE:

@@ -1,15 +1,20 @@
-"""The monitor and the report, over the library's calls."""
+"""The monitor, and the calls on whole recordings: the report, late stamps, two joined, the shortest stretch."""
 from __future__ import annotations
 
 import ctypes
+import io
 from dataclasses import dataclass
+from typing import Iterable, Sequence
 
 from . import library as lib
 from .library import Refused
+from .recording import records
 from .signals import NO_COLOUR, parts, signal
 from .table import Table
 
 _WORDS = ("open", "kept", "broken")
+#: What a number is given to a call as that 64 bits cannot hold: out of range as well.
+_LARGEST = 2**64 - 1
 
 
 @dataclass(frozen=True)
@@ -31,54 +36,90 @@ class Monitor:
         self._library = lib.library()
         self._memory = (ctypes.c_uint64 * (self._library.delkuthi_monitor_size() // 8))()
         data = self.table.bytes()
-        answer = self._library.delkuthi_fresh(self._memory, data, len(data))
-        if answer:
-            raise Refused(answer % 256, answer // 256)
+        _taken(self._library.delkuthi_fresh(self._memory, data, len(data)))
 
     def event(self, event: int | str, time: int, colour: int | None = None) -> None:
         """Takes an event, by its kind or its name; one of a coloured kind with its colour."""
         kind = self.table.kind(event)
-        if not 0 <= kind <= 255:
-            raise Refused(9)
         if colour is not None and not 0 <= colour <= 255:
             colour = NO_COLOUR
-        self.take(signal(kind, colour), time)
+        self.take(signal(kind if 0 <= kind <= 255 else 255, colour), time)
 
     def take(self, number: int | None, time: int) -> None:
         """Takes a step by the number of its signal; a tick if that is ``None``."""
-        if number is None:
-            self.tick(time)
-            return
-        kind, colour = parts(number)
-        if colour is None:
-            self._taken(self._library.delkuthi_event(self._memory, kind, _time(time)))
-        else:
-            self._taken(self._library.delkuthi_coloured_event(self._memory, kind, colour, _time(time)))
+        _, refusal = self.take_all([(number, time)])
+        if refusal:
+            raise Refused(refusal)
+
+    def take_all(self, steps: Iterable[tuple[int | None, int]]) -> tuple[int, int]:
+        """Takes steps up to the first that is refused: how many were taken, and the number of that refusal, or 0."""
+        memory, taken = self._memory, 0
+        event, coloured, tick = self._library.delkuthi_event, self._library.delkuthi_coloured_event, self._library.delkuthi_tick
+        for number, time in steps:
+            # A time that 64 bits cannot hold is out of range as the largest is; one below 0 is before every clock.
+            given = time if 0 <= time <= _LARGEST else _LARGEST
+            if number is None:
+                answer = tick(memory, given)
+            elif number < 256:
+                answer = event(memory, number, given)
+            else:
+                answer = coloured(memory, *parts(number), given)
+            if answer:
+                return taken, 11 if answer == 10 and time < 0 else answer
+            taken += 1
+        return taken, 0
+
+    def take_recording(self, recording: bytearray) -> tuple[int, int]:
+        """Becomes fresh, and takes the records of a recording in one call, without the close: how many up to the first that is refused,
+        and the number of that refusal, or 0."""
+        data, buffer = self.table.bytes(), ctypes.create_string_buffer(lib.REPORT_LIMIT)
+        lent = (ctypes.c_char * len(recording)).from_buffer(recording)
+        written = self._library.delkuthi_report_on(self._memory, data, len(data), lent, len(recording), buffer, lib.REPORT_LIMIT)
+        word, number, *place = buffer.raw[:written].split(b"\n")[0].split()
+        if word == b"closed":
+            self.withdraw()
+            return int(number) - 1, 0
+        return sum(1 for _ in records(io.BytesIO(recording[1 : int(place[0])]))), int(number)
 
     def tick(self, time: int) -> None:
         """Moves the clock on without an event."""
-        self._taken(self._library.delkuthi_tick(self._memory, _time(time)))
+        self.take(None, time)
 
     def close(self) -> None:
         """Closes the recording."""
-        self._taken(self._library.delkuthi_close(self._memory))
+        _taken(self._library.delkuthi_close(self._memory))
 
     def withdraw(self) -> None:
         """Withdraws the last step, once; 21 where nothing may be withdrawn."""
-        self._taken(self._library.delkuthi_withdraw(self._memory))
+        _taken(self._library.delkuthi_withdraw(self._memory))
 
     def verdict(self, row: int) -> Verdict:
         """What the row of a number reads, the first being 0."""
-        answer = self._library.delkuthi_row_verdict(self._memory, row) if row >= 0 else 15
+        answer = self._library.delkuthi_row_verdict(self._memory, _row(row))
         if answer >= len(_WORDS):
             raise Refused(answer)
-        step = self._library.delkuthi_row_step(self._memory, row) if answer == 2 else None
-        return Verdict(_WORDS[answer], step)
+        return Verdict(_WORDS[answer], self.step(row))
 
     @property
     def verdicts(self) -> list[Verdict]:
         """What each row reads, in the order of the table."""
         return [self.verdict(row) for row in range(self._library.delkuthi_rows(self._memory))]
+
+    def step(self, row: int) -> int | None:
+        """The step that broke a row, if one has."""
+        return self._library.delkuthi_row_step(self._memory, _row(row)) or None
+
+    def deadline(self) -> int | None:
+        """The last time to which a tick breaks no row that is open; ``None`` if every tick does not, or the library has no
+        such call (:meth:`knows_deadlines`)."""
+        if not self.knows_deadlines():
+            return None
+        time = int(self._library.delkuthi_deadline(self._memory))
+        return None if time == lib.NO_LIMIT else time
+
+    def knows_deadlines(self) -> bool:
+        """Does the library have the call that says the next deadline?"""
+        return hasattr(self._library, "delkuthi_deadline")
 
     def page(self) -> str:
         """The printed page: for each row a line of 72 characters with its number, type, verdict and step."""
@@ -93,22 +134,36 @@ class Monitor:
         other._memory = type(self._memory).from_buffer_copy(self._memory)
         return other
 
-    @staticmethod
-    def _taken(number: int) -> None:
-        if number:
-            raise Refused(number)
+    def memory(self) -> bytes:
+        """The bytes of the monitor."""
+        return bytes(self._memory)
 
 
-def _time(time: int) -> int:
-    """A time for a call; one that 64 bits cannot hold is out of range as the largest is."""
-    if time < 0:
-        raise Refused(11)
-    return min(time, 2**64 - 1)
+def _taken(answer: int) -> None:
+    """Nothing, if the answer is no refusal; a place of the answer is said with it."""
+    if answer:
+        raise Refused(answer % 256, answer // 256 if answer % 256 < 8 or answer % 256 == 18 else None)
+
+
+def _row(row: int) -> int:
+    """A row's number for a call; one that 64 bits cannot hold is in no table."""
+    return row if 0 <= row < _LARGEST else _LARGEST
+
+
+def _answer(answer: int) -> int:
+    """What stands above the number of an answer that is no refusal."""
+    if answer % 256:
+        raise Refused(answer % 256, answer // 256)
+    return answer // 256
+
+
+def _bytes(table: Table | bytes) -> bytes:
+    return table if isinstance(table, bytes) else table.bytes()
 
 
 def report(table: Table | bytes, recording: bytes) -> str:
     """The library's report on a whole recording."""
-    data = table if isinstance(table, bytes) else table.bytes()
+    data = _bytes(table)
     buffer = ctypes.create_string_buffer(lib.REPORT_LIMIT)
     written = lib.library().delkuthi_report(data, len(data), recording, len(recording), buffer, lib.REPORT_LIMIT)
     return buffer.raw[:written].decode("ascii")
@@ -116,9 +171,49 @@ def report(table: Table | bytes, recording: bytes) -> str:
 
 def stamps(table: Table | bytes, recording: bytes, row: int, late: int) -> str:
     """What a Repeat row of span 1 reads at the close where stamps may be late by up to ``late``: kept, broken or unsure."""
-    data = table if isinstance(table, bytes) else table.bytes()
-    number = row if 0 <= row < 2**64 else 2**64 - 1
-    answer = lib.library().delkuthi_stamps(data, len(data), recording, len(recording), number, _time(late))
-    if answer % 256:
-        raise Refused(answer % 256, answer // 256)
-    return ("kept", "broken", "unsure")[answer // 256]
+    data, given = _bytes(table), late if 0 <= late <= _LARGEST else _LARGEST
+    answer = lib.library().delkuthi_stamps(data, len(data), recording, len(recording), _row(row), given)
+    return ("kept", "broken", "unsure")[_answer(answer)]
+
+
+class JoinRefused(Refused):
+    """A refusal of :func:`join`; ``second`` says whether it is about the second recording."""
+
+    def __init__(self, number: int, place: int, second: bool):
+        super().__init__(number, place)
+        self.second = second
+
+
+def join(first: bytes, second: bytes) -> bytes:
+    """Two recordings with no kind in common as one: by time, at equal times the first's records first, without the ticks that
+    move nothing. :class:`JoinRefused` if one of them is no recording, or with 20 if a kind is in both."""
+    size = len(first) + len(second)
+    buffer = ctypes.create_string_buffer(size)
+    answer = lib.library().delkuthi_join(first, len(first), second, len(second), buffer, size)
+    if answer % 128:
+        raise JoinRefused(answer % 128, answer // 256, bool(answer & 128))
+    return buffer.raw[: answer // 256]
+
+
+@dataclass(frozen=True)
+class Stretch:
+    """A stretch of steps: the number of its first, from 0, its length, and its place among all stretches by length."""
+
+    first: int
+    length: int
+    tried: int
+
+
+def shortest_stretch(table: Table | bytes, recording: bytes, row: int) -> Stretch | None:
+    """The library's shortest stretch of a recording of at most 256 records that breaks the row; ``None`` if none does."""
+    data = _bytes(table)
+    answer = lib.library().delkuthi_shortest_stretch(data, len(data), recording, len(recording), _row(row))
+    if answer % 256 == 23:
+        return None
+    _answer(answer)
+    return Stretch(answer >> 8 & 255, answer >> 16 & 65535, answer >> 32)
+
+
+def valid(steps: Sequence[tuple[int | None, int]]) -> tuple[int, int]:
+    """How many of the steps the library takes whatever the rows are, and the number of the first refusal, or 0."""
+    return Monitor(Table([])).take_all(steps)

@@ -1,11 +1,13 @@
-"""Recordings, the bytes that the library's report reads, and two of them joined."""
+"""Recordings: the bytes that the library's calls on whole recordings read."""
 from __future__ import annotations
 
 import io
 from typing import IO, Iterable, Iterator
 
-from .library import Refused
 from .signals import NO_COLOUR, parts, signal
+
+#: A step of a recording: the number of its signal, or ``None`` for a tick, and its time.
+Record = tuple["int | None", int]
 
 
 def records(file: IO[bytes], version: int = 2) -> Iterator[tuple[int, int | None, int | None]]:
@@ -23,14 +25,12 @@ def records(file: IO[bytes], version: int = 2) -> Iterator[tuple[int, int | None
         place += 2 + size
 
 
-Record = tuple["int | None", int]
-
-
 def record_bytes(number: int | None, time: int) -> bytes:
-    """A record: of a signal, or of a tick where it is ``None``."""
+    """A record: of a signal, or of a tick where it is ``None``. A time that 64 bits cannot hold is written as the largest that
+    they can, which the library refuses as it would refuse the other."""
     kind, colour = (0, None) if number is None else parts(number)
     body = b"" if number is None else bytes([kind]) if colour is None else bytes([kind, colour])
-    return (len(body) + 8).to_bytes(2, "big") + body + time.to_bytes(8, "big")
+    return (len(body) + 8).to_bytes(2, "big") + body + min(time, 2**64 - 1).to_bytes(8, "big")
 
 
 def write_recording(file: IO[bytes], steps: Iterable[Record]) -> None:
@@ -50,21 +50,3 @@ def recording_bytes(steps: Iterable[Record]) -> bytes:
     file = io.BytesIO()
     write_recording(file, steps)
     return file.getvalue()
-
-
-def join(first: Iterable[Record], second: Iterable[Record]) -> Iterator[Record]:
-    """Two recordings with no kind in common, whatever its colours, as one: by time, at equal times the first's records first.
-    A tick that is not later than the clock falls away. :class:`Refused` with 20 if a kind is in both."""
-    first, second = list(first), list(second)
-    if _kinds(first) & _kinds(second):
-        raise Refused(20)
-    clock = 0
-    for number, time in sorted([*first, *second], key=lambda record: record[1]):
-        if number is None and time <= clock:
-            continue
-        yield number, time
-        clock = time
-
-
-def _kinds(steps: Iterable[Record]) -> set[int]:
-    return {parts(number)[0] for number, _ in steps if number is not None}

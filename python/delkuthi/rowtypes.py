@@ -20,9 +20,13 @@ from __future__ import annotations
 
 import re
 from dataclasses import dataclass, field
-from typing import Callable, Iterator, Union
+from typing import TYPE_CHECKING, Callable, Iterator, Mapping, Union
 
 from . import reasons
+from .signals import signals_of
+
+if TYPE_CHECKING:
+    from .table import Row
 
 Value = Union[int, "tuple[int, ...]"]
 
@@ -49,8 +53,10 @@ class RowType:
     name: str
     form: str
     says: str
-    reason: Callable[[reasons.Case], str | None] = field(compare=False)
-    windows: Callable[..., Iterator[reasons.Window]] = field(compare=False)
+    reason: Callable[[reasons.Case], reasons.Reason | None] = field(compare=False)
+    windows: Callable[[Row, reasons.Times], Iterator[reasons.Window]] = field(compare=False)
+    #: The field of which each event is an instance to be judged, and how many events come before the first instance.
+    instance: tuple[str, int | str] = field(compare=False)
     parts: tuple[str | Field, ...] = field(init=False, compare=False)
 
     def __post_init__(self) -> None:
@@ -70,35 +76,51 @@ class RowType:
         if ".." not in self.parts:
             return None
         place = self.parts.index("..")
-        return self.parts[place - 1].name, self.parts[place + 1].name  # type: ignore[union-attr]
+        lower, upper = self.parts[place - 1], self.parts[place + 1]
+        assert isinstance(lower, Field) and isinstance(upper, Field)
+        return lower.name, upper.name
 
 
 TYPES = (
     RowType(1, "Delay", "{source:kind} -> {target:kind}, {lower:time} .. {upper:limit}",
-            "after each source a target", reasons.delay, reasons.delay_windows),
+            "after each source a target", reasons.delay, reasons.delay_windows, ("source", 0)),
     RowType(2, "StrongDelay", "{source:kind} -> {target:kind}, {lower:time} .. {upper:time}",
-            "after each source its own target", reasons.strong_delay, reasons.delay_windows),
+            "after each source its own target", reasons.strong_delay, reasons.delay_windows, ("source", 0)),
     RowType(3, "Repeat", "{event:kind} span {span:count}, {lower:time} .. {upper:limit}",
-            "from each event to the one span places on", reasons.repeat, reasons.repeat_windows),
+            "from each event to the one span places on", reasons.repeat, reasons.repeat_windows, ("event", "span")),
     RowType(4, "Sporadic", "{event:kind}, {lower:time} .. {upper:limit}, jitter {jitter:time}, minimum {minimum:time}",
-            "each event at most jitter after its point, the points so far apart", reasons.sporadic, reasons.sporadic_windows),
+            "each event at most jitter after its point, the points so far apart", reasons.sporadic, reasons.sporadic_windows,
+            ("event", 1)),
     RowType(5, "Burst", "{event:kind} maximum {maximum:count}, length {length:time}, minimum {minimum:time}",
-            "at most maximum events in each length", reasons.burst, reasons.burst_windows),
+            "at most maximum events in each length", reasons.burst, reasons.burst_windows, ("event", 1)),
     RowType(6, "Order", "{source:kind} -> {target:kind}",
-            "as many targets as sources, none before its source", reasons.order, reasons.order_windows),
+            "as many targets as sources, none before its source", reasons.order, reasons.order_windows, ("source", 0)),
     RowType(7, "StrongSynchronization", "{kinds:kinds}, tolerance {tolerance:time}",
-            "the events of all kinds in groups within tolerance", reasons.synchronization, reasons.synchronization_windows),
+            "the events of all kinds in groups within tolerance", reasons.synchronization, reasons.synchronization_windows,
+            ("kinds", 0)),
     RowType(8, "ExecutionTime",
             "{start:kind} -> {stop:kind}, preempt {preempt:kind}, resume {resume:kind}, {lower:time} .. {upper:time}",
-            "from each start to its stop, without what lies from preempt to resume", reasons.execution_time, reasons.execution_windows),
+            "from each start to its stop, without what lies from preempt to resume", reasons.execution_time, reasons.execution_windows,
+            ("start", 0)),
     RowType(9, "Reaction", "{stimulus:coloured} -> {response:coloured}, {minimum:time} .. {maximum:time}",
-            "after each stimulus the first response of its colour", reasons.reaction, reasons.reaction_windows),
+            "after each stimulus the first response of its colour", reasons.reaction, reasons.reaction_windows, ("stimulus", 0)),
     RowType(10, "Repetition", "{event:kind} span {span:few}, {lower:time} .. {upper:time}, jitter {jitter:time}",
             "each event at most jitter after its point, the points span places apart so far apart",
-            reasons.repetition, reasons.repetition_windows),
+            reasons.repetition, reasons.repetition_windows, ("event", "span")),
 )
 BY_NUMBER = {row_type.number: row_type for row_type in TYPES}
 BY_NAME = {row_type.name: row_type for row_type in TYPES}
+
+
+def judged(row_type: RowType, values: Mapping[str, Value], seen: Mapping[int | None, int]) -> int:
+    """How many instances of a row were there to be judged, by how many events of each signal were seen."""
+    name, before = row_type.instance
+    kinds = values[name]
+    taken = values[before] if isinstance(before, str) else before
+    assert isinstance(taken, int)
+    if isinstance(kinds, tuple):
+        return max(seen.get(kind, 0) for kind in kinds)
+    return max(sum(seen.get(number, 0) for number in signals_of(kinds)) - taken, 0)
 
 
 def row_bytes(row_type: RowType, values: dict[str, Value]) -> bytes:

@@ -4,10 +4,12 @@ Events of one number are of one stream: their times rise. Steps, reasons and pic
 """
 from __future__ import annotations
 
-from .library import LAST_COLOUR
+from .library import FIRST_COLOURED, LAST_COLOUR, LAST_KIND
 
 #: What stands for a colour that is none.
 NO_COLOUR = 255
+#: Where plain kinds go on that the tool numbers, in a table that has more of them than a monitor.
+FURTHER = 1 << 20
 
 
 def signal(kind: int, colour: int | None) -> int:
@@ -17,9 +19,19 @@ def signal(kind: int, colour: int | None) -> int:
 
 def parts(number: int) -> tuple[int, int | None]:
     """Kind and colour of a signal."""
-    return number % 256, None if number < 256 else number // 256 - 1
+    return (number, None) if number < 256 or number >= FURTHER else (number % 256, number // 256 - 1)
+
+
+def is_coloured(kind: int) -> bool:
+    """Have the events of a kind a colour?"""
+    return FIRST_COLOURED <= kind <= LAST_KIND
 
 
 def colours(kind: int) -> tuple[int, ...]:
     """The signals of a coloured kind, a colour after the other."""
     return tuple(signal(kind, colour) for colour in range(LAST_COLOUR + 1))
+
+
+def signals_of(kind: int) -> tuple[int, ...]:
+    """The signals of a kind: itself if it is plain, its colours if it is coloured."""
+    return colours(kind) if is_coloured(kind) else (kind,)

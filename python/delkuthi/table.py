@@ -2,61 +2,42 @@
 from __future__ import annotations
 
 import ctypes
+import unicodedata
 from dataclasses import dataclass, field
 from pathlib import Path
-from typing import Iterable
+from typing import Iterable, Mapping
 
 from . import library as lib
 from .library import Refused
-from .rowtypes import MOST, BY_NAME, RowType, Value, row_bytes, row_values
-from .signals import colours, parts
+from .rowtypes import MOST, BY_NAME, RowType, Value, row_values
+from .signals import is_coloured, parts, signals_of
+from .sources import CanSource, CsvSource, KeySource, Source
+from .split import Part, split
+from .units import exact
 
-
-@dataclass(frozen=True)
-class CanSource:
-    """Frames of a CAN bus that are an event: an identifier, and what their data begins with (``.`` is any digit)."""
-
-    identifier: int
-    extended: bool = False
-    bus: str | None = None
-    data: str | None = None
-    change: bool = False
-    colour: int | None = None
-
-    def matches(self, data: bytes) -> bool:
-        """Does the data begin with the digits asked for?"""
-        if self.data is None:
-            return True
-        digits = data.hex().upper()
-        return len(digits) >= len(self.data) and all(a in (".", b) for a, b in zip(self.data, digits))
-
-
-@dataclass(frozen=True)
-class CsvSource:
-    """What stands in the event's column of a CSV file where it is not the event's name."""
-
-    text: str
-    colour: int | None = None
-
-
-@dataclass(frozen=True)
-class KeySource:
-    """A key that gives the event while a bus is watched."""
-
-    key: str
-    colour: int | None = None
-
-
-Source = CanSource | CsvSource | KeySource
+__all__ = ["CanSource", "CsvSource", "Event", "Executed", "KeySource", "Row", "Source", "Table", "ask_table", "one_line", "table_places"]
 
 
 @dataclass(frozen=True)
 class Event:
-    """A kind of event with its name, and where it comes from; from a source of a coloured kind with its colour."""
+    """A kind of event with its name, and where it comes from; from a source of a coloured kind with its colour. ``numbered`` says that
+    its kind is the text's and not the tool's, ``implied`` that it has no line of its own in the text."""
 
     name: str
     kind: int
     sources: tuple[Source, ...] = ()
+    numbered: bool = True
+    implied: bool = False
+
+
+@dataclass(frozen=True)
+class Executed:
+    """What an ExecutionTime row is about where its text names a task, an interrupt routine or a runnable and not four events;
+    ``without_waiting`` says that the time in which it waits is no running time."""
+
+    target: str
+    name: str
+    without_waiting: bool = False
 
 
 @dataclass(frozen=True)
@@ -68,6 +49,7 @@ class Row:
     name: str | None = None
     line: int = field(default=0, compare=False)
     columns: dict[str, int] = field(default_factory=dict, compare=False)
+    executed: Executed | None = None
 
     @staticmethod
     def of(type_name: str, name: str | None = None, **values: Value) -> Row:
@@ -83,27 +65,55 @@ class Row:
         """The kinds that it names, in the order of its fields."""
         return tuple(kind for part in self.type.fields for kind in _kinds(part.role, self.values[part.name]))
 
-    @property
-    def hears(self) -> tuple[int, ...]:
-        """The signals that it hears: its plain kinds, and each colour of its coloured ones."""
-        return tuple(number for kind in self.kinds for number in (colours(kind) if kind >= lib.FIRST_COLOURED else (kind,)))
+    def with_kinds(self, kinds: Mapping[int, int]) -> dict[str, Value]:
+        """The values of its fields, with other numbers for its kinds."""
+        found = dict(self.values)
+        for part in self.type.fields:
+            value = found[part.name]
+            if isinstance(value, tuple):
+                found[part.name] = tuple(kinds[kind] for kind in value)
+            elif part.role in ("kind", "coloured"):
+                found[part.name] = kinds[value]
+        return found
 
-    def doubtful(self, number: int) -> str | None:
-        """The name of the field that a refusal of this number (5 to 7, or 18) is about."""
-        seen: set[int] = set()
+    @property
+    def signals(self) -> tuple[int, ...]:
+        """The signals that it is about: its plain kinds, and each colour of its coloured ones."""
+        return tuple(number for kind in self.kinds for number in signals_of(kind))
+
+    def number(self, name: str) -> int:
+        """The value of a field that is one number."""
+        value = self.values[name]
+        assert isinstance(value, int)
+        return value
+
+    def doubtful(self, number: int, unit: str | None = None) -> tuple[str, str] | None:
+        """The name of the field that a refusal of this number (4 to 7, or 18) is about, what it has, and what it may have."""
+        seen: dict[int, str] = {}
         for part in self.type.fields:
             value = self.values[part.name]
             for kind in _kinds(part.role, value):
-                if number == 5 and (kind > lib.LAST_KIND or kind in seen):
-                    return part.name
-                if number == 18 and (kind >= lib.FIRST_COLOURED) != (part.role == "coloured"):
-                    return part.name
-                seen.add(kind)
+                if number == 5 and lib.LAST_KIND < kind <= 255:
+                    return part.name, f"found {kind}, the range is 0 to {lib.LAST_KIND}"
+                if number == 5 and kind in seen:
+                    return part.name, f"found {kind}, which stands in {seen[kind]} already"
+                if number == 18 and is_coloured(kind) != (part.role == "coloured"):
+                    return part.name, f"found {kind}, the range is {_SORTS[part.role == 'coloured']}"
+                seen[kind] = part.name
             if number == 4 and part.role == "kinds":
-                return part.name
+                return part.name, f"found {len(_kinds(part.role, value))}, the range is 2 to 4"
             if number == 6 and part.role in ("time", "limit", *MOST) and not _in_range(part.role, value):
-                return part.name
-        return self.type.bounds[0] if number == 7 and self.type.bounds else None
+                if part.role in MOST:
+                    return part.name, f"found {value}, the range is 1 to {MOST[part.role]}"
+                return part.name, f"found {exact(self.number(part.name), unit)}, the range is 0 to {exact(lib.LAST_TIME, unit)}"
+        if number == 7 and self.type.bounds:
+            lower, upper = self.type.bounds
+            return lower, f"found {exact(self.number(lower), unit)} above {exact(self.number(upper), unit)}"
+        return None
+
+
+#: The kinds of a plain field, and of a coloured one.
+_SORTS = {False: f"0 to {lib.FIRST_COLOURED - 1}", True: f"{lib.FIRST_COLOURED} to {lib.LAST_KIND}"}
 
 
 def _kinds(role: str, value: Value) -> tuple[int, ...]:
@@ -120,24 +130,46 @@ def _in_range(role: str, value: Value) -> bool:
     return value <= lib.LAST_TIME or role == "limit" and value == lib.NO_LIMIT
 
 
+def one_line(name: str) -> bool:
+    """Is it text of one line, without control characters?"""
+    return not any(unicodedata.category(c) in ("Cc", "Cs", "Zl", "Zp") for c in name)
+
+
 class Table:
     """An accepted table, with the names and units that its text gives.
 
     ``Table.read(path)`` takes a file of text or bytes; :meth:`from_text` and :meth:`from_bytes` take what was read.
     """
 
-    def __init__(self, rows: Iterable[Row], events: Iterable[Event] = (), unit: str | None = None):
-        """A table of rows; :class:`Refused` says what the library has against them."""
+    def __init__(self, rows: Iterable[Row], events: Iterable[Event] = (), unit: str | None = None, databases: Iterable[str] = (),
+                 folder: str = ""):
+        """A table of rows; :class:`Refused` says what the library has against them. ``databases`` are the files with the signals, as
+        seen from ``folder``."""
         self.rows = tuple(rows)
         self.events = tuple(events)
         self.unit = unit
+        self.databases, self.folder = tuple(databases), folder
         for name in [row.name for row in self.rows if row.name is not None]:
-            if not name.isprintable():
+            if not one_line(name):
                 raise ValueError(f"a row's name is one line of text, not {name!r}")
-        self._bytes = bytes([1]) + b"".join(row_bytes(row.type, row.values) for row in self.rows)
+        #: The rows for as many monitors as are needed.
+        self.parts: list[Part] = split(self.rows)
         self._names = {event.kind: event.name for event in self.events}
         self._kinds = {event.name: event.kind for event in self.events}
-        ask_table(self._bytes)
+        for part in self.parts:
+            self._ask(part)
+
+    def _ask(self, part: Part) -> None:
+        """Does the library accept a part of the table? The place of a refusal is the row's in the whole table."""
+        try:
+            ask_table(part.data)
+        except Refused as refusal:
+            places = [place for place, _ in table_places(part.data)]
+            if len(self.parts) == 1 or refusal.place not in places:
+                raise
+            row = part.rows[places.index(refusal.place)]
+            sizes = [2 + len(body) for one in self.parts for _, body in table_places(one.data)]
+            raise Refused(refusal.number, 1 + sum(sizes[:row])) from None
 
     @staticmethod
     def read(path: str | Path) -> Table:
@@ -169,8 +201,20 @@ class Table:
         return parse(text, file)
 
     def bytes(self) -> bytes:
-        """The table as the library reads it."""
-        return self._bytes
+        """The table as the library reads it; :class:`Refused` if one monitor cannot take it: with 3 for its rows, 9 for its kinds."""
+        if not self.whole:
+            raise Refused(3 if len(self.rows) > lib.ROW_LIMIT else 9)
+        return self.parts[0].data
+
+    @property
+    def whole(self) -> bool:
+        """Does one monitor take it, with its kinds as they are?"""
+        return len(self.parts) == 1 and all(kind == local for kind, local in self.parts[0].kinds.items())
+
+    @property
+    def recordable(self) -> bool:
+        """Are all its kinds those of the library, so that a recording can have them?"""
+        return all(kind <= 255 for kind in {*self._names, *(kind for row in self.rows for kind in row.kinds)})
 
     def text(self) -> str:
         """The table as text, in its normal form."""
@@ -179,7 +223,7 @@ class Table:
         return printed(self)
 
     def kind(self, event: int | str) -> int:
-        """The kind of an event that is given by its name or by its kind."""
+        """The kind of an event that is given by its name or by its kind; :class:`KeyError` if there is none of that name."""
         return event if isinstance(event, int) else self._kinds[event]
 
     def event_name(self, number: int) -> str:
@@ -188,6 +232,12 @@ class Table:
         name = self._names.get(kind, f"kind {kind}")
         return name if colour is None else f"{name}/{colour}"
 
+    @property
+    def jitter(self) -> int:
+        """The largest jitter of its rows; 0 if none has one."""
+        return max((value for row in self.rows for name, value in row.values.items() if name == "jitter" and isinstance(value, int)),
+                   default=0)
+
     def row_name(self, number: int) -> str:
         """The name of a row, in quotes; ``row 3`` if it has none."""
         name = self.rows[number].name
@@ -195,7 +245,17 @@ class Table:
 
     def alone(self, number: int) -> Table:
         """The table of this one row."""
-        return Table([self.rows[number]], self.events, self.unit)
+        return Table([self.rows[number]], self.events, self.unit, self.databases, self.folder)
+
+    def with_databases(self, files: Iterable[str]) -> Table:
+        """The same table with these files of signals besides its own, as seen from where the command stands."""
+        paths = [str(Path(file).absolute()) for file in files]
+        return Table(self.rows, self.events, self.unit, (*self.databases, *paths), self.folder) if paths else self
+
+    @property
+    def database_paths(self) -> tuple[str, ...]:
+        """Where the files of signals are."""
+        return tuple(str(Path(self.folder) / name) for name in self.databases)
 
 
 def table_places(data: bytes) -> Iterable[tuple[int, bytes]]:

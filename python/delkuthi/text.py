@@ -4,63 +4,119 @@
 
     table  = line*                                each statement on a line of its own; # begins a comment
     line   = "unit" UNIT                          ns, us, ms, s, min or h: first, if times have units
-           | "event" NAME "=" KIND source*        KIND is 0 to 63; 48 to 63 are coloured, and their sources too
+           | "dbc" STRING                         a file with the signals, DBC or ARXML, as seen from the table
+           | "event" NAME ["=" KIND] source*      KIND is 0 to 63; 48 to 63 are coloured, and their sources too
            | [STRING] TYPE form                   a row, with a name if it has one
-    source = "from" "can" ID ["bus" NAME] ["data" DIGITS] ["on" "change"] ["colour" COLOUR]
-           | "from" "csv" STRING ["colour" COLOUR]
-           | "from" "key" CHARACTER ["colour" COLOUR]
 """
 from __future__ import annotations
 
 import difflib
 import re
+import unicodedata
+from pathlib import Path
+from typing import Any, Iterator
 
 from . import library as lib
 from .library import Refused
-from .rowtypes import MOST, BY_NAME, TYPES, Field, RowType, Value
-from .table import CanSource, CsvSource, Event, KeySource, Row, Source, Table, table_places
+from .numbering import TooMany, executed_events, numbered
+from .rowtypes import MOST, BY_NAME, TYPES, Field, Value
+from .signals import is_coloured
+from .source_text import GRAMMAR as SOURCES
+from .source_text import quoted, read_source, source_text
+from .sources import TARGETS
+from .split import split
+from .table import Event, Executed, Row, Table, ask_table, one_line
 from .units import DIGITS, NUMBER, UNITS, NotWhole, exact, in_unit
 
 GRAMMAR = (__doc__ or "").split(".. code-block:: text\n\n")[1]
 
+#: What people write for a unit or a row type, and what it is here.
+_UNIT_WORDS = {
+    **dict.fromkeys(("nsec", "nsecs", "nanosecond", "nanoseconds"), "ns"),
+    **dict.fromkeys(("\u00b5s", "\u03bcs", "usec", "usecs", "microsecond", "microseconds"), "us"),
+    **dict.fromkeys(("msec", "msecs", "millis", "millisecond", "milliseconds"), "ms"),
+    **dict.fromkeys(("sec", "secs", "second", "seconds"), "s"), **dict.fromkeys(("mins", "minute", "minutes"), "min"),
+    **dict.fromkeys(("hr", "hrs", "hour", "hours"), "h"),
+}
+_PERIODIC = "a periodic signal is a Sporadic with lower = upper, as in Sporadic EVENT, 10 ms .. 10 ms, jitter 1 ms, minimum 0 ms"
+_TYPE_WORDS = {
+    "periodic": _PERIODIC, "period": _PERIODIC, "synchronization": "events in step are a StrongSynchronization",
+    "age": "the age of data is a Reaction or a Delay here", "pattern": "a Pattern is several rows here",
+    "deadline": "a deadline is a Delay from 0 to it",
+}
+
+
+class _Skip(Exception):
+    """A line that cannot be read because of a mistake in another one, which is said there."""
+
+
+#: So many mistakes of a text are shown at once.
+SHOWN = 20
+
 
 class TextError(Exception):
-    """A text that is not a table: ``file``, ``line``, ``column`` (both from 1) and ``message``, what was expected there."""
+    """A text that is not a table: ``file``, ``line``, ``column`` (both from 1) and ``message``, what was expected there.
 
-    def __init__(self, file: str, line: int, column: int, message: str):
-        self.file, self.line, self.column, self.message = file, line, column, message
-        Exception.__init__(self, f"{file}:{line}:{column}: {message}")
+    ``source`` is the line; ``others`` are the further mistakes of the text, which stand in what is printed too.
+    """
 
-    def __reduce__(self):
-        return (TextError, (self.file, self.line, self.column, self.message))
+    def __init__(self, file: str, line: int, column: int, message: str, source: str | None = None, others: tuple[TextError, ...] = ()):
+        self.file, self.line, self.column, self.message, self.source, self.others = file, line, column, message, source, others
+        more = [f"{file}: and {len(others) + 1 - SHOWN} more mistakes"] if len(others) >= SHOWN else []
+        Exception.__init__(self, "\n".join([*(one.shown() for one in (self, *others)[:SHOWN]), *more]))
+
+    def shown(self) -> str:
+        """This mistake alone, with its line and a caret below the place."""
+        text = f"{self.file}:{self.line}:{self.column}: {self.message}"
+        if self.source is None:
+            return text
+        return f"{text}\n    {_visible(self.source)}\n    {_blank(self.source[: self.column - 1])}^"
+
+    def __reduce__(self) -> tuple[Any, ...]:
+        return (TextError, (self.file, self.line, self.column, self.message, self.source, self.others))
 
 
 class TextRefused(TextError, Refused):
     """A text whose table the library refuses: the refusal's ``number``, ``place`` and ``text``, and where it stands."""
 
-    def __init__(self, file: str, line: int, column: int, message: str, refusal: Refused):
+    def __init__(self, file: str, line: int, column: int, message: str, refusal: Refused, source: str | None = None,
+                 others: tuple[TextError, ...] = ()):
         Refused.__init__(self, refusal.number, refusal.place)
-        TextError.__init__(self, file, line, column, message)
+        TextError.__init__(self, file, line, column, message, source, others)
 
-    def __reduce__(self):
-        return (TextRefused, (self.file, self.line, self.column, self.message, Refused(self.number, self.place)))
+    def __reduce__(self) -> tuple[Any, ...]:
+        refusal = Refused(self.number, self.place)
+        return (TextRefused, (self.file, self.line, self.column, self.message, refusal, self.source, self.others))
+
+
+def _visible(text: str) -> str:
+    """The text with a mark for each character that does not print; a tab stays one."""
+    return "".join(c if c == "\t" or unicodedata.category(c) not in ("Cc", "Cs", "Zl", "Zp") else "\ufffd" for c in text.rstrip())
+
+
+def _blank(text: str) -> str:
+    """As many blanks as the text is wide on a screen; a tab stays one."""
+    wide = {"W": 2, "F": 2}
+    return "".join("\t" if c == "\t" else " " * (0 if unicodedata.combining(c) else wide.get(unicodedata.east_asian_width(c), 1))
+                   for c in text)
 
 
 def grammar() -> str:
     """The whole grammar, with a line for each row type."""
-    lines = [line[4:] for line in GRAMMAR.rstrip().splitlines()]
-    lines.append("form:")
+    lines = [*(line[4:] for line in GRAMMAR.rstrip().splitlines()), *SOURCES.splitlines(), "form:"]
     width = max(len(row_type.name) for row_type in TYPES)
     for row_type in TYPES:
         form = re.sub(r"\{(\w+):(\w+)\}", lambda match: match[1].upper(), row_type.form)
         lines.append(f"    {row_type.name:{width}}  {form}")
+        if row_type.name == "ExecutionTime":
+            lines.append(f"    {'':{width}}  task STRING [without waiting], LOWER .. UPPER; or isr, or runnable")
     limited = [row_type.name for row_type in TYPES if any(part.role == "limit" for part in row_type.fields)]
     lines.append("A kind is an event's name or its number; KINDS are two to four of them. A time is a number, with a unit")
     lines.append(f"behind it where the table has one. An UPPER of {', '.join(limited[:-1])} and {limited[-1]} may be the word none.")
     return "\n".join(lines) + "\n"
 
 
-class _Line:
+class Line:
     """A line that is read from the left to the right."""
 
     def __init__(self, file: str, number: int, text: str):
@@ -80,11 +136,26 @@ class _Line:
         return self.place + 1
 
     def error(self, message: str, column: int | None = None) -> TextError:
-        return TextError(self.file, self.number, column or self.column, message)
+        return TextError(self.file, self.number, column or self.column, message, self.text)
 
     def expected(self, what: str) -> TextError:
         rest = re.compile(r"\"[^\"]*\"?|\w+|->|\.\.|\S").match(self.text, self.place)
-        return self.error(f"expected {what}, found {rest[0] if rest else 'the end of the line'}")
+        found = rest[0] if rest else "the end of the line"
+        return self.error(f"expected {what}, found {found}{self.hint(found)}")
+
+    def hint(self, found: str) -> str:
+        """What may have been meant by a word that is not expected here."""
+        before = self.text[: self.place].rstrip()
+        if before[-1:].isdigit() and found.lower() in _UNIT_WORDS:
+            return f" (the unit is written {_UNIT_WORDS[found.lower()]})"
+        if before[-1:].isdigit() and re.match(r",[0-9]", self.text[self.place :]):
+            number = re.search(r"[0-9]+$", before)
+            part = re.match(r"[0-9]+", self.text[self.place + 1 :])
+            if number and part:
+                return f" (a part is written with a point: {number[0]}.{part[0]})"
+        if found.lower() in UNITS and found not in UNITS:
+            return f" (the unit is written {found.lower()})"
+        return ""
 
     def take(self, pattern: str, what: str | None = None) -> str | None:
         """What the pattern matches here; if nothing, ``None``, or an error where it is said what is expected."""
@@ -118,13 +189,37 @@ class _Parser:
         self.unit: str | None = None
         self.events: list[Event] = []
         self.rows: list[Row] = []
+        self.databases: list[str] = []
+        self.mistakes: list[TextError] = []
+        #: Names of event lines that have a mistake: rows that use them are not read.
+        self.unsure: set[str] = set()
+        self.sources: list[str] = []
 
-    def line(self, line: _Line) -> None:
+    def take(self, number: int, text: str) -> None:
+        """Reads a line; what is wrong with it is noted, and the next one is read."""
+        line = Line(self.file, number, text)
+        self.sources.append(text)
+        try:
+            self.line(line)
+        except _Skip:
+            pass
+        except TextError as mistake:
+            self.mistakes.append(mistake)
+            event = re.match(r"\s*event\s+([^\W\d]\w*)", text)
+            if event:
+                self.unsure.add(event[1])
+            if re.match(r"\s*unit\b", text) and self.unit is None:
+                self.unit = "ns"
+
+    def line(self, line: Line) -> None:
         if line.ended():
             return
         start = line.column
         if line.text.startswith('"', line.place):
             name = line.string('a name that ends with "')
+            if not one_line(name):
+                strange = next(c for c in name if not one_line(c))
+                raise line.error(f"a row's name is one line of text; it has the character U+{ord(strange):04X}", start)
             if any(row.name == name for row in self.rows):
                 raise line.error(f'a second row with the name "{name}"', start)
             self.row(line, name)
@@ -132,12 +227,14 @@ class _Parser:
             self.unit_line(line)
         elif re.compile(r"event\b").match(line.text, line.place):
             self.event_line(line)
+        elif line.word("dbc"):
+            self.databases.append(line.string("the name of a DBC or ARXML file, in quotes"))
         else:
             self.row(line, None)
         if not line.ended():
             raise line.expected("the end of the line")
 
-    def unit_line(self, line: _Line) -> None:
+    def unit_line(self, line: Line) -> None:
         if self.unit is not None:
             raise line.error("a second unit: a table has one")
         if self.rows:
@@ -150,14 +247,25 @@ class _Parser:
             raise line.expected(f"one of {', '.join(UNITS)}")
         self.unit = unit
 
-    def event_line(self, line: _Line) -> None:
+    def event_line(self, line: Line) -> None:
         line.demand("event")
         start = line.column
         name = line.take(r"[^\W\d]\w*", "a name for the event")
         assert name is not None
         if any(event.name == name for event in self.events):
             raise line.error(f"a second event with the name {name}", start)
-        line.demand("=")
+        kind = self.kind_given(line) if line.word("=") else None
+        sources = []
+        while line.word("from"):
+            start = line.column
+            sources.append(read_source(line))
+            if kind is not None and is_coloured(kind) != (sources[-1].colour is not None):
+                raise line.error(f"kind {kind} is coloured: its source needs a colour" if is_coloured(kind)
+                                 else f"kind {kind} is plain: its source has no colour", start)
+        # An event without a kind has a number below 0 until the whole text is read.
+        self.events.append(Event(name, -1 - len(self.events) if kind is None else kind, tuple(sources), kind is not None))
+
+    def kind_given(self, line: Line) -> int:
         start = line.column
         kind = int(line.take(DIGITS, f"a kind from 0 to {lib.LAST_KIND}") or 0)
         if kind > lib.LAST_KIND:
@@ -165,35 +273,45 @@ class _Parser:
         for event in self.events:
             if event.kind == kind:
                 raise line.error(f"kind {kind} is {event.name} already", start)
-        sources = []
-        while line.word("from"):
-            start = line.column
-            sources.append(_source(line))
-            if (kind >= lib.FIRST_COLOURED) != (sources[-1].colour is not None):
-                raise line.error(f"kind {kind} is coloured: its source needs a colour" if kind >= lib.FIRST_COLOURED
-                                 else f"kind {kind} is plain: its source has no colour", start)
-        self.events.append(Event(name, kind, tuple(sources)))
+        return kind
 
-    def row(self, line: _Line, name: str | None) -> None:
+    def row(self, line: Line, name: str | None) -> None:
         start = line.place
         type_name = line.take(r"[^\W\d]\w*", "unit, event, a row's name or its type")
         if type_name not in BY_NAME:
             line.place = start
-            near = difflib.get_close_matches(type_name or "", [*BY_NAME, "unit", "event"], 1)
-            hint = f" (did you mean {near[0]}?)" if near else ""
+            plain = re.sub("constraint$", "", (type_name or "").lower())
+            near = [name for name in BY_NAME if name.lower() == plain] or difflib.get_close_matches(
+                type_name or "", [*BY_NAME, "unit", "event"], 1)
+            hint = f" ({_TYPE_WORDS[plain]})" if plain in _TYPE_WORDS else f" (did you mean {near[0]}?)" if near else ""
             raise line.error(f"expected a row's type, one of {', '.join(BY_NAME)}; found {type_name}{hint}")
         row_type = BY_NAME[type_name]
+        columns, parts = {"": start + 1}, row_type.parts
+        executed = self.executed(line) if type_name == "ExecutionTime" else None
         values: dict[str, Value] = {}
-        columns = {"": start + 1}
-        for part in row_type.parts:
+        if executed is not None:
+            values = dict(zip(("start", "stop", "preempt", "resume"), executed_events(self.events, executed)))
+            parts = parts[_bounds(parts) :]
+        for part in parts:
             if isinstance(part, str):
                 line.demand(part)
             else:
                 columns[part.name] = line.column
                 values[part.name] = self.value(line, part)
-        self.rows.append(Row(row_type, values, name, line.number, columns))
+        self.rows.append(Row(row_type, values, name, line.number, columns, executed))
 
-    def value(self, line: _Line, part: Field) -> Value:
+    def executed(self, line: Line) -> Executed | None:
+        """The task, interrupt routine or runnable that an ExecutionTime row names in place of four events."""
+        for target in TARGETS:
+            if re.compile(rf"{target}\s*\"").match(line.text, line.place):
+                line.demand(target)
+                name, waiting = line.string(f"the name of the {target}, in quotes"), line.word("without")
+                if waiting:
+                    line.demand("waiting")
+                return Executed(target, name, waiting)
+        return None
+
+    def value(self, line: Line, part: Field) -> Value:
         if part.role in ("kind", "coloured"):
             return self.kind(line, part.name)
         if part.role == "kinds":
@@ -211,7 +329,7 @@ class _Parser:
             return lib.NO_LIMIT
         return self.time(line, part)
 
-    def kind(self, line: _Line, what: str) -> int:
+    def kind(self, line: Line, what: str) -> int:
         start = line.column
         found = line.take(r"\w+", f"an event for {what}")
         assert found is not None
@@ -222,11 +340,13 @@ class _Parser:
         for event in self.events:
             if event.name == found:
                 return event.kind
+        if found in self.unsure:
+            raise _Skip
         near = difflib.get_close_matches(found, [event.name for event in self.events], 1)
         hint = f"did you mean {near[0]}?" if near else "an event line has to declare it"
         raise line.error(f"expected an event for {what}; {found} is not declared ({hint})", start)
 
-    def time(self, line: _Line, part: Field) -> int:
+    def time(self, line: Line, part: Field) -> int:
         start = line.column
         like = "50" if self.unit is None else f"50 {self.unit}"
         what = f"a time for {part.name}, such as {like}" + (", or none" if part.role == "limit" else "")
@@ -243,73 +363,66 @@ class _Parser:
             raise line.error(f"expected a time up to {lib.LAST_TIME}, found {time}", start)
         return time
 
-    def follows_unit(self, line: _Line) -> bool:
+    def follows_unit(self, line: Line) -> bool:
         found = re.compile(r"[^\W\d]\w*").match(line.text, line.place)
         return found is not None and found[0] in UNITS
 
 
-def _colour(line: _Line) -> int | None:
-    if not line.word("colour"):
-        return None
-    start = line.column
-    colour = int(line.take(DIGITS, f"a colour from 0 to {lib.LAST_COLOUR}") or 0)
-    if colour > lib.LAST_COLOUR:
-        raise line.error(f"expected a colour from 0 to {lib.LAST_COLOUR}, found {colour}", start)
-    return colour
-
-
-def _source(line: _Line) -> Source:
-    if line.word("csv"):
-        return CsvSource(line.string("the text of the event's column, in quotes"), _colour(line))
-    if line.word("key"):
-        return KeySource(line.take(r"[^\s#](?!\S)", "one character, not #") or "", _colour(line))
-    if not line.word("can"):
-        raise line.expected("can, csv or key")
-    start = line.column
-    digits = line.take(r"0[xX][0-9A-Fa-f]{1,8}(?!\w)", "an identifier such as 0x1A0") or "0x0"
-    identifier, extended = int(digits, 16), len(digits) >= 10 or int(digits, 16) > 0x7FF
-    if identifier >= 2**29:
-        raise line.error("expected an identifier of at most 29 bits, 0x1FFFFFFF", start)
-    bus = line.take(r"\w+", "a bus, such as can0") if line.word("bus") else None
-    data = line.take(r"[0-9A-Fa-f.]+(?!\w)", "hexadecimal digits, with . for any") if line.word("data") else None
-    change = line.word("on")
-    if change:
-        line.demand("change")
-    return CanSource(identifier, extended, bus, None if data is None else data.upper(), change, _colour(line))
+def _bounds(parts: tuple[str | Field, ...]) -> int:
+    """Where the bounds of a row's form begin: at the last comma."""
+    return max(place for place, part in enumerate(parts) if part == ",")
 
 
 def parse(text: str, file: str = "table") -> Table:
-    """The table of a text; :class:`TextError` or :class:`TextRefused` where it has none."""
+    """The table of a text; :class:`TextError` or :class:`TextRefused` where it has none, with all its mistakes."""
     parser = _Parser(file)
     for number, line in enumerate(text.split("\n"), 1):
-        parser.line(_Line(file, number, line.rstrip("\r")))
+        parser.take(number, line.rstrip("\r"))
+    mistakes = list(parser.mistakes)
     try:
-        return Table(parser.rows, parser.events, parser.unit)
-    except Refused as refusal:
-        raise _located(parser, refusal) from None
+        rows, events = numbered(parser.rows, parser.events)
+        mistakes += _refusals(parser, rows)
+    except TooMany as error:
+        mistakes.append(TextError(file, len(parser.sources), 1, str(error)))
+    if not mistakes:
+        return Table(rows, events, parser.unit, parser.databases, str(Path(file).parent))
+    mistakes.sort(key=lambda mistake: (mistake.line, mistake.column))
+    first, others = mistakes[0], tuple(mistakes[1:])
+    if isinstance(first, TextRefused):
+        raise TextRefused(first.file, first.line, first.column, first.message, first, first.source, others)
+    raise TextError(first.file, first.line, first.column, first.message, first.source, others)
 
 
-def _located(parser: _Parser, refusal: Refused) -> TextRefused:
-    """The refusal with the line and the field that it is about."""
-    from .rowtypes import row_bytes
+def _refusals(parser: _Parser, rows: list[Row]) -> Iterator[TextRefused]:
+    """What the library has against the rows, each asked by itself."""
+    place = 1
+    for row in rows:
+        data = split([row])[0].data
+        try:
+            ask_table(data)
+        except Refused as refusal:
+            yield _located(parser, row, Refused(refusal.number, place))
+        place += len(data) - 1
 
-    data = bytes([1]) + b"".join(row_bytes(row.type, row.values) for row in parser.rows)
-    places = [place for place, _ in table_places(data)]
-    row = parser.rows[places.index(refusal.place or 1)]
-    field = row.doubtful(refusal.number)
+
+def _located(parser: _Parser, row: Row, refusal: Refused) -> TextRefused:
+    """The refusal with the line and the field that it is about, what was found there and what may stand there."""
+    field, found = row.doubtful(refusal.number, parser.unit) or (None, None)
     about = f"{row.type.name}, {field}" if field else row.type.name
-    message = f"{about}: {refusal.text} (refused with {refusal.number})"
-    return TextRefused(parser.file, row.line, row.columns.get(field or "", 1), message, refusal)
+    message = f"{about}: {refusal.text} (refused with {refusal.number}){f': {found}' if found else ''}"
+    return TextRefused(parser.file, row.line, row.columns.get(field or "", 1), message, refusal, parser.sources[row.line - 1])
 
 
 def printed(table: Table) -> str:
     """The table's text in its normal form: the unit, the events, the rows, in columns."""
     lines = [] if table.unit is None else [f"unit {table.unit}"]
-    if table.events:
-        width = max(len(event.name) for event in table.events)
-        for event in table.events:
-            sources = "".join(f"  {_source_text(source)}" for source in event.sources)
-            lines.append(f"event {event.name:{width}} = {event.kind:<2}{sources}".rstrip())
+    lines += [f"dbc {quoted(name)}" for name in table.databases]
+    events = [event for event in table.events if not event.implied]
+    width = max((len(event.name) for event in events), default=0)
+    for event in events:
+        sources = "".join(f"  from {source_text(source)}" for source in event.sources)
+        kind = f" = {event.kind:<2}" if event.numbered else ""
+        lines.append(f"event {event.name:{width}}{kind}{sources}".rstrip())
     width = max((len(_quoted(row.name)) for row in table.rows), default=0)
     for row in table.rows:
         form = row_text(table, row)
@@ -320,8 +433,11 @@ def printed(table: Table) -> str:
 def row_text(table: Table, row: Row) -> str:
     """The row without its name."""
     names = {event.kind: event.name for event in table.events}
-    text = row.type.name
-    for part in row.type.parts:
+    text, parts = row.type.name, row.type.parts
+    if row.executed is not None:
+        text += f" {row.executed.target} {quoted(row.executed.name)}{' without waiting' if row.executed.without_waiting else ''}"
+        parts = parts[_bounds(parts) :]
+    for part in parts:
         word = part if isinstance(part, str) else _value_text(row, part, names, table.unit)
         text += word if word == "," else f" {word}"
     return text
@@ -339,16 +455,4 @@ def _value_text(row: Row, part: Field, names: dict[int, str], unit: str | None) 
 
 
 def _quoted(name: str | None) -> str:
-    return "" if name is None else '"' + re.sub(r'(["\\])', r"\\\1", name) + '"'
-
-
-def _source_text(source: Source) -> str:
-    colour = "" if source.colour is None else f" colour {source.colour}"
-    if isinstance(source, CsvSource):
-        return f"from csv {_quoted(source.text)}{colour}"
-    if isinstance(source, KeySource):
-        return f"from key {source.key}{colour}"
-    digits = f"{source.identifier:08X}" if source.extended else f"{source.identifier:03X}"
-    bus = f" bus {source.bus}" if source.bus is not None else ""
-    data = f" data {source.data}" if source.data is not None else ""
-    return f"from can 0x{digits}{bus}{data}{' on change' if source.change else ''}{colour}"
+    return "" if name is None else quoted(name)

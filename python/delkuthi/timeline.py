@@ -1,27 +1,33 @@
-"""A picture of a log: a lane for each event, the stretches that rows ask for shaded, the steps that broke one marked."""
+"""What a picture of a log shows: a lane for each event, the stretches that rows ask for shaded, the steps that broke one marked.
+
+:mod:`delkuthi.svg` and :mod:`delkuthi.plot` draw it.
+"""
 from __future__ import annotations
 
 from array import array
-from dataclasses import dataclass, field
-from html import escape
-from typing import Iterable
+from bisect import bisect_left, bisect_right
+from dataclasses import dataclass, field, replace
+from typing import Iterable, Iterator
 
-from .check import Outcome
+from .check import Outcome, RowOutcome
+from .library import FIRST_COLOURED
 from .logs import Step
+from .moments import Moments
 from .signals import parts
 from .table import Table
-from .units import UNITS, shown
+from .units import UNITS
 
 #: A picture shows a whole log of so many steps; of a longer one so many before and after the first that broke a row.
 WHOLE, BEFORE, AFTER = 2000, 300, 100
 #: Colours that most people can tell apart, a row after the other.
-COLOURS = ("#0072B2", "#E69F00", "#009E73", "#CC79A7", "#56B4E9", "#8C6D31", "#6A51A3", "#5F7F3F")
+COLOURS = ("#0072B2", "#E69F00", "#009E73", "#CC79A7", "#56B4E9", "#8C6D31", "#6A51A3", "#5F7F3F",
+           "#882255", "#44AA99", "#999933", "#AA4499", "#332288", "#B8860B", "#117733", "#4477AA")
 BROKEN = "#C8102E"
 
 
 @dataclass(frozen=True)
 class Shade:
-    """A stretch on a lane that a row asks for; ``end`` is ``None`` where it has none."""
+    """A stretch on a lane that a row asks for; ``end`` is ``None`` where it has none. ``broken``: nothing came in it."""
 
     row: int
     lane: int
@@ -32,83 +38,149 @@ class Shade:
 
 @dataclass
 class Scene:
-    """What a picture shows, from ``begin`` to ``end``."""
+    """What a picture shows, from ``begin`` to ``end``, times being the monitor's."""
 
     title: str
-    unit: str | None
+    moments: Moments
     begin: int
     end: int
+    #: What is shown of the log, in words.
+    caption: str = ""
     lanes: list[tuple[str, list[int]]] = field(default_factory=list)
     shades: list[Shade] = field(default_factory=list)
     marks: list[tuple[int, str]] = field(default_factory=list)
+    #: The events that a reason is about: lane and time.
+    blamed: set[tuple[int, int]] = field(default_factory=set)
+    #: The names of the rows that are shown, by their numbers.
+    rows: dict[int, str] = field(default_factory=dict)
+
+    @property
+    def unit(self) -> str | None:
+        """The unit of its times."""
+        return self.moments.unit
+
+    @property
+    def zero(self) -> int:
+        """The time that stands for 0 on the axis: of a log with long stamps its start."""
+        return self.moments.start if self.moments.long else self.moments.shift
+
+    def axis(self) -> tuple[list[tuple[int, str]], str]:
+        """Times with the numbers that the axis has there, and what the numbers are."""
+        places, unit, size = ticks(self.begin - self.zero, self.end - self.zero, self.unit)
+        name = unit or "time"
+        if self.moments.long:
+            name = f"{name} from the start of the log, {self.moments.at(self.moments.start).split(' (')[0]}"
+        return [(place + self.zero, _decimal(place, size)) for place in places], name
 
     def shown_end(self, shade: Shade) -> float:
         """Where a stretch ends in the picture; of one without an end only the beginning is shown."""
         return shade.begin + (self.end - self.begin) / 40 if shade.end is None else shade.end
 
 
-def scene(table: Table, steps: Iterable[Step], outcome: Outcome, rows: Iterable[int] | None = None) -> Scene:
-    """The scene of a checked log, from its steps once more; of some rows, or of all."""
-    chosen = list(range(len(table.rows))) if rows is None else list(rows)
-    kinds = sorted({kind for row in chosen for kind in table.rows[row].hears})
-    broken = {row.number: row for row in outcome.broken if row.number in chosen}
-    whole = outcome.steps <= WHOLE and rows is None
-    first = min((row.step or 0 for row in broken.values()), default=0)
-    times, begin, end = _collect(steps, kinds, first, whole)
-    # Of the colours those that have events.
-    coloured = {parts(kind)[1] for kind in kinds if times[kind]}
-    kinds = [kind for kind in kinds if kind < 256 or parts(kind)[1] in coloured]
-    if rows is not None:
-        begin, end = _around(table, [broken[row] for row in chosen if row in broken], times, begin, end)
-    picture = Scene(outcome.log, table.unit, begin, max(end, begin + 1))
-    lanes = {kind: lane for lane, kind in enumerate(kinds)}
-    for kind in kinds:
-        seen = [time for time in times[kind] if begin <= time <= end]
-        picture.lanes.append((table.event_name(kind), seen))
-    for number in chosen:
-        _shades(picture, table, number, times, lanes, broken)
-    for row in sorted(broken.values(), key=lambda row: row.step or 0):
-        if row.time is not None and begin <= row.time <= end:
-            picture.marks.append((row.time, f"{row.name} broken{' at the end' if row.by_close else ''}"))
+@dataclass
+class Gathered:
+    """The events of a log for its pictures: their times by signal, and the first and last time of the excerpt to be shown."""
+
+    times: dict[int, array[int]]
+    begin: int
+    end: int
+    steps: int
+    whole: bool
+    first: int
+    last: int
+
+
+def gather(table: Table, steps: Iterable[Step], outcome: Outcome) -> Gathered:
+    """The times of all events in the steps of a checked log. A long one is shown around the first step that broke a row."""
+    times: dict[int, array[int]] = {kind: array("Q") for row in table.rows for kind in row.signals}
+    whole = outcome.steps <= WHOLE
+    broke = min((row.step or 0 for row in outcome.broken), default=0)
+    first, last = (1, outcome.steps) if whole else (max(broke - BEFORE, 1), max(broke, BEFORE) + AFTER)
+    begin = end = number = 0
+    for number, (kind, time, _) in enumerate(steps, 1):
+        if kind is not None and kind in times:
+            times[kind].append(time)
+        if number <= first:
+            begin = time
+        if number <= last:
+            end = time
+    return Gathered(times, begin, end, number, whole, first, min(last, number))
+
+
+def overview(table: Table, gathered: Gathered, outcome: Outcome) -> Scene:
+    """The picture of a log, or of an excerpt of it."""
+    picture = _scene(table, gathered, outcome, list(range(len(table.rows))), outcome.log, (gathered.begin, gathered.end))
+    if not gathered.whole:
+        hidden = len(outcome.broken) - len(picture.marks)
+        picture.caption = f"An excerpt: steps {gathered.first:,} to {gathered.last:,} of {gathered.steps:,}" + (
+            ", around the first that broke a row" if outcome.broken else "") + (
+            f"; {hidden} of the {len(outcome.broken)} breaks are outside it" if hidden else "")
     return picture
 
 
-def _collect(steps: Iterable[Step], kinds: list[int], first: int, whole: bool) -> tuple[dict[int, array], int, int]:
-    """The times of each kind up to the end of the picture, and where the picture begins and ends."""
-    times = {kind: array("Q") for kind in kinds}
-    begin = end = 0
-    for number, (kind, time, _) in enumerate(steps, 1):
-        if not whole and number > max(first, BEFORE) + AFTER:
-            break
-        if number == 1 or not whole and number == first - BEFORE:
-            begin = time
-        if kind in times:
-            times[kind].append(time)
-        end = time
-    return times, begin, end
+def close_up(table: Table, gathered: Gathered, outcome: Outcome, row: RowOutcome) -> Scene:
+    """A broken row alone, around its break: from the last few events before it, and those that its reason is about, to a bit after."""
+    at = _time(outcome, row)
+    seen = sorted(time for kind in table.rows[row.number].signals for time in _between(gathered.times[kind], 0, at)[-6:])[-6:]
+    about = [time + outcome.moments.shift for _, time in row.about]
+    start, last = min([*seen, *about, at]), max([at, *about])
+    room = max((last - start) // 8, 1)
+    begin = max(start - room, min(outcome.moments.start, start))
+    return _scene(table, gathered, outcome, [row.number], row.name, (begin, last + room))
 
 
-def _around(table: Table, rows: list, times: dict[int, array], begin: int, end: int) -> tuple[int, int]:
-    """A stretch around the breaking steps: from the last few events before to a bit after."""
-    moments = [row.time for row in rows if row.time is not None]
-    if not moments:
-        return begin, end
-    seen = sorted(time for kind in times for time in times[kind] if time <= max(moments))
-    start = seen[-6] if len(seen) > 6 else seen[0] if seen else begin
-    room = max((max(moments) - start) // 5, 1)
-    return max(start - room, 0), max(moments) + room
+def _scene(table: Table, gathered: Gathered, outcome: Outcome, rows: list[int], title: str, between: tuple[int, int]) -> Scene:
+    begin, end = between
+    kinds = sorted({kind for row in rows for kind in table.rows[row].signals})
+    picture = Scene(title, outcome.moments, begin, max(end, begin + 1))
+    asked = [shade for number in rows for shade in _shades(picture, table, outcome, number, gathered.times)]
+    # A lane for what has an event in the log, or is asked for here; of the colours for those that have events.
+    coloured = {parts(kind)[1] for kind in kinds if len(gathered.times[kind])}
+    wanted = {kind for kind, _ in asked}
+    kinds = [kind for kind in kinds if (len(gathered.times[kind]) or kind in wanted if kind < 256 else parts(kind)[1] in coloured)]
+    lanes = {kind: lane for lane, kind in enumerate(kinds)}
+    for kind in kinds:
+        picture.lanes.append((table.event_name(kind), list(_between(gathered.times[kind], begin, end))))
+    picture.shades = [replace(shade, lane=lanes[kind]) for kind, shade in asked if kind in lanes]
+    picture.rows = {number: outcome.rows[number].name for number in rows}
+    for row in sorted((outcome.rows[number] for number in rows), key=lambda row: row.step or 0):
+        time = _time(outcome, row)
+        if row.verdict == "broken" and begin <= time <= end:
+            picture.marks.append((time, f"{row.name} broken{' at the end' if row.by_close else ''}"))
+        picture.blamed |= {(lanes[kind], stamp + outcome.moments.shift) for kind, stamp in row.about if kind in lanes}
+    return picture
 
 
-def _shades(picture: Scene, table: Table, number: int, times: dict, lanes: dict[int, int], broken: dict) -> None:
-    row = table.rows[number]
-    before = broken[number].time if number in broken else None
-    for kind, begin, end in row.type.windows(row, times):
+def _time(outcome: Outcome, row: RowOutcome) -> int:
+    """The monitor's time at which a row broke."""
+    return (row.time or 0) + outcome.moments.shift
+
+
+def _shades(picture: Scene, table: Table, outcome: Outcome, number: int, times: dict[int, array[int]]) -> Iterator[tuple[int, Shade]]:
+    """The stretches of a row that are in the picture, with their signals."""
+    row, found = table.rows[number], outcome.rows[number]
+    for kind, begin, end, wanted in row.type.windows(row, times):
+        if begin > picture.end and kind < FIRST_COLOURED:
+            break  # Stretches come in the order of time, but for those of colours, which are few.
         if begin > picture.end or begin < picture.begin and (end is None or end < picture.begin):
             continue
         # The stretch that nothing came in, where the row is broken.
-        missed = before is not None and end is not None and end <= before and not any(
-            begin <= time <= end for time in times[kind])
-        picture.shades.append(Shade(number, lanes[kind], begin, end, missed))
+        missed = (wanted and found.verdict == "broken" and end is not None and end <= _time(outcome, found)
+                  and not len(_between(times[kind], begin, end)))
+        yield kind, Shade(number, 0, begin, end, missed)
+
+
+def _between(times: array[int], begin: int, end: int) -> array[int]:
+    """The times from the beginning to the end of a stretch, both included."""
+    return times[bisect_left(times, begin) : bisect_right(times, end)]
+
+
+def _decimal(place: int, size: int) -> str:
+    """A place in the axis's unit, with all its digits."""
+    sign, place = ("-" if place < 0 else ""), abs(place)
+    whole, part = divmod(place, size)
+    digits = f"{part:0{len(str(size)) - 1}d}".rstrip("0") if part else ""
+    return f"{sign}{whole}.{digits}" if digits else f"{sign}{whole}"
 
 
 def ticks(begin: int, end: int, unit: str | None) -> tuple[list[int], str, int]:
@@ -119,78 +191,14 @@ def ticks(begin: int, end: int, unit: str | None) -> tuple[list[int], str, int]:
         for larger in UNITS:
             if UNITS[larger] % UNITS[unit] == 0 and span * UNITS[unit] >= 5 * UNITS[larger] and larger not in ("min", "h"):
                 name, size = larger, UNITS[larger] // UNITS[unit]
+    most = max(12 * 6 // max(len(_decimal(end, size)), 6), 3)
     step = size
-    while span // step > 12:
+    while span // step > most:
         for factor in (2, 5, 10):
-            if span // (step * factor) <= 12:
+            if span // (step * factor) <= most:
                 step *= factor
                 break
         else:
             step *= 10
     first = -(-begin // step) * step
     return list(range(first, end + 1, step)), name, size
-
-
-_LEFT, _WIDTH, _LANE, _STYLE = 170, 1000, 26, "font-family='DejaVu Sans, Verdana, sans-serif'"
-
-
-def svg(picture: Scene) -> str:
-    """The picture as one SVG element, which needs nothing else."""
-    inner = _WIDTH - _LEFT - 20
-    scale = inner / (picture.end - picture.begin)
-
-    def x(time: float) -> float:
-        return round(_LEFT + min(max((time - picture.begin) * scale, 0), inner), 1)
-
-    top = 34 + 15 * len(picture.marks)
-    height = top + _LANE * len(picture.lanes) + 34
-    out = [f"<svg xmlns='http://www.w3.org/2000/svg' viewBox='0 0 {_WIDTH} {height}' {_STYLE} font-size='11'>",
-           f"<title>{escape(picture.title)}</title>", f"<rect width='{_WIDTH}' height='{height}' fill='white'/>"]
-    bottom = top + _LANE * len(picture.lanes)
-    places, unit, size = ticks(picture.begin, picture.end, picture.unit)
-    for place in places:
-        out.append(f"<path d='M{x(place)} {top} V{bottom + 4}' stroke='#ddd'/>")
-        number = f"{place / size:g}" if place % size else str(place // size)
-        out.append(f"<text x='{x(place)}' y='{bottom + 17}' text-anchor='middle' fill='#444'>{number}</text>")
-    out.append(f"<text x='{_WIDTH - 20}' y='{bottom + 30}' text-anchor='end' fill='#444'>{escape(unit or 'time')}</text>")
-    for lane, (name, _) in enumerate(picture.lanes):
-        middle = top + _LANE * lane + _LANE // 2
-        out.append(f"<text x='{_LEFT - 10}' y='{middle + 4}' text-anchor='end' fill='#111'>{escape(name)}</text>")
-        out.append(f"<path d='M{_LEFT} {middle} H{_WIDTH - 20}' stroke='#999' stroke-width='.6'/>")
-    for shade in picture.shades:
-        out.append(_shade_svg(shade, picture, x, top))
-    for lane, (name, times) in enumerate(picture.lanes):
-        middle = top + _LANE * lane + _LANE // 2
-        for time in times:
-            tip = escape(f"{name} at {shown(time, picture.unit)}")
-            out.append(f"<path d='M{x(time)} {middle - 8} v16' stroke='#111' stroke-width='1.8'><title>{tip}</title></path>")
-    out += _marks_svg(picture, x, bottom)
-    out.append("</svg>")
-    return "\n".join(out) + "\n"
-
-
-def _marks_svg(picture: Scene, x, bottom: int) -> list[str]:
-    """The steps that broke a row: all lines, and then all labels before them."""
-    lines, labels = [], []
-    for place, (time, label) in enumerate(picture.marks):
-        y = 18 + 15 * place
-        anchor, dx = ("end", -5) if x(time) > _WIDTH * 0.7 else ("start", 5)
-        lines.append(f"<path d='M{x(time)} {y - 8} V{bottom}' stroke='{BROKEN}' stroke-width='1.4' stroke-dasharray='4 2'/>")
-        text = escape(f"{label}, {shown(time, picture.unit)}")
-        labels.append(f"<text x='{x(time) + dx}' y='{y}' text-anchor='{anchor}' fill='{BROKEN}' font-weight='bold' "
-                      f"paint-order='stroke' stroke='white' stroke-width='4'>{text}</text>")
-    return lines + labels
-
-
-def _shade_svg(shade: Shade, picture: Scene, x, top: int) -> str:
-    end = picture.shown_end(shade)
-    colour = BROKEN if shade.broken else COLOURS[shade.row % len(COLOURS)]
-    opacity = ".35" if shade.broken else ".08" if shade.end is None else ".22"
-    y = top + _LANE * shade.lane + 4
-    width = max(round(x(end) - x(shade.begin), 1), 1.5)
-    upto = " on" if shade.end is None else f" to {shown(shade.end, picture.unit)}"
-    # Dashed, where only the beginning of a stretch without an end is shown.
-    dashed = " stroke-dasharray='2 2'" if shade.end is None else ""
-    tip = escape(f"row {shade.row}: from {shown(shade.begin, picture.unit)}{upto}{', nothing came' if shade.broken else ''}")
-    return (f"<rect x='{x(shade.begin)}' y='{y}' width='{width}' height='{_LANE - 8}' fill='{colour}' "
-            f"fill-opacity='{opacity}' stroke='{colour}' stroke-opacity='.45' stroke-width='.7'{dashed}><title>{tip}</title></rect>")

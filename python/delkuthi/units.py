@@ -29,10 +29,10 @@ def in_unit(number: str, written: str | None, unit: str | None) -> int:
     return above // below
 
 
-def cut_to_unit(number: str, written: str | None, unit: str | None) -> int:
-    """As :func:`in_unit`, but a part of a unit is left out: the time counts as the whole one before it."""
+def nearest_in_unit(number: str, written: str | None, unit: str | None) -> int:
+    """As :func:`in_unit`, but a time that is no whole number of units counts as the nearest, one half way as the later."""
     above, below = _ratio(number, written, unit)
-    return above // below
+    return (2 * above + below) // (2 * below)
 
 
 def exact(time: int, unit: str | None) -> str:
@@ -50,6 +50,8 @@ def shown(time: int, unit: str | None) -> str:
         return str(time)
     if unit in ("min", "h"):
         return f"{time} {unit}"
+    if time < 0:
+        return f"-{shown(-time, unit)}"
     nanoseconds = time * UNITS[unit]
     if 0 < nanoseconds < 10**4:
         name = "us" if nanoseconds >= 10**3 or unit != "ns" else "ns"

@@ -5,23 +5,48 @@ had never come, with all that came after it.
 """
 from __future__ import annotations
 
+import argparse
+import math
 import os
 import select
 import signal
 import sys
 import tempfile
 import time as clock
+from collections import Counter
 from contextlib import contextmanager
-from typing import IO, Callable, Iterator
+from dataclasses import dataclass
+from typing import IO, Any, Callable, Collection, Iterator
 
-from .check import UNKNOWN, Run, reasons_of
+from .check import UNEXERCISED, UNKNOWN, Late, Run, reasons_of
 from .library import Refused
-from .logs import CanMapping, LogError, Step
+from .logs import LogError, Step
+from .mapping import CanMapping
+from .moments import Moments
 from .monitor import Monitor
+from .output import number_of
 from .recording import record_bytes, records
+from .rowtypes import judged
 from .signals import signal as signal_of
 from .table import KeySource, Table
-from .units import UNITS, shown
+from .units import UNITS
+from .writing import NotWritten, complain, out
+
+#: After so many seconds without a frame it is said that none comes; the status line is written so often.
+SILENT, SHOWN = 2.0, 0.25
+
+
+@dataclass
+class _Before:
+    """What is needed to go back before the last marker: the monitor right after it, and how things stood before it."""
+
+    marked: Monitor
+    place: int
+    clock: int
+    number: int
+    last: dict[int, int]
+    broken: dict[int, int]
+    seen: Counter[int | None]
 
 
 class Watch:
@@ -33,25 +58,34 @@ class Watch:
         self.table, self.say, self.spool = table, say, spool
         self.monitor = Monitor(table)
         self.mapping = CanMapping(table)
+        # The clock is ahead of the stamps by the largest jitter, as in a log.
+        self.moments = Moments(table.unit, table.jitter, table.jitter)
         self.keys = {source.key: signal_of(event.kind, source.colour) for event in table.events for source in event.sources
                      if isinstance(source, KeySource)}
-        self.clock = self.number = self.left_out = 0
+        self.clock = self.number = self.left_out = self.frames = 0
         self.last: dict[int, int] = {}
         self.broken: dict[int, int] = {}
-        #: Before the last marker: a copy of the monitor, the place in the spool and what else is needed to go back.
-        self._before: tuple | None = None
+        self.seen: Counter[int | None] = Counter()
+        self._before: _Before | None = None
         self._since: list[Step] = []
+        #: Broken rows whose answer may still come.
+        self._late: dict[int, Late] = {}
         coloured = any(source.colour is not None for event in table.events for source in event.sources)
         self.spool.write(b"\x02" if coloured else b"\x01")
 
     def units(self, seconds: float) -> int:
-        """A time in seconds, in the table's unit."""
-        return max(round(seconds * 1_000_000) * 1000 // UNITS[self.table.unit or "s"], 0)
+        """The monitor's time of a moment in seconds from the start."""
+        return max(round(seconds * 1_000_000) * 1000 // UNITS[self.table.unit or "s"], 0) + self.moments.shift
 
-    def frame(self, frame, seconds: float) -> None:
+    def seconds(self, time: int) -> float:
+        """The moment of a time of the monitor, in seconds from the start."""
+        return (time - self.moments.shift) * UNITS[self.table.unit or "s"] / 10**9
+
+    def frame(self, frame: Any, seconds: float) -> None:
         """Takes a frame of python-can that came so many seconds after the start."""
+        self.frames += 1
         data = not frame.is_error_frame and not frame.is_remote_frame
-        kinds = self.mapping.frame(frame) if data else ()
+        kinds = self.mapping.kinds(frame.arbitration_id, frame.is_extended_id, str(frame.channel), bytes(frame.data)) if data else ()
         for kind in kinds:
             self.event(kind, self.units(seconds))
         if not kinds:
@@ -72,23 +106,25 @@ class Watch:
 
     def marker(self, kind: int, time: int) -> None:
         """Takes an event that can be withdrawn."""
-        before = self.monitor.copy(), self.spool.tell(), self.clock, self.number, dict(self.last), dict(self.broken)
-        number = self.number
-        self.say(f"{self.table.event_name(kind)} at {shown(max(time, self.clock), self.table.unit)}")
+        before = (self.spool.tell(), self.clock, self.number, dict(self.last), dict(self.broken), Counter(self.seen))
+        self.say(f"{self.table.event_name(kind)} at {self.moments.at(max(time, self.clock))}")
         self.event(kind, time)
-        if self.number > number:
-            self._before, self._since = before, []
+        if self.number > before[2]:
+            self._before, self._since = _Before(self.monitor.copy(), *before), []
 
     def withdraw(self) -> bool:
-        """Takes the last marker back, once; answers whether there was one."""
+        """Takes the last marker back, once, by the library's withdrawal; what came after it is taken again. Answers whether
+        there was one."""
         if self._before is None:
             return False
-        since, self._since = self._since, []
-        self.monitor, place, self.clock, self.number, self.last, known = self._before
-        self._before = None
-        self.spool.seek(place)
+        before, since = self._before, self._since
+        self._before, self._since, self._late = None, [], {}
+        before.marked.withdraw()
+        self.monitor, self.clock, self.number, self.last, self.seen = (
+            before.marked, before.clock, before.number, before.last, before.seen)
+        self.spool.seek(before.place)
         self.spool.truncate()
-        again, self.broken = set(self.broken) - set(known), known
+        again, self.broken = set(self.broken) - set(before.broken), before.broken
         for step in since:
             self._take(step, again)
         for row in sorted(again - set(self.broken)):
@@ -99,38 +135,54 @@ class Watch:
         """Closes the recording."""
         self.monitor.close()
         self.number += 1
-        self._ask(None, set())
+        self._ask(None, ())
 
-    def _take(self, step: Step, silent: set[int] = frozenset()) -> None:  # type: ignore[assignment]
+    def _take(self, step: Step, silent: Collection[int] = ()) -> None:
         try:
             self.monitor.take(step.kind, step.time)
-            if step.kind is not None:
-                self.last[step.kind] = step.time
         except Refused as refusal:
             self.left_out += 1
             name = "the clock" if step.kind is None else self.table.event_name(step.kind)
-            self.say(f"{name} at {shown(step.time, self.table.unit)} {refusal}")
+            self.say(f"{name} at {self.moments.at(step.time)} {refusal}")
             return
+        if step.kind is not None:
+            self.last[step.kind] = step.time
+        self.seen[step.kind] += 1
         self.clock, self.number = step.time, self.number + 1
         if self._before is not None:
             self._since.append(step)
         self.spool.write(record_bytes(step.kind, step.time))
+        self._answered(step)
         self._ask(step, silent)
 
-    def _ask(self, step: Step | None, silent: set[int]) -> None:
+    def _answered(self, step: Step) -> None:
+        """Says each answer that comes too late, for a row that was said to be broken."""
+        for row, late in list(self._late.items()):
+            text = None if step.kind is None else late.take(step.kind, step.time, self.number)
+            if text is not None:
+                del self._late[row]
+                self.say(f"{self.table.row_name(row)}: {text}")
+
+    def _ask(self, step: Step | None, silent: Collection[int]) -> None:
         """Says each row that is broken now and was not; those in ``silent`` have been said before."""
         found = Run(steps=self.number)
-        for row, verdict in enumerate(self.monitor.verdicts):
-            if verdict.step is not None and row not in self.broken:
-                self.broken[row] = verdict.step
-                found.broken[row] = verdict.step, step
-        if not set(found.broken) - silent:
+        for row in range(len(self.table.rows)):
+            number = None if row in self.broken else self.monitor.step(row)
+            if number is not None:
+                self.broken[row] = number
+                found.broken[row] = number, step
+        new = sorted(set(found.broken) - set(silent))
+        if not new:
             return
-        why = reasons_of(self.table, self.steps(), found, lambda place: f"step {place}")
+        why = reasons_of(self.table, self.steps(), found, lambda place: f"step {place}", self.moments, ended=step is None)
         self.spool.seek(0, os.SEEK_END)
-        for row in sorted(set(found.broken) - silent):
-            at = "at the end" if step is None else f"at {shown(self.clock, self.table.unit)}"
-            self.say(f"{self.table.row_name(row)} ({self.table.rows[row].type.name}) broken {at}: {why.get(row, UNKNOWN)}")
+        for row in new:
+            at = "at the end" if step is None else f"at {self.moments.at(self.clock)}"
+            text = why[row].text if row in why else UNKNOWN
+            waiting = why[row].late if row in why else None
+            if waiting is not None:
+                self._late[row] = waiting
+            self.say(f"{self.table.row_name(row)} ({self.table.rows[row].type.name}) broken {at}: {text}")
 
     def steps(self) -> Iterator[Step]:
         """The steps so far, from the spool."""
@@ -139,33 +191,135 @@ class Watch:
             assert time is not None
             yield Step(kind, time, number)
 
+    @property
+    def unexercised(self) -> list[int]:
+        """The rows that are not broken and of which nothing was there to be judged."""
+        return [number for number, row in enumerate(self.table.rows)
+                if number not in self.broken and not judged(row.type, row.values, self.seen)]
 
-def watch_bus(watch: Watch, bus, seconds: float | None, period: float, lag: float, keys: Callable[[], str],
-              stopped: Callable[[], bool]) -> None:
+    def status(self, seconds: float) -> str:
+        """What there was so far, in a line: frames, events, rate, rows, and how long it is to the next deadline."""
+        events, rows = sum(self.seen.values()) - self.seen[None], len(self.table.rows)
+        text = (f"{seconds:.0f} s: {number_of(self.frames, 'frame')} ({self.frames / max(seconds, 1):.0f}/s), "
+                f"{number_of(events, 'event')}, {number_of(rows - len(self.broken), 'row')} open, {len(self.broken)} broken")
+        deadline = self.monitor.deadline()
+        return text if deadline is None else f"{text}, next deadline in {max(self.seconds(deadline) - seconds, 0):.3f} s"
+
+
+class Clock:
+    """When the watch ticks: at the next deadline where the library says it, else every period; always a lag behind."""
+
+    def __init__(self, watch: Watch, period: float, lag: float):
+        self.watch, self.period, self.lag = watch, period, lag
+
+    def wait(self, now: float) -> float:
+        """How long a frame may be waited for, in seconds."""
+        if not self.watch.monitor.knows_deadlines():
+            return self.period
+        deadline = self.watch.monitor.deadline()
+        if deadline is None:
+            return SHOWN
+        return min(max(self.watch.seconds(deadline + 1) + self.lag - now, 0.0), SHOWN)
+
+    def tick(self, now: float) -> None:
+        """Moves the clock on, where it is time to."""
+        time, deadline = self.watch.units(now - self.lag), self.watch.monitor.deadline()
+        if not self.watch.monitor.knows_deadlines() or deadline is not None and time > deadline:
+            self.watch.tick(time)
+
+
+class Screen:
+    """The status line, where a person watches, and what is said when no frames come."""
+
+    def __init__(self, watch: Watch):
+        self.watch = watch
+        self.live = sys.stderr is not None and sys.stderr.isatty()
+        self.shown = self.came = 0.0
+        self.silent = False
+
+    def frame(self, now: float) -> None:
+        """A frame has come."""
+        if self.silent:
+            self.line(f"frames again, after {now - self.came:.1f} s")
+        self.came, self.silent = now, False
+
+    def look(self, now: float) -> None:
+        """Once in a while: the status line, and whether frames come."""
+        if not self.silent and now - self.came >= SILENT:
+            self.silent = True
+            self.line(f"no frame for {now - self.came:.0f} s" if self.watch.frames else f"no frame has come yet, after {now:.0f} s")
+        if self.live and now - self.shown >= SHOWN:
+            self.shown = now
+            sys.stderr.write(f"\r\x1b[K{self.watch.status(now)}")
+            sys.stderr.flush()
+
+    def clear(self) -> None:
+        """Takes the status line away, before something else is written."""
+        if self.live:
+            sys.stderr.write("\r\x1b[K")
+            sys.stderr.flush()
+
+    def say(self, text: str) -> None:
+        """A line to the standard output."""
+        self.clear()
+        out(text + "\n")
+
+    def line(self, text: str) -> None:
+        """A line to the standard error."""
+        self.clear()
+        complain(text)
+
+
+def watch_bus(watch: Watch, bus: Any, seconds: float | None, ticks: Clock, keys: Callable[[], str], stopped: Callable[[], bool],
+              screen: Screen) -> None:
     """Steps the monitor until the time is over or it is stopped. ``keys`` answers the keys pressed since it was asked."""
-    start, offset = clock.monotonic(), None
-    while not stopped() and (seconds is None or clock.monotonic() - start < seconds):
-        frame = bus.recv(timeout=period)
+    start, offset, now = clock.monotonic(), None, 0.0
+    while not stopped() and (seconds is None or now < seconds):
+        left = ticks.wait(now) if seconds is None else min(ticks.wait(now), max(seconds - now, 0))
+        frame = _received(bus, left)
         now = clock.monotonic() - start
         if frame is not None:
             # The bus has a clock of its own; the first frame says how far it is from ours.
-            offset = frame.timestamp - now if offset is None else offset
-            watch.frame(frame, frame.timestamp - offset)
+            stamp = frame.timestamp if math.isfinite(frame.timestamp) else now + (offset or 0.0)
+            offset = stamp - now if offset is None else offset
+            watch.frame(frame, stamp - offset)
+            screen.frame(now)
         else:
-            watch.tick(watch.units(now - lag))
-        for key in keys():
-            if key in watch.keys:
-                watch.marker(watch.keys[key], watch.units(now))
-            elif key in ("\x7f", "\b"):
-                watch.say("the last marker is withdrawn" if watch.withdraw() else "there is no marker to withdraw")
-            elif key in ("q", "\x04"):
-                return
+            ticks.tick(now)
+        screen.look(now)
+        if not _pressed(watch, keys(), now):
+            break
+    watch.tick(watch.units(now - ticks.lag))
+
+
+class BusFailed(Exception):
+    """A bus from which nothing more can be read."""
+
+
+def _received(bus: Any, seconds: float) -> Any:
+    """The next frame, if one comes in time."""
+    try:
+        return bus.recv(timeout=seconds)
+    except Exception as error:  # each interface of python-can has exceptions of its own
+        raise BusFailed(" ".join(str(error).split()) or type(error).__name__) from None
+
+
+def _pressed(watch: Watch, keys: str, now: float) -> bool:
+    """What the keys ask for; answers whether the watch goes on."""
+    for key in keys:
+        if key in watch.keys:
+            watch.marker(watch.keys[key], watch.units(now))
+        elif key in ("\x7f", "\b"):
+            watch.say("the last marker is withdrawn" if watch.withdraw() else "there is no marker to withdraw")
+        elif key in ("q", "\x04"):
+            return False
+    return True
 
 
 @contextmanager
 def _keyboard() -> Iterator[Callable[[], str]]:
     """The keys that are pressed, one by one, if the standard input is a terminal."""
-    if not sys.stdin.isatty():
+    if sys.stdin is None or not sys.stdin.isatty():
         yield lambda: ""
         return
     import termios
@@ -189,11 +343,11 @@ def _keyboard() -> Iterator[Callable[[], str]]:
 def _signals(keys: Callable[[], str]) -> Iterator[tuple[Callable[[], str], Callable[[], bool]]]:
     """The keys, with a withdrawal for each SIGUSR1, and whether SIGINT or SIGTERM has come."""
     pending: list[str] = []
-    handlers = {
-        signal.SIGUSR1: lambda *_: pending.append("\x7f"),
-        signal.SIGINT: lambda *_: pending.append("stop"),
-        signal.SIGTERM: lambda *_: pending.append("stop"),
-    }
+
+    def note(word: str) -> Callable[[int, object], None]:
+        return lambda number, frame: pending.append(word)
+
+    handlers = {signal.SIGUSR1: note("\x7f"), signal.SIGINT: note("stop"), signal.SIGTERM: note("stop")}
     saved = {number: signal.signal(number, handler) for number, handler in handlers.items()}
 
     def all_keys() -> str:
@@ -208,8 +362,8 @@ def _signals(keys: Callable[[], str]) -> Iterator[tuple[Callable[[], str], Calla
             signal.signal(number, handler)
 
 
-def watch_command(given, table: Table, out: Callable[[str], None]) -> int:
-    """``delkuthi watch``: 0 if every row is kept in the end, 1 if one is broken."""
+def _bus(given: argparse.Namespace) -> Any:
+    """The bus that is named."""
     try:
         import can
     except ImportError:
@@ -217,18 +371,51 @@ def watch_command(given, table: Table, out: Callable[[str], None]) -> int:
     interface, _, channel = given.bus.partition(":")
     options = {"bitrate": given.bitrate} if given.bitrate else {}
     try:
-        bus = can.Bus(interface=interface, channel=channel or None, **options)  # type: ignore[abstract]
-    except (can.CanError, ValueError, OSError, ImportError, NotImplementedError) as error:
-        raise LogError(given.bus, "", str(error)) from None
-    spool = open(given.record, "w+b") if given.record else tempfile.TemporaryFile()
-    with spool, bus, _keyboard() as pressed, _signals(pressed) as (keys, stopped):
-        watch = Watch(table, lambda text: out(text + "\n"), spool)
-        if watch.keys and sys.stdin.isatty():
+        return can.Bus(interface=interface, channel=channel or None, **options)
+    except Exception as error:  # each interface of python-can has exceptions of its own
+        raise LogError(given.bus, "", " ".join(str(error).split()) or type(error).__name__) from None
+
+
+def _spool(path: str | None) -> IO[bytes]:
+    """Where the steps are kept while the watch runs."""
+    try:
+        return open(path, "w+b") if path else tempfile.TemporaryFile()
+    except OSError as error:
+        raise NotWritten(f"{path or 'a temporary file'}: {error.strerror or error}") from None
+
+
+def watch_command(given: argparse.Namespace, table: Table) -> int:
+    """``delkuthi watch``: 0 if every row is kept in the end, 1 if one is broken, 2 if no frame ever came or the bus failed."""
+    bus = _bus(given)
+    with bus, _spool(given.record) as spool, _keyboard() as pressed, _signals(pressed) as (keys, stopped):
+        watch = Watch(table, lambda text: screen.say(text), spool)
+        screen = Screen(watch)
+        if watch.keys and sys.stdin is not None and sys.stdin.isatty():
             names = ", ".join(f"{key} {table.event_name(kind)}" for key, kind in watch.keys.items())
-            print(f"keys: {names}; backspace withdraws the last one, q ends", file=sys.stderr)
-        watch_bus(watch, bus, given.seconds, given.period, given.lag, keys, stopped)
+            complain(f"keys: {names}; backspace withdraws the last one, q ends")
+        failed = None
+        try:
+            watch_bus(watch, bus, given.seconds, Clock(watch, given.period, given.lag), keys, stopped, screen)
+        except BusFailed as error:
+            failed = str(error)
         watch.close()
-        count = len(table.rows)
-        out(f"{given.bus}: {count} rows, {count - len(watch.broken)} kept, {len(watch.broken)} broken; {watch.number} steps"
-            f"{f', {watch.left_out} left out' if watch.left_out else ''}\n")
-        return 1 if watch.broken else 0
+        screen.clear()
+        status = _ended(watch, given.bus)
+        if failed is not None:
+            complain(f"{given.bus}: the bus failed, and what came before is checked: {failed}")
+        return status if failed is None else 2
+
+
+def _ended(watch: Watch, name: str) -> int:
+    """The last lines, and the status."""
+    rows, broken, idle = len(watch.table.rows), len(watch.broken), watch.unexercised
+    for row in idle:
+        out(f"{watch.table.row_name(row)} ({watch.table.rows[row].type.name}) {UNEXERCISED}\n")
+    words = [number_of(rows, "row"), f"{rows - broken - len(idle)} kept"]
+    words += [f"{len(idle)} never exercised"] if idle else []
+    left = f", {watch.left_out} left out" if watch.left_out else ""
+    out(f"{name}: {', '.join(words)}, {broken} broken; {number_of(watch.frames, 'frame')}, {number_of(watch.number, 'step')}{left}\n")
+    if not watch.frames:
+        complain(f"{name}: no frame ever came, so nothing was checked")
+        return 2
+    return 1 if broken else 0

@@ -27,7 +27,7 @@ def rows(draw, pool=st.integers(0, 47), coloured=st.integers(48, 63), some_times
             values[part.name] = kinds[taken]
             taken += 1
         elif part.role in MOST:
-            values[part.name] = draw(st.integers(1, MOST[part.role] if some_times is times else 3))
+            values[part.name] = draw(st.integers(1, MOST[part.role] if some_times is times else 8))
         else:
             values[part.name] = draw(some_times)
     if row_type.bounds:
@@ -39,8 +39,8 @@ def rows(draw, pool=st.integers(0, 47), coloured=st.integers(48, 63), some_times
     return Row(row_type, values, draw(names))
 
 
-words = st.from_regex(r"[a-zA-Z_äß][a-zA-Z_0-9ä]{0,8}", fullmatch=True)
-texts = st.text(st.characters(blacklist_categories=("Cc", "Cs", "Zl", "Zp", "Cn", "Co", "Cf", "Zs")), min_size=1, max_size=9)
+words = st.from_regex(r"[^\W\d]\w{0,8}", fullmatch=True)
+texts = st.text(st.characters(blacklist_categories=("Cc", "Cs", "Zl", "Zp")), min_size=1, max_size=9)
 can_sources = st.builds(
     CanSource, identifier=st.integers(0, 0x7FF), extended=st.booleans(), bus=st.none() | st.sampled_from(["can0", "vcan1"]),
     data=st.none() | st.from_regex(r"[0-9A-F.]{1,8}", fullmatch=True), change=st.booleans())

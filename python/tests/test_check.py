@@ -1,5 +1,6 @@
 """Checked logs: verdicts as the report's, messages, and what is written for others."""
 import json
+import re
 import xml.etree.ElementTree as xml
 from html.parser import HTMLParser
 
@@ -10,11 +11,13 @@ from hypothesis import strategies as st
 from delkuthi import Table, report
 from delkuthi import check as check_module
 from delkuthi.check import check
+from delkuthi.command import pictured
+from delkuthi.html_page import as_html
 from delkuthi.logs import Policy
-from delkuthi.output import as_html, as_json, as_junit
+from delkuthi.output import as_json, as_junit
 from delkuthi.recording import recording_bytes
 
-from conftest import EXAMPLES
+from conftest import EXAMPLES, ROOT
 from strategies import played
 
 MESSAGES = (EXAMPLES / "messages.txt").read_text(encoding="utf-8").splitlines()
@@ -30,7 +33,8 @@ def test_the_messages_on_the_drive():
     outcome = drive()
     assert [message.replace(f"{EXAMPLES}/", "") for message in outcome.messages] == MESSAGES[:-1]
     assert (outcome.status, f"closed {outcome.steps}") == (1, REPORT[0])
-    assert MESSAGES[-1].endswith(f"; {outcome.events} events in {outcome.lines} lines")
+    assert f"; {outcome.counts.events} events in {outcome.counts.lines} lines, clock 3 ms ahead" in MESSAGES[-1]
+    assert outcome.warnings == [f"{EXAMPLES}/drive.csv: the log has no cabin_light"]
 
 
 @pytest.mark.parametrize("name", ["drive.csv", "drive.log", "recording.bin"])
@@ -46,10 +50,10 @@ def test_random_logs(tmp_path, case):
     path = tmp_path / "a.bin"
     data = recording_bytes(steps)
     path.write_bytes(data)
-    check_module._CHUNK = 7
-    outcome = check(table, str(path))
-    check_module._CHUNK = 1024
-    lines = [f"{row.number} {row.verdict}{'' if row.step is None else f' {row.step}'}" for row in outcome.rows]
+    check_module.CHUNK = 7
+    outcome = check(table, str(path), Policy(as_stamped=True))
+    check_module.CHUNK = 1024
+    lines = [f"{row.number} {row.verdict.split(',')[0]}{'' if row.step is None else f' {row.step}'}" for row in outcome.rows]
     assert [f"closed {outcome.steps}", *lines] == report(table, data).splitlines()
     for row in outcome.broken:
         assert row.by_close == (row.step == len(steps) + 1)
@@ -60,6 +64,16 @@ def test_a_log_that_is_not_closed():
     outcome = drive(close=False)
     assert {row.verdict for row in outcome.rows} == {"open", "broken"}
     assert len(outcome.broken) == BROKEN
+
+
+def test_what_may_still_come_after_a_log_that_is_not_closed(tmp_path):
+    """Nothing is said never to come where the end of the log is not the end."""
+    table = Table.from_text("unit ms\nevent a = 0\nevent b = 1\nDelay a -> b, 0 .. 9\n")
+    path = tmp_path / "a.csv"
+    path.write_text("time,event\n1,a\n20,\n")
+    reasons = [check(table, str(path), Policy(close=close)).broken[0].reason for close in (True, False)]
+    assert reasons == ["the a at 1 ms (line 2) was never answered: no b came for it, due by 10 ms, at most 9 ms is asked",
+                       "the a at 1 ms (line 2) had no b by 10 ms, at most 9 ms is asked"]
 
 
 def test_refusals_of_steps(tmp_path):
@@ -84,7 +98,7 @@ def test_recordings_that_the_report_refuses(tmp_path, case, more):
     data = recording_bytes(steps + more)
     path.write_bytes(data)
     said = report(table, data)
-    outcome = check(table, str(path))
+    outcome = check(table, str(path), Policy(as_stamped=True))
     assert (outcome.error is not None) == said.startswith("refused")
     if outcome.error is None:
         assert f"closed {outcome.steps}\n" in said
@@ -113,12 +127,17 @@ def test_json():
     assert [row["verdict"] for row in rows].count("kept") == ROWS - BROKEN
     assert (f"1 broken {rows[1]['step']}", rows[1]["place"], rows[1]["time"]) == (REPORT[2], rows[1]["step"] + 1, 118300)
     assert "nowhere.csv" in found["logs"][1]["error"]
+    assert rows[1]["about"] == [{"event": "steering_request", "time": 95100}, {"event": "steering_reply", "time": 118300}]
+    assert (rows[2]["events"], rows[2]["instances"]) == (30, 29)
+    manual = (ROOT / "python/README.md").read_text(encoding="utf-8").split("**JSON** has")[1].split("**Many logs.**")[0]
+    told = set(re.findall(r"`(\w+)`", manual)) | {"word", "closed", "refused", "page", "by_close"}
+    assert {*found["logs"][0], *rows[0]} - told == set(), "the manual names each"
 
 
 def test_junit():
     table = Table.read(EXAMPLES / "drive.txt")
     tree = xml.fromstring(as_junit(table, [drive(), drive("drive.log"), check(table, "no<where&.csv")]).encode())
-    assert tree.attrib == {"name": "delkuthi", "tests": f"{2 * ROWS + 1}", "failures": f"{2 * BROKEN}", "errors": "1"}
+    assert tree.attrib == {"name": "delkuthi", "tests": f"{2 * ROWS + 1}", "failures": f"{2 * BROKEN}", "errors": "1", "skipped": "0"}
     assert [suite.get("failures") for suite in tree] == [f"{BROKEN}", f"{BROKEN}", "0"]
     failure = tree[0][1].find("failure")
     assert failure.get("type") == "StrongDelay" and MESSAGES[0].split(": ", 1)[1] in failure.get("message")
@@ -133,7 +152,7 @@ class Seen(HTMLParser):
 
     def handle_starttag(self, tag, attributes):
         self.loads += [value for name, value in attributes if name in ("src", "href", "srcset", "data")]
-        if tag not in ("meta", "path", "rect"):
+        if tag not in ("meta", "br", "path", "rect", "circle"):
             self.open.append(tag)
         elif tag in ("path", "rect") and not self.get_starttag_text().endswith("/>"):
             self.open.append(tag)
@@ -149,15 +168,14 @@ class Seen(HTMLParser):
 
 
 def test_the_page():
-    from delkuthi.command import _scenes
-
     table = Table.read(EXAMPLES / "drive.txt")
     outcome, policy = drive(), Policy()
-    page = as_html(table, "<drive>.txt", [(outcome, *_scenes(table, policy, outcome)), (check(table, "no.csv"), None, {})])
+    page = as_html(table, "<drive>.txt", [pictured(table, policy, outcome), (check(table, "no.csv"), None, {})])
     seen = Seen()
     seen.feed(page)
-    assert seen.open == [] and seen.loads == []
+    assert seen.open == []
+    assert all(load.startswith("#") and f'id="{load[1:]}"' in page for load in seen.loads) and len(seen.loads) == BROKEN + 2
     assert "http" not in page.replace("http://www.w3.org/2000/svg", "")
     assert "@import" not in page and "url(" not in page and "<script" not in page
     assert "<drive>.txt" in seen.text and all(message in seen.text for message in outcome.messages)
-    assert page.count("<svg") == 1 + BROKEN
+    assert page.count("<svg") == 1 + BROKEN and "broken at line 39" in seen.text and "2 logs, 0 kept, 1 broken, 1 refused" in seen.text

@@ -1,4 +1,5 @@
 """The command: statuses, options, many logs, text and bytes, and what the program of the same name does."""
+import io
 import json
 import os
 import re
@@ -11,6 +12,7 @@ import pytest
 
 from delkuthi import Table, __version__
 from delkuthi.check import check
+from delkuthi.recording import records
 
 from conftest import EXAMPLES, ROOT
 
@@ -26,7 +28,7 @@ def kept(tmp_path):
 
 
 def test_the_four_statuses(command, kept):
-    assert command("check", "kept.txt", "kept.csv") == (0, "kept.csv: 1 rows, 1 kept, 0 broken; 2 events in 2 lines\n", "")
+    assert command("check", "kept.txt", "kept.csv") == (0, "kept.csv: 1 row, 1 kept, 0 broken; 2 events in 2 lines\n", "")
     assert command("check", TABLE, CSV)[0] == 1
     (kept / "bad.txt").write_text("Delay 1 -> 1, 0 .. 5\n")
     status, out, error = command("check", "bad.txt", "kept.csv")
@@ -51,6 +53,96 @@ def test_outputs_that_cannot_be_written(kept):
     assert done.returncode == 3
 
 
+def run_with(words, **options):
+    """Status and standard error of the command with other streams or another environment."""
+    done = subprocess.run([sys.executable, "-m", "delkuthi", *map(str, words)], stderr=subprocess.PIPE, text=True, **options)
+    assert "Traceback" not in done.stderr and "not foreseen" not in done.stderr and "Exception ignored" not in done.stderr
+    return done.returncode, done.stderr
+
+
+@pytest.mark.parametrize("words", [["--help"], ["check", "--help"], ["--version"], ["table", "--grammar"], ["table", TABLE], ["check", TABLE, CSV],
+                                   ["check", TABLE, CSV, "--json"], ["check", TABLE, CSV, "--page"], ["shrink", TABLE, CSV, "cabin light"],
+                                   ["stamps", TABLE, CSV, "wheel speed", "1 ms"], ["table", TABLE, "--bytes"], ["check", TABLE, CSV, "--html", "-"]])
+def test_a_standard_output_that_is_full_or_closed(words):
+    with open("/dev/full", "w") as full:
+        status, error = run_with(words, stdout=full)
+    assert status == 3 and "could not be written" in error
+    closed = f"{sys.executable} -m delkuthi {' '.join(repr(str(word)) for word in words)} >&-"
+    status, error = subprocess.run(closed, shell=True, stderr=subprocess.PIPE, text=True).returncode, ""
+    assert status == 3
+
+
+def test_a_standard_error_that_is_closed():
+    done = subprocess.run(f"{sys.executable} -m delkuthi check none.txt none.csv 2>&-", shell=True, capture_output=True, text=True)
+    assert (done.returncode, done.stdout) == (2, "")
+    done = subprocess.run(f"{sys.executable} -m delkuthi check {TABLE} {CSV} 2>&-", shell=True, capture_output=True, text=True)
+    assert done.returncode == 1 and "broken" in done.stdout
+
+
+def test_a_standard_output_that_is_not_utf_8(kept):
+    (kept / "umlaut.txt").write_text(KEPT.replace("answer", "T\u00fcr \u65e5"), encoding="utf-8")
+    (kept / "late.csv").write_text("time,event\n1,a\n30,b\n")
+    words = [sys.executable, "-m", "delkuthi", "check", "umlaut.txt", "late.csv"]
+    for encoding in ("ascii", "latin-1", "utf-8"):
+        other = {**os.environ, "PYTHONIOENCODING": encoding, "PYTHONUTF8": "0"}
+        done = subprocess.run(words, cwd=kept, capture_output=True, env=other)
+        assert done.returncode == 1 and b"broken at 30 ms" in done.stdout and b"Traceback" not in done.stderr
+        json_of = subprocess.run([*words, "--json"], cwd=kept, capture_output=True, env=other)
+        assert json.loads(json_of.stdout)["logs"][0]["rows"][0]["name"] == "T\u00fcr \u65e5"
+
+
+def test_names_of_files_that_are_not_utf_8(kept):
+    name = b"caf\xe9.csv"
+    os.rename(kept / "kept.csv", os.path.join(os.fsencode(kept), name))
+    for more in ([], ["--json"], ["--junit", "a.xml"], ["--html", "a.html"], ["--plot", "a.svg"]):
+        done = subprocess.run([sys.executable, "-m", "delkuthi", "check", "kept.txt", name, *more], cwd=kept, capture_output=True)
+        assert done.returncode == 0 and b"Traceback" not in done.stderr and b"not foreseen" not in done.stderr
+    xml.parse(kept / "a.xml")
+
+
+def test_outputs_that_cannot_be_written_anywhere(kept):
+    for words in (["record", TABLE, LOG, "-o", "/nowhere/x"], ["join", TABLE, LOG, "kept.csv", "-o", "/nowhere/x"],
+                  ["watch", TABLE, "virtual:x", "--record", "/nowhere/x", "--seconds", "0"], ["check", TABLE, CSV, "--plot", "/nowhere/x.png"],
+                  ["table", TABLE, "-o", "/dev/full"], ["check", TABLE, CSV, "--html", "/dev/full"]):
+        status, error = run_with(words, cwd=kept, stdout=subprocess.DEVNULL)
+        assert status == 3 and "could not be written" in error, words
+
+
+def test_pictures_of_logs_of_one_name(command, kept):
+    for folder in ("x", "y"):
+        (kept / folder).mkdir()
+        (kept / folder / "kept.csv").write_text("time,event\n1,a\n3,b\n")
+    assert command("check", "kept.txt", "x/kept.csv", "y/kept.csv", "kept.csv", "--plot", "p.svg")[0] == 0
+    assert sorted(path.name for path in kept.glob("*.svg")) == ["p-kept-2.svg", "p-kept-3.svg", "p-kept.svg"]
+
+
+def test_rows_left_open_are_skipped_tests(command, kept):
+    assert command("check", "kept.txt", "kept.csv", "--no-close", "--junit", "a.xml")[0] == 0
+    root = xml.parse(kept / "a.xml").getroot()
+    assert (root.get("skipped"), root[0][0].find("skipped").get("message")) == ("1", "open")
+
+
+def test_every_count_is_said(command, kept):
+    (kept / "a.csv").write_text("time_us,event\n3000,a\n\n1000,a\n1600,\n1000,a\n2000.4,b\n\n")
+    words = ["check", "kept.txt", "a.csv", "--unsorted", "sort", "--round", "--equal"]
+    status, out, _ = command(*words, "drop")
+    assert out.splitlines()[-1] == ("a.csv: 1 row, 0 kept, 1 broken; 3 events in 5 lines, 1 event left out at equal stamps, "
+                                    "2 lines out of order and sorted, 2 stamps rounded, 2 lines skipped")
+    status, out, _ = command(*words, "later", "--json")
+    log = json.loads(out)["logs"][0]
+    assert {name: log[name] for name in ("lines", "events", "dropped", "moved", "unsorted", "rounded", "skipped")} == {
+        "lines": 5, "events": 4, "dropped": 0, "moved": 1, "unsorted": 2, "rounded": 2, "skipped": 2}
+
+
+def test_a_library_without_a_call(tmp_path):
+    """Another library of the same name is said to be one, in a line."""
+    (tmp_path / "a.c").write_text("unsigned delkuthi_version(void) { return 0; }\n")
+    name = f"libdelkuthi.so.{__version__.rsplit('.', 1)[0]}"
+    subprocess.run([os.environ.get("CC", "cc"), "-shared", "-fPIC", "-o", tmp_path / name, tmp_path / "a.c"], check=True)
+    status, error = run_with(["check", TABLE, CSV], env={**os.environ, "DELKUTHI_LIB": str(tmp_path)}, stdout=subprocess.DEVNULL)
+    assert status == 2 and "has no call delkuthi_monitor_size" in error and len(error.splitlines()) == 1
+
+
 def test_help_and_version(command):
     status, out, _ = command("--help")
     assert status == 0 and "delkuthi check brake.txt drive.csv" in out
@@ -68,7 +160,20 @@ def test_many_logs_in_one_junit_file(command, kept):
     assert alone == spread and alone[0] == 1
     assert (kept / "one.xml").read_text() == (kept / "all.xml").read_text()
     assert [suite.get("failures") for suite in xml.parse(kept / "all.xml").getroot()] == ["0", "0", "0", "0", "1"]
-    assert "4.csv:3: \"answer\" (Delay) broken at 7 ms: the a at 1 ms (line 2) had no b by 6 ms\n" in alone[1]
+    assert ('4.csv:3: "answer" (Delay) broken at 7 ms: the a at 1 ms (line 2) was answered 1 ms late, by the b at 7 ms (line 3): '
+            "after 6 ms, at most 5 ms is asked\n") in alone[1]
+    assert alone[1].endswith("\n5 logs, 4 kept, 1 broken, 0 refused\n")
+
+
+def test_a_last_line_over_all(command, kept):
+    """A log of which nothing was exercised is not among those that are kept."""
+    (kept / "idle.csv").write_text("time,event\n")
+    (kept / "late.csv").write_text("time,event\n1,a\n30,b\n")
+    logs = ["kept.csv", "idle.csv", "late.csv", "none.csv"]
+    assert command("check", "kept.txt", *logs)[1].splitlines()[-1] == "4 logs, 1 kept, 1 broken, 1 refused, 1 never exercised"
+    assert command("check", "kept.txt", *logs, "--exercised")[1].splitlines()[-1] == "4 logs, 1 kept, 1 broken, 1 refused, 1 never exercised"
+    assert command("check", "kept.txt", "kept.csv", "idle.csv", "--no-close")[1].splitlines()[-1] == (
+        "2 logs, 0 kept, 0 broken, 0 refused, 1 open, 1 never exercised")
 
 
 def test_spread_by_gnu_parallel(tmp_path):
@@ -89,10 +194,11 @@ def test_spread_by_gnu_parallel(tmp_path):
     line = line.replace("logs/*.blf", "logs/*.log").replace("parallel ", "parallel --will-cite --keep-order ", 1)
     known = {**os.environ, "HOME": str(tmp_path), "PATH": f"{tmp_path}:{os.environ['PATH']}"}
     done = subprocess.run(line, shell=True, cwd=tmp_path, capture_output=True, text=True, env=known)
-    assert all(text.startswith("parallel: Warning: ") for text in done.stderr.splitlines())
+    assert all(text.startswith("parallel: Warning: ") or ": the log has no " in text for text in done.stderr.splitlines())
     outcomes = [check(Table.read(TABLE), str(tmp_path / "logs" / f"{number}.log")) for number in range(3)]
     expected = [message.replace(f"{tmp_path}/", "") for outcome in outcomes for message in outcome.messages]
-    assert done.stdout.splitlines() == expected and len(expected) > 3
+    found = [line for line in done.stdout.splitlines() if "never exercised" not in line]
+    assert found == expected and len(expected) > 3
     assert done.returncode == sum(outcome.status != 0 for outcome in outcomes) > 0
     assert len(list((tmp_path / "logs").glob("?.xml"))) == 3
 
@@ -102,19 +208,41 @@ def test_json_is_all_that_is_printed(command):
     assert status == 1 and json.loads(out)["logs"][0]["rows"][1]["verdict"] == "broken"
 
 
-def test_a_log_without_events(command, kept):
-    (kept / "other.csv").write_text("time,event\n1,x\n3,y\n")
-    status, _, error = command("check", "kept.txt", "other.csv")
-    assert status == 0 and error.startswith("other.csv: no line is an event of the table")
+@pytest.mark.parametrize("text", ["time,event\n", "time,event\n1,x\n3,y\n", "time,event\n1,b\n"])
+def test_a_log_that_exercises_nothing(command, kept, text):
+    """Kept, never exercised: in words, in JSON and JUnit, and with --exercised a failure."""
+    (kept / "other.csv").write_text(text)
+    status, out, error = command("check", "kept.txt", "other.csv", "--junit", "a.xml")
+    assert status == 0 and '"answer" (Delay) kept, never exercised: ' in out and "0 kept, 1 never exercised, 0 broken" in out
+    assert "other.csv: the log has no a\n" in error
+    suite = xml.parse(kept / "a.xml").getroot()[0]
+    assert suite.get("skipped") == "1" and "never exercised" in suite[0].find("skipped").get("message")
+    status, out, _ = command("check", "kept.txt", "other.csv", "--json")
+    assert status == 0 and json.loads(out)["logs"][0]["rows"][0]["verdict"] == "kept, never exercised"
+    assert command("check", "kept.txt", "other.csv", "--page")[1].endswith("\nnever exercised: 0\n")
+    status, out, _ = command("check", "kept.txt", "other.csv", "--exercised", "--junit", "a.xml")
+    assert status == 1 and xml.parse(kept / "a.xml").getroot().get("failures") == "1"
+    status, out, _ = command("check", "kept.txt", "other.csv", "--exercised", "--no-close")
+    assert status == 1 and '"answer" (Delay) open, never exercised: ' in out and "1 row, 0 open, 1 never exercised, 0 broken; " in out
+    assert command("check", "kept.txt", "kept.csv", "--exercised")[0] == 0
+
+
+def test_a_table_without_rows(command, kept):
+    """Nothing is asked, and that is said."""
+    (kept / "none.txt").write_text("unit ms\nevent a = 0\nevent b = 1\n")
+    status, out, error = command("check", "none.txt", "kept.csv")
+    assert (status, error) == (0, "kept.csv: the table has no rows, so nothing is checked\n")
+    assert command("check", "none.txt", "kept.csv", "--exercised")[0] == 1
 
 
 def test_options_of_the_log(command, kept):
     (kept / "a.csv").write_text("time,event\n101,a\n101,a\n100,b\n")
     status, out, error = command("check", "kept.txt", "a.csv", "--unsorted", "sort", "--equal", "drop", "--from-zero", "--until",
                                  "0.004 s", "--no-close")
-    assert (status, error) == (0, "") and out == "a.csv: 1 rows, 1 open, 0 broken; 3 events in 3 lines\n"
+    assert (status, error) == (0, "")
+    assert out == "a.csv: 1 row, 1 open, 0 broken; 2 events in 3 lines, 1 event left out at equal stamps, 1 line out of order and sorted\n"
     status, out, _ = command("check", "kept.txt", "a.csv", "--unsorted", "sort", "--equal", "drop", "--until", "107 ms")
-    assert status == 1 and "broken at 107 ms: the a at 101 ms (line 2) had no b by 106 ms" in out
+    assert status == 1 and "broken at 107 ms: the a at 101 ms (line 2) was never answered: no b came for it, due by 106 ms" in out
     assert command("check", "kept.txt", "a.csv", "--until", "soon")[0] == 2
 
 
@@ -147,22 +275,47 @@ def test_two_logs_joined(command, tmp_path):
     last = (EXAMPLES / "messages.txt").read_text().splitlines()[-1]
     assert status == 1 and out.splitlines()[-1] == last.replace("drive.csv", "joined.bin").replace("lines", "records")
     status, _, error = command("join", TABLE, CSV, CSV, "-o", "twice.bin")
-    assert status == 2 and "refused with 20" in error
+    assert (status, error) == (2, f"{CSV}: wheel_speed is in the other log too; refused with 20: a kind is found in both recordings\n")
 
 
-def test_the_lines_that_matter(command):
+def test_two_logs_joined_from_zero(command, tmp_path):
+    """They have one clock: the earlier of their first stamps is 0, and what lies between them stays."""
+    (tmp_path / "t.txt").write_text(KEPT)
+    (tmp_path / "a.csv").write_text("time_s,event\n1600000000.000,\n1600000000.001,a\n")
+    (tmp_path / "b.csv").write_text("time_s,event\n1600000000.004,b\n")
+    assert command("join", "t.txt", "a.csv", "b.csv", "-o", "ab.bin", "--from-zero")[0] == 0
+    assert [(kind, time) for _, kind, time in records(io.BytesIO((tmp_path / "ab.bin").read_bytes()[1:]))] == [(0, 1), (1, 4)]
+    assert command("check", "t.txt", "ab.bin")[0] == 0
+    (tmp_path / "early.csv").write_text("time,event\n-3,a\n1,\n")
+    status, _, error = command("record", "t.txt", "early.csv", "-o", "x.bin")
+    assert status == 2 and "early.csv:2: a recording has no times below 0; --from-zero" in error
+    assert command("record", "t.txt", "early.csv", "-o", "x.bin", "--from-zero")[0] == 0
+
+
+def test_the_lines_that_matter(command, tmp_path):
+    """First why and where the log breaks the row, with the lines from what is blamed on; then the shortest stretch, if it is another."""
+    lines, messages = CSV.read_text().splitlines(), (EXAMPLES / "messages.txt").read_text()
+
+    def quoted(*numbers):
+        return [f"{number}: {lines[number - 1]}" for number in numbers]
+
     status, out, _ = command("shrink", TABLE, CSV, "cabin light")
-    assert status == 1
-    first, *lines = out.splitlines()
-    door, late = (int(line.split(":")[0]) for line in lines)
-    assert first == (f'{CSV}: "cabin light" is broken by lines {door} to {late} alone, {late - door + 1} of '
-                     f"{len(CSV.read_text().splitlines()) - 1} steps; those that the row hears, and the last:")
-    assert lines == [f"{number}: {CSV.read_text().splitlines()[number - 1]}" for number in (door, late)]
-    assert lines[0].endswith(": 70100,door_open") and f'drive.csv:{late}: "cabin light"' in (EXAMPLES / "messages.txt").read_text()
-    steps = command("shrink", TABLE, EXAMPLES / "recording.bin", "7")[1].splitlines()[1:]
-    assert steps[0] == f"record {door - 1}: door_open 70100"
-    assert command("shrink", TABLE, CSV, "wheel speed")[0] == 0
-    assert command("shrink", TABLE, CSV, "nobody")[0] == 2
+    reason = re.search(r'"cabin light" .*?: (.*)', messages)[1]
+    assert status == 1 and out.splitlines() == [
+        f'{CSV}: "cabin light" broke at line 58: {reason}',
+        f"{CSV}: lines 25 to 58 are enough, 34 of {len(lines) - 1} steps; the row's events among them, and the last:", *quoted(25, 58)]
+    status, out, _ = command("shrink", TABLE, CSV, "steering reply")
+    assert status == 1 and out.splitlines()[2:] == [
+        *quoted(33, 39), f'{CSV}: "steering reply" is broken by less, taken alone',
+        f"{CSV}: line 12 is enough, 1 of {len(lines) - 1} steps; the row's events among them, and the last:", *quoted(12)]
+    steps = command("shrink", TABLE, EXAMPLES / "recording.bin", "7")[1].splitlines()[2:]
+    assert steps[0] == "record 24: door_open 70.1 ms"
+    assert command("shrink", TABLE, CSV, "wheel speed")[:2] == (0, f'{CSV}: "wheel speed" is not broken by the log\n')
+    (tmp_path / "end.csv").write_text("time_us,event\n1,door_open\n")
+    assert command("shrink", TABLE, "end.csv", "cabin light")[:2] == (
+        1, 'end.csv: "cabin light" is broken by the end of the log alone: no line before it breaks the row\n')
+    status, _, error = command("shrink", TABLE, CSV, "nobody")
+    assert status == 2 and error.startswith("ROW: refused with 15: there is no row of that number; nobody is none of \"brake light\", ")
 
 
 def test_stamps_that_may_be_late(command):
@@ -174,6 +327,16 @@ def test_stamps_that_may_be_late(command):
     assert status == 2 and "refused with 25" in error
     assert command("stamps", TABLE, CSV, "nobody", "1 ms")[0] == 2
     assert command("stamps", TABLE, CSV, "wheel speed", "soon")[0] == 2
+
+
+def test_late_stamps_at_the_beginning(command, tmp_path):
+    """Whether the stamps begin at 0 or later, the answer is the same; with the stamps themselves no true time is below 0."""
+    (tmp_path / "t.txt").write_text("unit ms\nevent a = 0\nRepeat a span 1, 1 .. 10\n")
+    for start in (0, 100):
+        (tmp_path / "a.csv").write_text(f"time,event\n{start},a\n{start + 10},a\n")
+        assert command("stamps", "t.txt", "a.csv", "0", "5 ms")[1] == "a.csv: row 0 is unsure with stamps late by up to 5 ms\n"
+    (tmp_path / "a.csv").write_text("time,event\n0,a\n10,a\n")
+    assert command("stamps", "t.txt", "a.csv", "0", "5 ms", "--as-stamped")[1] == "a.csv: row 0 is kept with stamps late by up to 5 ms\n"
 
 
 def test_without_arguments_it_is_the_program(command, tmp_path):

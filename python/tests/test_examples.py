@@ -6,8 +6,13 @@ import re
 import pytest
 
 from delkuthi import CanSource, Table
+from delkuthi.check import check
+from delkuthi.logs import Log
 from delkuthi.recording import records
+from delkuthi.rowtypes import TYPES
 from delkuthi.signals import signal as signal_of
+from delkuthi.svg import svg
+from delkuthi.timeline import close_up, gather
 
 from conftest import EXAMPLES, ROOT
 
@@ -19,6 +24,9 @@ STORED = {
     "drive.html": ["check", "drive.txt", "drive.csv", "--html", "OUT"],
     "drive.xml": ["check", "drive.txt", "drive.csv", "drive.log", "--junit", "OUT"],
 }
+
+
+ROWS, PICTURES = EXAMPLES / "rows", ROOT / "python/pictures"
 
 
 def stored(name, text):
@@ -56,9 +64,23 @@ def without_version(text):
 def test_stored(command, tmp_path, name):
     out = tmp_path / name
     status, printed, error = command(*(str(out) if word == "OUT" else word for word in STORED[name]), cwd=EXAMPLES)
-    assert (status, error) == (1, "")
+    assert status == 1 and set(error.splitlines()) <= {"drive.csv: the log has no cabin_light",
+                                                       "drive.log: the log has no cabin_light: no frame 0x3B1 came"}
     text = out.read_text(encoding="utf-8") if "OUT" in STORED[name] else printed
     stored(name, text)
+
+
+def test_the_row_types():
+    """A row of each type that is met and then broken: what is said of it, and the pictures of the manual."""
+    table = Table.read(ROWS / "rows.txt")
+    outcome = check(table, str(ROWS / "rows.csv"))
+    assert {row.type for row in outcome.broken} == {row_type.name for row_type in TYPES}
+    stored("rows/messages.txt", "".join(message.replace(f"{ROWS}/", "") + "\n" for message in outcome.messages))
+    gathered = gather(table, Log(ROWS / "rows.csv", table).steps(), outcome)
+    manual = (ROOT / "python/README.md").read_text(encoding="utf-8")
+    for row in outcome.broken:
+        stored(PICTURES / f"{row.type}.svg", svg(close_up(table, gathered, outcome, row)))
+        assert f"**{row.type}** " in manual and f"](pictures/{row.type}.svg)" in manual
 
 
 def test_the_messages_in_the_readme():

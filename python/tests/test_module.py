@@ -57,7 +57,8 @@ def test_a_copy_goes_its_own_way():
     (lambda m: m.tick(2**60), 10), (lambda m: m.tick(2**70), 10), (lambda m: m.tick(-1), 11), (lambda m: m.event(0, 0), 11),
     (lambda m: m.event(48, 10), 19), (lambda m: m.event(0, 10, 1), 19), (lambda m: m.event(48, 10, 8), 19),
     (lambda m: m.event(48, 10, -1), 19), (lambda m: m.event(48, 10, 300), 19), (lambda m: m.event(64, 10, 1), 9),
-    (lambda m: m.verdict(1), 15), (lambda m: m.verdict(-1), 15),
+    (lambda m: m.verdict(1), 15), (lambda m: m.verdict(-1), 15), (lambda m: m.verdict(2**64), 15), (lambda m: m.verdict(2**64 + 1), 15),
+    (lambda m: m.event(64, -1), 9), (lambda m: m.event(0, -1), 11),
 ])
 def test_refusals_are_exceptions(call, number):
     monitor = Monitor(DELAY)
@@ -66,6 +67,15 @@ def test_refusals_are_exceptions(call, number):
         call(monitor)
     assert refusal.value.number == number and refusal.value.text == delkuthi.library.REFUSALS[number]
     assert str(monitor.verdict(0)) == "open"
+
+
+def test_after_the_close_8_comes_first():
+    monitor = Monitor(DELAY)
+    monitor.close()
+    for call in (lambda: monitor.event(300, 5), lambda: monitor.event(0, -1), lambda: monitor.event(48, 5, 9), lambda: monitor.tick(2**70)):
+        assert answer(call) == 8
+    monitor.withdraw()
+    assert answer(monitor.withdraw) == 21
 
 
 def test_a_refused_table_has_a_place():

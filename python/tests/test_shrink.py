@@ -1,12 +1,13 @@
-"""Shortest stretches and joined recordings, beside their definitions tried one by one."""
+"""The lines that matter, and joined recordings, beside their definitions tried one by one."""
 import pytest
 from hypothesis import given, settings
 from hypothesis import strategies as st
 
 from delkuthi import Monitor, Refused, Table, report
 from delkuthi.logs import Step
-from delkuthi.recording import join, recording_bytes
-from delkuthi.shrink import Stretch, shortest
+from delkuthi.monitor import JoinRefused, Stretch, join, shortest_stretch
+from delkuthi.recording import recording_bytes, records
+from delkuthi.shrink import shortest, stretch_to
 from delkuthi.signals import signal
 
 from strategies import played
@@ -14,13 +15,9 @@ from strategies import played
 
 def breaks(table, row, stretch):
     monitor = Monitor(table.alone(row))
-    for kind, time in stretch:
-        try:
-            monitor.take(kind, time)
-        except Refused as refusal:
-            assert refusal.number == 12
-            return False
-    return monitor.verdict(0).word == "broken"
+    _, refusal = monitor.take_all(stretch)
+    assert refusal in (0, 12)
+    return refusal == 0 and monitor.verdict(0).word == "broken"
 
 
 @given(played(most=14))
@@ -34,23 +31,44 @@ def test_every_shorter_stretch_leaves_the_row_open(case):
                 tried += 1
                 if expected is None and breaks(table, row, steps[first : first + length]):
                     expected = Stretch(first, length, tried)
-        assert shortest(table, row, [Step(kind, time, 0) for kind, time in steps]) == expected
+        assert shortest_stretch(table, recording_bytes(steps), row) == expected
+
+
+@given(played(most=20))
+@settings(max_examples=120)
+def test_the_stretch_that_ends_where_the_row_broke(case):
+    """It breaks the row, and no stretch that ends there and is shorter does."""
+    table, steps = case
+    taken = [Step(kind, time, 0) for kind, time in steps]
+    for row in range(len(table.rows)):
+        monitor = Monitor(table.alone(row))
+        _, refusal = monitor.take_all(steps)
+        number = monitor.step(0)
+        if refusal or number is None:
+            continue
+        end = number - 1
+        expected = next(first for first in range(end, -1, -1) if breaks(table, row, steps[first : end + 1]))
+        assert stretch_to(table, row, taken, end) == expected
+        first, found = shortest(table, row, taken, end)
+        assert found.length <= end - expected + 1 and breaks(table, row, steps[first + found.first :][: found.length])
 
 
 def test_a_stretch_that_is_refused_does_not_break():
     table = Table.from_text("Delay 0 -> 1, 0 .. 99")
-    steps = [Step(0, time, 0) for time in range(70)] + [Step(None, 150, 0)]
-    found = shortest(table, 0, steps)
+    steps = [(0, time) for time in range(70)] + [(None, 150)]
+    found = shortest_stretch(table, recording_bytes(steps), 0)
     assert (found.first, found.length) == (50, 21)
-    with pytest.raises(Refused):
-        shortest(table, 1, steps)
+    for row in (1, -1, 2**64):
+        with pytest.raises(Refused) as refusal:
+            shortest_stretch(table, recording_bytes(steps), row)
+        assert refusal.value.number == 15
 
 
 def test_more_steps_than_the_library_takes():
     table = Table.from_text("Delay 0 -> 1, 0 .. 99")
     steps = [Step(2, time, 0) for time in range(300)] + [Step(0, 300, 0), Step(None, 400, 0)]
-    assert shortest(table, 0, steps) == Stretch(300, 2, 302 + 301)
-    assert shortest(table, 0, steps[100:]) == Stretch(200, 2, 202 + 201)
+    assert stretch_to(table, 0, steps, 301) == 300
+    assert shortest(table, 0, steps, 301) == (46, Stretch(254, 2, 256 + 255))
 
 
 def one_of(kinds):
@@ -68,16 +86,23 @@ def one_of(kinds):
     return st.lists(st.tuples(st.none() | st.sampled_from(kinds), st.integers(0, 3)), max_size=12).map(in_order)
 
 
-@given(one_of([0, 1]), one_of([2, 3]))
+def read(data):
+    """Version and steps of a recording."""
+    import io
+
+    return data[0], [(kind, time) for _, kind, time in records(io.BytesIO(data[1:]), data[0])]
+
+
+@given(one_of([0, 1]), one_of([2, 3, signal(48, 1)]))
 def test_joined_recordings(first, second):
-    joined = list(join(first, second))
+    version, joined = read(join(recording_bytes(first), recording_bytes(second)))
+    assert version == max(recording_bytes(first)[0], recording_bytes(second)[0])
     for one in (first, second):
         kinds = {kind for kind, _ in one} - {None}
         assert [step for step in joined if step[0] in kinds] == [step for step in one if step[0] is not None]
     assert sorted(joined, key=lambda step: step[1]) == joined
     # At equal times the first's events come first, and no tick is left that moves nothing.
-    place = {0: 0, 1: 0, 2: 1, 3: 1}
-    events = [(time, place[kind]) for kind, time in joined if kind is not None]
+    events = [(time, kind not in (0, 1)) for kind, time in joined if kind is not None]
     assert events == sorted(events)
     clock = 0
     for kind, time in joined:
@@ -88,9 +113,16 @@ def test_joined_recordings(first, second):
     assert all(time in times or time == 0 for _, time in first + second)
 
 
-@pytest.mark.parametrize("first, second", [(0, 0), (signal(48, 1), signal(48, 2))])
-def test_a_kind_in_both(first, second):
-    """A kind is one kind, whatever its colours."""
-    with pytest.raises(Refused) as refusal:
-        list(join([(first, 1)], [(second, 2)]))
-    assert refusal.value.number == 20
+@pytest.mark.parametrize("first, second, number, is_second", [
+    ([(0, 1)], [(0, 2)], 20, True), ([(signal(48, 1), 1)], [(signal(48, 2), 2)], 20, True), ([(64, 1)], [(0, 2)], 9, False),
+    ([(0, 1)], [(1, 2**60)], 10, True), ([(48, 1)], [(0, 1)], 19, False), ([(0, 5), (1, 4)], [(0, 1)], 11, False),
+])
+def test_recordings_that_are_not_joined(first, second, number, is_second):
+    """A kind in both, whatever its colours; and what each recording is asked by itself, before that."""
+    with pytest.raises(JoinRefused) as refusal:
+        join(recording_bytes(first), recording_bytes(second))
+    assert (refusal.value.number, refusal.value.second) == (number, is_second)
+
+
+def test_the_higher_version_is_kept():
+    assert join(b"\x02", recording_bytes([(0, 1)]))[0] == 2

@@ -70,7 +70,7 @@ ERRORS = [
     (UNIT + "event horn = 40 from key m colour 1", "t:4:22: kind 40 is plain: its source has no colour"),
     (UNIT + "event horn = 48 from key m colour 8", "t:4:35: expected a colour from 0 to 7, found 8"),
     (UNIT + "event horn = 64", "t:4:14: expected a kind from 0 to 63, found 64"),
-    (UNIT + "event horn = 2 from lin 1", "t:4:21: expected can, csv or key, found lin"),
+    (UNIT + "event horn = 2 from lin 1", "t:4:21: expected can, signal, column, csv, key, task, isr or runnable, found lin"),
     (UNIT + "event horn = 2 from can 12", "t:4:25: expected an identifier such as 0x1A0, found 12"),
     (UNIT + "event horn = 2 from can 0xFFFFFFFF", "t:4:25: expected an identifier of at most 29 bits"),
     (UNIT + "event horn = 2 from can 0x1 data zz", "t:4:34: expected hexadecimal digits, with . for any, found zz"),
@@ -87,6 +87,73 @@ def test_errors_say_line_and_column(text, message):
         Table.from_text(text, "t")
     assert str(error.value).startswith(message)
     assert not isinstance(error.value, Refused)
+
+
+HINTS = [
+    (UNIT + "Delay pedal -> light, 1 .. 2 msec", "expected the end of the line, found msec (the unit is written ms)"),
+    (UNIT + "Delay pedal -> light, 1 \u00b5s .. 2", "expected .., found \u00b5s (the unit is written us)"),
+    (UNIT + "Delay pedal -> light, 1 .. 50,5 ms", "found , (a part is written with a point: 50.5)"),
+    (UNIT + "Periodic pedal, 5 ms", "found Periodic (a periodic signal is a Sporadic with lower = upper"),
+    (UNIT + "DelayConstraint pedal -> light, 5", "found DelayConstraint (did you mean Delay?)"),
+    (UNIT + "Delay pedal -> light, 9 ms .. 2 ms", "(refused with 7): found 9 ms above 2 ms"),
+    (UNIT + "Repeat pedal span 70, 1 .. 2", "(refused with 6): found 70, the range is 1 to 64"),
+    (UNIT + "Repetition pedal span 9, 1 .. 2, jitter 1", "(refused with 6): found 9, the range is 1 to 8"),
+    (UNIT + "Order pedal -> pedal", "(refused with 5): found 0, which stands in source already"),
+    (UNIT + "Order pedal -> 64", "(refused with 5): found 64, the range is 0 to 63"),
+    (UNIT + "Order pedal -> 48", "(refused with 18): found 48, the range is 0 to 47"),
+    ('"a\tb" Order 0 -> 1', "a row's name is one line of text; it has the character U+0009"),
+    ('"a\rb" Order 0 -> 1', "it has the character U+000D"), ('"a\0b" Order 0 -> 1', "it has the character U+0000"),
+]
+
+
+@pytest.mark.parametrize("text, part", HINTS)
+def test_what_may_have_been_meant(text, part):
+    with pytest.raises(TextError) as error:
+        Table.from_text(text, "t")
+    assert part in str(error.value)
+
+
+def test_all_mistakes_are_said_at_once():
+    """Each with its line and a caret below its column; what follows from another mistake is not said."""
+    text = ("unit us\nevent pedal = 99\nevent light = 1\nevent horn = 2\n"
+            "Order pedal -> light\n\tOrder light -> hron\nOrder light -> light\n\"\u65e5\u672c\" Order light, horn\n")
+    with pytest.raises(TextError) as error:
+        Table.from_text(text, "t")
+    assert str(error.value).splitlines() == [
+        "t:2:15: expected a kind from 0 to 63, found 99", "    event pedal = 99", "                  ^",
+        "t:6:17: expected an event for target; hron is not declared (did you mean horn?)", "    \tOrder light -> hron",
+        "    \t               ^",
+        "t:7:16: Order, target: a row has a kind above 63, or one kind twice (refused with 5): found 1, which stands in source already",
+        "    Order light -> light", "                   ^",
+        "t:8:17: expected ->, found ,", "    \"\u65e5\u672c\" Order light, horn", "                      ^",
+    ]
+    assert [(one.line, one.column) for one in (error.value, *error.value.others)] == [(2, 15), (6, 17), (7, 16), (8, 17)]
+    with pytest.raises(TextError) as error:
+        Table.from_text("unit days\nDelay 0 -> 1, 1 ms .. 2 s\n", "t")
+    assert not error.value.others
+
+
+def test_a_text_of_mistakes_alone():
+    """The first twenty are shown, and how many more there are."""
+    with pytest.raises(TextError) as error:
+        Table.from_text("what\n" * 5000, "t")
+    lines = str(error.value).splitlines()
+    assert len(lines) == 61 and lines[-1] == "t: and 4980 more mistakes" and len(error.value.others) == 4999
+
+
+@given(st.text(max_size=12))
+def test_row_names_of_every_class(name):
+    """A name that is one line of text is read as it stands; any other is an error with its place."""
+    import unicodedata
+
+    quoted = name.replace("\\", "\\\\").replace('"', '\\"')
+    bad = any(unicodedata.category(c) in ("Cc", "Cs", "Zl", "Zp") for c in name)
+    try:
+        table = Table.from_text(f'"{quoted}" Order 0 -> 1', "t")
+    except TextError as error:
+        assert bad and error.line == 1
+    else:
+        assert not bad and table.rows[0].name == name and Table.from_text(table.text()).rows == table.rows
 
 
 @pytest.mark.parametrize("before, column", [("Order 0 -> ", 12), ("Delay 0 -> 1, ", 15), ("Repeat 0 span ", 15), ("event a = ", 11)])
@@ -106,7 +173,7 @@ REFUSALS = [
     ("Burst 1 maximum 0, length 5, minimum 6", 6, 1, 17, "Burst, maximum"),
     (f"Delay 1 -> 2, 1 .. {LAST_TIME + 1}", 6, 1, 20, "Delay, upper"),
     ("Sporadic 1, 3 .. 2, jitter 0, minimum 0", 7, 1, 13, "Sporadic, lower"),
-    ("Order 0 -> 1\n" * 33, 3, 33, 1, "Order"),
+    ("Order 0 -> 1\n" * 30 + "Order 64 -> 1", 5, 31, 7, "Order, source"),
 ]
 
 
@@ -124,10 +191,10 @@ def test_a_refusal_names_line_and_field(text, number, line, column, about):
 def _bytes(line):
     """A row's bytes by the library's own format, whether the row is accepted or not."""
     from delkuthi.rowtypes import row_bytes
-    from delkuthi.text import _Line, _Parser
+    from delkuthi.text import Line, _Parser
 
     parser = _Parser("t")
-    parser.line(_Line("t", 1, line))
+    parser.line(Line("t", 1, line))
     return row_bytes(parser.rows[0].type, parser.rows[0].values)
 
 
@@ -210,3 +277,16 @@ def test_the_refusals_are_the_headers():
     header = re.sub(r'"\n\s+"', "", (ROOT / "include/delkuthi.h").read_text(encoding="utf-8"))
     for number, text in delkuthi.library.REFUSALS.items():
         assert f'"{text}"' in header, number
+    texts = set(re.findall(r'return "([^"]+)";', header.split("delkuthi_refusal_text(")[1].split("\n}")[0]))
+    assert texts - set(delkuthi.library.REFUSALS.values()) == {"taken", "a refusal without a text"}
+    numbers = {int(number) for number in re.findall(r"^\| (\d+) \|", (ROOT / "README.md").read_text(encoding="utf-8"), re.M)}
+    assert set(delkuthi.library.REFUSALS) == numbers - {0}
+
+
+def test_the_manuals_mistake():
+    """The mistake that the manual shows is said as it stands there."""
+    manual = (ROOT / "python/README.md").read_text(encoding="utf-8")
+    text = "\n".join(line[4:] for line in manual.split("## A table in text\n\n")[1].split("\n\n")[0].split("\n"))
+    with pytest.raises(TextRefused) as error:
+        Table.from_text(text.replace("0 ms .. 50 ms", "60 ms .. 50 ms"), "brake.txt")
+    assert "".join(f"    {line}\n" for line in str(error.value).splitlines()) in manual

@@ -10,10 +10,10 @@ import pytest
 from hypothesis import given, settings
 from hypothesis import strategies as st
 
-from delkuthi import Monitor, Table
+from delkuthi import Monitor, Refused, Table
 from delkuthi.logs import LogError
 from delkuthi.recording import records
-from delkuthi.watch import Watch, watch_bus
+from delkuthi.watch import Clock, Screen, Watch, watch_bus
 
 can = pytest.importorskip("can", reason="python-can is missing (Debian: python3-can)")
 
@@ -39,7 +39,7 @@ def test_a_broken_row_is_said_at_once():
         for one in (frame(0x1A0), frame(0x2B4, b"\x01"), frame(0x1A0), frame(0x2B4, b"\x00")):
             sender.send(one)
             time.sleep(0.002)
-        watch_bus(watch, bus, 20, 0.005, 0.02, lambda: "", lambda: bool(said))
+        watch_bus(watch, bus, 20, Clock(watch, 0.005, 0.02), lambda: "", lambda: bool(said), Screen(watch))
     assert len(said) == 1 and watch.broken.keys() == {0}
     assert said[0].startswith('"brake light" (Delay) broken at ') and "the pedal at " in said[0] and " had no light by " in said[0]
     watch.close()
@@ -69,10 +69,162 @@ def test_the_steps_of_a_watch(monkeypatch):
     bus, said, spool = ScriptedBus(script), [], io.BytesIO()
     monkeypatch.setattr("delkuthi.watch.clock", bus)
     watch = Watch(Table(TABLE.rows[:1], TABLE.events, TABLE.unit), said.append, spool)
-    watch_bus(watch, bus, None, 0.01, 0.02, lambda: "", lambda: not bus.script)
+    watch_bus(watch, bus, None, Clock(watch, 0.01, 0.02), lambda: "", lambda: not bus.script, Screen(watch))
     taken = [(kind, moment) for _, kind, moment in records(io.BytesIO(spool.getvalue()[1:]))]
     assert taken == [(0, 10_000), (1, 30_000), (None, 50_000), (None, 180_000), (0, 180_000), (None, 280_000), (None, 380_000)]
-    assert said == ['"brake light" (Delay) broken at 280 ms: the pedal at 180 ms (step 5) had no light by 240 ms']
+    assert said == ['"brake light" (Delay) broken at 280 ms: the pedal at 180 ms (step 5) had no light by 240 ms, at most 60 ms is asked']
+
+
+def searched(monitor):
+    """The last time to which a tick leaves every open row open, by trying; ``None`` if every tick does."""
+
+    def breaks(time):
+        probe = monitor.copy()
+        probe.tick(time)
+        return any(probe.step(row) is not None and monitor.step(row) is None for row in range(len(monitor.table.rows)))
+
+    low, high = clock_of(monitor), 2**60 - 1
+    if not breaks(high):
+        return None
+    while high - low > 1:
+        middle = (low + high) // 2
+        low, high = (low, middle) if breaks(middle) else (middle, high)
+    return low
+
+
+def clock_of(monitor):
+    """The clock of a monitor, by trying: the last time to which it cannot be ticked."""
+    low, high = 0, 2**60 - 1
+    while low < high:
+        middle = (low + high + 1) // 2
+        try:
+            monitor.copy().tick(middle)
+        except Refused:
+            low = middle
+        else:
+            high = middle - 1
+    return low
+
+
+class SleepyBus:
+    """A bus and a clock: frames come at their moments, and whoever waits sleeps until one does or the time is over."""
+
+    def __init__(self, frames):
+        self.frames, self.now, self.waits = list(frames), 0.0, 0
+
+    def recv(self, timeout):
+        self.waits += 1
+        if self.frames and self.frames[0][0] <= self.now + timeout:
+            self.now, one = self.frames.pop(0)
+            one.timestamp = 7000 + self.now
+            return one
+        self.now += timeout
+        return None
+
+    def monotonic(self):
+        return self.now
+
+
+@pytest.mark.parametrize("lag", [0.0, 0.03])
+def test_ticks_at_the_deadline(monkeypatch, lag):
+    """Where the library says the next deadline, a break is said within a millisecond of it, without a tick before."""
+    monkeypatch.setattr(Monitor, "knows_deadlines", lambda monitor: True)
+    monkeypatch.setattr(Monitor, "deadline", searched)
+    bus, said, spool = SleepyBus([(0.010, frame(0x1A0)), (0.030, frame(0x2B4, b"\x01")), (0.100, frame(0x1A0))]), [], io.BytesIO()
+    monkeypatch.setattr("delkuthi.watch.clock", bus)
+    watch = Watch(Table(TABLE.rows[:1], TABLE.events, TABLE.unit), lambda text: said.append((bus.now, text)), spool)
+    watch_bus(watch, bus, 3.0, Clock(watch, 0.01, lag), lambda: "", lambda: False, Screen(watch))
+    (moment, text), = said
+    assert 0.160 + lag <= moment <= 0.161 + lag and "the pedal at 100 ms (step 3) had no light by 160 ms" in text
+    taken = [(kind, time) for _, kind, time in records(io.BytesIO(spool.getvalue()[1:]))]
+    assert taken[:3] == [(0, 10_000), (1, 30_000), (0, 100_000)] and [kind for kind, _ in taken[3:]] == [None, None]
+    assert 160_001 <= taken[3][1] <= 161_000 and bus.waits < 30
+
+
+def test_deadlines_of_the_library():
+    """Where the library has the call, its deadlines are those that are found by trying."""
+    monitor = Monitor(TABLE)
+    if not monitor.knows_deadlines():
+        assert monitor.deadline() is None
+        pytest.skip("this library has no deadlines")
+    for kind, moment in ((0, 10), (2, 15), (1, 30), (0, 100)):
+        monitor.event(kind, moment)
+        assert monitor.deadline() == searched(monitor)
+
+
+class Terminal(io.StringIO):
+    def isatty(self):
+        return True
+
+
+def test_the_status_line(monkeypatch):
+    """Frames, events, rate, rows; and when no frames come."""
+    screen_text = Terminal()
+    monkeypatch.setattr("sys.stderr", screen_text)
+    watch = Watch(TABLE, lambda text: None, io.BytesIO())
+    screen = Screen(watch)
+    screen.look(0.5)
+    assert "0 s: 0 frames (0/s), 0 events, 2 rows open, 0 broken" in screen_text.getvalue()
+    screen.look(2.5)
+    assert "no frame has come yet, after 2 s\n" in screen_text.getvalue()
+    watch.frame(frame(0x1A0), 3.0)
+    screen.frame(3.0)
+    assert "frames again, after 3.0 s\n" in screen_text.getvalue()
+    screen.look(5.2)
+    assert "no frame for 2 s\n" in screen_text.getvalue() and "5 s: 1 frame (0/s), 1 event, 2 rows open" in screen_text.getvalue()
+    quiet = io.StringIO()
+    monkeypatch.setattr("sys.stderr", quiet)
+    Screen(watch).look(1.0)
+    assert quiet.getvalue() == ""
+
+
+def test_the_clock_is_ahead_by_the_jitter():
+    """As in a log: an event right at the start may have its point before."""
+    said = []
+    table = Table.from_text("unit ms\nevent a = 0\nSporadic a, 10 .. 10, jitter 5, minimum 0\n")
+    watch = Watch(table, said.append, io.BytesIO())
+    for seconds in (0.002, 0.009):
+        watch.event(0, watch.units(seconds))
+    assert said == [] and watch.moments.at(watch.clock) == "9 ms"
+
+
+def test_an_answer_that_comes_late():
+    """The break is said when it is certain, and the answer with how late it is when it comes; once, and not the next one."""
+    said = []
+    watch = Watch(Table(TABLE.rows[:1], TABLE.events, TABLE.unit), said.append, io.BytesIO())
+    for kind, moment in ((0, 10_000), (1, 20_000), (0, 100_000), (None, 170_000), (0, 180_000), (1, 195_000), (1, 300_000)):
+        watch.tick(moment) if kind is None else watch.event(kind, moment)
+    assert said == [
+        '"brake light" (Delay) broken at 170 ms: the pedal at 100 ms (step 3) had no light by 160 ms, at most 60 ms is asked',
+        '"brake light": the pedal at 100 ms (step 3) was answered 35 ms late, by the light at 195 ms (step 6): after 95 ms, at most 60 ms is asked']
+
+
+def test_a_bus_that_fails(monkeypatch, capsys, tmp_path):
+    """What came before is checked and said, with status 2."""
+    from delkuthi import watch as module
+    from delkuthi.command import main
+
+    class Failing:
+        def __init__(self):
+            self.frames = [frame(0x1A0), frame(0x2B4, b"\x01")]
+
+        def recv(self, timeout):
+            if not self.frames:
+                raise can.CanError("bus off")
+            return self.frames.pop(0)
+
+        def __enter__(self):
+            return self
+
+        def __exit__(self, *_):
+            pass
+
+    monkeypatch.setattr(module, "_bus", lambda given: Failing())
+    (tmp_path / "a.txt").write_text(TABLE.text())
+    assert main(["watch", str(tmp_path / "a.txt"), "virtual:x"]) == 2
+    said = capsys.readouterr()
+    assert "virtual:x: 2 rows, " in said.out and "2 frames" in said.out
+    assert said.err.endswith("virtual:x: the bus failed, and what came before is checked: bus off\n")
 
 
 def test_a_table_without_a_unit():
@@ -115,9 +267,14 @@ def test_withdrawn_markers_are_struck_out(drawn):
     for kind, moment in taken:
         fresh.tick(moment) if kind is None else fresh.event(kind, moment)
     assert [str(one) for one in watch.monitor.verdicts] == [str(one) for one in fresh.verdicts]
-    assert bytes(watch.monitor._memory) == bytes(fresh._memory)
-    assert [(kind, moment) for _, kind, moment in records(io.BytesIO(spool.getvalue()[1:]))] == taken
     assert {row: verdict.step for row, verdict in enumerate(fresh.verdicts) if verdict.step} == watch.broken
+    assert watch.monitor.page() == fresh.page()
+    if watch.clock < 2**59:
+        for one in (watch.monitor, fresh):
+            one.tick(watch.clock + 10**6)
+            one.close()
+        assert watch.monitor.page() == fresh.page()
+    assert [(kind, moment) for _, kind, moment in records(io.BytesIO(spool.getvalue()[1:]))] == taken
 
 
 def test_a_marker_taken_back_by_a_signal(tmp_path):
@@ -137,8 +294,9 @@ def test_a_marker_taken_back_by_a_signal(tmp_path):
         assert process.stdout.readline() == "there is no marker to withdraw\n"
         process.send_signal(signal.SIGTERM)
         rest = process.stdout.read()
-        assert process.wait() == 0
-    assert rest.startswith("virtual:marker: 2 rows, 2 kept, 0 broken; ")
+        assert process.wait() == 2
+        assert process.stderr.read().endswith("virtual:marker: no frame ever came, so nothing was checked\n")
+    assert "\nvirtual:marker: 2 rows, 0 kept, 2 never exercised, 0 broken; 0 frames, " in rest
     kinds = {kind for _, kind, _ in records(io.BytesIO((tmp_path / "out.bin").read_bytes()[1:]))}
     assert kinds <= {None}
 
@@ -152,8 +310,9 @@ def test_a_marker_that_stays(command, tmp_path):
     watch.marker(2, 5000)
     watch.tick(9000)
     watch.close()
-    assert said == ["mark at 5 ms", '"marked" (Order) broken at the end: the recording ended at 9 ms, and the mark at 5 ms (step 2) had no pedal yet']
-    assert command("watch", "a.txt", "virtual:quiet", "--seconds", "0.2")[0] == 0
+    assert said == ["mark at 5 ms",
+                    '"marked" (Order) broken at the end: the recording ended at 9 ms, and the mark at 5 ms (step 2) had no pedal yet']
+    assert command("watch", "a.txt", "virtual:quiet", "--seconds", "0.2")[0] == 2
     status, _, error = command("watch", "a.txt", "nothing:here", "--seconds", "0.2")
     assert status == 2 and error.startswith("nothing:here: ")
 

@@ -8,7 +8,7 @@ use lib.Dec.{eqb, ltb}
 use Rattle.constraint.specs.Limits.{noLimit}
 use Rattle.constraint.specs.Streams.{kindOf}
 use Rattle.queue.specs.declared.Edit.the-variants.{Store}
-use Rattle.machine.specs.Parts.{plus, goesOn, breaking}
+use Rattle.machine.specs.Parts.{plus, continuesWith, breaking}
 use Rattle.machine.specs.declared.Rule.{Rule}
 use Rattle.machine.specs.declared.Marks.{Marks}
 use Rattle.machine.specs.declared.Change.{Change}
@@ -50,7 +50,7 @@ dueBut (suc n) colour high words = min (dueBut n colour high words) (latest (hig
 abbrev pub paired : Marks → List ℕ → ℕ → Pair → Change
 paired marks words colour pair =
     cond (pair .breaks) breaking
-    (goesOn (Store (2 * colour) (pair .low) (pair .high)) marks (dueBut 8 colour (pair .high) words) (eqb (dueBut 8 colour (pair .high) words) noLimit))
+    (continuesWith (Store (2 * colour) (pair .low) (pair .high)) marks (dueBut 8 colour (pair .high) words) (eqb (dueBut 8 colour (pair .high) words) noLimit))
 
 -- an event of one of the row's streams
 unfoldable pub decideReaction : Rule → Marks → List ℕ → ℕ → ℕ → Change

@@ -8,7 +8,7 @@ use lib.Seq.{drop-cons}
 use Rattle.constraint.specs.Limits.{rowLimit}
 use Rattle.constraint.specs.Questions.{Question, Judged}
 use Rattle.constraint.specs.Accepted.{rowQuestions, rowsQuestions}
-use Rattle.constraint.specs.Rows.{filler}
+use Rattle.constraint.specs.Records.{filler}
 use Rattle.constraint.specs.declared.Answer.{Answer}
 use Rattle.constraint.specs.declared.Answer.the-variants.{Taken, Refused}
 use Rattle.constraint.specs.declared.Constraint.{Constraint}

@@ -13,7 +13,8 @@ use Rattle.constraint.specs.Meets.{Meets}
 use Rattle.constraint.specs.Continuation.{EventInOrder, Continues, stop, more, Open}
 use Rattle.constraint.specs.Questions.{Question, Judged}
 use Rattle.constraint.specs.Types.{typeOf}
-use Rattle.constraint.specs.Accepted.{kinds, streams, KindsFit, KindsSuit, InRange, LowerFirst, rowQuestions}
+use Rattle.constraint.specs.Accepted.{kinds, KindsFit, KindsSuit, InRange, LowerFirst, rowQuestions}
+use Rattle.constraint.proofs.Streams.{streams, among-where}
 use Rattle.constraint.specs.Run.{Room, questions}
 use Rattle.constraint.specs.declared.Answer.{Answer}
 use Rattle.constraint.specs.declared.Call.{Call}
@@ -21,7 +22,6 @@ use Rattle.constraint.specs.declared.Constraint.{Constraint}
 use Rattle.constraint.specs.declared.Constraint.the-variants.{Delay, StrongDelay, Repeat, Sporadic, Burst, Order, StrongSynchronization2, StrongSynchronization3, StrongSynchronization4, ExecutionTime, Reaction, Repetition}
 use Rattle.constraint.proofs.Lists.{split, both, Each, each-none, each-cons}
 use Rattle.constraint.proofs.Judged.{skipped, put-in}
-use Rattle.constraint.proofs.Streams.{among-where}
 use Rattle.constraint.proofs.History.{times-append, times-other, own-append, clock-append, clock-event, closed-event}
 use Rattle.constraint.proofs.Continuations.{meets-same}
 

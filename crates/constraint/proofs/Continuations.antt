@@ -10,12 +10,12 @@ use lib.ListN.{length}
 use lib.Dec.{eqb}
 use borrow.Author.Tests.{eq-eqb, ne-eqb}
 use Rattle.constraint.specs.Limits.{streamCount, lastColour}
-use Rattle.constraint.specs.Streams.{stream, colours}
+use Rattle.constraint.specs.Streams.{stream}
+use Rattle.constraint.proofs.Streams.{colours, streams}
 use Rattle.constraint.specs.Steps.{Step, event, tick, close, at, times, among, own, clockFrom, clock, closed}
 use Rattle.constraint.specs.Meets.{NotLater, Meets, MeetsDelay, MeetsStrongDelay, MeetsRepeat, MeetsSporadic, MeetsBurst, MeetsOrder}
 use Rattle.constraint.specs.Meets.{MeetsStrongSynchronization, MeetsExecutionTime, MeetsReaction, MeetsRepetition}
 use Rattle.constraint.specs.Continuation.{EventInOrder, Continues, stop, more, Open}
-use Rattle.constraint.specs.Accepted.{streams}
 use Rattle.constraint.specs.declared.Constraint.{Constraint}
 use Rattle.constraint.specs.declared.Constraint.the-variants.{Delay, StrongDelay, Repeat, Sporadic, Burst, Order, StrongSynchronization2, StrongSynchronization3, StrongSynchronization4}
 use Rattle.constraint.specs.declared.Constraint.the-variants.{ExecutionTime, Reaction, Repetition}

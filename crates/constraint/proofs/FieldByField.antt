@@ -12,10 +12,10 @@ use lib.ListN.{length, drop, drop-of-length-le}
 use lib.Seq.{drop-cons}
 use Rattle.constraint.specs.Limits.{lastTime}
 use Rattle.constraint.specs.Steps.{at}
-use Rattle.constraint.specs.Questions.{Judged, Decides}
+use Rattle.constraint.specs.Questions.{Judged}
+use Rattle.constraint.specs.Records.{Decides, isKind, byteField, timeField, fieldAt, fieldsAs, bytesFrom, timesFrom, HoldsRow}
 use Rattle.constraint.specs.Types.{kind, coloured, count, span, plain, lower, upper, upper-or-none, Field, byte, time}
 use Rattle.constraint.specs.Accepted.{kindsIn, kinds, KindsFit, SortFits, SortsFit, KindsSuit, FieldsInRange, InRange, NotBelow, LowerFirst, rowQuestions}
-use Rattle.constraint.specs.Records.{isKind, byteField, timeField, fieldAt, fieldsAs, bytesFrom, timesFrom, byteFields, timeFields, Holds}
 use Rattle.constraint.specs.declared.Answer.{Answer}
 use Rattle.constraint.specs.declared.Answer.the-variants.{Refused}
 use Rattle.constraint.specs.declared.Constraint.{Constraint}
@@ -201,7 +201,13 @@ module _ (low : ℕ) (roles values : List ℕ) (i : ℕ) (h : i < length roles) 
 
 -- A row's numbers: what is asked of them is what is asked of the row
 
-module _ (c : Constraint) (f : Fields) (holds : Holds c f) where
+abbrev pub byteFields : Fields → List Field
+byteFields fields = bytesFrom (fields .line .bytes) (fields .bytes) 0
+
+abbrev pub timeFields : Fields → List Field
+timeFields fields = timesFrom (fields .line .times) (fields .times) 0
+
+module _ (c : Constraint) (f : Fields) (holds : HoldsRow c f) where
   row-kinds : kindsIn (byteFields f) ≡ kinds c
   row-kinds =
       sym (ap kindsIn (sym (holds .all))

@@ -173,7 +173,7 @@ past-event j t steps p small order =
     before : (k : ℕ) → Each (λ s. s ≤ t) (times k steps)
     before k i h = omega (arith, p .past k i h, order .0)
 
-past-tick : (t : ℕ) (steps : List Step) → Past steps → t ≤ lastTime → clock steps < t → Past (steps ++ (tick t ∷ []))
+pub past-tick : (t : ℕ) (steps : List Step) → Past steps → t ≤ lastTime → clock steps < t → Past (steps ++ (tick t ∷ []))
 past-tick t steps p small later =
     record {
       rising = λ k. rw (times-tick k t steps) (p .rising k);

@@ -7,7 +7,8 @@ use mathlib.Core.Logic.{inl, inr}
 use native.Mathlib.Omega.{arith}
 use borrow.Author.Tests.{leb-true, leb-false, ltb-true, ltb-false, eqb-true, eqb-false, not-false}
 use lib.Dec.{leb, ltb, eqb}
-use Rattle.constraint.specs.Questions.{Question, Judged, Decides}
+use Rattle.constraint.specs.Questions.{Question, Judged}
+use Rattle.constraint.specs.Records.{Decides}
 use Rattle.constraint.specs.declared.Answer.{Answer}
 use Rattle.constraint.specs.declared.Answer.the-variants.{Taken, Refused}
 

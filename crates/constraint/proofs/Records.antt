@@ -10,8 +10,7 @@ use lib.Seq.{set-at, take-suc, take-append-le, take-append-seam}
 use Rattle.constraint.specs.Limits.{rowLimit}
 use Rattle.constraint.specs.Questions.{Judged}
 use Rattle.constraint.specs.Accepted.{Accepted, rowsQuestions}
-use Rattle.constraint.specs.Rows.{filler, rowsOf, tableOf}
-use Rattle.constraint.specs.Records.{entryOf, withRow, Adds}
+use Rattle.constraint.specs.Records.{filler, rowsOf, tableOf, entryOf, withOneMore, Adds}
 use Rattle.constraint.specs.declared.Answer.the-variants.{Refused}
 use Rattle.constraint.specs.declared.Constraint.{Constraint}
 use Rattle.constraint.specs.declared.Entry.{Entry}
@@ -44,7 +43,7 @@ pub row-there : (table : Table) (rows : List Constraint) (i : ℕ) (d : Entry) �
 unfolding tableOf
 row-there table rows i d e h = entry-row rows _ i d h ∙ ap (λ (t : Table). some (getD (t .rows) i d .constraint)) (sym e)
 
-pub record-more : (rows : List Constraint) (c : Constraint) → length rows < rowLimit → withRow (tableOf rows) c ≡ tableOf (rows ++ (c ∷ []))
+pub record-more : (rows : List Constraint) (c : Constraint) → length rows < rowLimit → withOneMore (tableOf rows) c ≡ tableOf (rows ++ (c ∷ []))
 unfolding tableOf unused
 record-more rows c h =
     let n = length rows in

@@ -6,7 +6,7 @@ use native.Mathlib.Numerals.{add-one}
 use native.Mathlib.Omega.{arith}
 use lib.ListN.{length, getD, drop, replicate, length-append, length-take, length-replicate, length-map, List·getD-append, List·getD-map}
 use lib.Seq.{drop-cons, getD-take}
-use Rattle.constraint.specs.Rows.{filler, rowsOf}
+use Rattle.constraint.specs.Records.{filler, rowsOf}
 use Rattle.constraint.specs.declared.Constraint.{Constraint}
 use Rattle.constraint.specs.declared.Entry.{Entry}
 use Rattle.constraint.specs.declared.Table.{Table}

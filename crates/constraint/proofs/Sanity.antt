@@ -5,13 +5,14 @@ use mathlib.Core.Path.{_≡_, refl, sym, ap, ap₂, subst}
 use mathlib.Core.List.{List, [], _∷_, _++_, map}
 use mathlib.Core.Logic.{_⊎_, inl, inr, _↔_, ⊎-elim}
 use mathlib.Core.Bool.{Bool, false, _&&_, _||_}
-use lib.ListN.{length}
+use mathlib.Core.Option.{none, some}
+use lib.ListN.{length, drop}
 use lib.Dec.{leb}
 use borrow.Author.Tests.{ne-eqb}
 use Rattle.constraint.specs.Limits.{lastColour, lastCount, noLimit}
 use Rattle.constraint.specs.Streams.{stream}
 use Rattle.constraint.specs.Steps.{Step, event, tick, at, times, clockFrom, own, closed}
-use Rattle.constraint.specs.Meets.{Between, NotLater, Apart, SpansApart, AtLeastApart, HiddenPoints, Execution, Executes, paused, pauseEvents, executionEvents}
+use Rattle.constraint.specs.Meets.{Between, NotLater, Apart, SpansApart, AtLeastApart, HiddenPoints, Executes, no-event, started, paused, stopped}
 use Rattle.constraint.specs.Meets.{Meets, MeetsDelay, MeetsStrongDelay, MeetsRepeat, MeetsSporadic, MeetsBurst, MeetsOrder}
 use Rattle.constraint.specs.Meets.{MeetsStrongSynchronization, MeetsExecutionTime, MeetsReaction, MeetsRepetition}
 use Rattle.constraint.specs.Waiting.{answered}
@@ -41,10 +42,10 @@ run-once rows (request {left = left} {end = e} {requests = requests} {answers = 
 -- questions cannot fail to have an answer
 judged-some : (qs : List Question) → ¬ ¬ ((a : Answer) × Judged qs a)
 unfolding Judged
-judged-some [] none = none (Taken, refl)
-judged-some (q ∷ later) none =
-    let answered-no : ¬ ¬ q .1 = λ shut. none (Refused (q .0), inr (shut, refl)) in
-    answered-no (λ asked. judged-some later (λ found. none (found .0, inl (asked, found .1))))
+judged-some [] denied = denied (Taken, refl)
+judged-some (q ∷ later) denied =
+    let answered-no : ¬ ¬ q .1 = λ shut. denied (Refused (q .0), inr (shut, refl)) in
+    answered-no (λ asked. judged-some later (λ found. denied (found .0, inl (asked, found .1))))
 
 -- at the last count every call is answered 24, whatever it gives, until the recording is closed (§8.24)
 pub full-refused : (rows : List Constraint) (steps : List Step) → closed steps ≡ false → length steps ≡ lastCount → (s : Call)
@@ -57,10 +58,10 @@ full-refused rows steps open-still full Call.Close = judged-yes 8 _ _ _ open-sti
 
 -- a list of requests cannot fail to have answers
 pub run-some : (rows : List Constraint) (requests : List Request) (left : Left) → ¬ ¬ ((answers : List Answer) × (end : Left) × Run rows left requests answers end)
-run-some rows [] left none = none ([], left, done)
-run-some rows (r ∷ requests) left none =
+run-some rows [] left denied = denied ([], left, done)
+run-some rows (r ∷ requests) left denied =
     judged-some (requestQuestions rows left r) (λ found. run-some rows requests (leftBy left r (found .0))
-    (λ rest. none (found .0 ∷ rest .0, rest .1, request r (found .0) (found .1) (rest .2))))
+    (λ rest. denied (found .0 ∷ rest .0, rest .1, request r (found .0) (found .1) (rest .2))))
 
 -- ---- before any step
 
@@ -83,7 +84,7 @@ meets-none (Order source target) = (refl, λ i h. absurd (omega arith))
 meets-none (StrongSynchronization2 a b tolerance) = λ j k h g. (refl, λ i l. absurd (omega arith))
 meets-none (StrongSynchronization3 a b c tolerance) = λ j k h g. (refl, λ i l. absurd (omega arith))
 meets-none (StrongSynchronization4 a b c d tolerance) = λ j k h g. (refl, λ i l. absurd (omega arith))
-meets-none (ExecutionTime start stop preempt resume lower upper) = ([], record { are = refl; rise = λ i h. absurd (omega arith); run = tt })
+meets-none (ExecutionTime start stop preempt resume lower upper) = no-event
 meets-none (Reaction stimulus response minimum maximum) = λ colour few i h. absurd (omega arith)
 meets-none (Repetition kind span lower upper jitter) =
     ([], record { one-each = refl; near = λ i h. absurd (omega arith); rise = λ i h. absurd (omega arith); apart = λ i h. absurd (omega arith) })
@@ -332,27 +333,24 @@ pub execution-time-contingent
 unfolding Meets MeetsExecutionTime own
 execution-time-contingent =
     record {
-      can-be-met = (one ∷ [], record { are = refl; rise = λ i h. rise i h; run = omega arith });
-      can-be-missed = λ m. short (m .0) (m .1);
+      can-be-met = started {free = 0} 0 (omega arith) (paused {free = 1} 4 1000 (omega arith) (omega arith)
+          (stopped {s = 0} {preempted = 996} {free = 1001} 1001 (omega arith) (omega arith, omega arith) no-event));
+      can-be-missed = λ m. omega (arith, starts-early (0, 0) (1, 1) m refl);
     }
   where
-    one : Execution
-    one = record { starts = 0; pauses = (4, 1000) ∷ []; stops = 1001 }
+    -- an execution's stop alone is at least 2 after its start
+    stops-late : {s preempted free : ℕ} {events : List (ℕ × ℕ)} (e : ℕ × ℕ) → Executes 0 1 2 3 2 5 (some (s, preempted)) free events
+        → events ≡ e ∷ [] → s + 2 ≤ e .1
+    stops-late e (paused p r before short rest) is = absurd (omega (arith, ap length is))
+    stops-late e (stopped t before within rest) is =
+        let at-stop : t ≡ e .1 = ap (λ (es : List (ℕ × ℕ)). at (map (λ x. x .1) es) 0) is in omega (arith, within .0)
 
-    rise : (i : ℕ) → i + 1 < 4 → at (0 ∷ 4 ∷ 1000 ∷ 1001 ∷ []) i < at (0 ∷ 4 ∷ 1000 ∷ 1001 ∷ []) (i + 1)
-    rise zero h = omega arith
-    rise (suc zero) h = omega arith
-    rise (suc (suc zero)) h = omega arith
-    rise (suc (suc (suc i))) h = absurd (omega arith)
-
-    too-short : (pauses : List (ℕ × ℕ)) (s t : ℕ) (later : List (ℕ × ℕ))
-        → (0, 0) ∷ (1, 1) ∷ [] ≡ (0, s) ∷ (pauseEvents 0 1 2 3 pauses ++ ((1, t) ∷ later)) → 2 ≤ (t - s) - paused pauses → ⊥
-    too-short [] s t later e long = let z : 1 ≡ t = ap (λ (es : List (ℕ × ℕ)). at (map (λ e. e .1) es) 1) e in omega arith
-    too-short (p ∷ ps) s t later e long = let z : _≡_ {A = ℕ} 1 2 = ap (λ (es : List (ℕ × ℕ)). at (map (λ e. e .0) es) 1) e in omega arith
-
-    short : (executions : List Execution) → Executes 0 1 2 3 2 5 ((0, 0) ∷ (1, 1) ∷ []) executions → ⊥
-    short [] x = let z : _≡_ {A = ℕ} 2 0 = ap length (x .are) in omega arith
-    short (e ∷ es) x = too-short (e .pauses) (e .starts) (e .stops) (executionEvents 0 1 2 3 es) (x .are) (x .run .0 .0)
+    starts-early : {free : ℕ} {events : List (ℕ × ℕ)} (e f : ℕ × ℕ) → Executes 0 1 2 3 2 5 none free events
+        → events ≡ e ∷ f ∷ [] → e .1 + 2 ≤ f .1
+    starts-early e f no-event is = absurd (omega (arith, ap length is))
+    starts-early e f (started s before rest) is =
+        let at-start : s ≡ e .1 = ap (λ (es : List (ℕ × ℕ)). at (map (λ x. x .1) es) 0) is in
+        omega (arith, stops-late f rest (ap (drop 1) is))
 
 -- a stimulus of colour 1 at 10 and the first response of that colour at 15; and one at 17
 pub reaction-contingent : Contingent (Reaction 48 49 4 6) (event 49 10 ∷ event 57 15 ∷ []) (event 49 10 ∷ event 57 17 ∷ [])
@@ -366,10 +364,10 @@ reaction-contingent = record { can-be-met = λ colour few. met colour few; can-b
     met zero few i h = absurd (omega arith)
     met (suc zero) few zero h = (omega arith, (omega arith, omega arith))
     met (suc zero) few (suc i) h = absurd (omega arith)
-    met (suc (suc colour)) few i h = absurd (omega (arith, none (suc (suc colour)) (omega arith) few))
+    met (suc (suc colour)) few i h = absurd (omega (arith, silent (suc (suc colour)) (omega arith) few))
       where
-        none : (c : ℕ) → 2 ≤ c → c ≤ lastColour → length (times (stream 48 c) steps) ≡ 0
-        none c h few = rw (ne-eqb 49 (stream 48 c) (λ e. omega arith), ne-eqb 57 (stream 48 c) (λ e. omega arith))
+        silent : (c : ℕ) → 2 ≤ c → c ≤ lastColour → length (times (stream 48 c) steps) ≡ 0
+        silent c h few = rw (ne-eqb 49 (stream 48 c) (λ e. omega arith), ne-eqb 57 (stream 48 c) (λ e. omega arith))
 
 -- the points must rise besides: each of the two chains taken singly has its points in both lists
 pub repetition-contingent : Contingent (Repetition 0 2 10 10 5) (event 0 5 ∷ event 0 16 ∷ event 0 17 ∷ event 0 29 ∷ [])

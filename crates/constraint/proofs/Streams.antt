@@ -10,12 +10,32 @@ use lib.ListN.{length}
 use lib.Dec.{ltb, eqb}
 use borrow.Author.Tests.{eqb-true, eqb-false, eq-eqb, ne-eqb, lt-ltb, le-ltb}
 use Rattle.constraint.specs.Limits.{lastKind, firstColoured, lastColour, streamCount}
-use Rattle.constraint.specs.Streams.{stream, colours, kindOf}
+use Rattle.constraint.specs.Streams.{stream, kindOf}
 use Rattle.constraint.specs.Steps.{at, among}
-use Rattle.constraint.specs.Types.{kind, coloured, count, span, Field, byte, time}
-use Rattle.constraint.specs.Accepted.{kindsIn, streamsIn, KindsFit, SortsFit}
+use Rattle.constraint.specs.Types.{kind, coloured, count, span, Field, byte, time, fieldsOf}
+use Rattle.constraint.specs.Accepted.{kindsIn, KindsFit, SortsFit}
+use Rattle.constraint.specs.declared.Constraint.{Constraint}
 use Rattle.constraint.proofs.Lists.{split, both, or-true, Each, each-none, each-cons, each-append}
 use Rattle.constraint.proofs.FittingKinds.{kinds-first, kinds-rest}
+
+-- ---- a row's streams
+
+-- the streams of a coloured kind, one for each colour
+abbrev pub colours : ℕ → List ℕ
+colours k = stream k 0 ∷ stream k 1 ∷ stream k 2 ∷ stream k 3 ∷ stream k 4 ∷ stream k 5 ∷ stream k 6 ∷ stream k 7 ∷ []
+
+-- the streams of some fields' kinds
+abbrev pub streamsIn : List Field → List ℕ
+streamsIn [] = []
+streamsIn (byte kind x ∷ fields) = x ∷ streamsIn fields
+streamsIn (byte coloured x ∷ fields) = colours x ++ streamsIn fields
+streamsIn (byte count x ∷ fields) = streamsIn fields
+streamsIn (byte (span limit) x ∷ fields) = streamsIn fields
+streamsIn (time role x ∷ fields) = streamsIn fields
+
+-- the streams that concern a row: its plain kinds, and each colour of its coloured ones
+abbrev pub streams : Constraint → List ℕ
+streams c = streamsIn (fieldsOf c)
 
 -- ---- the numbering
 

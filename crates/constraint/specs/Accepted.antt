@@ -1,19 +1,18 @@
--- Questions 3 to 7 and 18, row by row, as fresh and the table writer put them (§9.7). Question 4 is always answered "yes" here, as every
--- `Constraint` has a known type and n.
+-- Questions 3 to 7 and 18, row by row, as fresh and the table writer put them (§9.7; 01, questions; CR 6). Question 4 is always answered "yes"
+-- here, as every `Constraint` has a known type and n.
 use Prim.Native.Nat.{ℕ, _+_, _≤_, _<_}
 use mathlib.Core.Path.{_≡_}
 use mathlib.Core.List.{List, [], _∷_, _++_}
 use mathlib.Core.Logic.{_⊎_}
 use lib.ListN.{length}
 use Rattle.constraint.specs.Limits.{lastKind, firstColoured, lastTime, noLimit, rowLimit}
-use Rattle.constraint.specs.Streams.{colours}
 use Rattle.constraint.specs.Steps.{at}
 use Rattle.constraint.specs.Questions.{Question, Judged}
 use Rattle.constraint.specs.Types.{kind, coloured, count, span, plain, lower, upper, upper-or-none, Field, byte, time, fieldsOf}
 use Rattle.constraint.specs.declared.Answer.the-variants.{Taken}
 use Rattle.constraint.specs.declared.Constraint.{Constraint}
 
--- the kinds among some fields, and those that a row names
+-- §8.5; 01, questions: the kinds among some fields
 abbrev pub kindsIn : List Field → List ℕ
 kindsIn [] = []
 kindsIn (byte kind x ∷ fields) = x ∷ kindsIn fields
@@ -22,26 +21,15 @@ kindsIn (byte count x ∷ fields) = kindsIn fields
 kindsIn (byte (span limit) x ∷ fields) = kindsIn fields
 kindsIn (time role x ∷ fields) = kindsIn fields
 
+-- §8.5; 01, questions: the kinds that a row names
 abbrev pub kinds : Constraint → List ℕ
 kinds c = kindsIn (fieldsOf c)
 
--- the streams of some fields' kinds, and those that a row hears: its plain kinds, and each colour of its coloured ones
-abbrev pub streamsIn : List Field → List ℕ
-streamsIn [] = []
-streamsIn (byte kind x ∷ fields) = x ∷ streamsIn fields
-streamsIn (byte coloured x ∷ fields) = colours x ++ streamsIn fields
-streamsIn (byte count x ∷ fields) = streamsIn fields
-streamsIn (byte (span limit) x ∷ fields) = streamsIn fields
-streamsIn (time role x ∷ fields) = streamsIn fields
-
-abbrev pub streams : Constraint → List ℕ
-streams c = streamsIn (fieldsOf c)
-
--- §8.5: no kind is above 63, and no two are the same
+-- §8.5; 01, questions: no kind is above 63, and no two are the same
 unfoldable pub KindsFit : List ℕ → Type 0
 KindsFit ks = ((i : ℕ) → i < length ks → at ks i ≤ lastKind) × ((i j : ℕ) → i < j → j < length ks → ¬ (at ks i ≡ at ks j))
 
--- §8.18: a plain kind where the type takes plain ones, a coloured one where it takes coloured ones
+-- §8.18; CR 6: a plain kind where the type takes plain ones, a coloured one where it takes coloured ones
 abbrev pub SortFits : Field → Type 0
 SortFits (byte kind x) = x < firstColoured
 SortFits (byte coloured x) = firstColoured ≤ x
@@ -49,18 +37,16 @@ SortFits (byte count x) = Unit {0}
 SortFits (byte (span limit) x) = Unit {0}
 SortFits (time role x) = Unit {0}
 
+-- §8.18; CR 6: so it is in each of some fields
 abbrev pub SortsFit : List Field → Type 0
 SortsFit [] = Unit {0}
 SortsFit (f ∷ fields) = SortFits f × SortsFit fields
 
+-- §8.18; CR 6: and in each field of a row
 unfoldable pub KindsSuit : Constraint → Type 0
 KindsSuit c = SortsFit (fieldsOf c)
 
--- an upper in range, or the mark for no limit
-abbrev pub UpperInRange : ℕ → Type 0
-UpperInRange x = (x ≤ lastTime) ⊎ (x ≡ noLimit)
-
--- §8.6: each field is in its range
+-- §8.6, §4.7; 01, table; CR 1, 10: each of some fields is in its range; an upper may be the mark for no limit where the type has one
 abbrev pub FieldsInRange : List Field → Type 0
 FieldsInRange [] = Unit {0}
 FieldsInRange (byte kind x ∷ fields) = FieldsInRange fields
@@ -70,12 +56,13 @@ FieldsInRange (byte (span limit) x ∷ fields) = (1 ≤ x) × (x ≤ limit) × F
 FieldsInRange (time plain x ∷ fields) = (x ≤ lastTime) × FieldsInRange fields
 FieldsInRange (time lower x ∷ fields) = (x ≤ lastTime) × FieldsInRange fields
 FieldsInRange (time upper x ∷ fields) = (x ≤ lastTime) × FieldsInRange fields
-FieldsInRange (time upper-or-none x ∷ fields) = UpperInRange x × FieldsInRange fields
+FieldsInRange (time upper-or-none x ∷ fields) = ((x ≤ lastTime) ⊎ (x ≡ noLimit)) × FieldsInRange fields
 
+-- §8.6; 01, questions: each field of a row is
 unfoldable pub InRange : Constraint → Type 0
 InRange c = FieldsInRange (fieldsOf c)
 
--- §8.7: lower is at most upper, in some fields; `low` is the lower that stands before them, and 0 where none does
+-- §8.7; 01, questions: lower is at most upper, in some fields; `low` is the lower that stands before them, and 0 where none does
 abbrev pub NotBelow : ℕ → List Field → Type 0
 NotBelow low [] = Unit {0}
 NotBelow low (byte role x ∷ fields) = NotBelow low fields
@@ -84,18 +71,19 @@ NotBelow low (time lower x ∷ fields) = NotBelow x fields
 NotBelow low (time upper x ∷ fields) = low ≤ x
 NotBelow low (time upper-or-none x ∷ fields) = low ≤ x
 
+-- §8.7; 01, questions; CR 6: and in the fields of a row
 unfoldable pub LowerFirst : Constraint → Type 0
 LowerFirst c = NotBelow 0 (fieldsOf c)
 
--- 5, 18, 6 and 7, of one row
+-- §9.7; 01, questions; CR 6: 5, 18, 6 and 7, of one row
 abbrev pub rowQuestions : Constraint → List Question
 rowQuestions c = (5, KindsFit (kinds c)) ∷ (18, KindsSuit c) ∷ (6, InRange c) ∷ (7, LowerFirst c) ∷ []
 
--- §9.7: 3 with i rows before (§8.3), then the row's own questions, row after row; and the questions that come after the rows
+-- §9.7; 01, questions: 3 with i rows before (§8.3), then the row's own questions, row after row; and the questions that come after the rows
 unfoldable pub rowsQuestions : ℕ → List Constraint → List Question → List Question
 rowsQuestions i [] after = after
 rowsQuestions i (c ∷ rows) after = (3, i < rowLimit) ∷ rowQuestions c ++ rowsQuestions (i + 1) rows after
 
--- §3.2: a table that is accepted, every question answered "yes"
+-- §3.2; 01, time: a table that is accepted, every question answered "yes"
 abbrev pub Accepted : List Constraint → Type 0
 Accepted rows = Judged (rowsQuestions 0 rows []) Taken

@@ -1,4 +1,4 @@
--- Two recordings joined: what the joined one holds, its bytes, and the answer (§13.1 to §13.8).
+-- Two recordings joined: what the joined one holds, its bytes, and the answer (§13.1 to §13.8; CR 8).
 use Prim.Native.Nat.{ℕ, _+_, _-_, _%_, _≤_, _<_, max}
 use mathlib.Core.Path.{_≡_}
 use mathlib.Core.Bool.{Bool, true, false, cond}
@@ -14,104 +14,88 @@ use Rattle.constraint.specs.Table.{lengthAt}
 use Rattle.constraint.specs.Recording.{callAt, ReadsInOrder, recording-of, recording-refused}
 use Rattle.constraint.specs.declared.JoinAnswer.{JoinAnswer}
 
--- the time of a record's step; no record is a close
+-- §13.1; CR 8: the time of a record's step; no record is a close
 abbrev pub timeOf : Step → ℕ
 timeOf (event s t) = t
 timeOf (tick t) = t
 timeOf close = 0
 
--- §13.1: records stand by time; at equal times those of the first come first
+-- §13.1; CR 8: records stand by time; at equal times those of the first come first
 unfoldable pub merged : List Step → List Step → List Step
 merged [] second = second
 merged (a ∷ first) [] = a ∷ first
 merged (a ∷ first) (b ∷ second) = cond (leb (timeOf a) (timeOf b)) (a ∷ merged first (b ∷ second)) (b ∷ merged (a ∷ first) second)
 
--- §13.2: a tick that is not later than the clock falls away
-abbrev pub fallsAway : ℕ → Step → Bool
-fallsAway now (event s t) = false
-fallsAway now (tick t) = leb t now
-fallsAway now close = false
+-- §13.2; CR 8: a tick that is not later than the clock is dropped
+abbrev pub isDropped : ℕ → Step → Bool
+isDropped now (event s t) = false
+isDropped now (tick t) = leb t now
+isDropped now close = false
 
--- §13.2: what is left of the records, from a clock on
-unfoldable pub left : ℕ → List Step → List Step
-left now [] = []
-left now (s ∷ steps) = cond (fallsAway now s) (left now steps) (s ∷ left (timeOf s) steps)
+-- §13.2; CR 8: the records that are not dropped, from a clock on
+unfoldable pub undropped : ℕ → List Step → List Step
+undropped now [] = []
+undropped now (s ∷ steps) = cond (isDropped now s) (undropped now steps) (s ∷ undropped (timeOf s) steps)
 
--- §13.1, §13.2: what the joined recording holds
+-- §13.1, §13.2; CR 8: what the joined recording holds
 abbrev pub joined : List Step → List Step → List Step
-joined first second = left 0 (merged first second)
+joined first second = undropped 0 (merged first second)
 
--- §13.4: the records of both, those of each in their order, every one, and no other
-pub data Interleaves : List Step → List Step → List Step → Type 0 where
-  no-record : Interleaves [] [] []
-  of-first : {first second all : List Step} (s : Step) → Interleaves first second all → Interleaves (s ∷ first) second (s ∷ all)
-  of-second : {first second all : List Step} (s : Step) → Interleaves first second all → Interleaves first (s ∷ second) (s ∷ all)
-
--- §13.4: the steps without the ticks at these times
-abbrev pub timesOf : List Step → List ℕ
-timesOf [] = []
-timesOf (s ∷ steps) = timeOf s ∷ timesOf steps
-
-abbrev pub tickAt : List ℕ → Step → Bool
-tickAt moments (event s t) = false
-tickAt moments (tick t) = among t moments
-tickAt moments close = false
-
-unfoldable pub without : List ℕ → List Step → List Step
-without moments [] = []
-without moments (s ∷ steps) = cond (tickAt moments s) (without moments steps) (s ∷ without moments steps)
-
--- §7.2: a record's bytes: a plain event, one with a colour, a tick
+-- §7.2; 01, recording: the bytes of a plain event
 abbrev pub eventBytes : ℕ → ℕ → List ℕ
 eventBytes kind t = 0 ∷ 9 ∷ kind ∷ bytesOf 8 t
 
+-- §7.2; CR 6: of an event with a colour
 abbrev pub colouredBytes : ℕ → ℕ → ℕ → List ℕ
 colouredBytes kind colour t = 0 ∷ 10 ∷ kind ∷ colour ∷ bytesOf 8 t
 
+-- §7.2; 01, recording: of a tick
 abbrev pub tickBytes : ℕ → List ℕ
 tickBytes t = 0 ∷ 8 ∷ bytesOf 8 t
 
+-- §7.2; 01, recording; CR 6: of a record
 unfoldable pub stepBytes : Step → List ℕ
 stepBytes (event s t) = cond (ltb s firstColoured) (eventBytes s t) (colouredBytes (kindOf s) ((s - firstColoured) % 8) t)
 stepBytes (tick t) = tickBytes t
 stepBytes close = []
 
+-- §7.1; 01, recording: of records one after the other
 unfoldable pub stepsBytes : List Step → List ℕ
 stepsBytes [] = []
 stepsBytes (s ∷ steps) = stepBytes s ++ stepsBytes steps
 
--- §7.1: the version byte, then the records
+-- §7.1; 01, recording; CR 6: the version byte, then the records
 abbrev pub recordingBytes : ℕ → List Step → List ℕ
 recordingBytes version steps = version ∷ stepsBytes steps
 
--- §13.3: the version is the higher one
+-- §13.3; CR 8: the version is the higher one
 abbrev pub joinedBytes : List ℕ → List ℕ → List Step → List Step → List ℕ
 joinedBytes one two first second = recordingBytes (max (at one 0) (at two 0)) (joined first second)
 
--- the kinds of a recording's events
+-- §8.20; CR 8: the kinds of a recording's events
 abbrev pub kindsOf : List Step → List ℕ
 kindsOf [] = []
 kindsOf (event s t ∷ steps) = kindOf s ∷ kindsOf steps
 kindsOf (tick t ∷ steps) = kindsOf steps
 kindsOf (close ∷ steps) = kindsOf steps
 
--- a step is an event of one of these kinds
+-- §8.20; CR 8: a step is an event of one of these kinds
 abbrev pub ofKinds : List ℕ → Step → Bool
 ofKinds kinds (event s t) = among (kindOf s) kinds
 ofKinds kinds (tick t) = false
 ofKinds kinds close = false
 
--- §8.20: no kind is found in both, whatever the colours
+-- §8.20; CR 8: no kind is found in both, whatever the colours
 unfoldable pub NoneInCommon : List Step → List Step → Type 0
 NoneInCommon first second = (k : ℕ) → among k (kindsOf first) ≡ true → among k (kindsOf second) ≡ false
 
--- §8.20: the place of the first record, from a place on, that is of one of these kinds
+-- §8.20; CR 8: the place of the first record, from a place on, that is of one of these kinds
 pub data FirstOf (kinds : List ℕ) (bytes : List ℕ) : ℕ → ℕ → Type 0 where
   here : {place : ℕ} → place < length bytes → ofKinds kinds (stepFor (callAt bytes place)) ≡ true → FirstOf kinds bytes place place
   later : {place found : ℕ} → place < length bytes → ofKinds kinds (stepFor (callAt bytes place)) ≡ false
       → FirstOf kinds bytes (place + 2 + lengthAt bytes place) found → FirstOf kinds bytes place found
 
--- §13.4 to §13.8: the answer to a join, and what is then in the buffer
+-- §13.4 to §13.8; CR 8: the answer to a join, and what is then in the buffer
 pub data AnswersJoin (one two before : List ℕ) : JoinAnswer → List ℕ → Type 0 where
   no-first : (n place : ℕ) → ReadsInOrder one (recording-refused n place) → AnswersJoin one two before (JoinAnswer.FirstRefused n place) before
   no-second : (first : List Step) (n place : ℕ) → ReadsInOrder one (recording-of first) → ReadsInOrder two (recording-refused n place)

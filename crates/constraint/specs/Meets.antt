@@ -1,8 +1,9 @@
--- What each row asks of all events together, some of the clock too (§2.2, §5.1 to §5.10).
+-- What each row asks of all events together, some of the clock too (§2.2, §5.1 to §5.10; 01, rows 1 to 7; CR 1, 2, 3, 6, 10).
 use Prim.Native.Nat.{ℕ, _+_, _-_, _≤_, _<_}
 use mathlib.Core.Path.{_≡_}
-use mathlib.Core.List.{List, [], _∷_, _++_, map}
+use mathlib.Core.List.{List, [], _∷_}
 use mathlib.Core.Logic.{_⊎_}
+use mathlib.Core.Option.{Option, none, some}
 use lib.ListN.{length}
 use Rattle.constraint.specs.Limits.{lastColour, noLimit}
 use Rattle.constraint.specs.Streams.{stream}
@@ -11,121 +12,97 @@ use Rattle.constraint.specs.declared.Constraint.{Constraint}
 use Rattle.constraint.specs.declared.Constraint.the-variants.{Delay, StrongDelay, Repeat, Sporadic, Burst, Order, StrongSynchronization2, StrongSynchronization3, StrongSynchronization4}
 use Rattle.constraint.specs.declared.Constraint.the-variants.{ExecutionTime, Reaction, Repetition}
 
--- y is lower to upper after x, both ends included
+-- §5.2; 01, row 2: y is lower to upper after x, both ends included
 abbrev pub Between : ℕ → ℕ → ℕ → ℕ → Type 0
 Between lower upper x y = (x + lower ≤ y) × (y ≤ x + upper)
 
--- y is at most upper after x, or however late where upper is the mark for no limit (§4.7)
+-- §4.7; 01, table; CR 1: y is at most upper after x, or however late where upper is the mark for no limit
 abbrev pub NotLater : ℕ → ℕ → ℕ → Type 0
 NotLater upper x y = (upper ≡ noLimit) ⊎ (y ≤ x + upper)
 
--- y is lower to upper after x, where upper may be the mark
+-- §5.1; 01, row 1; CR 1: y is lower to upper after x, where upper may be the mark; `inInterval` tests it (`answered-true`, `answered-by`)
 abbrev pub Apart : ℕ → ℕ → ℕ → ℕ → Type 0
 Apart lower upper x y = (x + lower ≤ y) × NotLater upper x y
 
--- §5.1: each source has a target lower to upper after it, or however late where upper is the mark
+-- §5.1; 01, row 1; CR 1: each source has a target lower to upper after it, or however late where upper is the mark
 unfoldable pub MeetsDelay : ℕ → ℕ → List ℕ → List ℕ → Type 0
 MeetsDelay lower upper sources targets =
     (i : ℕ) → i < length sources → (j : ℕ) × (j < length targets) × Apart lower upper (at sources i) (at targets j)
 
--- §5.2: sources and targets are equal in number, and each target is lower to upper after the source of its place
+-- §5.2; 01, row 2: sources and targets are equal in number, and each target is lower to upper after the source of its place
 unfoldable pub MeetsStrongDelay : ℕ → ℕ → List ℕ → List ℕ → Type 0
 MeetsStrongDelay lower upper sources targets =
     (length targets ≡ length sources) × ((i : ℕ) → i < length sources → Between lower upper (at sources i) (at targets i))
 
--- an event and the one span places after it are lower to upper apart
+-- §5.3; 01, row 3: an event and the one span places after it are lower to upper apart
 unfoldable pub SpansApart : ℕ → ℕ → ℕ → List ℕ → Type 0
 SpansApart span lower upper events = (i : ℕ) → i + span < length events → Apart lower upper (at events i) (at events (i + span))
 
--- §5.3: so it is in a Repeat; and an event that has none span places after it is at most upper before the clock now
+-- §5.3; 01, row 3; CR 3: so it is in a Repeat; and an event that has none span places after it is at most upper before the clock now
 unfoldable pub MeetsRepeat : ℕ → ℕ → ℕ → List ℕ → ℕ → Type 0
 MeetsRepeat span lower upper events now =
     SpansApart span lower upper events × ((i : ℕ) → i < length events → length events ≤ i + span → NotLater upper (at events i) now)
 
--- neighbours are at least minimum apart
+-- §5.4, §5.5; 01, rows 4 and 5: neighbours are at least minimum apart
 abbrev pub AtLeastApart : ℕ → List ℕ → Type 0
 AtLeastApart minimum events = SpansApart 1 minimum noLimit events
 
--- §5.4, §5.10: a point for each event, at most jitter before it; the points rise, and those span places apart are lower to upper apart
+-- §5.4, §5.10; 01, row 4; CR 10: a point for each event, at most jitter before it; they rise, and those span places apart are lower to upper apart
 pub record HiddenPoints (span lower upper jitter : ℕ) (events points : List ℕ) : Type 0 where
   pub one-each : length points ≡ length events
   pub near : (i : ℕ) → i < length events → Between 0 jitter (at points i) (at events i)
   pub rise : (i : ℕ) → i + 1 < length events → at points i < at points (i + 1)
   pub apart : (i : ℕ) → i + span < length events → Apart lower upper (at points i) (at points (i + span))
 
--- §5.4: the last point, where there is one, is at most upper and jitter before the clock now
+-- §5.4; CR 3: the last point, where there is one, is at most upper and jitter before the clock now
 abbrev pub LastNotLater : ℕ → ℕ → List ℕ → ℕ → Type 0
 LastNotLater upper jitter points now = (i : ℕ) → i + 1 ≡ length points → NotLater upper (at points i + jitter) now
 
--- §5.4: the same points, of span 1, do both, and neighbours among the events are at least minimum apart
+-- §5.4; 01, row 4; CR 3: the same points, of span 1, do both, and neighbours among the events are at least minimum apart
 unfoldable pub MeetsSporadic : ℕ → ℕ → ℕ → ℕ → List ℕ → ℕ → Type 0
 MeetsSporadic lower upper jitter minimum events now =
     ((points : List ℕ) × HiddenPoints 1 lower upper jitter events points × LastNotLater upper jitter points now) × AtLeastApart minimum events
 
--- §5.10: there are points of the span
+-- §5.10; CR 10: there are points of the span
 unfoldable pub MeetsRepetition : ℕ → ℕ → ℕ → ℕ → List ℕ → Type 0
 MeetsRepetition span lower upper jitter events = (points : List ℕ) × HiddenPoints span lower upper jitter events points
 
--- §5.5: events maximum places apart are at least len apart, and neighbours at least minimum
+-- §5.5; 01, row 5: events maximum places apart are at least len apart, and neighbours at least minimum
 unfoldable pub MeetsBurst : ℕ → ℕ → ℕ → List ℕ → Type 0
 MeetsBurst maximum len minimum events = SpansApart maximum len noLimit events × AtLeastApart minimum events
 
--- §5.6: sources and targets are equal in number, and no source is after the target of its place
+-- §5.6; 01, row 6: sources and targets are equal in number, and no source is after the target of its place
 unfoldable pub MeetsOrder : List ℕ → List ℕ → Type 0
 MeetsOrder sources targets = (length targets ≡ length sources) × ((i : ℕ) → i < length sources → at sources i ≤ at targets i)
 
--- §5.7: any two of the kinds have equally many events, and those of one place are at most tolerance apart
+-- §5.7; 01, row 7: any two of the kinds have equally many events, and those of one place are at most tolerance apart
 unfoldable pub MeetsStrongSynchronization : List ℕ → ℕ → List Step → Type 0
 MeetsStrongSynchronization kinds tolerance steps =
     (j k : ℕ) → j < length kinds → k < length kinds →
     (length (times (at kinds j) steps) ≡ length (times (at kinds k) steps))
     × ((i : ℕ) → i < length (times (at kinds j) steps) → at (times (at kinds j) steps) i ≤ at (times (at kinds k) steps) i + tolerance)
 
--- §5.8: one execution: its start, the stretches in which it is preempted, each from its preempt to its resume, and its stop
-pub record Execution : Type 0 where
-  pub starts : ℕ
-  pub pauses : List (ℕ × ℕ)
-  pub stops : ℕ
+module _ (start stop preempt resume lower upper : ℕ) where
+  -- §5.8; CR 2: the row's events from the time `free` on, between two executions or in one that started at s and was preempted for so long: no
+  -- event; a start; a preempt and its resume; a stop that is lower to upper after the start, the time preempted not counted
+  pub data Executes : Option (ℕ × ℕ) → ℕ → List (ℕ × ℕ) → Type 0 where
+    no-event : {free : ℕ} → Executes none free []
+    started : {free : ℕ} {later : List (ℕ × ℕ)} (s : ℕ) → free ≤ s → Executes (some (s, 0)) (s + 1) later → Executes none free ((start, s) ∷ later)
+    paused : {s preempted free : ℕ} {later : List (ℕ × ℕ)} (p r : ℕ) → free ≤ p → p < r → Executes (some (s, preempted + (r - p))) (r + 1) later
+        → Executes (some (s, preempted)) free ((preempt, p) ∷ (resume, r) ∷ later)
+    stopped : {s preempted free : ℕ} {later : List (ℕ × ℕ)} (t : ℕ) → free ≤ t → Between (lower + preempted) (upper + preempted) s t
+        → Executes none (t + 1) later → Executes (some (s, preempted)) free ((stop, t) ∷ later)
 
--- how long it is preempted, and its running time: stop minus start, less that; as times rise, no difference is cut off at 0 (`running-exact`)
-abbrev pub paused : List (ℕ × ℕ) → ℕ
-paused [] = 0
-paused (p ∷ ps) = (p .1 - p .0) + paused ps
-
-abbrev pub running : Execution → ℕ
-running e = (e .stops - e .starts) - paused (e .pauses)
-
--- each of them runs for lower to upper
-abbrev pub RunFor : ℕ → ℕ → List Execution → Type 0
-RunFor lower upper [] = Unit {0}
-RunFor lower upper (e ∷ es) = ((lower ≤ running e) × (running e ≤ upper)) × RunFor lower upper es
-
-module _ (start stop preempt resume : ℕ) where
-  -- the events of an execution, and of executions one after the other, each with its kind and its time
-  abbrev pub pauseEvents : List (ℕ × ℕ) → List (ℕ × ℕ)
-  pauseEvents [] = []
-  pauseEvents (p ∷ ps) = (preempt, p .0) ∷ (resume, p .1) ∷ pauseEvents ps
-
-  abbrev pub executionEvents : List Execution → List (ℕ × ℕ)
-  executionEvents [] = []
-  executionEvents (e ∷ es) = (start, e .starts) ∷ (pauseEvents (e .pauses) ++ ((stop, e .stops) ∷ executionEvents es))
-
-  -- these are the executions of the row's events, whose times rise strictly, and each runs for lower to upper
-  pub record Executes (lower upper : ℕ) (events : List (ℕ × ℕ)) (executions : List Execution) : Type 0 where
-    pub are : events ≡ executionEvents executions
-    pub rise : (i : ℕ) → i + 1 < length events → at (map (λ e. e .1) events) i < at (map (λ e. e .1) events) (i + 1)
-    pub run : RunFor lower upper executions
-
+-- §5.8; CR 2: all of the row's events, from time 0 on
 unfoldable pub MeetsExecutionTime : ℕ → ℕ → ℕ → ℕ → ℕ → ℕ → List (ℕ × ℕ) → Type 0
-MeetsExecutionTime start stop preempt resume lower upper events =
-    (executions : List Execution) × Executes start stop preempt resume lower upper events executions
+MeetsExecutionTime start stop preempt resume lower upper events = Executes start stop preempt resume lower upper none 0 events
 
--- §5.9, of one colour: each stimulus has a response, and the first response of all is minimum to maximum after it
+-- §5.9; CR 6: of one colour: each stimulus has a response, and the first response of all is minimum to maximum after it
 unfoldable pub MeetsReaction : ℕ → ℕ → List ℕ → List ℕ → Type 0
 MeetsReaction minimum maximum stimuli responses =
     (i : ℕ) → i < length stimuli → (0 < length responses) × Between minimum maximum (at stimuli i) (at responses 0)
 
--- what a row asks of all events together, with the clock that they close at (§2.2)
+-- §2.2; 01, rows; CR 3: what a row asks of all events together, with the clock that they close at
 unfoldable pub Meets : Constraint → List Step → Type 0
 Meets (Delay source target lower upper) steps = MeetsDelay lower upper (times source steps) (times target steps)
 Meets (StrongDelay source target lower upper) steps = MeetsStrongDelay lower upper (times source steps) (times target steps)

@@ -1,22 +1,16 @@
--- How questions are put (§9.1).
+-- How questions are put (§9.1; 01, questions).
 use Prim.Native.Nat.{ℕ}
 use mathlib.Core.Path.{_≡_}
-use mathlib.Core.Bool.{Bool, true, false}
 use mathlib.Core.List.{List, [], _∷_}
 use mathlib.Core.Logic.{_⊎_}
 use Rattle.constraint.specs.declared.Answer.{Answer}
 use Rattle.constraint.specs.declared.Answer.the-variants.{Taken, Refused}
 
--- a question: the number that a "no" gives, and what it asks
+-- §9.1; 01, questions: a question: the number that a "no" gives, and what it asks
 abbrev pub Question : Type 1
 Question = ℕ × Type 0
 
--- §9.1: the first question answered "no" refuses the call with its number; it is taken where all are answered "yes"
+-- §9.1; 01, questions: the first question answered "no" refuses the call with its number; it is taken where all are answered "yes"
 unfoldable pub Judged : List Question → Answer → Type 0
 Judged [] a = a ≡ Taken
 Judged (q ∷ later) a = (q .1 × Judged later a) ⊎ (¬ q .1 × (a ≡ Refused (q .0)))
-
--- a test that answers one question: true where it is answered "yes"
-abbrev pub Decides : Type 0 → Bool → Type 0
-Decides asked true = asked
-Decides asked false = ¬ asked

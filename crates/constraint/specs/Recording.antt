@@ -1,4 +1,4 @@
--- The recording's format: bytes to accepted steps, or a refusal with its number and place (§7.1, §7.2, §9.4).
+-- The recording's format: bytes to accepted steps, or a refusal with its number and place (§7.1, §7.2, §9.4; 01, recording; CR 6).
 use Prim.Native.Nat.{ℕ, _+_, _≤_, _<_}
 use mathlib.Core.Path.{_≡_}
 use mathlib.Core.Bool.{cond}
@@ -14,39 +14,35 @@ use Rattle.constraint.specs.Bytes.{numberAt}
 use Rattle.constraint.specs.Table.{lengthAt, bodyAt, WholeAt}
 use Rattle.constraint.specs.declared.Constraint.{Constraint}
 
--- §8.19: what is no colour
-abbrev pub noColour : ℕ
-noColour = 255
-
--- §7.1: a recording of version 1 has no colours, whatever stands where version 2 has them
+-- §7.1, §8.19; CR 6: a recording of version 1 has no colours, whatever stands where version 2 has them: 255 is none
 abbrev pub colourIn : ℕ → ℕ → ℕ
-colourIn version colour = cond (eqb version 1) noColour colour
+colourIn version colour = cond (eqb version 1) 255 colour
 
--- §7.2: an event of nine bytes, one with a colour of ten, a tick of eight
+-- §7.2; 01, recording; CR 6: an event of nine bytes, one with a colour of ten, a tick of eight
 abbrev pub callOf : ℕ → List ℕ → Call
 callOf version body =
     cond (eqb (length body) 9) (Call.Event (at body 0) (numberAt 8 body 1))
     (cond (eqb (length body) 10) (Call.ColouredEvent (at body 0) (colourIn version (at body 1)) (numberAt 8 body 2))
     (Call.Tick (numberAt 8 body 0)))
 
--- the call of the record at a place; the first byte is the version
+-- §7.2; 01, recording: the call of the record at a place; the first byte is the version
 abbrev pub callAt : List ℕ → ℕ → Call
 callAt bytes place = callOf (at bytes 0) (bodyAt bytes place)
 
--- §8.14: length field and record are whole, and the length is 8, 9 or 10
+-- §8.14; 01, questions; CR 6: length field and record are whole, and the length is 8, 9 or 10
 abbrev pub RecordAt : List ℕ → ℕ → Type 0
 RecordAt bytes place = WholeAt bytes place × (8 ≤ lengthAt bytes place) × (lengthAt bytes place ≤ 10)
 
--- §9.4: 14, then the questions of its step
+-- §9.4; 01, questions: 14, then the questions of its step
 unfoldable pub recordQuestions : List Constraint → List Step → List ℕ → ℕ → List Question
 recordQuestions rows steps bytes place = (14, RecordAt bytes place) ∷ questions rows steps (callAt bytes place)
 
--- what reading gives: the steps accepted, or the refusal's number and place (§7.6)
+-- §7.6; 01, report: what reading gives: the steps accepted, or the refusal's number and place
 pub data RecordingRead : Type 0 where
   recording-of : List Step → RecordingRead
   recording-refused : ℕ → ℕ → RecordingRead
 
--- §9.4: record by record, from a place on, over the steps accepted before
+-- §9.4; 01, questions: record by record, from a place on, over the steps accepted before
 pub data ReadsRecords (rows : List Constraint) (bytes : List ℕ) : List Step → ℕ → RecordingRead → Type 0 where
   no-more : {before : List Step} {place : ℕ} → length bytes ≤ place → ReadsRecords rows bytes before place (recording-of before)
   record-refused : {before : List Step} {place : ℕ} (n : ℕ) → place < length bytes → Judged (recordQuestions rows before bytes place) (Refused n)
@@ -55,15 +51,15 @@ pub data ReadsRecords (rows : List Constraint) (bytes : List ℕ) : List Step �
       → ReadsRecords rows bytes (before ++ (stepFor (callAt bytes place) ∷ [])) (place + 2 + lengthAt bytes place) read
       → ReadsRecords rows bytes before place read
 
--- §8.13: the first byte is there, and is 1 or 2
+-- §8.13; 01, questions; CR 6: the first byte is there, and is 1 or 2
 abbrev pub VersionKnown : List ℕ → Type 0
 VersionKnown bytes = (0 < length bytes) × (1 ≤ at bytes 0) × (at bytes 0 ≤ 2)
 
--- §9.4: 13, then record by record
+-- §9.4; 01, questions: 13, then record by record
 pub data ReadsRecording (rows : List Constraint) (bytes : List ℕ) : RecordingRead → Type 0 where
   version-refused : ¬ VersionKnown bytes → ReadsRecording rows bytes (recording-refused 13 0)
   version-taken : {read : RecordingRead} → VersionKnown bytes → ReadsRecords rows bytes [] 1 read → ReadsRecording rows bytes read
 
--- the recording's and the step's questions without 12 (§12.5): over no rows, where no row can have too many waiting
+-- §12.5, §13.5, §14.5; CR 8, 11, 13: the recording's and the step's questions without 12: over no rows, where no row can have too many waiting
 abbrev pub ReadsInOrder : List ℕ → RecordingRead → Type 0
 ReadsInOrder bytes read = ReadsRecording [] bytes read

@@ -1,35 +1,58 @@
--- What the code's records hold: a table with one row more, and a row's fields as numbers. No definition of the contract rests on these.
-use Prim.Native.Nat.{ℕ, _+_, _≤_, _<_, max}
+-- What the code's tests and records say: a test of a question, the rows of a table record, one row more, and a row's fields as numbers. No
+-- definition of the contract rests on these.
+use Prim.Native.Nat.{ℕ, _+_, _-_, _≤_, _<_, max}
 use mathlib.Core.Path.{_≡_}
-use mathlib.Core.Bool.{Bool, cond, _||_}
-use mathlib.Core.List.{List, [], _∷_, _++_}
+use mathlib.Core.Bool.{Bool, true, false, cond, _||_}
+use mathlib.Core.List.{List, [], _∷_, _++_, map}
 use mathlib.Core.Logic.{_≢_}
-use lib.ListN.{length, set, take, drop}
+use lib.ListN.{length, set, take, drop, replicate}
 use lib.Dec.{eqb}
 use Rattle.constraint.specs.Limits.{rowLimit}
 use Rattle.constraint.specs.Types.{ByteRole, kind, coloured, count, span, TimeRole, plain, lower, upper, upper-or-none}
 use Rattle.constraint.specs.Types.{Field, byte, time, typeOf, fieldsOf}
 use Rattle.constraint.specs.declared.Constraint.{Constraint}
+use Rattle.constraint.specs.declared.Constraint.the-variants.{Order}
 use Rattle.constraint.specs.declared.Entry.{Entry}
 use Rattle.constraint.specs.declared.Table.{Table}
 use Rattle.constraint.specs.declared.fields.Fields.{Fields}
 
--- A table with one row more
+-- A test
 
+-- §9.1: a test that answers one question: true where it is answered "yes"
+abbrev pub Decides : Type 0 → Bool → Type 0
+Decides asked true = asked
+Decides asked false = ¬ asked
+
+-- The rows of a table record
+
+-- the row of an entry that no row was put in
+abbrev pub filler : Constraint
+filler = Order 0 0
+
+-- the first `count` entries; behind the 32 entries stand copies of the filler, so a count above 32 is a table of more than 32 rows
+unfoldable pub rowsOf : Table → List Constraint
+rowsOf table = take (table .count) (map (λ entry. entry .constraint) (table .rows) ++ replicate (table .count) filler)
+
+-- the entry of a row
 abbrev pub entryOf : Constraint → Entry
 entryOf c = record { constraint = c }
 
+-- the table record of some rows: they stand in the first entries, and the filler in the others
+unfoldable pub tableOf : List Constraint → Table
+tableOf rows = record { rows = map entryOf (rows ++ replicate (rowLimit - length rows) filler); count = length rows }
+
 -- the row is put in the entry that the count says
-abbrev pub withRow : Table → Constraint → Table
-withRow table c = record { rows = set (table .rows) (table .count) (entryOf c); count = table .count + 1 }
+abbrev pub withOneMore : Table → Constraint → Table
+withOneMore table c = record { rows = set (table .rows) (table .count) (entryOf c); count = table .count + 1 }
 
 -- r is the table with one row more; one for which there is no entry makes the count at least 33, so that the table is refused with 3
 pub record Adds (table : Table) (c : Constraint) (r : Table) : Type 0 where
-  pub room : table .count < rowLimit → r ≡ withRow table c
+  pub room : table .count < rowLimit → r ≡ withOneMore table c
   pub full : rowLimit ≤ table .count → r ≡ record { rows = table .rows; count = max (table .count) (rowLimit + 1) }
 
 -- A row's fields as numbers: values, and the numbers of their roles, of which 0 is no field
 
+-- the role of a field of one byte
 abbrev pub byteRole : ℕ → ByteRole
 byteRole r = cond (eqb r 255) kind (cond (eqb r 254) count (cond (eqb r 253) coloured (span r)))
 
@@ -37,12 +60,15 @@ byteRole r = cond (eqb r 255) kind (cond (eqb r 254) count (cond (eqb r 253) col
 abbrev pub isKind : ℕ → Bool
 isKind r = eqb r 255 || eqb r 253
 
+-- the role of a time
 abbrev pub timeRole : ℕ → TimeRole
 timeRole r = cond (eqb r 2) lower (cond (eqb r 3) upper (cond (eqb r 4) upper-or-none plain))
 
+-- a field of one byte, by the number of its role
 abbrev pub byteField : ℕ → ℕ → Field
 byteField r x = byte (byteRole r) x
 
+-- a time, by the number of its role
 abbrev pub timeField : ℕ → ℕ → Field
 timeField r x = time (timeRole r) x
 
@@ -56,34 +82,30 @@ fieldsAs field [] values = []
 fieldsAs field (r ∷ roles) [] = []
 fieldsAs field (r ∷ roles) (x ∷ values) = fieldAt field r x ++ fieldsAs field roles values
 
--- those of one byte, and the times, from the i-th place on
+-- those of one byte, from the i-th place on
 abbrev pub bytesFrom : List ℕ → List ℕ → ℕ → List Field
 bytesFrom roles values i = fieldsAs byteField (drop i roles) (drop i values)
 
+-- the times, from the i-th place on
 abbrev pub timesFrom : List ℕ → List ℕ → ℕ → List Field
 timesFrom roles values i = fieldsAs timeField (drop i roles) (drop i values)
 
-abbrev pub byteFields : Fields → List Field
-byteFields fields = bytesFrom (fields .line .bytes) (fields .bytes) 0
-
-abbrev pub timeFields : Fields → List Field
-timeFields fields = timesFrom (fields .line .times) (fields .times) 0
-
--- the values of the fields of one byte, and of the times
+-- the values of the fields of one byte
 abbrev pub bytesIn : List Field → List ℕ
 bytesIn [] = []
 bytesIn (byte role x ∷ fields) = x ∷ bytesIn fields
 bytesIn (time role x ∷ fields) = bytesIn fields
 
+-- the values of the times
 abbrev pub timesIn : List Field → List ℕ
 timesIn [] = []
 timesIn (byte role x ∷ fields) = timesIn fields
 timesIn (time role x ∷ fields) = x ∷ timesIn fields
 
 -- the numbers are those of a row, and stand first in their arrays
-pub record Holds (c : Constraint) (fields : Fields) : Type 0 where
+pub record HoldsRow (c : Constraint) (fields : Fields) : Type 0 where
   pub typed : fields .line .form ≡ typeOf c
-  pub all : byteFields fields ++ timeFields fields ≡ fieldsOf c
+  pub all : bytesFrom (fields .line .bytes) (fields .bytes) 0 ++ timesFrom (fields .line .times) (fields .times) 0 ≡ fieldsOf c
   pub bytes : take (length (bytesIn (fieldsOf c))) (fields .bytes) ≡ bytesIn (fieldsOf c)
   pub times : take (length (timesIn (fieldsOf c))) (fields .times) ≡ timesIn (fieldsOf c)
 

@@ -1,10 +1,9 @@
--- The report's bytes (§7.3 to §7.8), and what the program prints (§7.10).
+-- The report's bytes (§7.3 to §7.8; 01, recording and report).
 use Prim.Native.Nat.{ℕ, zero, suc, _+_, _/_, _%_, _≤_, _<_}
 use mathlib.Core.Bool.{cond}
 use mathlib.Core.List.{List, [], _∷_, _++_}
 use lib.ListN.{length, drop}
 use lib.Dec.{ltb}
-use Rattle.constraint.specs.Limits.{tableSizeLimit, recordingSizeLimit}
 use Rattle.constraint.specs.Steps.{Step, close}
 use Rattle.constraint.specs.Continuation.{Reads}
 use Rattle.constraint.specs.Table.{ReadsTable, table-of, table-refused}
@@ -13,61 +12,65 @@ use Rattle.constraint.specs.declared.Constraint.{Constraint}
 use Rattle.constraint.specs.declared.Verdict.{Verdict}
 use Rattle.constraint.specs.declared.Verdict.the-variants.{Open, Kept, Broken}
 
--- the decimal digits of a number below 10 ^ n
+-- §7.7; 01, report: the decimal digits of a number below 10 ^ n
 unfoldable pub digits : ℕ → ℕ → List ℕ
 digits zero x = []
 digits (suc n) x = cond (ltb x 10) [] (digits n (x / 10)) ++ ((48 + x % 10) ∷ [])
 
--- §7.7: in ASCII, with no zero in front. Every number of a report is below 10 ^ 20
+-- §7.7; 01, report: in ASCII, with no zero in front. Every number of a report is below 10 ^ 20
 abbrev pub decimal : ℕ → List ℕ
 decimal x = digits 20 x
 
--- §7.7: what stands between the parts of a line, and at its end
+-- §7.7; 01, report: what stands between the parts of a line
 abbrev pub blank : ℕ
 blank = 32
 
+-- §7.7; 01, report: and at its end
 abbrev pub lineEnd : ℕ
 lineEnd = 10
 
--- the words closed, kept, broken, refused (and open, which no report has)
+-- §7.4; 01, report: the word closed
 abbrev pub closedWord : List ℕ
 closedWord = 99 ∷ 108 ∷ 111 ∷ 115 ∷ 101 ∷ 100 ∷ []
 
+-- §7.4; 01, report: the word kept
 abbrev pub keptWord : List ℕ
 keptWord = 107 ∷ 101 ∷ 112 ∷ 116 ∷ []
 
+-- §7.4; 01, report: the word broken
 abbrev pub brokenWord : List ℕ
 brokenWord = 98 ∷ 114 ∷ 111 ∷ 107 ∷ 101 ∷ 110 ∷ []
 
+-- §7.5; 01, report: the word refused
 abbrev pub refusedWord : List ℕ
 refusedWord = 114 ∷ 101 ∷ 102 ∷ 117 ∷ 115 ∷ 101 ∷ 100 ∷ []
 
--- §7.4: kept, or broken and the step; at the close no row is open
+-- §7.4; 01, report: kept, or broken and the step; at the close no row is open
 abbrev pub verdictText : Verdict → List ℕ
 verdictText Open = []
 verdictText Kept = keptWord
 verdictText (Broken n) = brokenWord ++ blank ∷ decimal n
 
--- §7.4: a line for each row, its number and its verdict
+-- §7.4; 01, report: a line for each row, its number and its verdict
 unfoldable pub rowLines : ℕ → List Verdict → List ℕ
 rowLines i [] = []
 rowLines i (v ∷ verdicts) = decimal i ++ blank ∷ verdictText v ++ lineEnd ∷ rowLines (i + 1) verdicts
 
--- §7.4: the number of steps, then the rows' lines
+-- §7.4; 01, report: the number of steps, then the rows' lines
 abbrev pub closedText : ℕ → List Verdict → List ℕ
 closedText count verdicts = closedWord ++ blank ∷ decimal count ++ lineEnd ∷ rowLines 0 verdicts
 
--- §7.5: the refusal's number and its place
+-- §7.5; 01, report: the refusal's number and its place
 abbrev pub refusedText : ℕ → ℕ → List ℕ
 refusedText n place = refusedWord ++ blank ∷ decimal n ++ blank ∷ decimal place ++ lineEnd ∷ []
 
--- what each row reads
+-- §2.4 to §2.6; 01, time: what each row reads
 pub data EachReads (after : List Step) : List Constraint → List Verdict → Type 0 where
   no-row : EachReads after [] []
   row-reads : {c : Constraint} {rows : List Constraint} {v : Verdict} {verdicts : List Verdict} → Reads c after v → EachReads after rows verdicts
       → EachReads after (c ∷ rows) (v ∷ verdicts)
 
--- §7.3, §9.10: the report's text
+-- §7.3, §9.10; 01, report: the report's text
 pub data ReportOf (table recording : List ℕ) : List ℕ → Type 0 where
   no-table : (n place : ℕ) → ReadsTable table (table-refused n place) → ReportOf table recording (refusedText n place)
   no-recording : (rows : List Constraint) (n place : ℕ) → ReadsTable table (table-of rows)
@@ -76,12 +79,7 @@ pub data ReportOf (table recording : List ℕ) : List ℕ → Type 0 where
       → ReadsRecording rows recording (recording-of accepted) → EachReads (accepted ++ (close ∷ [])) rows verdicts
       → ReportOf table recording (closedText (length (accepted ++ (close ∷ []))) verdicts)
 
--- §7.8: the answer, and what is then in the buffer
+-- §7.8; 01, report: the answer, and what is then in the buffer
 pub data Reports (table recording before : List ℕ) : ℕ → List ℕ → Type 0 where
   written : (text : List ℕ) → ReportOf table recording text → length text ≤ length before → Reports table recording before (length text) (text ++ drop (length text) before)
   too-short : (text : List ℕ) → ReportOf table recording text → length before < length text → Reports table recording before 0 before
-
--- §7.10, §9.9: what the program prints; 17 (§8.17) with the place 0
-pub data Prints (table recording : List ℕ) : List ℕ → Type 0 where
-  too-large : ¬ ((length table ≤ tableSizeLimit) × (length recording ≤ recordingSizeLimit)) → Prints table recording (refusedText 17 0)
-  fits : {text : List ℕ} → length table ≤ tableSizeLimit → length recording ≤ recordingSizeLimit → ReportOf table recording text → Prints table recording text

@@ -1,4 +1,4 @@
--- Lists of calls and withdrawals: the answer to each, and the steps that are left (§3.1 to §3.3, §3.12 to §3.15, §8.21, §9.5).
+-- Lists of calls and withdrawals: the answer to each, and the steps that are left (§3.1 to §3.3, §3.12 to §3.15, §8.21, §9.5; 01, time; CR 9).
 use Prim.Native.Nat.{ℕ, _-_, _≤_, _<_}
 use mathlib.Core.Path.{_≡_}
 use mathlib.Core.Bool.{Bool, true, false}
@@ -16,68 +16,66 @@ use Rattle.constraint.specs.declared.Answer.the-variants.{Taken, Refused
 use Rattle.constraint.specs.declared.Call.{Call}
 use Rattle.constraint.specs.declared.Constraint.{Constraint}
 
--- the step that a call is once it is accepted
+-- §3.3; 01, time; CR 6: the step that a call is once it is accepted
 abbrev pub stepFor : Call → Step
 stepFor (Call.Event k t) = event k t
 stepFor (Call.ColouredEvent k c t) = event (stream k c) t
 stepFor (Call.Tick t) = tick t
 stepFor Call.Close = close
 
--- §8.12: each row that is open then has at most 64 waiting
+-- §8.12; 01, questions: each row that is open then has at most 64 waiting
 unfoldable pub Room : List Constraint → List Step → Type 0
 Room rows steps = (i : ℕ) (c : Constraint) → getElem? rows i ≡ some c → Open c steps → waiting c steps ≤ waitingLimit
 
--- §8.10 to §8.12: an event of a stream, after 8, 24, 9 and 19
+-- §8.10 to §8.12; 01, questions: what is asked of an event of a stream in the end
 abbrev pub eventQuestions : List Constraint → List Step → ℕ → ℕ → List Question
 eventQuestions rows steps s t = (10, t ≤ lastTime) ∷ (11, EventInOrder steps s t) ∷ (12, Room rows (steps ++ (event s t ∷ []))) ∷ []
 
--- §9.5, with §8.8 to §8.12, §8.19 and §8.24: the questions of a call, over the steps accepted before. A plain event has a plain kind, and one with
--- a colour a coloured kind and one of the eight colours
+-- §8.9 to §8.12, §8.19; 01, questions; CR 6: and of a call; a plain event has a plain kind, one with a colour a coloured kind and one of the colours
+abbrev pub callQuestions : List Constraint → List Step → Call → List Question
+callQuestions rows steps (Call.Event k t) = (9, k ≤ lastKind) ∷ (19, k < firstColoured) ∷ eventQuestions rows steps k t
+callQuestions rows steps (Call.ColouredEvent k c t) =
+    (9, k ≤ lastKind) ∷ (19, (firstColoured ≤ k) × (c ≤ lastColour)) ∷ eventQuestions rows steps (stream k c) t
+callQuestions rows steps (Call.Tick t) = (10, t ≤ lastTime) ∷ (11, clock steps < t) ∷ (12, Room rows (steps ++ (tick t ∷ []))) ∷ []
+callQuestions rows steps Call.Close = []
+
+-- §9.5, §8.8, §8.24; 01, questions; CR 12: the questions of a call, over the steps accepted before
 unfoldable pub questions : List Constraint → List Step → Call → List Question
-questions rows steps (Call.Event k t) =
-    (8, closed steps ≡ false) ∷ (24, length steps < lastCount) ∷ (9, k ≤ lastKind) ∷ (19, k < firstColoured) ∷ eventQuestions rows steps k t
-questions rows steps (Call.ColouredEvent k c t) =
-    (8, closed steps ≡ false) ∷ (24, length steps < lastCount) ∷ (9, k ≤ lastKind) ∷ (19, (firstColoured ≤ k) × (c ≤ lastColour))
-    ∷ eventQuestions rows steps (stream k c) t
-questions rows steps (Call.Tick t) =
-    (8, closed steps ≡ false) ∷ (24, length steps < lastCount) ∷ (10, t ≤ lastTime) ∷ (11, clock steps < t)
-    ∷ (12, Room rows (steps ++ (tick t ∷ []))) ∷ []
-questions rows steps Call.Close = (8, closed steps ≡ false) ∷ (24, length steps < lastCount) ∷ []
+questions rows steps call = (8, closed steps ≡ false) ∷ (24, length steps < lastCount) ∷ callQuestions rows steps call
 
--- ---- withdrawals
-
--- §3.12: what a monitor is asked: a call, or to withdraw the last step
+-- §3.12; CR 9: what a monitor is asked: a call, or to withdraw the last step
 pub data Request : Type 0 where
   asks : Call → Request
   withdraws : Request
 
--- §3.12: the steps that are left, and whether the last of them may be withdrawn
+-- §3.12; CR 9: the steps that are left, and whether the last of them may be withdrawn
 pub record Left : Type 0 where
   pub steps : List Step
   pub may : Bool
 
+-- §3.2; 01, time: before any request
 abbrev pub noneLeft : Left
 noneLeft = record { steps = []; may = false }
 
--- §9.5 over the steps that are left, and §8.21
+-- §9.5 over the steps that are left, and §8.21; CR 9: the questions of a request
 abbrev pub requestQuestions : List Constraint → Left → Request → List Question
 requestQuestions rows left (asks call) = questions rows (left .steps) call
 requestQuestions rows left withdraws = (21, left .may ≡ true) ∷ []
 
--- §3.3, §3.12: what is left once the request has its answer. A refusal changes nothing; a step that is taken may be withdrawn; one that is
--- withdrawn is struck out, and the one before it stays. `take n steps` are the first n
+-- §3.3, §3.12; 01, time; CR 9: what is left once the request has its answer. A refusal changes nothing; a step that is taken may be withdrawn; one that
+-- is withdrawn is struck out, and the one before it stays. `take n steps` are the first n
 abbrev pub leftBy : Left → Request → Answer → Left
 leftBy left r (Refused n) = left
 leftBy left (asks call) Taken = record { steps = left .steps ++ (stepFor call ∷ []); may = true }
 leftBy left withdraws Taken = record { steps = take (length (left .steps) - 1) (left .steps); may = false }
 
--- §3.3, §3.13: the requests one after the other, from what was left before to what is left in the end
+-- §3.3, §3.13; 01, time; CR 9: the requests one after the other, from what was left before to what is left in the end
 pub data Run (rows : List Constraint) : Left → List Request → List Answer → Left → Type 0 where
   done : {left : Left} → Run rows left [] [] left
   request : {left end : Left} {requests : List Request} {answers : List Answer} (r : Request) (a : Answer)
       → Judged (requestQuestions rows left r) a → Run rows (leftBy left r a) requests answers end → Run rows left (r ∷ requests) (a ∷ answers) end
 
--- §3.15: none of the first n steps is withdrawn: so many are left after each request
+-- §3.15; CR 9: none of the first n steps is withdrawn: so many are left after each request
 abbrev pub Keeps : ℕ → {rows : List Constraint} {left end : Left} {requests : List Request} {answers : List Answer} → Run rows left requests answers end → Type 0
 Keeps n done = Unit {0}
 Keeps n (request {left = left} r a judged rest) = (n ≤ length (leftBy left r a .steps)) × Keeps n rest

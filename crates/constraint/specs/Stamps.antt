@@ -1,4 +1,4 @@
--- Stamps known within a range: what a Repeat row of span 1 reads at the close where each stamp may be late (§12.1 to §12.6).
+-- Stamps known within a range: what a Repeat row of span 1 reads at the close where each stamp may be late (§12.1 to §12.6; CR 13).
 use Prim.Native.Nat.{ℕ, _+_, _≤_, _<_}
 use mathlib.Core.Path.{_≡_}
 use mathlib.Core.List.{List, [], _∷_}
@@ -16,35 +16,32 @@ use Rattle.constraint.specs.declared.Constraint.the-variants.{Repeat}
 use Rattle.constraint.specs.declared.StampedVerdict.{StampedVerdict}
 use Rattle.constraint.specs.declared.StampedAnswer.{StampedAnswer}
 
--- §12.1: a choice of true times: one for each stamp, at most e before it and not after it, and they rise strictly
+-- §12.1; CR 13: a choice of true times: one for each stamp, at most e before it and not after it, and they rise strictly
 pub record TrueTimes (e : ℕ) (stamps chosen : List ℕ) : Type 0 where
   pub one-each : length chosen ≡ length stamps
   pub near : (i : ℕ) → i < length stamps → Between 0 e (at chosen i) (at stamps i)
   pub rise : (i : ℕ) → i + 1 < length stamps → at chosen i < at chosen (i + 1)
 
--- §12.2: a choice meets the row where its times do, with the clock that was recorded (§5.3)
-abbrev pub ChoiceMeets : ℕ → ℕ → ℕ → List ℕ → Type 0
-ChoiceMeets lower upper now chosen = MeetsRepeat 1 lower upper chosen now
-
--- §12.3: kept where each choice meets the row, broken where none does, unsure where one meets it and another does not
+-- §12.2, §12.3; CR 13: kept where each choice meets the row at the clock that was recorded (§5.3), broken where none does, unsure where one does and
+-- another does not
 pub data ReadsStamps (e lower upper : ℕ) (stamps : List ℕ) (now : ℕ) : StampedVerdict → Type 0 where
-  each-meets : ((chosen : List ℕ) → TrueTimes e stamps chosen → ChoiceMeets lower upper now chosen)
+  each-meets : ((chosen : List ℕ) → TrueTimes e stamps chosen → MeetsRepeat 1 lower upper chosen now)
       → ReadsStamps e lower upper stamps now StampedVerdict.Kept
-  none-meets : ((chosen : List ℕ) → TrueTimes e stamps chosen → ¬ ChoiceMeets lower upper now chosen)
+  none-meets : ((chosen : List ℕ) → TrueTimes e stamps chosen → ¬ MeetsRepeat 1 lower upper chosen now)
       → ReadsStamps e lower upper stamps now StampedVerdict.Broken
-  both-occur : (one other : List ℕ) → TrueTimes e stamps one → ChoiceMeets lower upper now one
-      → TrueTimes e stamps other → ¬ ChoiceMeets lower upper now other → ReadsStamps e lower upper stamps now StampedVerdict.Unsure
+  both-occur : (one other : List ℕ) → TrueTimes e stamps one → MeetsRepeat 1 lower upper one now
+      → TrueTimes e stamps other → ¬ MeetsRepeat 1 lower upper other now → ReadsStamps e lower upper stamps now StampedVerdict.Unsure
 
--- row i is a Repeat of span 1 with these fields
+-- §12.5; CR 13: row i is a Repeat of span 1 with these fields
 abbrev pub RepeatRow : List Constraint → ℕ → ℕ → ℕ → ℕ → Type 0
 RepeatRow rows i k lower upper = getElem? rows i ≡ some (Repeat k 1 lower upper)
 
--- §12.5: after those of table and recording, 15 (§8.15), 25, and 10 for e (§8.10)
+-- §12.5; CR 13: after those of table and recording, 15 (§8.15), 25, and 10 for e (§8.10)
 abbrev pub stampsQuestions : List Constraint → ℕ → ℕ → List Question
 stampsQuestions rows i e =
     (15, i < length rows) ∷ (25, (k : ℕ) × ((lower : ℕ) × ((upper : ℕ) × RepeatRow rows i k lower upper))) ∷ (10, e ≤ lastTime) ∷ []
 
--- §12.5, §12.6: the answer for row i of a table, a recording and an e; 15, 25 and 10 have the place 0
+-- §12.5, §12.6; CR 13: the answer for row i of a table, a recording and an e; 15, 25 and 10 have the place 0
 pub data AnswersStamps (table recording : List ℕ) (i e : ℕ) : StampedAnswer → Type 0 where
   no-table : (n place : ℕ) → ReadsTable table (table-refused n place) → AnswersStamps table recording i e (StampedAnswer.Refused n place)
   no-recording : (rows : List Constraint) (n place : ℕ) → ReadsTable table (table-of rows)

@@ -1,51 +1,51 @@
--- Steps, and what a list of accepted steps has recorded (§1.3 to §1.7).
+-- Steps, and what a list of accepted steps has recorded (§1.3 to §1.7; 01, time).
 use Prim.Native.Nat.{ℕ}
 use mathlib.Core.Bool.{Bool, true, false, cond, _||_}
 use mathlib.Core.List.{List, [], _∷_}
 use lib.ListN.{getD}
 use lib.Dec.{eqb}
 
--- §1.3, §1.4, §1.5: an event of a stream (§1.9) at a time, a tick to a time, the close. `event 0 10` is 0@10, of the plain kind 0
+-- §1.3 to §1.5, §1.9; 01, time; CR 6: an event of a stream at a time, a tick to a time, the close. `event 0 10` is 0@10, of the plain kind 0
 pub data Step : Type 0 where
   event : ℕ → ℕ → Step
   tick : ℕ → Step
   close : Step
 
--- the i-th of a list of numbers, counted from 0
+-- the i-th of a list of numbers, counted from 0 (0 behind its end)
 abbrev pub at : List ℕ → ℕ → ℕ
 at list i = getD list i 0
 
--- §2.1: the times of the events of one stream, in the order recorded
+-- §2.1; 01, time: the times of the events of one stream, in the order recorded
 unfoldable pub times : ℕ → List Step → List ℕ
 times k [] = []
 times k (event j t ∷ steps) = cond (eqb j k) (t ∷ times k steps) (times k steps)
 times k (tick t ∷ steps) = times k steps
 times k (close ∷ steps) = times k steps
 
--- k is one of these streams, or of these kinds
+-- §2.1: k is one of these streams, or of these kinds
 abbrev pub among : ℕ → List ℕ → Bool
 among k [] = false
 among k (j ∷ ks) = eqb k j || among k ks
 
--- the events of these streams, each with its stream and its time, in the order recorded
+-- §5.8; CR 2: the events of these streams, each with its stream and its time, in the order recorded
 unfoldable pub own : List ℕ → List Step → List (ℕ × ℕ)
 own ks [] = []
 own ks (event k t ∷ steps) = cond (among k ks) ((k, t) ∷ own ks steps) (own ks steps)
 own ks (tick t ∷ steps) = own ks steps
 own ks (close ∷ steps) = own ks steps
 
--- the clock after the steps, from the clock before them: §1.3 and §1.4 say where an event and a tick move it, §1.5 that the close does not
+-- §1.3 to §1.5; 01, time: the clock after the steps, from the clock before them; the close leaves it where it is
 unfoldable pub clockFrom : ℕ → List Step → ℕ
 clockFrom now [] = now
 clockFrom now (event k t ∷ steps) = clockFrom t steps
 clockFrom now (tick t ∷ steps) = clockFrom t steps
 clockFrom now (close ∷ steps) = clockFrom now steps
 
--- §1.6: from a clock of 0 on
+-- §1.6; 01, time: from a clock of 0 on
 abbrev pub clock : List Step → ℕ
 clock steps = clockFrom 0 steps
 
--- §1.5: there was a close
+-- §1.5; 01, time: there was a close
 unfoldable pub closed : List Step → Bool
 closed [] = false
 closed (event k t ∷ steps) = closed steps

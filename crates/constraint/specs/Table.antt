@@ -1,4 +1,4 @@
--- The table's format: rows to bytes (§4.1 to §4.8), and bytes to rows or a refusal with its number and place (§9.3).
+-- The table's format: rows to bytes (§4.1 to §4.8; 01, table), and bytes to rows or a refusal with its number and place (§9.3; 01, questions).
 use Prim.Native.Nat.{ℕ, _+_, _^_, _≤_, _<_}
 use mathlib.Core.Path.{_≡_}
 use mathlib.Core.List.{List, [], _∷_, _++_}
@@ -13,48 +13,51 @@ use Rattle.constraint.specs.Accepted.{rowQuestions, rowsQuestions}
 use Rattle.constraint.specs.Bytes.{bytesOf, bytesAt, numberAt}
 use Rattle.constraint.specs.declared.Constraint.{Constraint}
 
--- §4.8: the same type and the same fields
+-- §4.8; 01, table: the same type and the same fields
 abbrev pub Same : Constraint → Constraint → Type 0
 Same c d = (typeOf c ≡ typeOf d) × (fieldsOf c ≡ fieldsOf d)
 
 -- Rows to bytes
 
+-- §4.4; 01, table: the bytes of a field
 abbrev pub fieldBytes : Field → List ℕ
 fieldBytes (byte role x) = x ∷ []
 fieldBytes (time role x) = bytesOf 8 x
 
+-- §4.4; 01, table: and of fields one after the other
 unfoldable pub fieldsBytes : List Field → List ℕ
 fieldsBytes [] = []
 fieldsBytes (f ∷ fields) = fieldBytes f ++ fieldsBytes fields
 
--- §4.3: the type, then the fields
+-- §4.3; 01, table: the type, then the fields
 unfoldable pub rowBody : Constraint → List ℕ
 rowBody c = typeOf c ∷ fieldsBytes (fieldsOf c)
 
--- §4.3: the length field, and as many bytes as it says
+-- §4.3; 01, table: the length field, and as many bytes as it says
 unfoldable pub rowBytes : Constraint → List ℕ
 rowBytes c = bytesOf 2 (length (rowBody c)) ++ rowBody c
 
+-- §4.2; 01, table: rows one after the other
 unfoldable pub rowsBytes : List Constraint → List ℕ
 rowsBytes [] = []
 rowsBytes (c ∷ rows) = rowBytes c ++ rowsBytes rows
 
--- §4.2: the version byte, then the rows
+-- §4.2; 01, table: the version byte, then the rows
 unfoldable pub tableBytes : List Constraint → List ℕ
 tableBytes rows = 1 ∷ rowsBytes rows
 
--- §9.7, §9.8: the writer's questions, 3 to 7 and 18 of each row and then 16
+-- §9.7, §9.8; 01, questions; CR 6: the writer's questions, 3 to 7 and 18 of each row and then 16
 abbrev pub writerQuestions : List Constraint → List ℕ → List Question
 writerQuestions rows buffer = rowsQuestions 0 rows ((16, length (tableBytes rows) ≤ length buffer) ∷ [])
 
--- §9.8, §9.2: what writing leaves in a lent buffer: the table and what stood behind it; on a refusal the buffer as it was
+-- §9.8, §9.2; 01, questions: what writing leaves in a lent buffer: the table and what stood behind it; on a refusal the buffer as it was
 abbrev pub writtenTo : List ℕ → List Constraint → Answer → List ℕ
 writtenTo buffer rows Taken = tableBytes rows ++ drop (length (tableBytes rows)) buffer
 writtenTo buffer rows (Refused n) = buffer
 
 -- Bytes to rows
 
--- §8.4: the type is one that the list of lengths has, the n is known, and the length is the type's
+-- §8.4; 01, questions; CR 2, 6, 10: the type is one that the list of lengths has, the n is known, and the length is the type's
 pub record ShapeFits (body : List ℕ) : Type 0 where
   pub type-there : 0 < length body
   pub type-known : (1 ≤ at body 0) × (at body 0 < length lengths)
@@ -62,46 +65,48 @@ pub record ShapeFits (body : List ℕ) : Type 0 where
   pub n-known : at body 0 ≡ 7 → (2 ≤ at body 1) × (at body 1 ≤ 4)
   pub length-right : length body ≡ lengthOf (at body 0) (at body 1)
 
--- the times among some fields fit their eight bytes
+-- §4.4; 01, table: the times among some fields fit their eight bytes
 abbrev pub TimesFit : List Field → Type 0
 TimesFit [] = Unit {0}
 TimesFit (byte role x ∷ fields) = TimesFit fields
 TimesFit (time role x ∷ fields) = (x < 256 ^ 8) × TimesFit fields
 
--- a body stands for the row whose bytes these are
+-- §4.3; 01, table: a body stands for the row whose bytes these are
 pub record StandsFor (body : List ℕ) (c : Constraint) : Type 0 where
   pub bytes : rowBody c ≡ body
   pub fits : TimesFit (fieldsOf c)
 
--- the length field at a place, and that many bytes after it
+-- §4.3; 01, table: the length field at a place
 abbrev pub lengthAt : List ℕ → ℕ → ℕ
 lengthAt bytes place = numberAt 2 bytes place
 
+-- §4.3; 01, table: and that many bytes after it
 abbrev pub bodyAt : List ℕ → ℕ → List ℕ
 bodyAt bytes place = bytesAt (lengthAt bytes place) bytes (place + 2)
 
--- §8.2: length field and row are whole; of a recording, the record (§8.14)
+-- §8.2; 01, questions: length field and row are whole; of a recording, the record (§8.14)
 abbrev pub WholeAt : List ℕ → ℕ → Type 0
 WholeAt bytes place = (place + 2 ≤ length bytes) × (place + 2 + lengthAt bytes place ≤ length bytes)
 
--- the row at a place: the one that the body there stands for, where it has a row's shape
+-- §9.3; 01, questions: the row at a place: the one that the body there stands for, where it has a row's shape
 abbrev pub RowAt : List ℕ → ℕ → Constraint → Type 0
 RowAt bytes place c = ShapeFits (bodyAt bytes place) → StandsFor (bodyAt bytes place) c
 
--- 2 to 7 and 18, of the row c at a place, with i rows before it
+-- §9.3; 01, questions; CR 6: 2 to 7 and 18, of the row c at a place, with i rows before it
 unfoldable pub placeQuestions : List ℕ → ℕ → ℕ → Constraint → List Question
 placeQuestions bytes i place c = (2, WholeAt bytes place) ∷ (3, i < rowLimit) ∷ (4, ShapeFits (bodyAt bytes place)) ∷ rowQuestions c
 
--- what reading gives: the rows, or the refusal's number and its place (§7.6)
+-- §7.6; 01, report: what reading gives: the rows, or the refusal's number and its place
 pub data TableRead : Type 0 where
   table-of : List Constraint → TableRead
   table-refused : ℕ → ℕ → TableRead
 
+-- §9.3: a row, and what reading the later ones gives
 abbrev pub rowThen : Constraint → TableRead → TableRead
 rowThen c (table-of later) = table-of (c ∷ later)
 rowThen c (table-refused n place) = table-refused n place
 
--- §9.3: row by row, the rows from a place on, with i rows before
+-- §9.3; 01, questions: row by row, the rows from a place on, with i rows before
 pub data ReadsRows (bytes : List ℕ) : ℕ → ℕ → TableRead → Type 0 where
   no-more : {i place : ℕ} → length bytes ≤ place → ReadsRows bytes i place (table-of [])
   row-refused : {i place : ℕ} (n : ℕ) (c : Constraint) → place < length bytes → RowAt bytes place c
@@ -110,11 +115,11 @@ pub data ReadsRows (bytes : List ℕ) : ℕ → ℕ → TableRead → Type 0 whe
       → Judged (placeQuestions bytes i place c) Taken → ReadsRows bytes (i + 1) (place + 2 + lengthAt bytes place) later
       → ReadsRows bytes i place (rowThen c later)
 
--- §8.1: the first byte is there, and is 1
+-- §8.1; 01, questions: the first byte is there, and is 1
 abbrev pub VersionOne : List ℕ → Type 0
 VersionOne bytes = (0 < length bytes) × (at bytes 0 ≡ 1)
 
--- 1, then row by row
+-- §9.3; 01, questions: 1, then row by row
 pub data ReadsTable (bytes : List ℕ) : TableRead → Type 0 where
   version-refused : ¬ VersionOne bytes → ReadsTable bytes (table-refused 1 0)
   version-taken : {read : TableRead} → VersionOne bytes → ReadsRows bytes 0 1 read → ReadsTable bytes read

@@ -1,4 +1,4 @@
--- How many wait in a row (§6.1 to §6.4).
+-- How many wait in a row (§6.1 to §6.4; 01, what waits).
 use Prim.Native.Nat.{ℕ, _+_, _-_, max, min}
 use mathlib.Core.Bool.{Bool, false, _&&_, _||_, cond}
 use mathlib.Core.List.{List, [], _∷_, map}
@@ -10,36 +10,36 @@ use Rattle.constraint.specs.declared.Constraint.{Constraint}
 use Rattle.constraint.specs.declared.Constraint.the-variants.{Delay, StrongDelay, Repeat, Sporadic, Burst, Order, StrongSynchronization2, StrongSynchronization3, StrongSynchronization4}
 use Rattle.constraint.specs.declared.Constraint.the-variants.{ExecutionTime, Reaction, Repetition}
 
--- t is lower to upper after s, where the upper may be the mark for no limit (§4.7)
+-- §6.1: the test that t is lower to upper after s, where upper may be the mark: it says what `Apart` says (`answered-true`, `answered-by`)
 abbrev pub inInterval : ℕ → ℕ → ℕ → ℕ → Bool
 inInterval lower upper s t = leb (s + lower) t && (eqb upper noLimit || leb t (s + upper))
 
--- some target is in the interval of the source at s
+-- §6.1; 01, what waits: some target is in the interval of the source at s
 unfoldable pub answered : ℕ → ℕ → ℕ → List ℕ → Bool
 answered lower upper s [] = false
 answered lower upper s (t ∷ ts) = inInterval lower upper s t || answered lower upper s ts
 
--- §6.1: the sources that have no target in their interval so far
+-- §6.1; 01, what waits; CR 1: the sources that have no target in their interval so far
 unfoldable pub unanswered : ℕ → ℕ → List ℕ → List ℕ → ℕ
 unanswered lower upper [] targets = 0
 unanswered lower upper (s ∷ ss) targets = cond (answered lower upper s targets) 0 1 + unanswered lower upper ss targets
 
+-- §6.3: the largest of some numbers
 unfoldable pub largest : List ℕ → ℕ
 largest [] = 0
 largest (x ∷ xs) = max x (largest xs)
 
+-- §6.3: the least of them
 unfoldable pub least : List ℕ → ℕ
 least [] = 0
 least (x ∷ []) = x
 least (x ∷ (y ∷ ys)) = min x (least (y ∷ ys))
 
--- §6.3: as many groups are begun as the kind with the most events has, and as many complete as the kind with the fewest has
+-- §6.3; 01, what waits: as many groups are begun as the kind with the most events has, and as many complete as the kind with the fewest has
 unfoldable pub begunIncomplete : List ℕ → List Step → ℕ
-begunIncomplete kinds steps =
-    let counts : List ℕ = map (λ k. length (times k steps)) kinds in
-    largest counts - least counts
+begunIncomplete kinds steps = let counts : List ℕ = map (λ k. length (times k steps)) kinds in largest counts - least counts
 
--- §6.1, §6.2, §6.3, and §6.4 for the types in which nothing waits
+-- §6.1 to §6.4; 01, what waits; CR 2, 6, 10: how many wait, by the type
 unfoldable pub waiting : Constraint → List Step → ℕ
 waiting (Delay source target lower upper) steps = unanswered lower upper (times source steps) (times target steps)
 waiting (StrongDelay source target lower upper) steps = length (times source steps) - length (times target steps)

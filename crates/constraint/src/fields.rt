@@ -6,9 +6,8 @@ use crate::NO_LIMIT;
 ghost use mathlib.Core.Path.{_≡_};
 ghost use mathlib.Core.Bool.{_||_};
 ghost use Prim.Native.Nat.{_≤_};
-ghost use Rattle.constraint.specs.Questions.{Decides};
+ghost use Rattle.constraint.specs.Records.{Decides, Absent, isKind, byteField, timeField, fieldAt, bytesFrom, timesFrom};
 ghost use Rattle.constraint.specs.Accepted.{kindsIn, KindsFit, SortsFit, FieldsInRange, NotBelow};
-ghost use Rattle.constraint.specs.Records.{Absent, isKind, byteField, timeField, fieldAt, bytesFrom, timesFrom};
 
 // The roles of a field of one byte. Any other number is the limit of a span or a maximum.
 pub(crate) const NO_FIELD: u8 = 0;

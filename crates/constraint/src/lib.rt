@@ -15,8 +15,7 @@ ghost use mathlib.Core.Path.{_≡_};
 ghost use mathlib.Core.List.{[]};
 ghost use Rattle.constraint.specs.Questions.{Judged};
 ghost use Rattle.constraint.specs.Accepted.{rowQuestions, rowsQuestions};
-ghost use Rattle.constraint.specs.Rows.{rowsOf, tableOf};
-ghost use Rattle.constraint.specs.Records.{Adds, Holds};
+ghost use Rattle.constraint.specs.Records.{rowsOf, tableOf, Adds, HoldsRow};
 
 // The largest kind of event.
 pub const LAST_KIND: u8 = 63;
@@ -257,7 +256,7 @@ const REPETITION: Line = Line {
 impl Constraint {
     // The fields as numbers.
     pub fn fields(self) -> Fields
-        ensures { λ r. ⌜ Holds self r ⌝ }
+        ensures { λ r. ⌜ HoldsRow self r ⌝ }
     {
         match self {
             Constraint::Delay {

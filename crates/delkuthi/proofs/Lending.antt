@@ -38,22 +38,22 @@ use Rattle.inplace.proofs.Calls.{ref-to}
 use Rattle.inplace.proofs.Bytes.{slice, bytes-at}
 use Rattle.table.proofs.ReadAnswer as R
 use Rattle.table.proofs.ReadAnswer.Laws as R′
-use Rattle.delkuthi.proofs.report.Told as T
-use Rattle.delkuthi.proofs.report.Told.Laws as T′
+use Rattle.delkuthi.proofs.report.Summary as T
+use Rattle.delkuthi.proofs.report.Summary.Laws as T′
 use Rattle.opening.specs.Begins.{Begins}
 use Rattle.delkuthi.specs.Taking.{TakesRecords}
-use Rattle.delkuthi.specs.Telling.{Gathers, ToldOn}
+use Rattle.delkuthi.specs.Telling.{Gathers, SummaryOn}
 use Rattle.delkuthi.proofs.Several.{Several, promised, handed, calls-several, calls-several-last, kept-at, lends-loan, ends-loan}
 
 abbrev pub answer-type : Plain
 answer-type = enum R.the-type R′.the-laws tt R′.the-plain R′.the-copy
 
-abbrev pub told-type : Plain
-told-type = struct T.the-type T′.the-laws T′.the-plain T′.the-copy
+abbrev pub summary-type : Plain
+summary-type = struct T.the-type T′.the-laws T′.the-plain T′.the-copy
 
 -- ---- functions of a monitor
-abbrev pub told-by : Promise indexed-type (answer-type ∷ []) told-type
-told-by = record { asks = λ κs h a. no-demand; gives = λ κs h a r h′. Gathers (h .monitor) (a .0) r × (h′ ≡ h) }
+abbrev pub summary-by : Promise indexed-type (answer-type ∷ []) summary-type
+summary-by = record { asks = λ κs h a. no-demand; gives = λ κs h a r h′. Gathers (h .monitor) (a .0) r × (h′ ≡ h) }
 
 -- ---- functions of a monitor and of bytes
 abbrev pub both-slots : List (Slot 2)
@@ -232,15 +232,15 @@ module _ {M : Type 1} (𝓤 : URA M) (H : Heap 𝓤) (A : Atoms 𝓤) (W : Given
     (shr-slice-lawful 𝓤 H A W (named 1) (κs .1 .0) u8, (shr-slice-lawful 𝓤 H A W (named 2) (κs .1 .1 .0) u8, tt)),
   )
 
-abbrev pub told-on : Several
-told-on =
+abbrev pub summary-on : Several
+summary-on =
     record {
       count = 3;
       slots = all-slots;
       kept = all-kept;
-      result = told-type;
+      result = summary-type;
       asks = λ κs a. no-demand;
-      gives = λ κs a r e. ToldOn (a .0 .now) (a .1 .0 .now) (a .1 .1 .0 .now) r (e .0 .now);
+      gives = λ κs a r e. SummaryOn (a .0 .now) (a .1 .0 .now) (a .1 .1 .0 .now) r (e .0 .now);
     }
 
 -- the bytes and their tokens

@@ -17,3 +17,4 @@ pub mod StampNumbers
 pub mod JoinNumbers
 pub mod StampWords
 pub mod LentExact
+pub mod RoundTrip

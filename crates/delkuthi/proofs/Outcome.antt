@@ -1,5 +1,5 @@
--- A monitor that was begun over a table has taken no step, so the recording is put to a fresh one; one that was not begun is as it was. What is
--- told is told of either.
+-- A monitor that was begun over a table has taken no step, so the recording is put to a fresh one; one that was not begun is as it was. The
+-- summary is that of either.
 use Prim.Native.Nat.{ℕ, _+_, _*_, _/_, _%_, _<_}
 use mathlib.Core.Path.{_≡_, refl, sym, ap, subst, _∙_}
 use mathlib.Core.Bool.{false}
@@ -15,8 +15,8 @@ use Rattle.inplace.specs.declared.index.Indexed.{Indexed}
 use Rattle.opening.specs.Begins.{Begins, begun, refused}
 use Rattle.delkuthi.specs.Taking.{TakesRecords}
 use Rattle.delkuthi.specs.Reporting.{LeftBy, unused, used}
-use Rattle.delkuthi.specs.Telling.{refusalOf, Gathers, ToldOn}
-use Rattle.delkuthi.specs.declared.report.Told.{Told}
+use Rattle.delkuthi.specs.Telling.{refusalOf, Gathers, SummaryOn}
+use Rattle.delkuthi.specs.declared.report.Summary.{Summary}
 use Rattle.table.specs.declared.ReadAnswer.{ReadAnswer}
 
 module _ (table : List ℕ) (before : Indexed) where
@@ -57,12 +57,12 @@ module _ (table : List ℕ) (before : Indexed) where
             ap (λ (k : ℕ). ReadAnswer.Refused k ((place * 256 + n) / 256)) number-is ∙ ap (λ (k : ℕ). ReadAnswer.Refused n k) place-is
 
 -- what was gathered of the monitor that is left
-pub told-so : (before : Indexed) (table recording : List ℕ) (answer : ReadAnswer) (h h′ : Indexed) (told : Told)
+pub summary-so : (before : Indexed) (table recording : List ℕ) (answer : ReadAnswer) (h h′ : Indexed) (summary : Summary)
     → LeftBy before table recording answer h
-    → Gathers (h .monitor) answer told → h′ ≡ h → ToldOn before table recording told h′
-told-so before table recording answer h h′ told left gathers e =
-    subst (λ (k : Indexed). ToldOn before table recording told k) (sym e)
+    → Gathers (h .monitor) answer summary → h′ ≡ h → SummaryOn before table recording summary h′
+summary-so before table recording answer h h′ summary left gathers e =
+    subst (λ (k : Indexed). SummaryOn before table recording summary k) (sym e)
     (record {
       left-by = subst (λ (a : ReadAnswer). LeftBy before table recording a h) (sym (gathers .answer-is)) left;
-      gathers = subst (λ (a : ReadAnswer). Gathers (h .monitor) a told) (sym (gathers .answer-is)) gathers;
+      gathers = subst (λ (a : ReadAnswer). Gathers (h .monitor) a summary) (sym (gathers .answer-is)) gathers;
     })

@@ -19,7 +19,8 @@ use Rattle.constraint.specs.Types.{typeOf}
 use Rattle.constraint.specs.Continuation.{Reads, reads-open, reads-kept, reads-broken}
 use Rattle.constraint.specs.Accepted.{Accepted}
 use Rattle.constraint.specs.Report.{EachReads, no-row, row-reads}
-use Rattle.constraint.specs.Page.{nameOf, verdictAt, pageText, PageOf, page-of, Pages, page-written, page-too-short, lineRead}
+use Rattle.constraint.specs.Page.{nameOf, verdictAt, pageText, PageOf, page-of, Pages, page-written, page-too-short}
+use Rattle.page.specs.ReadBack.{lineRead}
 use Rattle.constraint.specs.Run.{Request, Left}
 use Rattle.constraint.specs.declared.Constraint.{Constraint}
 use Rattle.constraint.specs.declared.Constraint.the-variants.{Delay, StrongDelay, Repeat, Sporadic, Burst, Order}
@@ -39,7 +40,7 @@ use Rattle.monitor.proofs.FittingRows.{FitRows}
 use Rattle.monitor.proofs.Following.{Follows}
 use Rattle.monitor.proofs.Withdrawing.{after-follows}
 use Rattle.monitor.proofs.Theorem.{row-reads as monitor-reads}
-use Rattle.page.specs.Sheet.{verdictOf as madeOf, verdictsOf, blankPage, withRow, textOf}
+use Rattle.page.specs.Sheet.{verdictFor as madeOf, verdictsOf, blankPage, withLine, textOf}
 use Rattle.page.specs.declared.Page.{Page}
 use Rattle.page.proofs.Pages.{same-rows}
 use Rattle.page.proofs.ReadBack.{StepFits, page-reads-back, equal-pages}
@@ -69,7 +70,7 @@ module _ (m : Monitor) where
     closed-is : page .closed ≡ m .closed
 
   filled-to : (i : ℕ) → i ≤ rowLimit → FilledTo i (filled m i)
-  unfolding filled blankPage withRow
+  unfolding filled blankPage withLine
   filled-to zero few =
       record {
         types-are = record { whole = length-replicate {A = ℕ} rowLimit 0; each = λ j h. absurd (omega arith) };
@@ -92,7 +93,7 @@ module _ (m : Monitor) where
   filled-none n e = rw e
 
   pub filled-next : (i : ℕ) (other : Row) (page : Page) → i < length (m .rows) → page ≡ filled m i
-      → withRow page i (getD (m .rows) i other .rule .form) (getD (m .rows) i other .now .broken) ≡ filled m (i + 1)
+      → withLine page i (getD (m .rows) i other .rule .form) (getD (m .rows) i other .now .broken) ≡ filled m (i + 1)
   unfolding filled
   filled-next i other page there so-far = rw (so-far, add-one i, getD-within (m .rows) i other noRow there)
 

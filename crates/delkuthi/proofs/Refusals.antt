@@ -11,8 +11,8 @@ use Rattle.constraint.specs.declared.Answer.the-variants.{Taken, Refused}
 use Rattle.constraint.specs.declared.Constraint.{Constraint}
 use Rattle.constraint.proofs.Judged.{never, judged-parts}
 use Rattle.constraint.proofs.Accepted.{rows-then, rows-room}
-use Rattle.table.specs.Raw.{WritesRaw, known, unknown}
-use Rattle.table.specs.Writing.{Writes, answerOf}
+use Rattle.table.specs.Raw.{WritesRaw, all-read, stopped-at}
+use Rattle.table.specs.Writing.{Writes, answerIn}
 use Rattle.table.specs.declared.WriteAnswer.{WriteAnswer}
 use Rattle.table.proofs.Bodies.{row-length}
 use Rattle.table.proofs.Standing.{body-short}
@@ -28,16 +28,20 @@ one-above : (n : ℕ) (asked : Type 0) → 0 < n → AllAbove ((n, asked) ∷ []
 unfolding AllAbove
 one-above n asked above = (above, tt)
 
+two-above : (m n : ℕ) (asked also : Type 0) → 0 < m → 0 < n → AllAbove ((m, asked) ∷ (n, also) ∷ [])
+unfolding AllAbove
+two-above m n asked also first second = (first, one-above n also second)
+
 writer-number : (rows : List Constraint) (before after : List ℕ) (r : WriteAnswer) (n : ℕ) → r ≡ WriteAnswer.Refused n → Writes rows before r after → 0 < n
 writer-number rows before after r n e writes =
     number-above (writerQuestions rows before) n (rows-above 0 rows _ (one-above 16 _ (omega arith)))
-    (subst (λ (w : WriteAnswer). Judged (writerQuestions rows before) (answerOf w)) e (writes .judged))
+    (subst (λ (w : WriteAnswer). Judged (writerQuestions rows before) (answerIn w)) e (writes .judged))
 
 raw-number : (bytes before after : List ℕ) (r : WriteAnswer) (n : ℕ) → r ≡ WriteAnswer.Refused n → WritesRaw bytes before r after → 0 < n
-raw-number bytes before after r n e (known to writes) = writer-number _ before _ _ n e writes
-raw-number bytes before after r n e (unknown i m there to judged) =
+raw-number bytes before after r n e (all-read rows raw past writes) = writer-number rows before _ _ n e writes
+raw-number bytes before after r n e (stopped-at rows m raw more judged) =
     let same : m ≡ n = cc in
-    omega (arith, same, number-above _ m (rows-above 0 _ _ (one-above 4 _ (omega arith))) judged)
+    omega (arith, same, number-above _ m (rows-above 0 rows _ (two-above 3 4 _ _ (omega arith) (omega arith))) judged)
 
 rows-short : (rows : List Constraint) → length (rowsBytes rows) ≤ 40 * length rows
 unfolding rowsBytes
@@ -50,13 +54,13 @@ table-short rows = omega (arith, rows-short rows)
 
 writer-short : (rows : List Constraint) (before after : List ℕ) (r : WriteAnswer) (n : ℕ) → r ≡ WriteAnswer.Written n → Writes rows before r after → n ≤ 1281
 writer-short rows before after r n e writes =
-    let judged = subst (λ (w : WriteAnswer). Judged (writerQuestions rows before) (answerOf w)) e (writes .judged) in
+    let judged = subst (λ (w : WriteAnswer). Judged (writerQuestions rows before) (answerIn w)) e (writes .judged) in
     let parts = judged-parts (rowsQuestions 0 rows []) _ (subst (λ (qs : List Question). Judged qs Taken) (rows-then 0 rows _) judged) in
     omega (arith, rows-room 0 rows (omega arith) (parts .0), table-short rows, writes .counted n e)
 
 pub raw-short : (bytes before after : List ℕ) (r : WriteAnswer) (n : ℕ) → r ≡ WriteAnswer.Written n → WritesRaw bytes before r after → n ≤ 1281
-raw-short bytes before after r n e (known to writes) = writer-short _ before _ _ n e writes
-raw-short bytes before after r n e (unknown i m there to judged) = never (cc)
+raw-short bytes before after r n e (all-read rows raw past writes) = writer-short rows before _ _ n e writes
+raw-short bytes before after r n e (stopped-at rows m raw more judged) = never (cc)
 
 -- what the writer for a host promises
 pub makes-written : (bytes before after : List ℕ) (r : WriteAnswer) (n : ℕ) → r ≡ WriteAnswer.Written n → WritesRaw bytes before r after
@@ -66,7 +70,7 @@ makes-written bytes before after r n e writes =
       answer = WriteAnswer.Written n;
       writes = subst (λ (w : WriteAnswer). WritesRaw bytes before w after) e writes;
       equals = refl;
-      told = λ m refused. never (cc);
+      small = λ m refused. never (cc);
     }
 
 pub makes-refused : (bytes before after : List ℕ) (r : WriteAnswer) (n : ℕ) → n < 256 → r ≡ WriteAnswer.Refused n → WritesRaw bytes before r after
@@ -76,5 +80,5 @@ makes-refused bytes before after r n small e writes =
       answer = WriteAnswer.Refused n;
       writes = subst (λ (w : WriteAnswer). WritesRaw bytes before w after) e writes;
       equals = refl;
-      told = λ m refused. let same : n ≡ m = cc in (omega (arith, same, raw-number bytes before after r n e writes), omega (arith, same, small));
+      small = λ m refused. let same : n ≡ m = cc in (omega (arith, same, raw-number bytes before after r n e writes), omega (arith, same, small));
     }

@@ -7,7 +7,7 @@ use mathlib.Core.Option.{Option}
 use Rattle.constraint.specs.Steps.{Step}
 use Rattle.constraint.specs.Questions.{Judged}
 use Rattle.constraint.specs.Accepted.{rowsQuestions, Accepted}
-use Rattle.constraint.specs.Rows.{rowsOf}
+use Rattle.constraint.specs.Records.{rowsOf}
 use Rattle.constraint.specs.Run.{stepFor, questions, asks, Left, done}
 use Rattle.constraint.specs.Promise.{ReadsRow}
 use Rattle.constraint.specs.declared.Answer.{Answer}

@@ -20,8 +20,8 @@ use Rattle.monitor.specs.declared.Monitor.{Monitor}
 use Rattle.inplace.specs.declared.index.Indexed.{Indexed}
 use Rattle.delkuthi.specs.Taking.{Took, RecordingTakenAs}
 use Rattle.delkuthi.specs.Reporting.{LeftBy, unused, used, ReportsOn}
-use Rattle.delkuthi.specs.Telling.{Gathers, ToldOn, Tells, TellsRows, TellsRecording, TellsTold, WritesTold}
-use Rattle.delkuthi.specs.declared.report.Told.{Told}
+use Rattle.delkuthi.specs.Telling.{Gathers, SummaryOn, Tells, TellsRows, TellsRecording, TellsSummary, WritesSummary}
+use Rattle.delkuthi.specs.declared.report.Summary.{Summary}
 use Rattle.table.specs.declared.ReadAnswer.{ReadAnswer}
 use Rattle.table.specs.declared.ReadAnswer.the-variants.{Accepted, Refused}
 use Rattle.delkuthi.proofs.Taking.{took-follows}
@@ -40,9 +40,9 @@ closed-holds m before text line rows steps took verdicts each lines =
     let short = closed-length (length steps) verdicts (omega (arith, each-length each, follows .few)) in
     subst (λ (t : Text). Holds t (closedText (length steps) verdicts)) (sym whole) (holds-all (closedText (length steps) verdicts) (omega (arith, short)))
 
-pub tells-closed : (told : Told) (before text : Text) → before ≡ extended (closedLine (told .count)) emptyText → TellsRows told before text
-    → (m : Monitor) → Gathers m (told .answer) told → TellsRecording Accepted m text
-tells-closed told before text line tells m gathers rows steps took =
+pub tells-closed : (summary : Summary) (before text : Text) → before ≡ extended (closedLine (summary .count)) emptyText → TellsRows summary before text
+    → (m : Monitor) → Gathers m (summary .answer) summary → TellsRecording Accepted m text
+tells-closed summary before text line tells m gathers rows steps took =
     let lines = tells .means m gathers rows steps took in
     let counted : before ≡ extended (closedLine (m .count)) emptyText = line ∙ ap (λ (n : ℕ). extended (closedLine n) emptyText) (gathers .count-is) in
     (lines .0, lines .1, closed-holds m before text counted rows steps took (lines .0) (lines .1) (lines .2))
@@ -51,36 +51,36 @@ tells-closed told before text line tells m gathers rows steps took =
 pub tells-report : (table recording : List ℕ) (rows : List Constraint) (answer : ReadAnswer) (m : Monitor) (text : Text) → ReadsTable table (table-of rows)
     → RecordingTakenAs rows recording answer m → TellsRecording answer m text → Tells (ReportOf table recording) text
 tells-report table recording rows Accepted m text read (steps, reads, took) tells =
-    let told = tells rows (steps ++ (close ∷ [])) took in
-    record { bytes = closedText (length (steps ++ (close ∷ []))) (told .0); said = all-taken rows steps (told .0) read reads (told .1); holds = told .2 }
+    let summary = tells rows (steps ++ (close ∷ [])) took in
+    record { bytes = closedText (length (steps ++ (close ∷ []))) (summary .0); said = all-taken rows steps (summary .0) read reads (summary .1); holds = summary .2 }
 tells-report table recording rows (Refused n place) m text read (steps, before, took, reads) tells =
     record { bytes = refusedText n place; said = no-recording rows n place read reads; holds = tells }
 
--- what is told is the report
-pub tells-told : (before : Indexed) (table recording : List ℕ) (told : Told) (after : Indexed) (text : Text) → ToldOn before table recording told after → TellsTold told text
+-- the text of the summary is the report
+pub tells-summary : (before : Indexed) (table recording : List ℕ) (summary : Summary) (after : Indexed) (text : Text) → SummaryOn before table recording summary after → TellsSummary summary text
     → Tells (ReportOf table recording) text
-tells-told before table recording told after text told-on tells = of-left (told .answer) after (told-on .left-by) (tells (after .monitor) (told-on .gathers))
+tells-summary before table recording summary after text summary-on tells = of-left (summary .answer) after (summary-on .left-by) (tells (after .monitor) (summary-on .gathers))
   where
     of-left : (answer : ReadAnswer) (after : Indexed) → LeftBy before table recording answer after → TellsRecording answer (after .monitor) text → Tells (ReportOf table recording) text
     of-left answer after (unused n place read) said = record { bytes = refusedText n place; said = no-table n place read; holds = said }
     of-left answer after (used rows _ _ read taken indexes) said = tells-report table recording rows answer (after .monitor) text read taken said
 
 -- and what is written of it
-pub writes-told : (before : Indexed) (table recording : List ℕ) (told : Told) (after : Indexed) (buffer : List ℕ) (number : ℕ) (written : List ℕ)
-    → ToldOn before table recording told after → WritesTold told buffer number written → Reports table recording buffer number written
-writes-told before table recording told after buffer number written told-on writes =
-    let tells = tells-told before table recording told after (writes .text) told-on (writes .tells) in
+pub writes-summary : (before : Indexed) (table recording : List ℕ) (summary : Summary) (after : Indexed) (buffer : List ℕ) (number : ℕ) (written : List ℕ)
+    → SummaryOn before table recording summary after → WritesSummary summary buffer number written → Reports table recording buffer number written
+writes-summary before table recording summary after buffer number written summary-on writes =
+    let tells = tells-summary before table recording summary after (writes .text) summary-on (writes .tells) in
     copied-reports table recording (tells .bytes) buffer number written (tells .said)
     (subst (λ (l : List ℕ). Copied l buffer number written) (tells .holds .held) (writes .copied))
 
 -- on a lent monitor
-pub reports-on : (before : Indexed) (table recording : List ℕ) (told : Told) (after : Indexed) (buffer : List ℕ) (number : ℕ) (written : List ℕ)
-    → ToldOn before table recording told after → WritesTold told buffer number written → ReportsOn before table recording buffer number written after
-reports-on before table recording told after buffer number written told-on writes =
+pub reports-on : (before : Indexed) (table recording : List ℕ) (summary : Summary) (after : Indexed) (buffer : List ℕ) (number : ℕ) (written : List ℕ)
+    → SummaryOn before table recording summary after → WritesSummary summary buffer number written → ReportsOn before table recording buffer number written after
+reports-on before table recording summary after buffer number written summary-on writes =
     record {
-      reports = writes-told before table recording told after buffer number written told-on writes;
-      answer = told .answer;
-      left-by = told-on .left-by;
+      reports = writes-summary before table recording summary after buffer number written summary-on writes;
+      answer = summary .answer;
+      left-by = summary-on .left-by;
     }
 
 -- a report has at most 1,024 bytes

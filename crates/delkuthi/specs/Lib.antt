@@ -7,3 +7,5 @@ pub mod Tables
 pub mod Printed
 pub mod Stamps
 pub mod Joining
+pub mod LentExact
+pub mod Program

@@ -12,7 +12,7 @@ use Rattle.text.specs.Content.{Copied}
 use Rattle.monitor.specs.Machine.{noRow}
 use Rattle.monitor.specs.Contract.{after, Remains}
 use Rattle.monitor.specs.declared.Monitor.{Monitor}
-use Rattle.page.specs.Sheet.{verdictOf, blankPage, withRow}
+use Rattle.page.specs.Sheet.{verdictFor, blankPage, withLine}
 use Rattle.page.specs.declared.Page.{Page}
 
 -- how many rows a page has: a monitor's, and no more than 32
@@ -29,11 +29,11 @@ brokenIn m i = getD (m .rows) i noRow .now .broken
 -- the page after its first i rows
 unfoldable pub filled : Monitor → ℕ → Page
 filled m zero = blankPage (printedRows m) (m .closed)
-filled m (suc i) = withRow (filled m i) i (typeIn m i) (brokenIn m i)
+filled m (suc i) = withLine (filled m i) i (typeIn m i) (brokenIn m i)
 
 -- the page's bytes, for any monitor
 abbrev pub printed : Monitor → List ℕ
-printed m = pageText (typeIn m) (λ i. verdictOf (m .closed) (brokenIn m i)) (printedRows m)
+printed m = pageText (typeIn m) (λ i. verdictFor (m .closed) (brokenIn m i)) (printedRows m)
 
 -- §7.14, §7.19: the page, or 0 in a buffer that is too short: of a monitor that requests have made, what each row reads after the
 -- steps that they have left

@@ -26,4 +26,4 @@ pub record NumbersStamps (table recording : List ℕ) (i e number : ℕ) : Type 
   pub answer : StampedAnswer
   pub answers : AnswersStamps table recording i e answer
   pub equals : number ≡ stampedNumber answer
-  pub told : (n place : ℕ) → answer ≡ StampedAnswer.Refused n place → (0 < n) × (n < 256)
+  pub small : (n place : ℕ) → answer ≡ StampedAnswer.Refused n place → (0 < n) × (n < 256)

@@ -15,4 +15,4 @@ pub record MakesTable (bytes before : List ℕ) (number : ℕ) (after : List ℕ
   pub answer : WriteAnswer
   pub writes : WritesRaw bytes before answer after
   pub equals : number ≡ tableNumber answer
-  pub told : (n : ℕ) → answer ≡ WriteAnswer.Refused n → (0 < n) × (n < 256)
+  pub small : (n : ℕ) → answer ≡ WriteAnswer.Refused n → (0 < n) × (n < 256)

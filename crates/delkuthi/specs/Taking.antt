@@ -14,7 +14,7 @@ use Rattle.constraint.specs.Run.{stepFor, asks}
 use Rattle.constraint.specs.declared.Call.{Call}
 use Rattle.constraint.specs.declared.Constraint.{Constraint}
 use Rattle.monitor.specs.Contract.{after, Steps}
-use Rattle.monitor.specs.Beside.{Takes}
+use Rattle.monitor.specs.Beside.{TakesAll}
 use Rattle.monitor.specs.declared.Monitor.{Monitor}
 use Rattle.inplace.specs.Store.{steppedFrom}
 use Rattle.inplace.specs.Index.{Indexes}
@@ -27,7 +27,7 @@ use Rattle.table.specs.declared.ReadAnswer.{ReadAnswer}
 pub record Took (rows : List Constraint) (steps : List Step) (m : Monitor) : Type 0 where
   pub accepted : Accepted rows
   pub calls : List Call
-  pub all-taken : Takes rows calls steps
+  pub all-taken : TakesAll rows calls steps
   pub made : m ≡ after rows (map asks calls)
 
 -- the steps of the records before a place: none before the version byte and before the first record, which stands behind it

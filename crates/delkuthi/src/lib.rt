@@ -9,7 +9,8 @@ pub mod tables;
 
 use inplace::index::Indexed;
 use text::Text;
-ghost use Rattle.constraint.specs.Report.{Reports, Prints};
+ghost use Rattle.constraint.specs.Report.{Reports};
+ghost use Rattle.delkuthi.specs.Program.{Prints};
 ghost use Rattle.delkuthi.specs.Telling.{Tells};
 ghost use Rattle.delkuthi.specs.Reporting.{ReportsOn};
 
@@ -25,7 +26,7 @@ pub fn program_text(table: &[u8], recording: &[u8]) -> Text
     if TABLE_SIZE_LIMIT < table.len() || RECORDING_SIZE_LIMIT < recording.len() {
         return Text::new().refused_line(17, 0);
     }
-    report::text_of(report::told_alone(table, recording))
+    report::text_of(report::summary_alone(table, recording))
 }
 
 // Writes the report on a recording under a table to a lent buffer and answers the number of bytes written; where the buffer is too short, answers 0 and leaves it as it was.
@@ -33,7 +34,7 @@ pub fn program_text(table: &[u8], recording: &[u8]) -> Text
 pub extern "C" fn delkuthi_report(table: &[u8], recording: &[u8], buffer: &mut [u8]) -> usize
     ensures { λ r. ⌜ Reports (now (table .entry)) (now (recording .entry)) (now (buffer .entry)) r (now (buffer .exit)) ⌝ }
 {
-    report::write(report::told_alone(table, recording), buffer)
+    report::write(report::summary_alone(table, recording), buffer)
 }
 
 // Writes the report on a recording under a table to a lent buffer, on a monitor that is lent: the number of bytes written, or 0 where the buffer is too short, which then stays as it was.
@@ -46,6 +47,6 @@ pub extern "C" fn delkuthi_report_on(
 ) -> usize
     ensures { λ r. ⌜ ReportsOn (now (m .entry)) (now (table .entry)) (now (recording .entry)) (now (buffer .entry)) r (now (buffer .exit)) (now (m .exit)) ⌝ }
 {
-    let told = report::told_on(m, table, recording);
-    report::write(told, buffer)
+    let summary = report::summary_on(m, table, recording);
+    report::write(summary, buffer)
 }

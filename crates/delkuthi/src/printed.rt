@@ -1,34 +1,10 @@
-// The printed page of a monitor, closed or not. It is also offered to a host in C.
+// The printed page of a monitor, closed or not, for a host in C.
 use monitor::Monitor;
 use page::Page;
-ghost use mathlib.Core.Path.{_≡_};
-ghost use Rattle.delkuthi.specs.Printed.{printedRows, filled, WritesPage};
+ghost use Rattle.delkuthi.specs.Printed.{WritesPage};
 
-// What a page says of a monitor's rows.
-fn page_of(m: Monitor) -> Page
-    ensures { λ r. ⌜ r ≡ filled m (printedRows m) ⌝ }
-{
-    let rows = page::held(m.len);
-    let mut page = Page::blank(rows, m.closed);
-    let mut i = 0;
-    while i < rows {
-        let row = m.rows[i];
-        let rule = row.rule;
-        let now = row.now;
-        page = page.with_row(i, rule.form, now.broken);
-        i += 1;
-    }
-    page
-}
-
-// Writes the page of a monitor to the front of a buffer and answers its length; where the buffer is too short, answers 0 and leaves it as it was.
-pub fn page(m: Monitor, buffer: &mut [u8]) -> usize
-    ensures { λ r. ⌜ WritesPage m (now (buffer .entry)) r (now (buffer .exit)) ⌝ }
-{
-    page_of(m).write(buffer)
-}
-
-// The page of a monitor that is lent, written in the same way. The monitor is read where it lies: nothing of it is copied but numbers.
+// Writes the page of a monitor that is lent to the front of a buffer and answers its length; where the buffer is too short, answers 0 and leaves it
+// as it was. The monitor is read where it lies: nothing of it is copied but numbers.
 #[no_mangle]
 pub extern "C" fn delkuthi_page(m: &Monitor, buffer: &mut [u8]) -> usize
     ensures { λ r. ⌜ WritesPage (now (m .entry)) (now (buffer .entry)) r (now (buffer .exit)) ⌝ }

@@ -1,4 +1,4 @@
-// The report on a recording: what it tells is gathered from the monitor where that lies, and then written.
+// The report on a recording: a summary is gathered from the monitor where that lies, and then written.
 use crate::lent::delkuthi_fresh;
 use crate::records::take_recording;
 use inplace::index;
@@ -11,10 +11,10 @@ ghost use Prim.Native.Nat.{_<_};
 ghost use mathlib.Core.Path.{_≡_};
 ghost use Rattle.constraint.specs.Limits.{rowLimit};
 ghost use Rattle.constraint.specs.Report.{ReportOf};
-ghost use Rattle.delkuthi.specs.Telling.{refusalOf, toldOf, withStep, Gathers, Tells, TellsRows, TellsTold, ToldOn, ToldAlone, WritesTold};
+ghost use Rattle.delkuthi.specs.Telling.{refusalOf, summaryOf, withStep, Gathers, Tells, TellsRows, TellsSummary, SummaryOn, SummaryAlone, WritesSummary};
 
-// What a report tells: the answer to the recording, and of the monitor that took it the numbers that the lines are made of.
-pub struct Told {
+// The summary that a report is written from: the answer to the recording, and of the monitor that took it the numbers that the lines are made of.
+pub struct Summary {
     pub answer: ReadAnswer,
     // the steps taken, the close included
     pub count: u64,
@@ -31,16 +31,16 @@ fn refusal_of(number: u64) -> ReadAnswer
     ensures { λ r. ⌜ r ≡ refusalOf number ⌝ }
 {
     ReadAnswer::Refused {
-        number: (number % 256) as u8,
-        place: (number / 256) as usize,
+        number: (number & 255) as u8,
+        place: (number >> 8) as usize,
     }
 }
 
 // An answer and a monitor's numbers, before its rows'.
-fn told_of(answer: ReadAnswer, count: u64, len: usize, closed: u64) -> Told
-    ensures { λ r. ⌜ r ≡ toldOf answer count len closed ⌝ }
+fn summary_of(answer: ReadAnswer, count: u64, len: usize, closed: u64) -> Summary
+    ensures { λ r. ⌜ r ≡ summaryOf answer count len closed ⌝ }
 {
-    Told {
+    Summary {
         answer,
         count,
         len,
@@ -50,31 +50,31 @@ fn told_of(answer: ReadAnswer, count: u64, len: usize, closed: u64) -> Told
 }
 
 // The same with the step that broke row i.
-fn with_step(mut told: Told, i: usize, step: u64) -> Told
+fn with_step(mut summary: Summary, i: usize, step: u64) -> Summary
     requires { ⌜ i < rowLimit ⌝ }
-    ensures { λ r. ⌜ r ≡ withStep told i step ⌝ }
+    ensures { λ r. ⌜ r ≡ withStep summary i step ⌝ }
 {
-    told.steps[i] = step;
-    told
+    summary.steps[i] = step;
+    summary
 }
 
-// What a report tells of a monitor that is lent, and of an answer.
-fn told_by(m: &mut Indexed, answer: ReadAnswer) -> Told
+// The summary of a monitor that is lent, with an answer.
+fn summary_by(m: &mut Indexed, answer: ReadAnswer) -> Summary
     ensures { λ r. ⌜ Gathers (now (m .entry) .monitor) answer r × (now (m .exit) ≡ now (m .entry)) ⌝ }
 {
-    let mut told = told_of(answer, m.monitor.count, m.monitor.len, m.monitor.closed);
+    let mut summary = summary_of(answer, m.monitor.count, m.monitor.len, m.monitor.closed);
     let mut i = 0;
     while i < 32 {
         let step = m.monitor.rows[i].now.broken;
-        told = with_step(told, i, step);
+        summary = with_step(summary, i, step);
         i += 1;
     }
-    told
+    summary
 }
 
-// What the report on a recording under a table tells, on a monitor that is lent.
-pub(crate) fn told_on(m: &mut Indexed, table: &[u8], recording: &[u8]) -> Told
-    ensures { λ r. ⌜ ToldOn (now (m .entry)) (now (table .entry)) (now (recording .entry)) r (now (m .exit)) ⌝ }
+// The summary of a recording under a table, on a monitor that is lent.
+pub(crate) fn summary_on(m: &mut Indexed, table: &[u8], recording: &[u8]) -> Summary
+    ensures { λ r. ⌜ SummaryOn (now (m .entry)) (now (table .entry)) (now (recording .entry)) r (now (m .exit)) ⌝ }
 {
     let number = delkuthi_fresh(m, table);
     let answer = if number == 0 {
@@ -82,19 +82,19 @@ pub(crate) fn told_on(m: &mut Indexed, table: &[u8], recording: &[u8]) -> Told
     } else {
         refusal_of(number)
     };
-    told_by(m, answer)
+    summary_by(m, answer)
 }
 
 // The text with the lines of the rows behind it.
-fn row_lines(text: Text, told: Told) -> Text
-    ensures { λ r. ⌜ TellsRows told text r ⌝ }
+fn row_lines(text: Text, summary: Summary) -> Text
+    ensures { λ r. ⌜ TellsRows summary text r ⌝ }
 {
     let mut lines = text;
     let mut row = 0;
-    while row < told.len {
+    while row < summary.len {
         let at = verdicts::place(row as u64);
-        let step = told.steps[at];
-        match verdicts::by(row as u64, told.len, told.closed, step) {
+        let step = summary.steps[at];
+        match verdicts::by(row as u64, summary.len, summary.closed, step) {
             RowVerdict::Reads(verdict) => {
                 lines = lines.row_line(row, verdict);
             }
@@ -108,27 +108,27 @@ fn row_lines(text: Text, told: Told) -> Text
 }
 
 // The text of the report: "closed N" and the lines of the rows, or "refused N P".
-pub(crate) fn text_of(told: Told) -> Text
-    ensures { λ r. ⌜ TellsTold told r ⌝ }
+pub(crate) fn text_of(summary: Summary) -> Text
+    ensures { λ r. ⌜ TellsSummary summary r ⌝ }
 {
-    let answer = told.answer;
+    let answer = summary.answer;
     match answer {
-        ReadAnswer::Accepted => row_lines(Text::new().closed_line(told.count), told),
+        ReadAnswer::Accepted => row_lines(Text::new().closed_line(summary.count), summary),
         ReadAnswer::Refused { number, place } => Text::new().refused_line(number, place),
     }
 }
 
 // Writes the report to the front of a buffer and answers its length; where the buffer is too short, answers 0 and leaves it as it was.
-pub(crate) fn write(told: Told, buffer: &mut [u8]) -> usize
-    ensures { λ r. ⌜ WritesTold told (now (buffer .entry)) r (now (buffer .exit)) ⌝ }
+pub(crate) fn write(summary: Summary, buffer: &mut [u8]) -> usize
+    ensures { λ r. ⌜ WritesSummary summary (now (buffer .entry)) r (now (buffer .exit)) ⌝ }
 {
-    text_of(told).copy_to(buffer)
+    text_of(summary).copy_to(buffer)
 }
 
-// What the report on a recording under a table tells, on a monitor of its own.
-pub(crate) fn told_alone(table: &[u8], recording: &[u8]) -> Told
-    ensures { λ r. ⌜ ToldAlone (now (table .entry)) (now (recording .entry)) r ⌝ }
+// The summary of a recording under a table, on a monitor of its own.
+pub(crate) fn summary_alone(table: &[u8], recording: &[u8]) -> Summary
+    ensures { λ r. ⌜ SummaryAlone (now (table .entry)) (now (recording .entry)) r ⌝ }
 {
     let mut m = index::empty();
-    told_on(&mut m, table, recording)
+    summary_on(&mut m, table, recording)
 }

@@ -1,17 +1,17 @@
--- The contract's examples read as it says: the machine computes each verdict, with every call taken, and §3.6 makes it the definition's.
-use mathlib.Core.Path.{_≡_, refl, sym, _∙_, ap, subst, subst₂}
+-- The contract's examples read as it says: the machine computes the answers and each verdict, and §3.6 makes them the definition's.
+use Prim.Native.Nat.{ℕ}
+use mathlib.Core.Path.{_≡_, refl, sym, ap, ap₂, subst}
 use mathlib.Core.Bool.{Bool, true, false, _&&_}
-use mathlib.Core.List.{List, [], _∷_, _++_, map, append-nil, append-assoc}
+use mathlib.Core.List.{List, [], _∷_, _++_, map}
 use mathlib.Core.Option.{Option, none, some}
 use lib.Dec.{eqb}
 use borrow.Author.Tests.{eqb-true}
 use Rattle.constraint.specs.Limits.{noLimit}
 use Rattle.constraint.specs.Steps.{Step}
 use Rattle.constraint.specs.Continuation.{Reads}
-use Rattle.constraint.specs.Run.{stepFor, asks, Left, noneLeft, Run, done, request}
+use Rattle.constraint.specs.Run.{asks, noneLeft, Run}
 use Rattle.constraint.specs.Promise.{ReadsRow, row, play, Played}
-use Rattle.constraint.specs.Examples.{Example, examples, unlimited-delays, silences, execution-times, reactions, repetitions, long-clocks}
-use Rattle.constraint.specs.Examples.{crowdedRows, crowdedCalls, crowdedAnswers}
+use Rattle.constraint.specs.Examples.{Example, examples}
 use Rattle.constraint.specs.declared.Answer.{Answer}
 use Rattle.constraint.specs.declared.Answer.the-variants.{Taken, Refused}
 use Rattle.constraint.specs.declared.Call.{Call}
@@ -20,7 +20,6 @@ use Rattle.constraint.specs.declared.Constraint.{Constraint}
 use Rattle.constraint.specs.declared.Constraint.the-variants.{Delay, Repeat}
 use Rattle.constraint.specs.declared.Verdict.{Verdict}
 use Rattle.constraint.specs.declared.Verdict.the-variants.{Open, Kept, Broken}
-use Rattle.constraint.proofs.Judged.{never}
 use Rattle.constraint.proofs.Lists.{both}
 use Rattle.pairs.specs.Delay.{answeredBy, decideDelay}
 use Rattle.pairs.specs.StrongDelay.{sourceStrongDelay, targetStrongDelay, decideStrongDelay}
@@ -32,21 +31,40 @@ use Rattle.phases.specs.ExecutionTime.{whileIdle, whileRunning, whilePreempted,
 use Rattle.chains.specs.Reaction.{dueBut, decideReaction}
 use Rattle.repetition.specs.Repetition.{placed, decideRepetition}
 use Rattle.row.specs.Machine.{rowOf, brokenRow, applied, changedRow, rowStep, rowVerdict}
-use Rattle.queue.specs.Ring.{ring, pushRing, putRing}
-use Rattle.monitor.specs.Machine.{monitorOf, mapFirst, anyFirst, takenCall, stepOf, verdictOf}
+use Rattle.queue.specs.Ring.{ring, pushRing, putRing, putBack}
+use Rattle.row.specs.Undo.{movesBy, stepPlace, savedBy, backRow, rowWithout, keptWithout}
+use Rattle.monitor.specs.Machine.{monitorOf, mapFirst, zipFirst, anyFirst, takenCall, stepOf, withdrawn, withdrawOf, verdictOf}
 use Rattle.monitor.specs.Contract.{step, after}
 use Rattle.monitor.specs.declared.Monitor.{Monitor}
 use Rattle.monitor.proofs.Theorem.{monitor-is-exact}
-use Rattle.examples.specs.Reading.{stepsOf, ReadsSo, AllRead, BothRead, CrowdedSilence}
+use Rattle.examples.specs.Vectors.{unlimited-delays, silences, execution-times, reactions, repetitions, long-clocks}
+use Rattle.examples.specs.Vectors.{crowdedRows, crowdedCalls, crowdedAnswers}
+use Rattle.examples.specs.Reading.{ReadsSo, AllRead, BothRead, CrowdedSilence}
 use Rattle.examples.proofs.Fitting.{and-true, fits, accepted-by, accepted-both}
 
 -- ---- what the machine computes
 
--- every call is taken
-allTaken : List Answer → Bool
-allTaken [] = true
-allTaken (Taken ∷ answers) = allTaken answers
-allTaken (Refused n ∷ answers) = false
+-- the same answers
+sameAnswers : List Answer → List Answer → Bool
+sameAnswers [] [] = true
+sameAnswers [] (b ∷ others) = false
+sameAnswers (a ∷ answers) [] = false
+sameAnswers (Taken ∷ answers) (Taken ∷ others) = sameAnswers answers others
+sameAnswers (Refused m ∷ answers) (Refused n ∷ others) = eqb m n && sameAnswers answers others
+sameAnswers (Taken ∷ answers) (Refused n ∷ others) = false
+sameAnswers (Refused m ∷ answers) (Taken ∷ others) = false
+
+same-answers : (answers others : List Answer) → sameAnswers answers others ≡ true → answers ≡ others
+unfolding sameAnswers
+same-answers [] [] e = refl
+same-answers [] (b ∷ others) e = both (sym e)
+same-answers (a ∷ answers) [] e = both (sym e)
+same-answers (Taken ∷ answers) (Taken ∷ others) e = ap (λ (l : List Answer). Taken ∷ l) (same-answers answers others e)
+same-answers (Refused m ∷ answers) (Refused n ∷ others) e =
+    let parts = and-true (eqb m n) (sameAnswers answers others) e in
+    ap₂ (λ (k : ℕ) (l : List Answer). Refused k ∷ l) (eqb-true m n (parts .0)) (same-answers answers others (parts .1))
+same-answers (Taken ∷ answers) (Refused n ∷ others) e = both (sym e)
+same-answers (Refused m ∷ answers) (Taken ∷ others) e = both (sym e)
 
 -- there is a verdict, and it is this one
 isVerdict : Option Verdict → Verdict → Bool
@@ -74,57 +92,47 @@ is-verdict (some Kept) (Broken n) e = both (sym e)
 is-verdict (some (Broken m)) Open e = both (sym e)
 is-verdict (some (Broken m)) Kept e = both (sym e)
 
--- the machine over the example's row alone, after its calls
+-- the machine over the example's row alone, after its requests
 playOf : Example → Played Monitor
-playOf e = play step (monitorOf (e .constraint ∷ [])) (map asks (e .calls))
+playOf e = play step (monitorOf (e .constraint ∷ [])) (e .requests)
 
--- the row is accepted, the machine takes every call, and reads the verdict
+-- the row is accepted, the machine gives the answers, and reads the verdict
 computes : Example → Bool
-computes e = fits (e .constraint) && (allTaken (playOf e .answers) && isVerdict (verdictOf (playOf e .monitor) 0) (e .verdict))
+computes e = fits (e .constraint) && (sameAnswers (playOf e .answers) (e .answers) && isVerdict (verdictOf (playOf e .monitor) 0) (e .verdict))
 
 allCompute : List Example → Bool
 allCompute [] = true
 allCompute (e ∷ later) = computes e && allCompute later
 
 examples-computed : allCompute examples ≡ true
-unfolding allCompute computes playOf allTaken isVerdict play monitorOf mapFirst anyFirst takenCall stepOf verdictOf rowOf brokenRow applied changedRow rowStep rowVerdict ring pushRing putRing answeredBy decideDelay sourceStrongDelay targetStrongDelay decideStrongDelay decideRepeat laterSporadic decideSporadic changesTo decideOrder decideStrongSynchronization
+unfolding allCompute computes playOf sameAnswers isVerdict play monitorOf mapFirst anyFirst takenCall stepOf verdictOf rowOf brokenRow applied changedRow rowStep rowVerdict ring pushRing putRing answeredBy decideDelay sourceStrongDelay targetStrongDelay decideStrongDelay decideRepeat laterSporadic decideSporadic changesTo decideOrder decideStrongSynchronization withdrawn withdrawOf zipFirst rowWithout keptWithout savedBy movesBy stepPlace backRow putBack
 examples-computed = refl
 
 unlimited-computed : allCompute unlimited-delays ≡ true
-unfolding allCompute computes playOf allTaken isVerdict play monitorOf mapFirst anyFirst takenCall stepOf verdictOf rowOf brokenRow applied changedRow rowStep rowVerdict ring pushRing putRing answeredBy decideDelay
+unfolding allCompute computes playOf sameAnswers isVerdict play monitorOf mapFirst anyFirst takenCall stepOf verdictOf rowOf brokenRow applied changedRow rowStep rowVerdict ring pushRing putRing answeredBy decideDelay
 unlimited-computed = refl
 
 silences-computed : allCompute silences ≡ true
-unfolding allCompute computes playOf allTaken isVerdict play monitorOf mapFirst anyFirst takenCall stepOf verdictOf rowOf brokenRow applied changedRow rowStep rowVerdict ring pushRing putRing decideRepeat laterSporadic decideSporadic
+unfolding allCompute computes playOf sameAnswers isVerdict play monitorOf mapFirst anyFirst takenCall stepOf verdictOf rowOf brokenRow applied changedRow rowStep rowVerdict ring pushRing putRing decideRepeat laterSporadic decideSporadic
 silences-computed = refl
 
 execution-times-computed : allCompute execution-times ≡ true
-unfolding allCompute computes playOf allTaken isVerdict play monitorOf mapFirst anyFirst takenCall stepOf verdictOf rowOf brokenRow applied changedRow rowStep rowVerdict ring pushRing putRing whileIdle whileRunning whilePreempted decideExecutionTime
+unfolding allCompute computes playOf sameAnswers isVerdict play monitorOf mapFirst anyFirst takenCall stepOf verdictOf rowOf brokenRow applied changedRow rowStep rowVerdict ring pushRing putRing whileIdle whileRunning whilePreempted decideExecutionTime
 execution-times-computed = refl
 
 reactions-computed : allCompute reactions ≡ true
-unfolding allCompute computes playOf allTaken isVerdict play monitorOf mapFirst anyFirst takenCall stepOf verdictOf rowOf brokenRow applied changedRow rowStep rowVerdict ring pushRing putRing dueBut decideReaction
+unfolding allCompute computes playOf sameAnswers isVerdict play monitorOf mapFirst anyFirst takenCall stepOf verdictOf rowOf brokenRow applied changedRow rowStep rowVerdict ring pushRing putRing dueBut decideReaction
 reactions-computed = refl
 
 repetitions-computed : allCompute repetitions ≡ true
-unfolding allCompute computes playOf allTaken isVerdict play monitorOf mapFirst anyFirst takenCall stepOf verdictOf rowOf brokenRow applied changedRow rowStep rowVerdict ring pushRing putRing placed decideRepetition
+unfolding allCompute computes playOf sameAnswers isVerdict play monitorOf mapFirst anyFirst takenCall stepOf verdictOf rowOf brokenRow applied changedRow rowStep rowVerdict ring pushRing putRing placed decideRepetition
 repetitions-computed = refl
 
 long-clocks-computed : allCompute long-clocks ≡ true
-unfolding allCompute computes playOf allTaken isVerdict play monitorOf mapFirst anyFirst takenCall stepOf verdictOf rowOf brokenRow applied changedRow rowStep rowVerdict ring pushRing putRing answeredBy decideDelay laterSporadic decideSporadic whileIdle whileRunning whilePreempted decideExecutionTime
+unfolding allCompute computes playOf sameAnswers isVerdict play monitorOf mapFirst anyFirst takenCall stepOf verdictOf rowOf brokenRow applied changedRow rowStep rowVerdict ring pushRing putRing answeredBy decideDelay laterSporadic decideSporadic whileIdle whileRunning whilePreempted decideExecutionTime
 long-clocks-computed = refl
 
 -- ---- so each reads by the definitions what the machine computes
-
--- calls that are all taken are the steps accepted
-run-taken : {rows : List Constraint} (calls : List Call) {left end : Left} {answers : List Answer}
-    → Run rows left (map asks calls) answers end → allTaken answers ≡ true → (end .steps ≡ left .steps ++ map stepFor calls) × (answers ≡ map (λ call. Taken) calls)
-unfolding allTaken
-run-taken [] (done {left = left}) e = (sym (append-nil (left .steps)), refl)
-run-taken (s ∷ calls) (request {left = left} _ Taken judged rest) e =
-    let later = run-taken calls rest e in
-    (later .0 ∙ append-assoc (left .steps) (stepFor s ∷ []) (map stepFor calls), ap (λ (l : List Answer). Taken ∷ l) (later .1))
-run-taken (s ∷ calls) (request _ (Refused n) judged rest) e = never (cc)
 
 only-row : (c : Constraint) (steps : List Step) (v : Verdict) → ReadsRow (c ∷ []) steps 0 (some v) → Reads c steps v
 only-row c steps v (row d w e r) = let same : d ≡ c = cc in subst (λ x. Reads x steps w) same r
@@ -134,17 +142,13 @@ unfolding computes playOf after
 reads-so e computed =
     let rows = e .constraint ∷ [] in
     let parts = and-true (fits (e .constraint)) _ computed in
-    let later = and-true (allTaken (playOf e .answers)) _ (parts .1) in
+    let later = and-true (sameAnswers (playOf e .answers) (e .answers)) _ (parts .1) in
     let reads : verdictOf (playOf e .monitor) 0 ≡ some (e .verdict) = is-verdict _ (e .verdict) (later .1) in
-    let exact = monitor-is-exact .exact rows (accepted-by (e .constraint) (parts .0)) (map asks (e .calls)) in
-    let all = run-taken (e .calls) (exact .1) (later .0) in
-    let row-reads : ReadsRow rows (exact .0 .steps) 0 (some (e .verdict)) = subst (ReadsRow rows (exact .0 .steps) 0) reads (exact .2 0) in
+    let exact = monitor-is-exact .exact rows (accepted-by (e .constraint) (parts .0)) (e .requests) in
     record {
-      taken = (
-        exact .0 .may,
-        subst₂ (λ (answers : List Answer) (steps : List Step). Run rows noneLeft (map asks (e .calls)) answers (record { steps = steps; may = exact .0 .may })) (all .1) (all .0) (exact .1),
-      );
-      defined = only-row (e .constraint) (stepsOf e) (e .verdict) (subst (λ steps. ReadsRow rows steps 0 (some (e .verdict))) (all .0) row-reads);
+      left = exact .0;
+      answered = subst (λ answers. Run rows noneLeft (e .requests) answers (exact .0)) (same-answers _ (e .answers) (later .0)) (exact .1);
+      defined = only-row (e .constraint) (exact .0 .steps) (e .verdict) (subst (ReadsRow rows (exact .0 .steps) 0) reads (exact .2 0));
       monitored = reads;
     }
 
@@ -153,7 +157,7 @@ unfolding allCompute
 all-read [] computed = tt
 all-read (e ∷ later) computed = let parts = and-true (computes e) (allCompute later) computed in (reads-so e (parts .0), all-read later (parts .1))
 
--- §10.1 to §10.12
+-- §10.1 to §10.12, §10.14, §10.15
 pub examples-hold : AllRead examples
 examples-hold = all-read examples examples-computed
 

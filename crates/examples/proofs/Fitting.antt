@@ -10,7 +10,7 @@ use borrow.Author.Tests.{leb-true, ltb-true, eqb-true, eqb-false, not-true}
 use Rattle.constraint.specs.Limits.{lastKind, firstColoured, lastTime, noLimit}
 use Rattle.constraint.specs.Questions.{Question, Judged}
 use Rattle.constraint.specs.Types.{kind, coloured, count, span, plain, lower, upper, upper-or-none, Field, byte, time, fieldsOf}
-use Rattle.constraint.specs.Accepted.{kinds, KindsFit, SortsFit, KindsSuit, UpperInRange, FieldsInRange, InRange, NotBelow, LowerFirst}
+use Rattle.constraint.specs.Accepted.{kinds, KindsFit, SortsFit, KindsSuit, FieldsInRange, InRange, NotBelow, LowerFirst}
 use Rattle.constraint.specs.Accepted.{rowQuestions, rowsQuestions, Accepted}
 use Rattle.constraint.specs.Records.{Absent}
 use Rattle.constraint.specs.declared.Answer.the-variants.{Taken}
@@ -89,7 +89,7 @@ sorts-by (byte count x ∷ fields) e = (tt, sorts-by fields e)
 sorts-by (byte (span limit) x ∷ fields) e = (tt, sorts-by fields e)
 sorts-by (time role x ∷ fields) e = (tt, sorts-by fields e)
 
-upper-by : (x : ℕ) → (leb x lastTime ≡ true) ⊎ (eqb x noLimit ≡ true) → UpperInRange x
+upper-by : (x : ℕ) → (leb x lastTime ≡ true) ⊎ (eqb x noLimit ≡ true) → (x ≤ lastTime) ⊎ (x ≡ noLimit)
 upper-by x (inl low) = inl (leb-true x lastTime low)
 upper-by x (inr mark) = inr (eqb-true x noLimit mark)
 

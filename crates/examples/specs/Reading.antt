@@ -1,9 +1,8 @@
--- What is promised of a list of examples: every call is taken, and the row reads so by the definitions, and by the monitor.
+-- What is promised of a list of examples: the answers are these, and the row reads so by the definitions, and by the monitor.
 use mathlib.Core.Path.{_≡_}
 use mathlib.Core.List.{List, [], _∷_, _++_, map}
 use mathlib.Core.Option.{some}
-use Rattle.constraint.specs.Steps.{Step}
-use Rattle.constraint.specs.Run.{stepFor, asks, Left, noneLeft, Run}
+use Rattle.constraint.specs.Run.{asks, Left, noneLeft, Run}
 use Rattle.constraint.specs.Continuation.{Reads}
 use Rattle.constraint.specs.Promise.{ReadsRow}
 use Rattle.constraint.specs.declared.Answer.{Answer}
@@ -13,20 +12,17 @@ use Rattle.constraint.specs.declared.Call.the-variants.{Tick}
 use Rattle.constraint.specs.declared.Constraint.{Constraint}
 use Rattle.constraint.specs.declared.Verdict.{Verdict}
 use Rattle.constraint.specs.declared.Verdict.the-variants.{Open, Broken}
-use Rattle.constraint.specs.Examples.{Example, crowdedRows, crowdedCalls, crowdedAnswers}
+use Rattle.constraint.specs.Examples.{Example}
+use Rattle.examples.specs.Vectors.{crowdedRows, crowdedCalls, crowdedAnswers}
 use Rattle.monitor.specs.Machine.{verdictOf}
 use Rattle.monitor.specs.Contract.{after}
-use Rattle.monitor.specs.Beside.{Takes}
 
--- the steps of an example whose calls are all taken
-abbrev pub stepsOf : Example → List Step
-stepsOf e = map stepFor (e .calls)
-
--- the questions take every call; the row reads so by the definitions, and by the monitor
+-- the requests get these answers; the row reads so by the definitions after the steps that are left, and by the monitor
 pub record ReadsSo (e : Example) : Type 0 where
-  pub taken : Takes (e .constraint ∷ []) (e .calls) (stepsOf e)
-  pub defined : Reads (e .constraint) (stepsOf e) (e .verdict)
-  pub monitored : verdictOf (after (e .constraint ∷ []) (map asks (e .calls))) 0 ≡ some (e .verdict)
+  pub left : Left
+  pub answered : Run (e .constraint ∷ []) noneLeft (e .requests) (e .answers) left
+  pub defined : Reads (e .constraint) (left .steps) (e .verdict)
+  pub monitored : verdictOf (after (e .constraint ∷ []) (e .requests)) 0 ≡ some (e .verdict)
 
 -- each example of a list
 abbrev pub AllRead : List Example → Type 0

@@ -9,7 +9,8 @@ use lib.Dec.{leb, eqb}
 use borrow.Author.Tests.{leb-true, leb-false, lt-leb, eq-eqb, eqb-true}
 use Rattle.constraint.specs.Steps.{Step, event, tick, close, among}
 use Rattle.constraint.proofs.Lists.{split, both, or-true}
-use Rattle.constraint.specs.Joined.{timeOf, merged, left, joined, Interleaves, no-record, of-first, of-second, timesOf, without}
+use Rattle.constraint.specs.Joined.{timeOf, merged, undropped, joined}
+use Rattle.join.specs.Held.{Interleaves, no-record, of-first, of-second, timesOf, without}
 use Rattle.join.proofs.Merging.{Comes, Strict}
 
 -- as `Strict`, but the first may be a tick at the clock
@@ -39,14 +40,14 @@ times-late now t (close ∷ steps) s e = absurd (s .0)
 
 -- ---- the first stays whole
 
-stays : (now : ℕ) (s : Step) (rest : List Step) → Comes now s → left now (s ∷ rest) ≡ s ∷ left (timeOf s) rest
-unfolding left
+stays : (now : ℕ) (s : Step) (rest : List Step) → Comes now s → undropped now (s ∷ rest) ≡ s ∷ undropped (timeOf s) rest
+unfolding undropped
 stays now (event k t) rest c = refl
 stays now (tick t) rest c = rw (lt-leb t now c)
 stays now close rest c = absurd c
 
-first-alone : (now : ℕ) (first : List Step) → Strict now first → Interleaves first [] (left now first)
-unfolding left
+first-alone : (now : ℕ) (first : List Step) → Strict now first → Interleaves first [] (undropped now first)
+unfolding undropped
 first-alone now [] s = no-record
 first-alone now (a ∷ first) s = subst (Interleaves (a ∷ first) []) (sym (stays now a first (s .0))) (of-first a (first-alone (timeOf a) first (s .1)))
 
@@ -75,31 +76,31 @@ module _ (moments : List ℕ) where
   -- a tick of the second: it falls away at the clock, and is kept after it
   module _ (now t : ℕ) (first second : List Step) (later : List Step) where
     one-tick : now ≤ t → Seen now (tick t ∷ second) → (now < t → among t moments ≡ true → ⊥)
-        → (now ≡ t → among now moments ≡ true → Interleaves first (without moments second) (left now later))
-        → (now < t → Interleaves first (without moments second) (left t later))
-        → Interleaves first (without moments (tick t ∷ second)) (left now (tick t ∷ later))
-    unfolding left
+        → (now ≡ t → among now moments ≡ true → Interleaves first (without moments second) (undropped now later))
+        → (now < t → Interleaves first (without moments second) (undropped t later))
+        → Interleaves first (without moments (tick t ∷ second)) (undropped now (tick t ∷ later))
+    unfolding undropped
     one-tick h seen apart falls keeps =
-        split (leb t now) (λ x. Interleaves first (without moments (tick t ∷ second)) (cond x (left now later) (tick t ∷ left t later)))
+        split (leb t now) (λ x. Interleaves first (without moments (tick t ∷ second)) (cond x (undropped now later) (tick t ∷ undropped t later)))
         (λ e. let (hit, same) = seen-tick now t second seen h (leb-true t now e) in
-        subst (λ (l : List Step). Interleaves first l (left now later)) (sym (without-tick t second hit))
+        subst (λ (l : List Step). Interleaves first l (undropped now later)) (sym (without-tick t second hit))
         (falls same (subst (λ (x : ℕ). among x moments ≡ true) (sym same) hit)))
         (λ e. let after : now < t = leb-false t now e in
-        subst (λ (l : List Step). Interleaves first l (tick t ∷ left t later)) (sym (with-tick t second (not-among t (apart after))))
+        subst (λ (l : List Step). Interleaves first l (tick t ∷ undropped t later)) (sym (with-tick t second (not-among t (apart after))))
         (of-second (tick t) (keeps after)))
 
   none-there : {first all : List Step} → Interleaves first [] all → Interleaves first (without moments []) all
   unfolding without
   none-there i = i
 
-  one-event : (now k t : ℕ) (first second later : List Step) → Interleaves first (without moments second) (left t later)
-      → Interleaves first (without moments (event k t ∷ second)) (left now (event k t ∷ later))
-  unfolding without left
+  one-event : (now k t : ℕ) (first second later : List Step) → Interleaves first (without moments second) (undropped t later)
+      → Interleaves first (without moments (event k t ∷ second)) (undropped now (event k t ∷ later))
+  unfolding without undropped
   one-event now k t first second later i = of-second (event k t) i
 
   second-alone : (now : ℕ) (second : List Step) → Weak now second → ((u : ℕ) → among u moments ≡ true → u ≤ now) → Seen now second
-      → Interleaves [] (without moments second) (left now second)
-  unfolding left without
+      → Interleaves [] (without moments second) (undropped now second)
+  unfolding undropped without
   second-alone now [] w past seen = no-record
   second-alone now (event k t ∷ second) w past seen =
       of-second (event k t) (second-alone t second (weak-of t t second (omega arith) (w .1)) (λ u e. omega (arith, past u e, w .0)) (inr (w .1)))
@@ -155,18 +156,18 @@ module _ (moments : List ℕ) where
   head-late t a first s e =
       ⊎-elim (λ f. omega (arith, eqb-true t (timeOf a) f)) (λ f. times-late (timeOf a) t first s f) (or-true (eqb t (timeOf a)) (among t (timesOf first)) e)
 
-  take-first : (now : ℕ) (a : Step) (first second others : List Step) → Comes now a → Interleaves first second (left (timeOf a) others)
-      → Interleaves (a ∷ first) second (left now (a ∷ others))
+  take-first : (now : ℕ) (a : Step) (first second others : List Step) → Comes now a → Interleaves first second (undropped (timeOf a) others)
+      → Interleaves (a ∷ first) second (undropped now (a ∷ others))
   take-first now a first second others c rest = subst (Interleaves (a ∷ first) second) (sym (stays now a others c)) (of-first a rest)
 
   holds : (now : ℕ) (first second : List Step) → Strict now first → Weak now second → Told now first → Seen now second
-      → Interleaves first (without moments second) (left now (merged first second))
+      → Interleaves first (without moments second) (undropped now (merged first second))
   unfolding merged
   holds now [] second s w told seen = second-alone now second w (λ u e. ⊎-elim (λ h. h) (λ f. both (sym f)) (told .past u e)) seen
   holds now (a ∷ first) [] s w told seen = none-there (first-alone now (a ∷ first) s)
   holds now (a ∷ first) (event k t ∷ second) s w told seen =
       split (leb (timeOf a) t)
-      (λ x. Interleaves (a ∷ first) (without moments (event k t ∷ second)) (left now (cond x (a ∷ merged first (event k t ∷ second)) (event k t ∷ merged (a ∷ first) second))))
+      (λ x. Interleaves (a ∷ first) (without moments (event k t ∷ second)) (undropped now (cond x (a ∷ merged first (event k t ∷ second)) (event k t ∷ merged (a ∷ first) second))))
       (λ e. take-first now a first (without moments (event k t ∷ second)) (merged first (event k t ∷ second)) (s .0)
       (holds (timeOf a) first (event k t ∷ second) (s .1) (leb-true (timeOf a) t e, w .1) (told-more now a first (comes-at now a (s .0)) told) (inl (at-first now a first told))))
       (λ e. let h : t < timeOf a = leb-false (timeOf a) t e in
@@ -174,7 +175,7 @@ module _ (moments : List ℕ) where
       (holds t (a ∷ first) second (sooner t a h (not-close now a (s .0)), s .1) (weak-of t t second (omega arith) (w .1)) (told-later now t (a ∷ first) (w .0) told) (inr (w .1))))
   holds now (a ∷ first) (tick t ∷ second) s w told seen =
       split (leb (timeOf a) t)
-      (λ x. Interleaves (a ∷ first) (without moments (tick t ∷ second)) (left now (cond x (a ∷ merged first (tick t ∷ second)) (tick t ∷ merged (a ∷ first) second))))
+      (λ x. Interleaves (a ∷ first) (without moments (tick t ∷ second)) (undropped now (cond x (a ∷ merged first (tick t ∷ second)) (tick t ∷ merged (a ∷ first) second))))
       (λ e. take-first now a first (without moments (tick t ∷ second)) (merged first (tick t ∷ second)) (s .0)
       (holds (timeOf a) first (tick t ∷ second) (s .1) (leb-true (timeOf a) t e, w .1) (told-more now a first (comes-at now a (s .0)) told) (inl (at-first now a first told))))
       (λ e. let h : t < timeOf a = leb-false (timeOf a) t e in

@@ -15,7 +15,7 @@ use Rattle.constraint.specs.Steps.{Step, event, tick, close, among, times, cloc
 use Rattle.constraint.proofs.Lists.{split, both, or-false, Each, Rising, rising-across}
 use Rattle.constraint.proofs.Judged.{never}
 use Rattle.constraint.proofs.History.{times-append, times-tick, clock-event, clock-tick, closed-event, closed-tick, AcceptsEvent, Valid, valid-none, valid-more, past-of}
-use Rattle.constraint.specs.Joined.{timeOf, merged, fallsAway, left, joined, kindsOf, NoneInCommon}
+use Rattle.constraint.specs.Joined.{timeOf, merged, isDropped, undropped, joined, kindsOf, NoneInCommon}
 
 -- a step that a record of a version can hold: version 1 has no colours
 abbrev pub Fits : ℕ → Step → Type 0
@@ -116,46 +116,46 @@ module _ (version : ℕ) where
   own-first s t steps = rw (eq-eqb s s refl)
 
   valid-left : (steps done : List Step) (now : ℕ) → Valid done → clock done ≡ now → closed done ≡ false → Line version now steps
-      → ((s : ℕ) → Rising (times s (done ++ steps))) → length (done ++ left now steps) ≤ lastCount → Valid (done ++ left now steps)
-  unfolding left times
+      → ((s : ℕ) → Rising (times s (done ++ steps))) → length (done ++ undropped now steps) ≤ lastCount → Valid (done ++ undropped now steps)
+  unfolding undropped times
   valid-left [] done now v is unclosed l r few = subst Valid (sym (append-nil done)) v
   valid-left (event s t ∷ steps) done now v is unclosed l r few =
       let own : Rising (times s done ++ t ∷ times s steps) = subst Rising (times-append s done (event s t ∷ steps) ∙ ap (λ (x : List ℕ). times s done ++ x) (own-first s t steps)) (r s) in
       let accepts : AcceptsEvent done s t = record {
         not-closed = unclosed;
-        counted = omega (arith, few, length-append done (event s t ∷ left t steps));
+        counted = omega (arith, few, length-append done (event s t ∷ undropped t steps));
         stream-small = l .1 .0;
         time-small = l .1 .1;
         in-order = (omega (arith, is, l .0), λ i h. rising-across (times s done) (t ∷ times s steps) own i h 0 (omega arith));
       } in
-      subst Valid (append-snoc done (event s t) (left t steps))
+      subst Valid (append-snoc done (event s t) (undropped t steps))
       (valid-left steps (done ++ (event s t ∷ [])) t (valid-more (event s t) v accepts) (clock-event s t done) (closed-event s t done ∙ unclosed) (l .2)
       (λ j. subst (λ (x : List Step). Rising (times j x)) (sym (append-snoc done (event s t) steps)) (r j))
-      (subst (λ (x : List Step). length x ≤ lastCount) (sym (append-snoc done (event s t) (left t steps))) few))
+      (subst (λ (x : List Step). length x ≤ lastCount) (sym (append-snoc done (event s t) (undropped t steps))) few))
   valid-left (tick t ∷ steps) done now v is unclosed l r few =
       split (leb t now)
-      (λ x. length (done ++ cond x (left now steps) (tick t ∷ left t steps)) ≤ lastCount → Valid (done ++ cond x (left now steps) (tick t ∷ left t steps)))
+      (λ x. length (done ++ cond x (undropped now steps) (tick t ∷ undropped t steps)) ≤ lastCount → Valid (done ++ cond x (undropped now steps) (tick t ∷ undropped t steps)))
       (λ e short. valid-left steps done now v is unclosed (line-earlier version t now steps (l .0) (l .2))
       (λ j. subst Rising (times-append j done (tick t ∷ steps) ∙ sym (times-append j done steps)) (r j)) short)
-      (λ e short. subst Valid (append-snoc done (tick t) (left t steps))
+      (λ e short. subst Valid (append-snoc done (tick t) (undropped t steps))
       (valid-left steps (done ++ (tick t ∷ [])) t (valid-more (tick t) v (record {
         not-closed = unclosed;
-        counted = omega (arith, short, length-append done (tick t ∷ left t steps));
+        counted = omega (arith, short, length-append done (tick t ∷ undropped t steps));
         time-small = l .1;
         later = omega (arith, is, leb-false t now e);
       }))
       (clock-tick t done) (closed-tick t done ∙ unclosed) (l .2)
       (λ j. subst (λ (x : List Step). Rising (times j x)) (sym (append-snoc done (tick t) steps)) (r j))
-      (subst (λ (x : List Step). length x ≤ lastCount) (sym (append-snoc done (tick t) (left t steps))) short))) few
+      (subst (λ (x : List Step). length x ≤ lastCount) (sym (append-snoc done (tick t) (undropped t steps))) short))) few
   valid-left (close ∷ steps) done now v is unclosed l r few = absurd (l .1)
 
   -- what is left fits the version still
-  pub line-left : (steps : List Step) (now : ℕ) → Line version now steps → Line version now (left now steps)
-  unfolding left
+  pub line-left : (steps : List Step) (now : ℕ) → Line version now steps → Line version now (undropped now steps)
+  unfolding undropped
   line-left [] now l = tt
   line-left (event s t ∷ steps) now l = (l .0, l .1, line-left steps t (l .2))
   line-left (tick t ∷ steps) now l =
-      split (leb t now) (λ x. Line version now (cond x (left now steps) (tick t ∷ left t steps)))
+      split (leb t now) (λ x. Line version now (cond x (undropped now steps) (tick t ∷ undropped t steps)))
       (λ e. line-left steps now (line-earlier version t now steps (l .0) (l .2)))
       (λ e. (l .0, l .1, line-left steps t (l .2)))
   line-left (close ∷ steps) now l = absurd (l .1)

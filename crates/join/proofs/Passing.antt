@@ -175,18 +175,18 @@ module _ (bytes avoid : List ℕ) where
       unfolding recordQuestions
       pass-more e kind avoided kinds′ common′ kind-is avoided-is kinds-are common-is =
           let taken = next .taken e (before .steps) (before .read .order) in
-          let asked = subst (λ (x : Call). Judged (questions [] (before .steps) x) Taken) (next .call-is e) (judged-all 14 _ _ (taken .0) .1) in
+          let asked = subst (λ (x : Call). Judged (questions [] (before .steps) x) Taken) (next .call-is (next .there e)) (judged-all 14 _ _ (taken .0) .1) in
           let is : KindIs (stepFor (r .call)) kind = subst (KindIs (stepFor (r .call))) (sym kind-is) (call-kind (before .steps) (r .call) asked) in
           record {
             steps = before .steps ++ (stepFor (r .call) ∷ []);
-            read = up-to-more bytes place (before .steps) o (before .read) (r .call) (r .next) (r .order) there (next .call-is e) (next .next-is e .0) (taken .0) (taken .1);
+            read = up-to-more bytes place (before .steps) o (before .read) (r .call) (r .next) (r .order) there (next .call-is (next .there e)) (next .next-is (next .there e) .0) (taken .0) (taken .1);
             marks = subst (λ (l : List ℕ). Marks l (kindsOf (before .steps ++ (stepFor (r .call) ∷ [])))) (sym kinds-are)
                 (marks-more kinds (before .steps) (stepFor (r .call)) kind is (before .marks));
-            positive = omega (arith, before .positive, next .next-is e .0);
+            positive = omega (arith, before .positive, next .next-is (next .there e) .0);
             search = λ ks m.
                 subst (λ (n : ℕ). Search ks bytes (r .next) (before .steps ++ (stepFor (r .call) ∷ [])) n) (sym common-is)
-                (subst (λ (n : ℕ). Search ks bytes n (before .steps ++ (stepFor (r .call) ∷ [])) (firstCommon common avoided place)) (sym (next .next-is e .0))
-                (search-more ks bytes place (before .steps) (stepFor (r .call)) kind is (ap stepFor (sym (next .call-is e))) there (before .positive) common (before .search ks m)
+                (subst (λ (n : ℕ). Search ks bytes n (before .steps ++ (stepFor (r .call) ∷ [])) (firstCommon common avoided place)) (sym (next .next-is (next .there e) .0))
+                (search-more ks bytes place (before .steps) (stepFor (r .call)) kind is (ap stepFor (sym (next .call-is (next .there e)))) there (before .positive) common (before .search ks m)
                 avoided (avoided-is ∙ marked-as avoid ks (stepFor (r .call)) kind is m)));
           }
 

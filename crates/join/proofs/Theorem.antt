@@ -6,7 +6,8 @@ use mathlib.Core.List.{List}
 use lib.ListN.{length}
 use Rattle.constraint.specs.Steps.{Step, at}
 use Rattle.constraint.specs.Recording.{ReadsInOrder, recording-of}
-use Rattle.constraint.specs.Joined.{joined, joinedBytes, NoneInCommon, Interleaves, timesOf, without}
+use Rattle.constraint.specs.Joined.{joined, joinedBytes, NoneInCommon}
+use Rattle.join.specs.Held.{Interleaves, timesOf, without}
 use Rattle.join.proofs.Merging.{line-other, joined-valid, joined-line}
 use Rattle.join.proofs.Bytes.{reads-back, steps-few}
 use Rattle.join.proofs.Records.{whole}

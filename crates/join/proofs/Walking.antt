@@ -14,7 +14,7 @@ use Rattle.constraint.specs.declared.Call.{Call}
 use Rattle.constraint.proofs.Lists.{split, both}
 use Rattle.number.proofs.Stores.{stores-append}
 use Rattle.recording.specs.Record.{CallAt}
-use Rattle.constraint.specs.Joined.{timeOf, merged, fallsAway, left, joined, stepBytes, stepsBytes, joinedBytes}
+use Rattle.constraint.specs.Joined.{timeOf, merged, isDropped, undropped, joined, stepBytes, stepsBytes, joinedBytes}
 use Rattle.join.specs.Walk.{callBytes, leftBytes, leftClock, Records, none, more, Heads, Behind, Nexts}
 use Rattle.join.specs.declared.Head.{Head}
 use Rattle.join.specs.declared.Next.{Next}
@@ -166,19 +166,19 @@ module _ (one two : List ℕ) (place other : ℕ) (a b : Head) (heads : Heads on
 
 -- a step, or nothing where it falls away
 abbrev leftOf : ℕ → Step → List Step
-leftOf now s = cond (fallsAway now s) [] (s ∷ [])
+leftOf now s = cond (isDropped now s) [] (s ∷ [])
 
-left-more : (now : ℕ) (call : Call) (steps : List Step) → left now (stepFor call ∷ steps) ≡ leftOf now (stepFor call) ++ left (leftClock now call) steps
-unfolding left
+left-more : (now : ℕ) (call : Call) (steps : List Step) → undropped now (stepFor call ∷ steps) ≡ leftOf now (stepFor call) ++ undropped (leftClock now call) steps
+unfolding undropped
 left-more now call steps =
-    split (fallsAway now (stepFor call))
-    (λ x. cond x (left now steps) (stepFor call ∷ left (timeOf (stepFor call)) steps) ≡ cond x [] (stepFor call ∷ []) ++ left (cond x now (timeOf (stepFor call))) steps)
+    split (isDropped now (stepFor call))
+    (λ x. cond x (undropped now steps) (stepFor call ∷ undropped (timeOf (stepFor call)) steps) ≡ cond x [] (stepFor call ∷ []) ++ undropped (cond x now (timeOf (stepFor call))) steps)
     (λ e. refl) (λ e. refl)
 
 left-same : (now : ℕ) (call : Call) → callBytes call ≡ stepBytes (stepFor call) → stepsBytes (leftOf now (stepFor call)) ≡ leftBytes now call
 unfolding stepsBytes
 left-same now call same =
-    split (fallsAway now (stepFor call)) (λ x. stepsBytes (cond x [] (stepFor call ∷ [])) ≡ cond x [] (callBytes call))
+    split (isDropped now (stepFor call)) (λ x. stepsBytes (cond x [] (stepFor call ∷ [])) ≡ cond x [] (callBytes call))
     (λ e. refl) (λ e. append-nil (stepBytes (stepFor call)) ∙ sym same)
 
 -- ---- the walk
@@ -198,7 +198,7 @@ module _ (one two before : List ℕ) where
     pub done : List Step
     pub records : Records one place rest
     pub others : Records two other other-rest
-    pub is : joined first second ≡ done ++ left clock (merged rest other-rest)
+    pub is : joined first second ≡ done ++ undropped clock (merged rest other-rest)
     pub size-is : size ≡ 1 + length (stepsBytes done)
     pub stored : buffer ≡ sets before 1 (stepsBytes done)
 
@@ -210,9 +210,9 @@ module _ (one two before : List ℕ) where
   module _ (place other clock size : ℕ) (buffer : List ℕ) (first second : List Step) (w : Walking place other clock size buffer first second)
       (r : Next) (nexts : Nexts one two place other r) where
     pub walk-end : r .there ≡ false → (size ≡ length (joinedBytes one two first second)) × (buffer ≡ sets before 1 (stepsBytes (joined first second)))
-    unfolding left
+    unfolding undropped
     walk-end e =
-        let all : joined first second ≡ w .done = w .is ∙ ap (λ (l : List Step). w .done ++ left clock l) (nexts .ends e (w .rest) (w .other-rest) (w .records) (w .others)) ∙ append-nil (w .done) in (
+        let all : joined first second ≡ w .done = w .is ∙ ap (λ (l : List Step). w .done ++ undropped clock l) (nexts .ends e (w .rest) (w .other-rest) (w .records) (w .others)) ∙ append-nil (w .done) in (
           omega (arith, w .size-is, ap (λ (l : List Step). length (stepsBytes l)) all),
           w .stored ∙ ap (λ (l : List Step). sets before 1 (stepsBytes l)) (sym all),
         )
@@ -224,12 +224,12 @@ module _ (one two before : List ℕ) where
       again : List Step
       again = w .done ++ leftOf clock (stepFor (r .call))
 
-      all-is : joined first second ≡ again ++ left (leftClock clock (r .call)) (merged (b .rest) (b .other))
+      all-is : joined first second ≡ again ++ undropped (leftClock clock (r .call)) (merged (b .rest) (b .other))
       unfolding again
       all-is =
-          w .is ∙ ap (λ (l : List Step). w .done ++ left clock l) (b .is)
+          w .is ∙ ap (λ (l : List Step). w .done ++ undropped clock l) (b .is)
           ∙ ap (λ (l : List Step). w .done ++ l) (left-more clock (r .call) (merged (b .rest) (b .other)))
-          ∙ sym (append-assoc (w .done) (leftOf clock (stepFor (r .call))) (left (leftClock clock (r .call)) (merged (b .rest) (b .other))))
+          ∙ sym (append-assoc (w .done) (leftOf clock (stepFor (r .call))) (undropped (leftClock clock (r .call)) (merged (b .rest) (b .other))))
 
       bytes-are : stepsBytes again ≡ stepsBytes (w .done) ++ leftBytes clock (r .call)
       unfolding again
@@ -248,7 +248,7 @@ module _ (one two before : List ℕ) where
             done = again;
             records = b .records;
             others = b .others;
-            is = all-is ∙ ap (λ (n : ℕ). again ++ left n (merged (b .rest) (b .other))) (sym c);
+            is = all-is ∙ ap (λ (n : ℕ). again ++ undropped n (merged (b .rest) (b .other))) (sym c);
             size-is = s ∙ sym size-more;
             stored = stored-behind before buffer buffer′ 1 (length (stepsBytes (w .done))) (stepsBytes (w .done)) (leftBytes clock (r .call)) refl (w .stored)
                 (stored ∙ ap (λ (n : ℕ). sets buffer n (leftBytes clock (r .call))) (w .size-is))
@@ -257,6 +257,6 @@ module _ (one two before : List ℕ) where
 
       pub walk-short : (limit : ℕ) → limit < size + length (leftBytes clock (r .call)) → limit < length (joinedBytes one two first second)
       walk-short limit h =
-          let rest = left (leftClock clock (r .call)) (merged (b .rest) (b .other)) in
+          let rest = undropped (leftClock clock (r .call)) (merged (b .rest) (b .other)) in
           let parts : stepsBytes (joined first second) ≡ stepsBytes again ++ stepsBytes rest = ap stepsBytes all-is ∙ bytes-append again rest in
           omega (arith, ap length parts, length-append (stepsBytes again) (stepsBytes rest), size-more)

@@ -12,7 +12,7 @@ use Rattle.constraint.specs.Run.{stepFor}
 use Rattle.constraint.specs.Table.{lengthAt}
 use Rattle.constraint.specs.Recording.{callAt, RecordAt, ReadsInOrder, recording-of, recording-refused}
 use Rattle.constraint.specs.declared.Call.{Call}
-use Rattle.constraint.specs.Joined.{timeOf, merged, fallsAway, eventBytes, colouredBytes, tickBytes, stepBytes, joinedBytes, kindsOf, FirstOf}
+use Rattle.constraint.specs.Joined.{timeOf, merged, isDropped, eventBytes, colouredBytes, tickBytes, stepBytes, joinedBytes, kindsOf, FirstOf}
 use Rattle.join.specs.declared.Head.{Head}
 use Rattle.join.specs.declared.Next.{Next}
 use Rattle.join.specs.declared.Walked.{Walked}
@@ -36,10 +36,10 @@ callKind Call.Close = 64
 
 -- what is left of it at a clock, and the clock then
 abbrev pub leftBytes : ℕ → Call → List ℕ
-leftBytes now call = cond (fallsAway now (stepFor call)) [] (callBytes call)
+leftBytes now call = cond (isDropped now (stepFor call)) [] (callBytes call)
 
 abbrev pub leftClock : ℕ → Call → ℕ
-leftClock now call = cond (fallsAway now (stepFor call)) now (timeOf (stepFor call))
+leftClock now call = cond (isDropped now (stepFor call)) now (timeOf (stepFor call))
 
 -- ---- the walk
 

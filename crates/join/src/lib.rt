@@ -12,7 +12,7 @@ ghost use lib.ListN.{length, set};
 ghost use lib.Seq.{sets};
 ghost use Rattle.constraint.specs.Steps.{at};
 ghost use Rattle.constraint.specs.Run.{stepFor};
-ghost use Rattle.constraint.specs.Joined.{timeOf, fallsAway, AnswersJoin};
+ghost use Rattle.constraint.specs.Joined.{timeOf, isDropped, AnswersJoin};
 ghost use Rattle.join.specs.Walk.{callBytes, callKind, leftBytes, leftClock, Heads, Nexts, Walks, firstCommon, Passes};
 
 // The record at a place, if there is one: its call, and the place behind it.
@@ -69,9 +69,9 @@ fn time_of(call: Call) -> u64
     }
 }
 
-// Whether a record falls away: a tick that is not later than the clock.
+// Whether a record is dropped: a tick that is not later than the clock.
 fn falls_away(clock: u64, call: Call) -> bool
-    ensures { λ r. ⌜ r ≡ fallsAway clock (stepFor call) ⌝ }
+    ensures { λ r. ⌜ r ≡ isDropped clock (stepFor call) ⌝ }
 {
     match call {
         Call::Event { .. } => false,

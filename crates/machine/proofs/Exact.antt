@@ -3,18 +3,18 @@ use Prim.Native.Nat.{ℕ, _≤_, _<_}
 use mathlib.Core.Path.{_≡_}
 use mathlib.Core.Bool.{Bool, true, false, cond}
 use mathlib.Core.List.{List, [], _∷_, _++_}
-use mathlib.Core.Logic.{_⊎_}
 use lib.ListN.{length}
 use Rattle.constraint.specs.Limits.{lastTime, noLimit, waitingLimit}
 use Rattle.constraint.specs.Steps.{Step, event, tick, at, own, clock, closed}
 use Rattle.constraint.specs.Meets.{Meets}
 use Rattle.constraint.specs.Continuation.{Open}
 use Rattle.constraint.specs.Waiting.{waiting}
-use Rattle.constraint.specs.Accepted.{kinds, streams, KindsFit, KindsSuit, InRange, LowerFirst}
+use Rattle.constraint.specs.Accepted.{kinds, KindsFit, KindsSuit, InRange, LowerFirst}
+use Rattle.constraint.proofs.Streams.{streams}
 use Rattle.constraint.specs.declared.Constraint.{Constraint}
 use Rattle.constraint.proofs.History.{Accepts, Past}
 use Rattle.queue.specs.Ring.{changed}
-use Rattle.machine.specs.Rule.{ruleOf, startWords}
+use Rattle.machine.specs.Rule.{ruleOf, waitsIn, startWords}
 use Rattle.machine.specs.Parts.{noMarks}
 use Rattle.machine.specs.declared.Marks.{Marks}
 use Rattle.machine.specs.declared.Change.{Change}
@@ -43,6 +43,11 @@ pub record GoesOn (Live : Marks → List ℕ → Type 0) (due : Marks → List �
   pub due-is : change .due ≡ due (change .marks) (changed (change .edit) times)
   pub kept-is : change .kept ≡ kept (change .marks) (changed (change .edit) times)
   pub in-time : t ≤ change .due
+
+-- of a type in which each time waits, or none does: how many wait, of n times
+abbrev pub Waits : Bool → ℕ → ℕ → Type 0
+Waits true waiting n = waiting ≡ n
+Waits false waiting n = (waiting ≡ 0) × (n ≤ waitingLimit)
 
 -- by what a change does: it breaks the row, or the row goes on with it
 abbrev pub ByOutcome : Type 0 → (Change → Type 0) → Change → Type 0
@@ -73,7 +78,7 @@ pub record Exact (c : Constraint) (decide : Marks → List ℕ → ℕ → ℕ �
       → clock steps ≤ due marks times → Open c steps
   -- Waiting
   pub waits : {steps : List Step} {marks : Marks} {times : List ℕ} → Past steps → Live steps marks times
-      → (waiting c steps ≡ length times) ⊎ ((waiting c steps ≡ 0) × (length times ≤ waitingLimit))
+      → Waits (waitsIn (ruleOf c .form)) (waiting c steps) (length times)
   -- Close
   pub is-kept : {steps : List Step} {marks : Marks} {times : List ℕ} → Past steps → Live steps marks times → clock steps ≤ due marks times
       → kept marks times ≡ true → Meets c steps

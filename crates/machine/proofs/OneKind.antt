@@ -3,21 +3,21 @@
 use Prim.Native.Nat.{ℕ, zero, suc, _≤_, _<_}
 use native.Mathlib.Omega.{arith}
 use mathlib.Core.Path.{_≡_, refl, sym, subst}
-use mathlib.Core.Bool.{Bool, true, true≢false}
+use mathlib.Core.Bool.{Bool, true, false, true≢false}
 use mathlib.Core.List.{List, [], _∷_, _++_, append-nil}
-use mathlib.Core.Logic.{_↔_, inr}
+use mathlib.Core.Logic.{_↔_}
 use lib.ListN.{length}
 use Rattle.constraint.specs.Limits.{lastTime, noLimit, waitingLimit}
 use Rattle.constraint.specs.Steps.{Step, event, tick, at, times, own, clock}
 use Rattle.constraint.specs.Meets.{Meets}
 use Rattle.constraint.specs.Continuation.{Open, stop}
 use Rattle.constraint.specs.Waiting.{waiting}
-use Rattle.constraint.specs.Accepted.{streams}
+use Rattle.constraint.proofs.Streams.{streams}
 use Rattle.constraint.specs.declared.Constraint.{Constraint}
 use Rattle.constraint.proofs.Lists.{Each, Rising, rising-snoc}
 use Rattle.constraint.proofs.History.{Accepts, Past, times-append, times-own, times-tick, clock-event, clock-tick}
 use Rattle.constraint.proofs.Continuations.{SameTimes, same-times, continues-late, continues-clock}
-use Rattle.machine.specs.Rule.{ruleOf, startWords}
+use Rattle.machine.specs.Rule.{ruleOf, waitsIn, startWords}
 use Rattle.machine.specs.Parts.{noMarks}
 use Rattle.machine.specs.declared.Marks.{Marks}
 use Rattle.machine.specs.declared.Change.{Change}
@@ -41,6 +41,7 @@ pub record OneKind (c : Constraint) (decide : Marks → List ℕ → ℕ → ℕ
   pub one-kind : streams c ≡ kind ∷ []
   pub no-words : startWords (ruleOf c) ≡ []
   pub meets : (steps : List Step) → Meets c steps ↔ Says (times kind steps) (clock steps)
+  pub none-waits : waitsIn (ruleOf c .form) ≡ false
   pub waits-none : (steps : List Step) → waiting c steps ≡ 0
   -- what it says at a later clock, of further events that are not before this one, it says now of the first ones
   pub says-first : (xs ys : List ℕ) (now later : ℕ) → now ≤ later → Each (λ y. now ≤ y) ys → Says (xs ++ ys) later → Says xs now
@@ -135,7 +136,7 @@ module _ (c : Constraint) (decide : Marks → List ℕ → ℕ → ℕ → Chang
         same = same _ _ _ _;
         late = late _ _ _ _;
         is-open = λ p o live soon. ([], stop, rw (append-nil _) (is-met _ _ _ p live soon));
-        waits = λ p live. inr (r .waits-none _, r .keeps-few live);
+        waits = λ p live. rw (r .none-waits) (r .waits-none _, r .keeps-few live);
         is-kept = λ p live soon e. is-met _ _ _ p live soon;
         not-kept = λ p live e. absurd (true≢false e);
       }

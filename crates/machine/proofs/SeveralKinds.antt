@@ -8,7 +8,8 @@ use mathlib.Core.Logic.{by-cases}
 use lib.ListN.{length}
 use Rattle.constraint.specs.Limits.{lastKind, streamCount}
 use Rattle.constraint.specs.Steps.{at}
-use Rattle.constraint.specs.Accepted.{streams, KindsFit}
+use Rattle.constraint.specs.Accepted.{KindsFit}
+use Rattle.constraint.proofs.Streams.{streams}
 use Rattle.constraint.specs.declared.Constraint.{Constraint}
 use Rattle.constraint.proofs.Lists.{Each}
 use Rattle.machine.proofs.Exact.{OfStream}

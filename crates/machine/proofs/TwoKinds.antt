@@ -6,20 +6,21 @@ use mathlib.Core.Bool.{Bool, true, false}
 use mathlib.Core.List.{List, [], _∷_, _++_, append-nil}
 use mathlib.Core.Logic.{_⊎_, inl, inr}
 use lib.ListN.{length}
-use Rattle.constraint.specs.Limits.{lastTime, waitingLimit}
+use Rattle.constraint.specs.Limits.{lastTime}
 use Rattle.constraint.specs.Steps.{Step, event, tick, at, times, own, clock, closed}
 use Rattle.constraint.specs.Meets.{Meets}
 use Rattle.constraint.specs.Continuation.{Continues, Open}
 use Rattle.constraint.specs.Waiting.{waiting}
-use Rattle.constraint.specs.Accepted.{kinds, streams, KindsFit}
+use Rattle.constraint.specs.Accepted.{kinds, KindsFit}
+use Rattle.constraint.proofs.Streams.{streams}
 use Rattle.constraint.specs.declared.Constraint.{Constraint}
 use Rattle.constraint.proofs.Lists.{Each, Rising}
 use Rattle.constraint.proofs.History.{Accepts, Past, times-append, times-own, times-other, times-tick, clock-event, clock-tick}
 use Rattle.constraint.proofs.Continuations.{SameTimes, same-times, events, continues-late, continues-events, times-events, times-no-events}
-use Rattle.machine.specs.Rule.{ruleOf, startWords}
+use Rattle.machine.specs.Rule.{ruleOf, waitsIn, startWords}
 use Rattle.machine.specs.declared.Marks.{Marks}
 use Rattle.machine.specs.declared.Change.{Change}
-use Rattle.machine.proofs.Exact.{OfStream, Starts, GoesOn, ByOutcome, outcome-map, Exact}
+use Rattle.machine.proofs.Exact.{OfStream, Starts, GoesOn, Waits, ByOutcome, outcome-map, Exact}
 use Rattle.machine.proofs.SeveralKinds.{kinds-stream, kinds-apart, by-place}
 
 -- what is known of the times recorded up to a clock
@@ -41,7 +42,7 @@ Lost t Meet sources targets =
 
 -- what a row of two kinds proves over its lists of times; the parts are those of `Exact`
 pub record TwoKinds (decide : Marks → List ℕ → ℕ → ℕ → Change) (source target : ℕ) (Meet : List ℕ → List ℕ → Type 0)
-    (wait : List ℕ → List ℕ → ℕ) : Type 1 where
+    (waits-in : Bool) (wait : List ℕ → List ℕ → ℕ) : Type 1 where
   pub Live : List ℕ → List ℕ → Marks → List ℕ → Type 0
   pub due : Marks → List ℕ → ℕ
   pub kept : Marks → List ℕ → Bool
@@ -58,27 +59,28 @@ pub record TwoKinds (decide : Marks → List ℕ → ℕ → ℕ → Change) (so
       → Live sources targets marks times → now ≤ due marks times
       → Further now sources (λ all. Meet all targets) ⊎ Further now targets (λ all. Meet sources all)
   pub waits : {sources targets : List ℕ} {marks : Marks} {times : List ℕ} → Live sources targets marks times
-      → (wait sources targets ≡ length times) ⊎ ((wait sources targets ≡ 0) × (length times ≤ waitingLimit))
+      → Waits waits-in (wait sources targets) (length times)
   pub is-kept : {sources targets : List ℕ} {marks : Marks} {times : List ℕ} → Live sources targets marks times
       → kept marks times ≡ true → Meet sources targets
   pub not-kept : {sources targets : List ℕ} {marks : Marks} {times : List ℕ} → Live sources targets marks times
       → kept marks times ≡ false → ¬ Meet sources targets
 
 -- a constraint whose definition and what waits are said of two lists of times
-pub record OfTwoKinds (c : Constraint) (source target : ℕ) (Meet : List ℕ → List ℕ → Type 0) (wait : List ℕ → List ℕ → ℕ) : Type 1 where
+pub record OfTwoKinds (c : Constraint) (source target : ℕ) (Meet : List ℕ → List ℕ → Type 0) (waits-in : Bool) (wait : List ℕ → List ℕ → ℕ) : Type 1 where
   pub kinds-are : kinds c ≡ source ∷ target ∷ []
   pub streams-are : streams c ≡ source ∷ target ∷ []
   pub kinds-fit : KindsFit (kinds c)
   pub no-words : startWords (ruleOf c) ≡ []
   pub meets-are : (steps : List Step) → Meets c steps ≡ Meet (times source steps) (times target steps)
+  pub waits-are : waitsIn (ruleOf c .form) ≡ waits-in
   pub waiting-is : (steps : List Step) → waiting c steps ≡ wait (times source steps) (times target steps)
 
 -- the two kinds differ
 pub target-apart : {source target : ℕ} → KindsFit (source ∷ target ∷ []) → ¬ (target ≡ source)
 target-apart {source} {target} fit = kinds-apart (source ∷ target ∷ []) fit 1 0 (omega arith) (omega arith) (λ e. omega arith)
 
-module _ {c : Constraint} {source target : ℕ} {Meet : List ℕ → List ℕ → Type 0} {wait : List ℕ → List ℕ → ℕ}
-    (of : OfTwoKinds c source target Meet wait) (decide : Marks → List ℕ → ℕ → ℕ → Change) (laws : TwoKinds decide source target Meet wait) where
+module _ {c : Constraint} {source target : ℕ} {Meet : List ℕ → List ℕ → Type 0} {waits-in : Bool} {wait : List ℕ → List ℕ → ℕ}
+    (of : OfTwoKinds c source target Meet waits-in wait) (decide : Marks → List ℕ → ℕ → ℕ → Change) (laws : TwoKinds decide source target Meet waits-in wait) where
   -- ---- the two kinds
 
   pair-fit : KindsFit (source ∷ target ∷ [])
@@ -201,7 +203,7 @@ module _ {c : Constraint} {source target : ℕ} {Meet : List ℕ → List ℕ �
         same = pair-same _ _ _ _;
         late = λ p. pair-late _ _ _ _;
         is-open = λ p o live soon. pair-open _ o (laws .is-open (up-to _ _ p (omega arith) (p .small)) live soon);
-        waits = λ p live. rw (of .waiting-is _) (laws .waits live);
+        waits = λ p live. rw (of .waits-are, of .waiting-is _) (laws .waits live);
         is-kept = λ p live soon k. transport (sym (of .meets-are _)) (laws .is-kept live k);
         not-kept = λ p live k m. laws .not-kept live k (transport (of .meets-are _) m);
       }

@@ -52,12 +52,12 @@ abbrev pub withLast : Marks → ℕ → Marks
 withLast m last = marksOf last (m .first) (m .second) m
 
 -- the change of a row that goes on, and that of one that breaks
-abbrev pub goesOn : Edit → Marks → ℕ → Bool → Change
-goesOn edit marks due kept = record { breaks = false; edit = edit; marks = marks; due = due; kept = kept }
+abbrev pub continuesWith : Edit → Marks → ℕ → Bool → Change
+continuesWith edit marks due kept = record { breaks = false; edit = edit; marks = marks; due = due; kept = kept }
 
 abbrev pub breaking : Change
 breaking = record { breaks = true; edit = Drop 0; marks = noMarks; due = 0; kept = false }
 
 -- the change of a row each of whose times waits until upper after it: the oldest gives the due time, and it is kept where none waits
 abbrev pub waits : ℕ → List ℕ → Edit → Marks → Change
-waits upper times edit marks = goesOn edit marks (dueOldest upper (changed edit times)) (none-left (changed edit times))
+waits upper times edit marks = continuesWith edit marks (dueOldest upper (changed edit times)) (none-left (changed edit times))

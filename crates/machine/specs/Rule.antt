@@ -1,7 +1,7 @@
 -- A constraint as numbers.
 use Prim.Native.Nat.{ℕ}
 use mathlib.Core.List.{List}
-use mathlib.Core.Bool.{cond}
+use mathlib.Core.Bool.{Bool, cond, _||_}
 use lib.Dec.{eqb}
 use lib.ListN.{replicate}
 use Rattle.constraint.specs.Limits.{noLimit}
@@ -58,6 +58,10 @@ ruleOf (StrongSynchronization4 first second third fourth tolerance) = groupRule 
 ruleOf (ExecutionTime start stop preempt resume lower upper) = groupRule 8 start stop preempt resume lower upper
 ruleOf (Reaction stimulus response minimum maximum) = pairRule 9 stimulus response 0 minimum maximum 0 0
 ruleOf (Repetition event span lower upper jitter) = pairRule 10 event noKind span lower upper jitter 0
+
+-- what a row keeps times of waits in it: in a Delay, a StrongDelay and a StrongSynchronization (§6.1 to §6.3), and in no other type (§6.4)
+abbrev pub waitsIn : ℕ → Bool
+waitsIn form = eqb form 1 || eqb form 2 || eqb form 7
 
 -- how many words a row of the rule has from the start, each 0, and these words: a Reaction has two for each colour
 abbrev pub wordsOf : Rule → ℕ

@@ -13,7 +13,7 @@ ghost use lib.ListN.{drop};
 ghost use Rattle.constraint.specs.Streams.{kindOf};
 ghost use Rattle.queue.specs.Ring.{ring};
 ghost use Rattle.queue.specs.declared.Edit.the-variants.{Drop, Push};
-ghost use Rattle.machine.specs.Parts.{plus, farEnough, front, dueOr, noMarks, withLast, goesOn, breaking, waits};
+ghost use Rattle.machine.specs.Parts.{plus, farEnough, front, dueOr, noMarks, withLast, continuesWith, breaking, waits};
 
 // a + b, or the largest number where that is more.
 pub fn plus(a: u64, b: u64) -> u64
@@ -112,7 +112,7 @@ pub fn with_last(marks: Marks, last: u64) -> Marks
 
 // The change of a row that goes on.
 pub fn goes_on(edit: Edit, marks: Marks, due: u64, kept: bool) -> Change
-    ensures { λ r. ⌜ r ≡ goesOn edit marks due kept ⌝ }
+    ensures { λ r. ⌜ r ≡ continuesWith edit marks due kept ⌝ }
 {
     Change {
         breaks: false,

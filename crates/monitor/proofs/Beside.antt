@@ -26,9 +26,9 @@ use Rattle.row.specs.declared.Row.{Row}
 use Rattle.row.specs.declared.RowStep.{RowStep}
 use Rattle.row.proofs.Exact.{Sound, Exact}
 use Rattle.row.proofs.Steps.{Fits, After, seen, fits-start, fits-step, close-calm, fits-reads}
-use Rattle.row.proofs.Unheard.{event-as-tick}
+use Rattle.row.proofs.Independent.{event-as-tick}
 use Rattle.row.proofs.Engine.{engine}
-use Rattle.monitor.specs.Beside.{OtherAt, Beside, same-event, others, closes, EachBeside, no-more, place, allTaken, Takes}
+use Rattle.monitor.specs.Beside.{OtherAt, Beside, same-event, others, closes, EachBeside, no-more, place, allTaken, TakesAll}
 
 -- ---- calls that are all taken
 
@@ -39,7 +39,7 @@ run-steps rows [] left end done = sym (append-nil (left .steps))
 run-steps rows (s ∷ calls) left end (request _ _ judged run) =
     run-steps rows calls (leftBy left (asks s) Taken) end run ∙ append-assoc (left .steps) (stepFor s ∷ []) (map stepFor calls)
 
-takes-steps : (rows : List Constraint) (calls : List Call) (steps : List Step) → Takes rows calls steps → steps ≡ map stepFor calls
+takes-steps : (rows : List Constraint) (calls : List Call) (steps : List Step) → TakesAll rows calls steps → steps ≡ map stepFor calls
 takes-steps rows calls steps taken = run-steps rows calls noneLeft (record { steps = steps; may = taken .0 }) (taken .1)
 
 -- so are the first n of them
@@ -51,8 +51,8 @@ run-first rows (suc n) (s ∷ calls) left end (request _ _ judged run) =
     let rest = run-first rows n calls (leftBy left (asks s) Taken) end run in
     (rest .0, request (asks s) Taken judged (rest .1), rest .2 ∙ append-assoc (left .steps) (stepFor s ∷ []) (take n (map stepFor calls)))
 
-pub takes-first : (rows : List Constraint) (n : ℕ) (calls : List Call) (steps : List Step) → Takes rows calls steps
-    → Takes rows (take n calls) (take n steps)
+pub takes-first : (rows : List Constraint) (n : ℕ) (calls : List Call) (steps : List Step) → TakesAll rows calls steps
+    → TakesAll rows (take n calls) (take n steps)
 takes-first rows n calls steps taken =
     let first = run-first rows n calls noneLeft (record { steps = steps; may = taken .0 }) (taken .1) in (
       first .0 .may,
@@ -184,7 +184,7 @@ module _ (c : Constraint) (sound : Sound c) where
         (fits-next (left .steps) (left′ .steps) r both s s′ judged judged′ beside) calls calls′ end end′ run run′ later
 
     -- what the row reads after both
-    pub read-both : (calls calls′ : List Call) (steps steps′ : List Step) → Takes rows calls steps → Takes rows′ calls′ steps′
+    pub read-both : (calls calls′ : List Call) (steps steps′ : List Step) → TakesAll rows calls steps → TakesAll rows′ calls′ steps′
         → EachBeside c steps steps′ → (v : Verdict) × Reads c steps v × Reads c steps′ v
     read-both calls calls′ steps steps′ taken taken′ beside =
         let last = fits-runs noneLeft noneLeft (rowOf c) start calls calls′ (record { steps = steps; may = taken .0 }) (record { steps = steps′; may = taken′ .0 }) (taken .1) (taken′ .1) of-calls in

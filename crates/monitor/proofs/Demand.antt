@@ -74,12 +74,12 @@ accepted-few rows accepted = ⊎-elim (λ e. omega arith) (λ h. omega arith) (a
 
 -- ---- verdicts
 
-has-row : (rows : List Constraint) (i : ℕ) → i < length rows → (c : Constraint) × (getElem? rows i ≡ some c)
+pub has-row : (rows : List Constraint) (i : ℕ) → i < length rows → (c : Constraint) × (getElem? rows i ≡ some c)
 has-row [] i h = absurd (omega arith)
 has-row (c ∷ rows) zero h = (c, refl)
 has-row (c ∷ rows) (suc i) h = has-row rows i (omega arith)
 
-has-none : (rows : List Constraint) (i : ℕ) → length rows ≤ i → getElem? rows i ≡ none
+pub has-none : (rows : List Constraint) (i : ℕ) → length rows ≤ i → getElem? rows i ≡ none
 has-none [] i h = refl
 has-none (c ∷ rows) zero h = absurd (omega arith)
 has-none (c ∷ rows) (suc i) h = has-none rows i (omega arith)

@@ -95,7 +95,7 @@ module _ (engine : (c : Constraint) → Sound c → Exact c) where
 
     -- ---- what a taken call leaves
 
-    seen-is : (call : Call) → occurrenceOf m call ≡ seen steps (stepFor call)
+    pub seen-is : (call : Call) → occurrenceOf m call ≡ seen steps (stepFor call)
     seen-is (Call.Event k t) = refl
     seen-is (Call.ColouredEvent k colour t) = refl
     seen-is (Call.Tick t) = refl

@@ -5,7 +5,7 @@ pub mod Demand
 pub mod Withdrawing
 pub mod Theorem
 pub mod Beside
-pub mod Unheard
+pub mod Independent
 pub mod Answers
 pub mod First
 pub mod Filled

@@ -26,8 +26,8 @@ use Rattle.spans.proofs.Laws.Repeat.{silent-repeat-shut}
 use Rattle.points.proofs.Laws.Sporadic.{silent-sporadic-shut}
 use Rattle.row.proofs.Exact.{Sound}
 use Rattle.row.proofs.Engine.{engine}
-use Rattle.monitor.specs.Machine.{monitorOf, Same, verdictOf}
-use Rattle.monitor.specs.Beside.{Takes}
+use Rattle.monitor.specs.Machine.{monitorOf, SameBare, verdictOf}
+use Rattle.monitor.specs.Beside.{TakesAll}
 use Rattle.monitor.specs.Contract.{resultOf, step, after, Remains, Steps, Reading}
 use Rattle.monitor.specs.declared.Monitor.{Monitor}
 use Rattle.monitor.specs.declared.Stepped.{Stepped}
@@ -46,7 +46,7 @@ broken-stays = stays engine
 
 -- §3.14: after any requests over an accepted table the monitor is, but for what may be withdrawn, the one after the calls that are left
 pub struck-out : (rows : List Constraint) → Accepted rows → (requests : List Request)
-    → (left : Left) × Remains rows requests left × (calls : List Call) × Takes rows calls (left .steps) × Same (after rows requests) (after rows (map asks calls))
+    → (left : Left) × Remains rows requests left × (calls : List Call) × TakesAll rows calls (left .steps) × SameBare (after rows requests) (after rows (map asks calls))
 struck-out = struck engine
 
 -- what equals the machine's result for a request keeps the contract of a request

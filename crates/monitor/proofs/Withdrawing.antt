@@ -36,9 +36,9 @@ use Rattle.row.specs.declared.Row.{Row}
 use Rattle.row.proofs.Exact.{Sound, Exact}
 use Rattle.row.proofs.Undo.{row-without}
 use Rattle.monitor.specs.Machine.{monitorOf, mapFirst, zipFirst, refuses, takes, nextStep, placeFor, freeAfter, nextFor, occurrenceOf, crowds, refusalBy}
-use Rattle.monitor.specs.Machine.{takenCall, stepOf, verdictOf, placeIn, withdrawn, withdrawOf, bare, Same}
+use Rattle.monitor.specs.Machine.{takenCall, stepOf, verdictOf, placeIn, withdrawn, withdrawOf, bare, SameBare}
 use Rattle.monitor.specs.Contract.{resultOf, step, after, Remains, Steps, Reading}
-use Rattle.monitor.specs.Beside.{allTaken, Takes}
+use Rattle.monitor.specs.Beside.{allTaken, TakesAll}
 use Rattle.monitor.specs.declared.Monitor.{Monitor}
 use Rattle.monitor.specs.declared.Stepped.{Stepped}
 use Rattle.monitor.proofs.Answers.{place-small}
@@ -57,7 +57,7 @@ answer-by true c n m x k y = refl
 answer-by false true n m x k y = refl
 answer-by false false n m x k y = refl
 
-same-by : (b c : Bool) (n : ℕ) (m x k y : Monitor) → Same m k → Same x y → Same (by-tests b c n m x .monitor) (by-tests b c n k y .monitor)
+same-by : (b c : Bool) (n : ℕ) (m x k y : Monitor) → SameBare m k → SameBare x y → SameBare (by-tests b c n m x .monitor) (by-tests b c n k y .monitor)
 same-by true c n m x k y e f = e
 same-by false true n m x k y e f = e
 same-by false false n m x k y e f = f
@@ -69,19 +69,19 @@ module _ (m : Monitor) (s : Call) where
       let number = refusalBy s (m .closed) (m .count) (m .clock) (nextFor m s) in
       answer-by (ltb 0 number) (crowds m s) number (bare m) (takenCall (bare m) s) m (takenCall m s)
 
-  bare-step : Same (stepOf (bare m) s .monitor) (stepOf m s .monitor)
+  bare-step : SameBare (stepOf (bare m) s .monitor) (stepOf m s .monitor)
   unfolding stepOf bare takenCall
   bare-step =
       let number = refusalBy s (m .closed) (m .count) (m .clock) (nextFor m s) in
       same-by (ltb 0 number) (crowds m s) number (bare m) (takenCall (bare m) s) m (takenCall m s) refl refl
 
-pub same-answer : (a b : Monitor) (s : Call) → Same a b → stepOf a s .answer ≡ stepOf b s .answer
+pub same-answer : (a b : Monitor) (s : Call) → SameBare a b → stepOf a s .answer ≡ stepOf b s .answer
 same-answer a b s e = sym (bare-answer a s) ∙ ap (λ (x : Monitor). stepOf x s .answer) e ∙ bare-answer b s
 
-pub same-step : (a b : Monitor) (s : Call) → Same a b → Same (stepOf a s .monitor) (stepOf b s .monitor)
+pub same-step : (a b : Monitor) (s : Call) → SameBare a b → SameBare (stepOf a s .monitor) (stepOf b s .monitor)
 same-step a b s e = sym (bare-step a s) ∙ ap (λ (x : Monitor). bare (stepOf x s .monitor)) e ∙ bare-step b s
 
-pub same-verdict : (a b : Monitor) (i : ℕ) → Same a b → verdictOf a i ≡ verdictOf b i
+pub same-verdict : (a b : Monitor) (i : ℕ) → SameBare a b → verdictOf a i ≡ verdictOf b i
 unfolding verdictOf bare
 same-verdict a b i e = ap (λ (x : Monitor). verdictOf x i) e
 
@@ -179,8 +179,8 @@ unfolding after play
 after-more rows requests r = sym (play-append (monitorOf rows) requests (r ∷ []))
 
 -- one call more, which is taken, and the monitor after it
-pub takes-more : (rows : List Constraint) (calls : List Call) (steps : List Step) (s : Call) → Takes rows calls steps → Judged (questions rows steps s) Taken
-    → Takes rows (calls ++ (s ∷ [])) (steps ++ (stepFor s ∷ []))
+pub takes-more : (rows : List Constraint) (calls : List Call) (steps : List Step) (s : Call) → TakesAll rows calls steps → Judged (questions rows steps s) Taken
+    → TakesAll rows (calls ++ (s ∷ [])) (steps ++ (stepFor s ∷ []))
 takes-more rows calls steps s taken judged = (true, run-more rows calls s (taken .1) judged)
 
 asks-more : (calls : List Call) (s : Call) → map asks calls ++ (asks s ∷ []) ≡ map asks (calls ++ (s ∷ []))
@@ -223,7 +223,7 @@ module _ (engine : (c : Constraint) → Sound c → Exact c) (rows : List Constr
         fit = f .fit;
       }
 
-  pub follows-same : (steps : List Step) (a b : Monitor) → Same a b → Follows engine rows steps a → Follows engine rows steps b
+  pub follows-same : (steps : List Step) (a b : Monitor) → SameBare a b → Follows engine rows steps a → Follows engine rows steps b
   follows-same steps a b e f = bare-follows steps b (subst (Follows engine rows steps) e (follows-bare steps a f))
 
   -- the monitor follows the steps; what is kept of each row is of a step that it has; and it is the monitor after calls that are all taken
@@ -231,8 +231,8 @@ module _ (engine : (c : Constraint) → Sound c → Exact c) (rows : List Constr
     pub follows : Follows engine rows steps m
     pub stamped : Stamped (length rows) (m .count + 1) (m .before)
     pub calls : List Call
-    pub taken : Takes rows calls steps
-    pub same : Same m (after rows (map asks calls))
+    pub taken : TakesAll rows calls steps
+    pub same : SameBare m (after rows (map asks calls))
 
   -- and what may be withdrawn is there to be withdrawn
   abbrev Ready : Left → Monitor → Type 0
@@ -271,7 +271,7 @@ module _ (engine : (c : Constraint) → Sound c → Exact c) (rows : List Constr
       stamped-next : Stamped (length rows) (nextStep m) (m .before)
       stamped-next = subst (λ (n : ℕ). Stamped (length rows) n (m .before)) (sym next-number) (p .stamped)
 
-      withdrawn-same : Same (withdrawn (takenCall m s)) m
+      withdrawn-same : SameBare (withdrawn (takenCall m s)) m
       unfolding withdrawn takenCall bare
       withdrawn-same =
           ap₂ (λ (l : List Row) (next : List ℕ).
@@ -390,7 +390,7 @@ module _ (engine : (c : Constraint) → Sound c → Exact c) (rows : List Constr
   unfolding after
   remains-follows accepted requests remains = held-at accepted requests (remains .1) .part .follows
 
--- ---- demand 3
+-- ---- the promise
 
 module _ (engine : (c : Constraint) → Sound c → Exact c) where
   final : (rows : List Constraint) → Accepted rows → (requests further : List Request) {answers more : List Answer} {left end : Left}
@@ -440,7 +440,7 @@ module _ (engine : (c : Constraint) → Sound c → Exact c) where
 
   -- after any requests the monitor is the one after calls that are all taken and that record what is left, but for what may be withdrawn
   pub struck : (rows : List Constraint) → Accepted rows → (requests : List Request)
-      → (left : Left) × Remains rows requests left × (calls : List Call) × Takes rows calls (left .steps) × Same (after rows requests) (after rows (map asks calls))
+      → (left : Left) × Remains rows requests left × (calls : List Call) × TakesAll rows calls (left .steps) × SameBare (after rows requests) (after rows (map asks calls))
   unfolding after
   struck rows accepted requests =
       let h = held engine rows accepted requests in

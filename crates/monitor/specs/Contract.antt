@@ -1,15 +1,13 @@
 -- What the monitor's functions promise, in the buyer's words: over every accepted table and every list of calls and withdrawals.
-use Prim.Native.Nat.{ℕ, _<_}
+use Prim.Native.Nat.{ℕ}
 use mathlib.Core.Path.{_≡_}
 use mathlib.Core.List.{List, [], _∷_, _++_}
 use mathlib.Core.Option.{Option, none, some}
-use lib.ListN.{length, getD}
-use Rattle.constraint.specs.Limits.{rowLimit}
 use Rattle.constraint.specs.Questions.{Judged}
 use Rattle.constraint.specs.Accepted.{rowsQuestions, Accepted}
-use Rattle.constraint.specs.Rows.{rowsOf}
+use Rattle.constraint.specs.Records.{rowsOf}
 use Rattle.constraint.specs.Run.{Request, asks, withdraws, Left, noneLeft, requestQuestions, Run}
-use Rattle.constraint.specs.Promise.{ReadsRow, play}
+use Rattle.constraint.specs.Promise.{Outcome, ReadsRow, play}
 use Rattle.constraint.specs.declared.Answer.{Answer}
 use Rattle.constraint.specs.declared.Answer.the-variants.{Taken, Refused}
 use Rattle.constraint.specs.declared.Constraint.{Constraint}
@@ -25,8 +23,8 @@ abbrev pub resultOf : Monitor → Request → Stepped
 resultOf m (asks s) = stepOf m s
 resultOf m withdraws = withdrawOf m
 
--- a request as demand 3 takes it
-abbrev pub step : Monitor → Request → Rattle.constraint.specs.Promise.Stepped Monitor
+-- §3.4: a request, and the monitor that it is put to
+abbrev pub step : Monitor → Request → Outcome Monitor
 step m r = record { answer = resultOf m r .answer; monitor = resultOf m r .monitor }
 
 -- §3.4, §3.13: the monitor after a list of requests, from a fresh one over the rows
@@ -73,8 +71,3 @@ stepIn none = 0
 stepIn (some Verdict.Open) = 0
 stepIn (some Verdict.Kept) = 0
 stepIn (some (Verdict.Broken n)) = n
-
--- the step in the verdict of each row number
-pub record BrokenSteps (m : Monitor) (steps : List ℕ) : Type 0 where
-  pub whole : length steps ≡ rowLimit
-  pub each : (i : ℕ) → i < rowLimit → getD steps i 0 ≡ stepIn (verdictOf m i)

@@ -8,7 +8,7 @@ use lib.ListN.{length, getD, set, replicate}
 use lib.Dec.{leb, ltb}
 use Rattle.constraint.specs.Limits.{lastKind, firstColoured, lastColour, streamCount, lastTime, lastCount, rowLimit}
 use Rattle.constraint.specs.Streams.{stream}
-use Rattle.constraint.specs.Rows.{filler}
+use Rattle.constraint.specs.Records.{filler}
 use Rattle.constraint.specs.declared.Answer.the-variants.{Taken, Refused}
 use Rattle.constraint.specs.declared.Call.{Call}
 use Rattle.constraint.specs.declared.Constraint.{Constraint}
@@ -204,5 +204,5 @@ bare m =
     }
 
 -- §3.14: two monitors that are the same in every word but what may be withdrawn
-abbrev pub Same : Monitor → Monitor → Type 0
-Same a b = bare a ≡ bare b
+abbrev pub SameBare : Monitor → Monitor → Type 0
+SameBare a b = bare a ≡ bare b

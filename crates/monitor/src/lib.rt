@@ -11,7 +11,7 @@ ghost use mathlib.Core.Path.{_≡_};
 ghost use Rattle.constraint.specs.Run.{asks, withdraws};
 ghost use Rattle.constraint.specs.declared.Call.{Call};
 ghost use Rattle.monitor.specs.Machine.{refuses, takes};
-ghost use Rattle.monitor.specs.Contract.{Freshly, Steps, VerdictOf, BrokenSteps};
+ghost use Rattle.monitor.specs.Contract.{Freshly, Steps, VerdictOf};
 
 pub mod calls;
 mod rows;
@@ -153,22 +153,6 @@ impl Monitor {
         let found = self.rows[at];
         let now = found.now;
         verdicts::by(row as u64, self.len, self.closed, now.broken)
-    }
-
-    // For each row the step that broke it; 0 where none did, and where there is no row.
-    pub fn broken(self) -> [u64; 32]
-        ensures { λ r. ⌜ BrokenSteps self r ⌝ }
-    {
-        let len = rows::held(self.len);
-        let mut steps = [0u64; 32];
-        let mut i = 0;
-        while i < len {
-            let row = self.rows[i];
-            let now = row.now;
-            steps[i] = now.broken;
-            i += 1;
-        }
-        steps
     }
 
     // The refusal with a number: the monitor as it is.

@@ -10,7 +10,7 @@ ghost use mathlib.Core.Path.{_≡_};
 ghost use Prim.Native.Nat.{_≤_, min};
 ghost use lib.ListN.{take};
 ghost use Rattle.constraint.specs.Limits.{rowLimit};
-ghost use Rattle.constraint.specs.Rows.{rowsOf};
+ghost use Rattle.constraint.specs.Records.{rowsOf};
 ghost use Rattle.monitor.specs.Machine.{monitorOf};
 ghost use Rattle.monitor.specs.Parts.{RowsAfter, rowsWithout};
 

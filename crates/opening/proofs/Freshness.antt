@@ -9,7 +9,7 @@ use lib.Dec.{eqb}
 use lib.ListN.{length, getD, set, replicate, length-map, List·getD-map, List·getD-append}
 use lib.Seq.{take-all}
 use Rattle.constraint.specs.Limits.{rowLimit, streamCount, waitingLimit}
-use Rattle.constraint.specs.Rows.{filler}
+use Rattle.constraint.specs.Records.{filler}
 use Rattle.constraint.specs.Promise.{play}
 use Rattle.constraint.specs.Table.{ReadsTable, table-of}
 use Rattle.constraint.specs.declared.Constraint.{Constraint}

@@ -4,7 +4,7 @@ use mathlib.Core.Path.{_≡_}
 use mathlib.Core.List.{[], _∷_}
 use lib.ListN.{length, replicate}
 use Rattle.constraint.specs.Limits.{streamCount}
-use Rattle.constraint.specs.Rows.{filler as the-filler}
+use Rattle.constraint.specs.Records.{filler as the-filler}
 use Rattle.machine.specs.Rule.{ruleOf}
 use Rattle.row.specs.Machine.{rowOf}
 use Rattle.inplace.specs.Index.{listCount, listSize, enlisted}

@@ -3,7 +3,7 @@ use Prim.Native.Nat.{ℕ, zero, suc}
 use mathlib.Core.List.{List}
 use lib.ListN.{replicate}
 use Rattle.constraint.specs.Limits.{rowLimit, streamCount}
-use Rattle.constraint.specs.Rows.{filler}
+use Rattle.constraint.specs.Records.{filler}
 use Rattle.constraint.specs.declared.Constraint.{Constraint}
 use Rattle.machine.specs.Rule.{ruleOf}
 use Rattle.row.specs.Machine.{rowOf}

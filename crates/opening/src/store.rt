@@ -11,7 +11,7 @@ ghost use Prim.Native.Nat.{_<_, _≤_};
 ghost use mathlib.Core.Path.{_≡_};
 ghost use lib.ListN.{length, replicate};
 ghost use Rattle.constraint.specs.Limits.{streamCount};
-ghost use Rattle.constraint.specs.Rows.{filler};
+ghost use Rattle.constraint.specs.Records.{filler};
 ghost use Rattle.machine.specs.Rule.{ruleOf};
 ghost use Rattle.inplace.specs.Index.{listCount, listSize, enlisted};
 ghost use Rattle.opening.specs.Store.{rowPut, blanked, numbersCleared, cleared, entered};

@@ -34,7 +34,7 @@ use Rattle.monitor.proofs.Following.{Follows}
 use Rattle.monitor.proofs.Withdrawing.{takes-more, after-call, remains-follows, steps-keep}
 use Rattle.recording.specs.Record.{CallAt}
 use Rattle.recording.proofs.Records.{record-judged, record-refused as record-not-there}
-use Rattle.order.specs.Order.{orderOf, After, Takes, refusedRead, AsksCall, ReadsNext}
+use Rattle.order.specs.Order.{orderOf, After, TakesCall, refusedRead, AsksCall, ReadsNext}
 use Rattle.order.specs.declared.RecordRead.{RecordRead}
 use Rattle.order.specs.declared.Order.{Order}
 
@@ -134,7 +134,7 @@ module _ (steps : List Step) (o : Order) (before : After steps o) where
 -- ---- what the code promises of a call and of a record
 
 module _ (o : Order) (s : Call) (n : ℕ) (is : n ≡ refusalOf o s) where
-  pub takes-refused : 0 < n → Takes o s (record { number = n; order = o })
+  pub takes-refused : 0 < n → TakesCall o s (record { number = n; order = o })
   takes-refused h =
       record {
         taken = λ e. absurd (omega (arith, e, h));
@@ -142,7 +142,7 @@ module _ (o : Order) (s : Call) (n : ℕ) (is : n ≡ refusalOf o s) where
         as-it-was = λ more. refl;
       }
 
-  pub takes-taken : n ≤ 0 → (later : Order) → later ≡ orderAfter o s → Takes o s (record { number = 0; order = later })
+  pub takes-taken : n ≤ 0 → (later : Order) → later ≡ orderAfter o s → TakesCall o s (record { number = 0; order = later })
   takes-taken h later e =
       record {
         taken = λ zero steps before. subst (λ (x : Order). Judged (questions [] steps s) Taken × After (steps ++ (stepFor s ∷ [])) x) (sym e) (call-taken steps o before s (omega (arith, is, h)));
@@ -155,9 +155,12 @@ module _ (bytes : List ℕ) (place : ℕ) (o : Order) where
   read-none not-there =
       record {
         taken = λ e. absurd (omega (arith, e));
-        call-is = λ e. absurd (omega (arith, e));
-        next-is = λ e. absurd (omega (arith, e));
         refused = λ more steps before. record-not-there [] steps bytes place not-there;
+        as-it-was = λ more. refl;
+        there = λ e. absurd (omega (arith, e));
+        call-is = λ whole. absurd (not-there whole);
+        next-is = λ whole. absurd (not-there whole);
+        none = λ _. refl;
       }
 
   pub read-call : (s : Call) (size : ℕ) (r : RecordRead) → CallAt (at bytes 0) bytes place s size → AsksCall o s (place + size) r → ReadsNext bytes place o r
@@ -167,9 +170,12 @@ module _ (bytes : List ℕ) (place : ℕ) (o : Order) where
           record-judged [] steps bytes place s size Taken read (given .0),
           subst (λ (x : Call). After (steps ++ (stepFor x ∷ [])) (r .order)) (sym (answered .call-is)) (given .1),
         );
-        call-is = λ e. read .call-read ∙ sym (answered .call-is);
-        next-is = λ e. (omega (arith, answered .next-is, read .size-read), omega (arith, answered .next-is, read .size-read, read .there .0 .1));
         refused = λ more steps before. record-judged [] steps bytes place s size (Refused (r .number)) read (answered .takes .refused more steps before);
+        as-it-was = answered .takes .as-it-was;
+        there = λ e. read .there;
+        call-is = λ whole. read .call-read ∙ sym (answered .call-is);
+        next-is = λ whole. (omega (arith, answered .next-is, read .size-read), omega (arith, answered .next-is, read .size-read, read .there .0 .1));
+        none = λ not-there. absurd (not-there (read .there));
       }
 
 -- ---- record by record

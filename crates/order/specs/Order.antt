@@ -7,11 +7,11 @@ use Rattle.constraint.specs.Steps.{Step, clock}
 use Rattle.constraint.specs.Questions.{Judged}
 use Rattle.constraint.specs.Run.{stepFor, questions, asks}
 use Rattle.constraint.specs.Table.{lengthAt}
-use Rattle.constraint.specs.Recording.{callAt, recordQuestions}
+use Rattle.constraint.specs.Recording.{RecordAt, callAt, recordQuestions}
 use Rattle.constraint.specs.declared.Answer.the-variants.{Taken, Refused}
 use Rattle.constraint.specs.declared.Call.{Call}
 use Rattle.monitor.specs.Contract.{after}
-use Rattle.monitor.specs.Beside.{Takes as TakesAll}
+use Rattle.monitor.specs.Beside.{TakesAll}
 use Rattle.monitor.specs.declared.Monitor.{Monitor}
 use Rattle.order.specs.declared.Order.{Order}
 use Rattle.order.specs.declared.RecordRead.{RecordRead}
@@ -32,7 +32,7 @@ abbrev pub Starts : Order → Type 0
 Starts o = After [] o
 
 -- a call: 0 where its questions but 12 are all answered "yes", and the order after it; else the number of the first "no", and the order as it was
-pub record Takes (o : Order) (call : Call) (r : Answered) : Type 0 where
+pub record TakesCall (o : Order) (call : Call) (r : Answered) : Type 0 where
   pub taken : r .number ≡ 0 → (steps : List Step) → After steps o
       → Judged (questions [] steps call) Taken × After (steps ++ (stepFor call ∷ [])) (r .order)
   pub refused : 0 < r .number → (steps : List Step) → After steps o → Judged (questions [] steps call) (Refused (r .number))
@@ -44,15 +44,18 @@ refusedRead o n = record { number = n; call = Call.Close; next = 0; order = o }
 
 -- the answer to a record that has a call and ends before a place
 pub record AsksCall (o : Order) (call : Call) (next : ℕ) (r : RecordRead) : Type 0 where
-  pub takes : Takes o call (record { number = r .number; order = r .order })
+  pub takes : TakesCall o call (record { number = r .number; order = r .order })
   pub call-is : r .call ≡ call
   pub next-is : r .next ≡ next
 
--- the record at a place: 0 where 14 and its step's questions but 12 are all answered "yes", its call, the place behind it and the order
--- after it; else the number of the first "no"
+-- the record at a place: 0 where 14 and its step's questions but 12 are all answered "yes", and the order after it; else the number of the
+-- first "no", and the order as it was. Where 14 is answered "yes", its call and the place behind it
 pub record ReadsNext (bytes : List ℕ) (place : ℕ) (o : Order) (r : RecordRead) : Type 0 where
   pub taken : r .number ≡ 0 → (steps : List Step) → After steps o
       → Judged (recordQuestions [] steps bytes place) Taken × After (steps ++ (stepFor (r .call) ∷ [])) (r .order)
-  pub call-is : r .number ≡ 0 → callAt bytes place ≡ r .call
-  pub next-is : r .number ≡ 0 → (r .next ≡ place + 2 + lengthAt bytes place) × (r .next ≤ length bytes)
   pub refused : 0 < r .number → (steps : List Step) → After steps o → Judged (recordQuestions [] steps bytes place) (Refused (r .number))
+  pub as-it-was : 0 < r .number → r .order ≡ o
+  pub there : r .number ≡ 0 → RecordAt bytes place
+  pub call-is : RecordAt bytes place → callAt bytes place ≡ r .call
+  pub next-is : RecordAt bytes place → (r .next ≡ place + 2 + lengthAt bytes place) × (r .next ≤ length bytes)
+  pub none : ¬ RecordAt bytes place → r ≡ refusedRead o 14

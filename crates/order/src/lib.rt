@@ -5,7 +5,7 @@ use machine::parts::plus;
 use monitor::calls;
 use recording::Record;
 ghost use mathlib.Core.Path.{_≡_};
-ghost use Rattle.order.specs.Order.{Starts, Takes, refusedRead, AsksCall, ReadsNext};
+ghost use Rattle.order.specs.Order.{Starts, TakesCall, refusedRead, AsksCall, ReadsNext};
 
 pub struct Order {
     pub clock: u64,
@@ -46,7 +46,7 @@ impl Order {
 
     // The answer to a call: questions 8 to 11, 19 and 24; and the order after it, on a refusal as it was.
     pub fn take(self, call: Call) -> Answered
-        ensures { λ r. ⌜ Takes self call r ⌝ }
+        ensures { λ r. ⌜ TakesCall self call r ⌝ }
     {
         let at = calls::place(call);
         let next = self.next[at];

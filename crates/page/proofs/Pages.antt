@@ -14,22 +14,8 @@ use lib.Seq.{sets}
 use lib.Dec.{eqb}
 use borrow.Author.Tests.{eqb-true, eqb-false}
 use Rattle.constraint.specs.Report.{lineEnd}
-use Rattle.constraint.specs.Page.{
-  pageWidth,
-  lineText,
-  pageLine,
-  hyphen,
-  hyphens,
-  heading,
-  pageLines,
-  pageText,
-  linesOf,
-  pageLength,
-  Lines,
-  no-line,
-  one-more,
-  lineStart,
-}
+use Rattle.constraint.specs.Page.{pageWidth, lineText, pageLine, hyphens, heading, pageLines, pageText}
+use Rattle.page.specs.ReadBack.{linesOf, pageLength, Lines, no-line, one-more, lineStart}
 use Rattle.constraint.specs.declared.Verdict.{Verdict}
 use Rattle.constraint.proofs.Lists.{split}
 use Rattle.page.proofs.Lines.{text-length, text-printed, line-length, stored}
@@ -63,7 +49,7 @@ lines-append {b = b} x y (one-more {n} line later wide free some) more =
 hyphens-line : Lines 1 hyphens
 unfolding hyphens
 hyphens-line =
-    one-more (replicate pageWidth hyphen) [] refl (λ k h e. let same : 45 ≡ lineEnd = rw (getD-replicate 72 k hyphen 0 h) at e in omega arith) no-line
+    one-more (replicate pageWidth 45) [] refl (λ k h e. let same : 45 ≡ lineEnd = rw (getD-replicate {A = ℕ} 72 k 45 0 h) at e in omega arith) no-line
 
 heading-lines : (i : ℕ) → Lines (headings i) (heading i)
 heading-lines i =

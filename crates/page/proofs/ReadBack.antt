@@ -14,24 +14,9 @@ use lib.Seq.{take-at, drop-at, drop-append-add}
 use lib.Dec.{eqb}
 use borrow.Author.Tests.{ne-eqb}
 use Rattle.constraint.specs.Report.{decimal, blank, lineEnd}
-use Rattle.constraint.specs.Page.{
-  leftIn,
-  rightIn,
-  nameOf,
-  verdictWord,
-  stepText,
-  pageLine,
-  pageText,
-  pageLength,
-  lineStart,
-  columns,
-  numberFrom,
-  wordFrom,
-  same,
-  verdictFrom,
-  LineRead,
-  lineRead,
-}
+use Rattle.constraint.specs.Page.{leftIn, rightIn, nameOf, verdictWord, stepText, pageLine, pageText}
+use Rattle.text.specs.Content.{numberFrom}
+use Rattle.page.specs.ReadBack.{pageLength, lineStart, columns, wordFrom, same, verdictFrom, LineRead, lineRead}
 use Rattle.constraint.specs.declared.Verdict.{Verdict}
 use Rattle.constraint.specs.declared.Verdict.the-variants.{Open, Kept, Broken}
 use Rattle.constraint.proofs.Lists.{Each, each-tail}

@@ -7,17 +7,18 @@ use lib.ListN.{length, set}
 use lib.Seq.{sets, set-out}
 use Rattle.constraint.specs.Limits.{rowLimit}
 use Rattle.constraint.specs.Steps.{at}
-use Rattle.constraint.specs.Page.{pageLines, pageText, pageLength}
+use Rattle.constraint.specs.Page.{pageLines, pageText}
+use Rattle.page.specs.ReadBack.{pageLength}
 use Rattle.constraint.specs.declared.Verdict.{Verdict}
 use Rattle.text.specs.Content.{Copied}
 use Rattle.text.proofs.Texts.{copied-all, copied-none}
-use Rattle.page.specs.Sheet.{verdictsOf, withRow, textOf}
+use Rattle.page.specs.Sheet.{verdictsOf, withLine, textOf}
 use Rattle.page.specs.declared.Page.{Page}
 use Rattle.page.proofs.Pages.{page-length}
 
 -- a row past the last is left out
-pub with-none : (page : Page) (i type step : ℕ) → length (page .types) ≤ i → length (page .steps) ≤ i → withRow page i type step ≡ page
-unfolding withRow
+pub with-none : (page : Page) (i type step : ℕ) → length (page .types) ≤ i → length (page .steps) ≤ i → withLine page i type step ≡ page
+unfolding withLine
 with-none page i type step h g = go (page .types) (page .steps) h g
   where
     go : (types steps : List ℕ) → length types ≤ i → length steps ≤ i

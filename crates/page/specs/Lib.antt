@@ -1,2 +1,3 @@
 -- What the page's record says, and what is written of it.
 pub mod Sheet
+pub mod ReadBack

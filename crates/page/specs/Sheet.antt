@@ -15,20 +15,20 @@ use Rattle.constraint.specs.declared.Verdict.the-variants.{Open, Kept, Broken}
 use Rattle.page.specs.declared.Page.{Page}
 
 -- the verdict of a row: broken at a step or (0) not broken, closed or not
-abbrev pub verdictOf : ℕ → ℕ → Verdict
-verdictOf closed step = cond (ltb 0 step) (Broken step) (cond (ltb 0 closed) Kept Open)
+abbrev pub verdictFor : ℕ → ℕ → Verdict
+verdictFor closed step = cond (ltb 0 step) (Broken step) (cond (ltb 0 closed) Kept Open)
 
 -- the verdict of row i, by the steps that broke the rows
 abbrev pub verdictsOf : ℕ → List ℕ → ℕ → Verdict
-verdictsOf closed steps i = verdictOf closed (at steps i)
+verdictsOf closed steps i = verdictFor closed (at steps i)
 
 -- so many rows, closed or not, and nothing yet said of any
 unfoldable pub blankPage : ℕ → ℕ → Page
 blankPage rows closed = record { types = replicate rowLimit 0; steps = replicate rowLimit 0; rows = rows; closed = closed }
 
 -- the type of row i, and the step that broke it
-unfoldable pub withRow : Page → ℕ → ℕ → ℕ → Page
-withRow page i type step =
+unfoldable pub withLine : Page → ℕ → ℕ → ℕ → Page
+withLine page i type step =
     record { types = set (page .types) i type; steps = set (page .steps) i step; rows = page .rows; closed = page .closed }
 
 -- the page's bytes; it has no more than 32 rows

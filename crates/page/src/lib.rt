@@ -5,9 +5,10 @@ ghost use Prim.Native.Nat.{_≤_, _<_, min};
 ghost use lib.Seq.{sets};
 ghost use Rattle.constraint.specs.Limits.{rowLimit};
 ghost use Rattle.constraint.specs.Steps.{at};
-ghost use Rattle.constraint.specs.Page.{leftIn, rightIn, nameOf, verdictWord, stepText, pageLine, pageLines, pageLength};
+ghost use Rattle.constraint.specs.Page.{leftIn, rightIn, nameOf, verdictWord, stepText, pageLine, pageLines};
+ghost use Rattle.page.specs.ReadBack.{pageLength};
 ghost use Rattle.text.specs.Content.{Copied};
-ghost use Rattle.page.specs.Sheet.{verdictOf, verdictsOf, blankPage, withRow, textOf, rowColumns, verdictColumns, Headed};
+ghost use Rattle.page.specs.Sheet.{verdictFor, verdictsOf, blankPage, withLine, textOf, rowColumns, verdictColumns, Headed};
 
 // How many rows a page has at most.
 const ROW_LIMIT: usize = constraint::ROW_LIMIT;
@@ -54,7 +55,7 @@ fn name(form: u64) -> [u8; 24]
 
 // The verdict of a row, by the mark of the close and the step that broke it.
 fn verdict(closed: u64, step: u64) -> Verdict
-    ensures { λ r. ⌜ r ≡ verdictOf closed step ⌝ }
+    ensures { λ r. ⌜ r ≡ verdictFor closed step ⌝ }
 {
     if 0 < step {
         return Verdict::Broken(step);
@@ -188,7 +189,7 @@ impl Page {
 
     // The page with a row's type and the step that broke it; a row past the last is left out.
     pub fn with_row(mut self, row: usize, form: u64, step: u64) -> Self
-        ensures { λ r. ⌜ r ≡ withRow self row form step ⌝ }
+        ensures { λ r. ⌜ r ≡ withLine self row form step ⌝ }
     {
         if ROW_LIMIT <= row {
             return self;

@@ -7,7 +7,7 @@ use lib.Dec.{eqb}
 use Rattle.constraint.specs.Limits.{noLimit}
 use Rattle.queue.specs.Ring.{ringOf}
 use Rattle.queue.specs.declared.Edit.the-variants.{Drop}
-use Rattle.machine.specs.Parts.{plus, marksOf, earlyOf, withLast, goesOn}
+use Rattle.machine.specs.Parts.{plus, marksOf, earlyOf, withLast, continuesWith}
 use Rattle.machine.specs.Words.{goingOn}
 use Rattle.machine.specs.declared.Rule.{Rule}
 use Rattle.machine.specs.declared.Marks.{Marks}
@@ -25,7 +25,7 @@ withAhead m ahead = marksOf (m .last) ahead (m .second) m
 -- the change to other marks: a target beyond needs its source at once, and the row is kept where nothing is beyond
 unfoldable pub changesTo : Marks → Change
 changesTo marks =
-    cond (eqb (earlyOf marks) 0) (goesOn (Drop 0) marks noLimit (eqb (aheadOf marks) 0)) (goesOn (Drop 0) marks (earlyOf marks - 1) false)
+    cond (eqb (earlyOf marks) 0) (continuesWith (Drop 0) marks noLimit (eqb (aheadOf marks) 0)) (continuesWith (Drop 0) marks (earlyOf marks - 1) false)
 
 -- what the row keeps after the change to these marks
 abbrev pub stored : State → ℕ → ℕ → State

@@ -6,7 +6,7 @@ use mathlib.Core.List.{List}
 use lib.Dec.{leb, ltb, eqb}
 use Rattle.constraint.specs.Limits.{waitingLimit}
 use Rattle.queue.specs.declared.Edit.the-variants.{Drop, Push}
-use Rattle.machine.specs.Parts.{plus, earlyOf, withLast, goesOn, breaking, waits, front, none-left}
+use Rattle.machine.specs.Parts.{plus, earlyOf, withLast, continuesWith, breaking, waits, front, none-left}
 use Rattle.machine.specs.declared.Rule.{Rule}
 use Rattle.machine.specs.declared.Marks.{Marks}
 use Rattle.machine.specs.declared.Change.{Change}
@@ -22,7 +22,7 @@ sourceStrongDelay rule marks times t = waits (rule .upper) times (cond (eqb (ear
 -- a target: the partner of the oldest source that waits, or one beyond, which needs its source at once
 unfoldable pub targetStrongDelay : Rule → Marks → List ℕ → ℕ → Change
 targetStrongDelay rule marks times t =
-    cond (none-left times) (cond (eqb (rule .lower) 0) (goesOn (Drop 0) (withLast marks (plus t 1)) t false) breaking)
+    cond (none-left times) (cond (eqb (rule .lower) 0) (continuesWith (Drop 0) (withLast marks (plus t 1)) t false) breaking)
     (cond (leb (front times + rule .lower) t) (waits (rule .upper) times (Drop 1) marks) breaking)
 
 unfoldable pub decideStrongDelay : Rule → Marks → List ℕ → ℕ → ℕ → Change

@@ -6,7 +6,7 @@ use mathlib.Core.List.{List}
 use lib.Dec.{leb, ltb, eqb}
 use Rattle.constraint.specs.Limits.{noLimit}
 use Rattle.queue.specs.declared.Edit.the-variants.{Drop}
-use Rattle.machine.specs.Parts.{plus, marksOf, goesOn, breaking}
+use Rattle.machine.specs.Parts.{plus, marksOf, continuesWith, breaking}
 use Rattle.machine.specs.declared.Rule.{Rule}
 use Rattle.machine.specs.declared.Marks.{Marks}
 use Rattle.machine.specs.declared.Change.{Change}
@@ -28,13 +28,13 @@ inPhase m phase t ran = marksOf (plus t 1) phase ran m
 
 -- the row goes on between two executions, with one that runs from t on, or with one that is preempted at t; only a running one has a due time
 abbrev pub idleFrom : Marks → ℕ → Change
-idleFrom marks t = goesOn (Drop 0) (inPhase marks 0 t 0) noLimit true
+idleFrom marks t = continuesWith (Drop 0) (inPhase marks 0 t 0) noLimit true
 
 abbrev pub runningFrom : Rule → Marks → ℕ → ℕ → Change
-runningFrom rule marks t ran = goesOn (Drop 0) (inPhase marks 1 t ran) (plus t (rule .upper - ran)) false
+runningFrom rule marks t ran = continuesWith (Drop 0) (inPhase marks 1 t ran) (plus t (rule .upper - ran)) false
 
 abbrev pub preemptedFrom : Marks → ℕ → ℕ → Change
-preemptedFrom marks t ran = goesOn (Drop 0) (inPhase marks 2 t ran) noLimit false
+preemptedFrom marks t ran = continuesWith (Drop 0) (inPhase marks 2 t ran) noLimit false
 
 -- between two executions only a start may come, and some time must be left to run
 unfoldable pub whileIdle : Rule → Marks → ℕ → ℕ → Change

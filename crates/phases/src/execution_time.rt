@@ -13,7 +13,7 @@ ghost use mathlib.Core.Path.{_≡_};
 ghost use mathlib.Core.List.{List};
 ghost use Prim.Native.Nat.{ℕ};
 ghost use Rattle.queue.specs.declared.Edit.the-variants.{Drop};
-ghost use Rattle.machine.specs.Parts.{goesOn};
+ghost use Rattle.machine.specs.Parts.{continuesWith};
 ghost use Rattle.machine.specs.Words.{Makes, Applies};
 ghost use Rattle.phases.specs.ExecutionTime.{ranTo, inPhase, idleFrom, runningFrom, preemptedFrom, whileIdle, whileRunning, whilePreempted};
 ghost use Rattle.phases.specs.ExecutionTime.{decideExecutionTime};
@@ -100,7 +100,7 @@ fn enter(
     kept: bool,
     number: u64,
 )
-    ensures { λ _. ⌜ Makes (now (row .entry)) (λ rule marks times. goesOn (Drop 0) (inPhase marks phase t ran) due kept) number (now (row .exit)) ⌝ }
+    ensures { λ _. ⌜ Makes (now (row .entry)) (λ rule marks times. continuesWith (Drop 0) (inPhase marks phase t ran) due kept) number (now (row .exit)) ⌝ }
 {
     words::stay(row, number);
     row[1][words::LAST] = parts::plus(t, 1);

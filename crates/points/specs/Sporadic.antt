@@ -5,7 +5,7 @@ use mathlib.Core.List.{List}
 use lib.Dec.{leb, eqb}
 use Rattle.constraint.specs.Limits.{noLimit}
 use Rattle.queue.specs.declared.Edit.the-variants.{Drop}
-use Rattle.machine.specs.Parts.{plus, farEnough, marksOf, goesOn, breaking}
+use Rattle.machine.specs.Parts.{plus, farEnough, marksOf, continuesWith, breaking}
 use Rattle.machine.specs.declared.Rule.{Rule}
 use Rattle.machine.specs.declared.Marks.{Marks}
 use Rattle.machine.specs.declared.Change.{Change}
@@ -23,7 +23,7 @@ duePoint rule high = plus (plus high (rule .upper)) (rule .jitter)
 
 -- the row goes on with an event at t, whose point can be at each place from low to high
 abbrev pub pointAt : Rule → Marks → ℕ → ℕ → ℕ → Change
-pointAt rule marks t low high = goesOn (Drop 0) (marksOf (plus t 1) low high marks) (duePoint rule high) true
+pointAt rule marks t low high = continuesWith (Drop 0) (marksOf (plus t 1) low high marks) (duePoint rule high) true
 
 -- how far the next point is from the last at least: points rise strictly
 abbrev pub stride : ℕ → ℕ

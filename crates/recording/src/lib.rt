@@ -1,7 +1,7 @@
 // The recording's bytes: one record is read from its own stretch.
 ghost use mathlib.Core.Path.{_≡_};
 ghost use Rattle.constraint.specs.Steps.{at};
-ghost use Rattle.constraint.specs.Questions.{Decides};
+ghost use Rattle.constraint.specs.Records.{Decides};
 ghost use Rattle.constraint.specs.Recording.{colourIn, VersionKnown};
 ghost use Rattle.recording.specs.Record.{ReadsRecord};
 

@@ -8,7 +8,7 @@ use lib.Dec.{leb, ltb}
 use Rattle.constraint.specs.Limits.{noLimit}
 use Rattle.constraint.specs.Steps.{at}
 use Rattle.queue.specs.declared.Edit.the-variants.{PushTwo}
-use Rattle.machine.specs.Parts.{plus, front, goesOn, breaking}
+use Rattle.machine.specs.Parts.{plus, front, continuesWith, breaking}
 use Rattle.machine.specs.declared.Rule.{Rule}
 use Rattle.machine.specs.declared.Marks.{Marks}
 use Rattle.machine.specs.declared.Change.{Change}
@@ -23,13 +23,13 @@ firstHigh times t = cond (ltb (length times) 2) t (at times 1)
 
 -- the first place of the point of an event at t, n points being kept and the oldest at low or later: one of the first span is tied to no
 -- earlier one from below
-abbrev pub lowest : Rule → ℕ → ℕ → ℕ → ℕ
-lowest rule n low t = cond (ltb n (rule .span)) (t - rule .jitter) (max (t - rule .jitter) (plus low (rule .lower)))
+abbrev pub lowestPoint : Rule → ℕ → ℕ → ℕ → ℕ
+lowestPoint rule n low t = cond (ltb n (rule .span)) (t - rule .jitter) (max (t - rule .jitter) (plus low (rule .lower)))
 
 -- the last place of the point of an event at t, n points being kept and the oldest at high or earlier: upper behind that, less one place for
 -- each point that is still to come before the span is over
-abbrev pub highest : Rule → ℕ → ℕ → ℕ → ℕ
-highest rule n high t = min t (plus (plus high (rule .upper - rule .span)) n)
+abbrev pub highestPoint : Rule → ℕ → ℕ → ℕ → ℕ
+highestPoint rule n high t = min t (plus (plus high (rule .upper - rule .span)) n)
 
 -- a point from low to high has a place: as points rise, more than span of them reach over the span
 abbrev pub hasPlace : Rule → ℕ → ℕ → Bool
@@ -39,8 +39,8 @@ hasPlace rule low high = leb (rule .span) (rule .upper) && leb low high
 -- place, and then the oldest leaves
 unfoldable pub placed : Rule → Marks → ℕ → ℕ → ℕ → Change
 placed rule marks n low high =
-    cond (ltb n (rule .span)) (goesOn (PushTwo 0 low high) marks noLimit true)
-    (cond (hasPlace rule low high) (goesOn (PushTwo 2 low high) marks noLimit true)
+    cond (ltb n (rule .span)) (continuesWith (PushTwo 0 low high) marks noLimit true)
+    (cond (hasPlace rule low high) (continuesWith (PushTwo 2 low high) marks noLimit true)
     breaking)
 
 -- 63 numbers or more, two more come: the point is one of the first span
@@ -49,4 +49,4 @@ fillsRepetition rule marks len kind t = ltb (len / 2) (rule .span)
 
 unfoldable pub decideRepetition : Rule → Marks → List ℕ → ℕ → ℕ → Change
 decideRepetition rule marks times kind t =
-    placed rule marks (points times) (lowest rule (points times) (front times) t) (highest rule (points times) (firstHigh times t) t)
+    placed rule marks (points times) (lowestPoint rule (points times) (front times) t) (highestPoint rule (points times) (firstHigh times t) t)

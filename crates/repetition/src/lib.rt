@@ -15,7 +15,7 @@ ghost use Prim.Native.Nat.{ℕ};
 ghost use Rattle.queue.specs.Ring.{ring};
 ghost use Rattle.machine.specs.Words.{Applies};
 ghost use Rattle.machine.specs.declared.Marks.{Marks};
-ghost use Rattle.repetition.specs.Repetition.{fillsRepetition, firstHigh, lowest, highest, placed, decideRepetition};
+ghost use Rattle.repetition.specs.Repetition.{fillsRepetition, firstHigh, lowestPoint, highestPoint, placed, decideRepetition};
 
 // What an event makes of the row, where it lies.
 pub fn apply(row: &mut [[u64; SIZE]; 2], t: u64, number: u64)
@@ -81,7 +81,7 @@ fn first_high(times: &[u64; SIZE], head: usize, len: usize, t: u64) -> u64
 // The first place where the point of an event at t can be, n points being kept and the oldest at low or later: one of the first
 // span is tied to no earlier one from below.
 fn lowest(rule: Rule, n: u64, low: u64, t: u64) -> u64
-    ensures { λ r. ⌜ r ≡ lowest rule n low t ⌝ }
+    ensures { λ r. ⌜ r ≡ lowestPoint rule n low t ⌝ }
 {
     let near = minus(t, rule.jitter);
     if n < rule.span {
@@ -93,7 +93,7 @@ fn lowest(rule: Rule, n: u64, low: u64, t: u64) -> u64
 // The last place where the point of an event at t can be, n points being kept and the oldest at high or earlier: upper behind
 // that, less one place for each point that is still to come before the span is over.
 fn highest(rule: Rule, n: u64, high: u64, t: u64) -> u64
-    ensures { λ r. ⌜ r ≡ highest rule n high t ⌝ }
+    ensures { λ r. ⌜ r ≡ highestPoint rule n high t ⌝ }
 {
     let start = parts::plus(high, minus(rule.upper, rule.span));
     parts::smaller(t, parts::plus(start, n))

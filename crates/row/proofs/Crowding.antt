@@ -15,7 +15,7 @@ use Rattle.queue.specs.Ring.{changed}
 use Rattle.queue.specs.declared.Edit.{Edit}
 use Rattle.queue.specs.declared.Edit.the-variants.{Drop, Push, PushTwo, Store}
 use Rattle.queue.proofs.Laws.{ring-length}
-use Rattle.machine.specs.Parts.{plus, farEnough, front, none-left, dueOr, earlyOf, withLast, goesOn, breaking, waits}
+use Rattle.machine.specs.Parts.{plus, farEnough, front, none-left, dueOr, earlyOf, withLast, continuesWith, breaking, waits}
 use Rattle.machine.specs.declared.Rule.{Rule}
 use Rattle.machine.specs.declared.Marks.{Marks}
 use Rattle.machine.specs.declared.State.{State}
@@ -143,9 +143,9 @@ module _ (times : List ℕ) (many : 63 ≤ length times) (few : length times ≤
   target-calm : (rule : Rule) (marks : Marks) (t : ℕ) → Calm (targetStrongDelay rule marks times t)
   unfolding targetStrongDelay
   target-calm rule marks t =
-      calm-by (none-left times) (cond (eqb (rule .lower) 0) (goesOn (Drop 0) (withLast marks (plus t 1)) t false) breaking)
+      calm-by (none-left times) (cond (eqb (rule .lower) 0) (continuesWith (Drop 0) (withLast marks (plus t 1)) t false) breaking)
       (cond (leb (front times + rule .lower) t) (waits (rule .upper) times (Drop 1) marks) breaking)
-      (calm-by (eqb (rule .lower) 0) (goesOn (Drop 0) (withLast marks (plus t 1)) t false) breaking (dropped 0) refl)
+      (calm-by (eqb (rule .lower) 0) (continuesWith (Drop 0) (withLast marks (plus t 1)) t false) breaking (dropped 0) refl)
       (calm-by (leb (front times + rule .lower) t) (waits (rule .upper) times (Drop 1) marks) breaking (dropped 1) refl)
 
   strong-delay : (rule : Rule) (marks : Marks) (kind t : ℕ)
@@ -168,7 +168,7 @@ module _ (times : List ℕ) (many : 63 ≤ length times) (few : length times ≤
   repeat rule marks kind t =
       let far : Bool = farEnough (rule .minimum) (marks .last) t in
       let reached : Bool = leb (front times + rule .lower) t in
-      let on : Bool → Change = λ s. goesOn (Push (cond s 0 1) t) (withLast marks (plus t 1)) (dueOr (plus t (rule .upper)) (rule .upper) (drop (cond s 0 1) times)) true in
+      let on : Bool → Change = λ s. continuesWith (Push (cond s 0 1) t) (withLast marks (plus t 1)) (dueOr (plus t (rule .upper)) (rule .upper) (drop (cond s 0 1) times)) true in
       split (ltb n (rule .span)) (λ s. cond (ltb n waitingLimit) false (cond s far false) ≡ crowds-of (cond (far && (s || reached)) (on s) breaking) times)
       (λ _. split far (λ f. cond (ltb n waitingLimit) false f ≡ crowds-of (cond (f && true) (on true) breaking) times)
       (λ _. sym (pushed t)) (λ _. never (ltb n waitingLimit)))
@@ -186,14 +186,14 @@ module _ (times : List ℕ) (many : 63 ≤ length times) (few : length times ≤
       turned low high = rw (length-append (drop 2 times) (low ∷ high ∷ []), length-drop 2 times) (le-ltb 64 (n - 2 + 2) (omega (arith, few, many)))
 
       by-span : (low high : ℕ) → ltb (n / 2) (rule .span)
-          ≡ crowds-of (cond (ltb (n / 2) (rule .span)) (goesOn (PushTwo 0 low high) marks noLimit true)
-          (cond (hasPlace rule low high) (goesOn (PushTwo 2 low high) marks noLimit true) breaking)) times
+          ≡ crowds-of (cond (ltb (n / 2) (rule .span)) (continuesWith (PushTwo 0 low high) marks noLimit true)
+          (cond (hasPlace rule low high) (continuesWith (PushTwo 2 low high) marks noLimit true) breaking)) times
       by-span low high =
           split (ltb (n / 2) (rule .span))
-          (λ b. b ≡ crowds-of (cond b (goesOn (PushTwo 0 low high) marks noLimit true)
-          (cond (hasPlace rule low high) (goesOn (PushTwo 2 low high) marks noLimit true) breaking)) times)
+          (λ b. b ≡ crowds-of (cond b (continuesWith (PushTwo 0 low high) marks noLimit true)
+          (cond (hasPlace rule low high) (continuesWith (PushTwo 2 low high) marks noLimit true) breaking)) times)
           (λ _. sym (two low high))
-          (λ _. sym (calm-by (hasPlace rule low high) (goesOn (PushTwo 2 low high) marks noLimit true) breaking (turned low high) refl))
+          (λ _. sym (calm-by (hasPlace rule low high) (continuesWith (PushTwo 2 low high) marks noLimit true) breaking (turned low high) refl))
 
   synchronization : (rule : Rule) (marks : Marks) (kind t : ℕ)
       → fillsStrongSynchronization rule marks n kind t ≡ crowds-of (decideStrongSynchronization rule marks times kind t) times
@@ -261,7 +261,7 @@ module _ (times : List ℕ) (many : 63 ≤ length times) (few : length times ≤
   paired-calm : (marks : Marks) (colour : ℕ) (pair : Pair) → Calm (paired marks times colour pair)
   paired-calm marks colour pair =
       calm-by (pair .breaks) breaking
-      (goesOn (Store (2 * colour) (pair .low) (pair .high)) marks (dueBut 8 colour (pair .high) times) (eqb (dueBut 8 colour (pair .high) times) noLimit)) refl
+      (continuesWith (Store (2 * colour) (pair .low) (pair .high)) marks (dueBut 8 colour (pair .high) times) (eqb (dueBut 8 colour (pair .high) times) noLimit)) refl
       (stored (2 * colour) (pair .low) (pair .high))
 
   reaction : (rule : Rule) (marks : Marks) (s t : ℕ) → Calm (decideReaction rule marks times s t)

@@ -3,7 +3,7 @@ use Rattle.constraint.specs.declared.Constraint.{Constraint}
 use Rattle.machine.specs.Rule.{ruleOf}
 use Rattle.machine.proofs.Exact as M
 use Rattle.row.specs.Machine.{decide}
-pub use Rattle.machine.proofs.Exact.{Sound, OfStream, GoesOn, ByOutcome}
+pub use Rattle.machine.proofs.Exact.{Sound, OfStream, GoesOn, Waits, ByOutcome}
 
 abbrev pub Exact : Constraint → Type 1
 Exact c = M.Exact c (decide (ruleOf c))

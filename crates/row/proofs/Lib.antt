@@ -3,7 +3,7 @@ pub mod Exact
 pub mod Engine
 pub mod OwnKinds
 pub mod Steps
-pub mod Unheard
+pub mod Independent
 pub mod Undo
 pub mod Crowding
 pub mod Apart

@@ -12,12 +12,12 @@ use Rattle.constraint.specs.Limits.{streamCount}
 use Rattle.constraint.specs.Streams.{kindOf}
 use Rattle.constraint.specs.Steps.{among}
 use Rattle.constraint.specs.Types.{fieldsOf}
-use Rattle.constraint.specs.Accepted.{kinds, streams, KindsFit, KindsSuit}
+use Rattle.constraint.specs.Accepted.{kinds, KindsFit, KindsSuit}
+use Rattle.constraint.proofs.Streams.{streams, kind-small, among-where, among-kinds}
 use Rattle.constraint.specs.declared.Constraint.{Constraint}
 use Rattle.constraint.specs.declared.Constraint.the-variants.{Delay, StrongDelay, Repeat, Sporadic, Burst, Order}
 use Rattle.constraint.specs.declared.Constraint.the-variants.{StrongSynchronization2, StrongSynchronization3, StrongSynchronization4, ExecutionTime, Reaction, Repetition}
 use Rattle.constraint.proofs.Lists.{split}
-use Rattle.constraint.proofs.Streams.{kind-small, among-where, among-kinds}
 use Rattle.machine.specs.Rule.{noKind, ruleOf}
 use Rattle.machine.proofs.SeveralKinds.{kinds-small}
 use Rattle.row.specs.Machine.{concerns, noEvent}
@@ -47,10 +47,12 @@ concerns-among (Repetition event span lower upper jitter) k = refl
 concerns-kind : (c : Constraint) (k : ℕ) → ¬ (k ≡ noKind) → concerns (ruleOf c) k ≡ among k (kinds c)
 concerns-kind c k h = concerns-among c k ∙ among-absent k (4 - length (kinds c)) (kinds c) h
 
+pub concerns-stream : (c : Constraint) (s : ℕ) → s < streamCount → concerns (ruleOf c) (kindOf s) ≡ among (kindOf s) (kinds c)
+concerns-stream c s h = concerns-kind c (kindOf s) (λ e. omega (arith, kind-small s h))
+
 pub concerns-own : (c : Constraint) → KindsSuit c → (s : ℕ) → s < streamCount → concerns (ruleOf c) (kindOf s) ≡ among s (streams c)
 unfolding KindsSuit
-concerns-own c suit s h =
-    concerns-kind c (kindOf s) (λ e. omega (arith, kind-small s h)) ∙ among-kinds s (fieldsOf c) suit
+concerns-own c suit s h = concerns-stream c s h ∙ among-kinds s (fieldsOf c) suit
 
 pub among-own : (c : Constraint) (s : ℕ) → among s (streams c) ≡ true → OfStream c s
 among-own c s e = among-where s (streams c) e

@@ -14,7 +14,8 @@ use Rattle.constraint.specs.Steps.{Step, event, tick, close, among, own, clockF
 use Rattle.constraint.specs.Meets.{Meets}
 use Rattle.constraint.specs.Continuation.{Open, BrokenAt, Reads, reads-open, reads-kept, reads-broken}
 use Rattle.constraint.specs.Waiting.{waiting}
-use Rattle.constraint.specs.Accepted.{streams, KindsSuit}
+use Rattle.constraint.specs.Accepted.{KindsSuit}
+use Rattle.constraint.proofs.Streams.{streams}
 use Rattle.constraint.specs.declared.Constraint.{Constraint}
 use Rattle.constraint.specs.declared.Verdict.{Verdict}
 use Rattle.constraint.proofs.Lists.{split, both}
@@ -24,7 +25,7 @@ use Rattle.constraint.proofs.Continuations.{meets-same, continues-closed, open-
 use Rattle.constraint.proofs.Verdicts.{broken-now, broken-later, broken-shut, open-of-meets}
 use Rattle.queue.specs.Ring.{Ring, ringOf, ring, items, changed, edited}
 use Rattle.queue.proofs.Laws.{ring-length, ring-zeros, items-edited, times-edited}
-use Rattle.machine.specs.Rule.{ruleOf, wordsOf}
+use Rattle.machine.specs.Rule.{ruleOf, waitsIn, wordsOf}
 use Rattle.machine.specs.Parts.{noMarks}
 use Rattle.machine.specs.declared.Rule.{Rule}
 use Rattle.machine.specs.declared.Change.{Change}
@@ -34,7 +35,7 @@ use Rattle.row.specs.Machine.{noEvent, eventAt, tickAt, closeAt, rowStep
 use Rattle.row.specs.declared.Occurrence.{Occurrence}
 use Rattle.row.specs.declared.Row.{Row}
 use Rattle.row.specs.declared.RowStep.{RowStep}
-use Rattle.row.proofs.Exact.{Sound, GoesOn, ByOutcome, Exact}
+use Rattle.row.proofs.Exact.{Sound, GoesOn, Waits, ByOutcome, Exact}
 use Rattle.row.proofs.OwnKinds.{concerns-own, among-own, concerns-none}
 
 -- ---- what holds between the steps and a row
@@ -74,6 +75,17 @@ abbrev pub seen : List Step → Step → Occurrence
 seen steps (event k t) = eventAt k t
 seen steps (tick t) = tickAt t
 seen steps close = closeAt (clock steps)
+
+-- ---- Waiting
+
+-- of at most 64 times at most 64 wait, and of more than 64 each does
+waits-few : (b : Bool) {waiting n : ℕ} → n ≤ waitingLimit → Waits b waiting n → waiting ≤ waitingLimit
+waits-few true few w = omega arith
+waits-few false few w = omega (arith, w .0)
+
+waits-many : (b : Bool) {waiting n : ℕ} → waitingLimit < n → Waits b waiting n → waitingLimit < waiting
+waits-many true many w = omega arith
+waits-many false many w = absurd (omega (arith, w .1))
 
 -- ---- Start
 
@@ -131,8 +143,7 @@ module _ (c : Constraint) (exact : Exact c) (steps : List Step) (valid : Valid s
   fits-room r f o =
       ⊎-elim
       (λ (g : Going c exact steps (r .times) (r .now)).
-      ⊎-elim (λ e. omega (arith, e, ring-length (r .times) (r .now .head) (r .now .len), g .room)) (λ e. omega (arith, e .0))
-      (exact .waits past (g .live)))
+      waits-few (waitsIn (ruleOf c .form)) (omega (arith, ring-length (r .times) (r .now .head) (r .now .len), g .room)) (exact .waits past (g .live)))
       (λ b. absurd (broken-shut c (r .now .broken) valid (b .first) o))
       (f .state)
 
@@ -219,7 +230,7 @@ module _ (c : Constraint) (exact : Exact c) (steps : List Step) (valid : Valid s
         crowded-after : waitingLimit < length kept-times → Open c (steps ++ (event k t ∷ [])) × (waitingLimit < waiting c (steps ++ (event k t ∷ [])))
         crowded-after many = (
           open-after,
-          ⊎-elim (λ e. rw e many) (λ e. absurd (omega (arith, e .1, many))) (exact .waits (past-with (event k t) accepts) (goes .live)),
+          waits-many (waitsIn (ruleOf c .form)) many (exact .waits (past-with (event k t) accepts) (goes .live)),
         )
 
         applied-fits : length kept-times ≤ waitingLimit → Fits c exact (steps ++ (event k t ∷ [])) (applied row-was change)

@@ -7,7 +7,7 @@ use lib.ListN.{length, drop}
 use lib.Dec.{leb, ltb}
 use Rattle.constraint.specs.Limits.{waitingLimit}
 use Rattle.queue.specs.declared.Edit.the-variants.{Push}
-use Rattle.machine.specs.Parts.{plus, farEnough, withLast, goesOn, breaking, front, dueOr}
+use Rattle.machine.specs.Parts.{plus, farEnough, withLast, continuesWith, breaking, front, dueOr}
 use Rattle.machine.specs.declared.Rule.{Rule}
 use Rattle.machine.specs.declared.Marks.{Marks}
 use Rattle.machine.specs.declared.Change.{Change}
@@ -32,5 +32,5 @@ fillsRepeat rule marks len kind t = cond (ltb len waitingLimit) false (cond (ltb
 unfoldable pub decideRepeat : Rule → Marks → List ℕ → ℕ → ℕ → Change
 decideRepeat rule marks times kind t =
     cond (farEnough (rule .minimum) (marks .last) t && spanReached rule times t)
-    (goesOn (Push (leaving rule (length times)) t) (withLast marks (plus t 1)) (dueWith rule times t) true)
+    (continuesWith (Push (leaving rule (length times)) t) (withLast marks (plus t 1)) (dueWith rule times t) true)
     breaking

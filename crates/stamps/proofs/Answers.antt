@@ -7,7 +7,7 @@ use mathlib.Core.Option.{some}
 use lib.ListN.{length, getElem?}
 use Rattle.constraint.specs.Limits.{firstColoured, lastTime}
 use Rattle.constraint.specs.Accepted.{Accepted, KindsSuit, InRange}
-use Rattle.constraint.specs.Rows.{tableOf}
+use Rattle.constraint.specs.Records.{tableOf}
 use Rattle.constraint.specs.Table.{ReadsTable, table-of}
 use Rattle.constraint.specs.Stamps.{RepeatRow, AnswersStamps, no-recording, not-asked, reads}
 use Rattle.constraint.specs.declared.Answer.the-variants.{Refused}
@@ -20,7 +20,7 @@ use Rattle.row.proofs.Exact.{Sound}
 use Rattle.monitor.proofs.Demand.{accepted-sound, accepted-few}
 use Rattle.monitor.proofs.FittingRows.{sound-at}
 use Rattle.table.proofs.AcceptedRows.{read-accepted}
-use Rattle.stamps.specs.Machine.{Passes, Finds}
+use Rattle.stamps.specs.Machine.{PassesStamps, Finds}
 use Rattle.stamps.specs.declared.Asked.{Asked}
 use Rattle.stamps.specs.declared.Passed.{Passed}
 use Rattle.stamps.specs.declared.RowAsked.{RowAsked}
@@ -44,7 +44,7 @@ abbrev pub askedOf : RowAsked → ℕ → Asked
 askedOf found late = record { event = found .event; lower = found .lower; upper = found .upper; late = late }
 
 module _ (bytes recording : List ℕ) (i late : ℕ) (rows : List Constraint) (read : ReadsTable bytes (table-of rows)) (table : Table) (holds : table ≡ tableOf rows)
-    (found : RowAsked) (finds : Finds table i found) (passed : Passed) (passes : Passes recording (askedOf found late) passed) where
+    (found : RowAsked) (finds : Finds table i found) (passed : Passed) (passes : PassesStamps recording (askedOf found late) passed) where
   few : length rows ≤ 32
   few = accepted-few rows (read-accepted bytes rows read)
 

@@ -15,7 +15,7 @@ use Rattle.constraint.specs.Limits.{firstColoured, lastTime, noLimit}
 use Rattle.constraint.specs.Streams.{stream}
 use Rattle.constraint.specs.Steps.{Step, event, tick, at, times, clock}
 use Rattle.constraint.specs.Meets.{Between, NotLater, Apart, SpansApart, HiddenPoints, MeetsRepeat}
-use Rattle.constraint.specs.Stamps.{TrueTimes, ChoiceMeets, ReadsStamps, each-meets, none-meets, both-occur}
+use Rattle.constraint.specs.Stamps.{TrueTimes, ReadsStamps, each-meets, none-meets, both-occur}
 use Rattle.constraint.specs.declared.Call.{Call}
 use Rattle.constraint.specs.declared.StampedVerdict.{StampedVerdict}
 use Rattle.constraint.specs.Run.{stepFor}
@@ -30,7 +30,7 @@ use Rattle.machine.proofs.Spans.{apart-first}
 use Rattle.points.specs.Sporadic.{stride, lowest, highest}
 use Rattle.points.proofs.Laws.Points.{points-none, points-first, points-more}
 use Rattle.points.proofs.Laws.Sporadic.{PointsOf, Places, first-places, later-place, later-places}
-use Rattle.stamps.specs.Machine.{nextLow, nextHigh, firstStamp, pairFits, laterStamp, stampAfter, callAfter, closeVerdict, verdictAt, noStamps}
+use Rattle.stamps.specs.Machine.{nextLow, nextHigh, firstStamp, pairFits, laterStamp, stampAfter, callAfter, closeVerdict, stampsVerdict, noStamps}
 use Rattle.stamps.specs.declared.Asked.{Asked}
 use Rattle.stamps.specs.declared.Stamps.{Stamps}
 
@@ -297,7 +297,7 @@ module _ (a : Asked) where
 
   module _ (events : List ℕ) (now : ℕ) (small-now : now ≤ lastTime) where
     abbrev MeetsNow : List ℕ → Type 0
-    MeetsNow points = ChoiceMeets (a .lower) (a .upper) now points
+    MeetsNow points = MeetsRepeat 1 (a .lower) (a .upper) points now
 
     no-stamps : length events ≡ 0 → ReadsStamps (a .late) (a .lower) (a .upper) events now StampedVerdict.Kept
     unfolding MeetsRepeat SpansApart
@@ -349,8 +349,8 @@ module _ (a : Asked) where
       reads-by false true (other, oc, not) (one, c, meets) = both-occur one other c meets oc not
       reads-by false false fail none = none-meets none
 
-    pub reads-now : (s : Stamps) → Keeps events s → ReadsStamps (a .late) (a .lower) (a .upper) events now (verdictAt a s now)
-    unfolding verdictAt closeVerdict
+    pub reads-now : (s : Stamps) → Keeps events s → ReadsStamps (a .late) (a .lower) (a .upper) events now (stampsVerdict a s now)
+    unfolding stampsVerdict closeVerdict
     reads-now s keeps =
         split (s .any) (λ x. ReadsStamps (a .late) (a .lower) (a .upper) events now (cond x (closeVerdict a s now) StampedVerdict.Kept))
         (λ e. let known = keeps .more e in

@@ -20,7 +20,7 @@ use Rattle.order.specs.Order.{After, ReadsNext}
 use Rattle.order.specs.declared.Order.{Order}
 use Rattle.order.specs.declared.RecordRead.{RecordRead}
 use Rattle.order.proofs.Laws.{ReadUpTo, up-to-start, up-to-more, up-to-refused, up-to-end, after-valid, after-clock}
-use Rattle.stamps.specs.Machine.{noStamps, callAfter, verdictAt}
+use Rattle.stamps.specs.Machine.{noStamps, callAfter, stampsVerdict}
 use Rattle.stamps.specs.declared.Asked.{Asked}
 use Rattle.stamps.specs.declared.Stamps.{Stamps}
 use Rattle.stamps.proofs.Laws.{Keeps, keeps-none, keeps-call, reads-now}
@@ -47,10 +47,10 @@ module _ (bytes : List ℕ) (a : Asked) where
       pub pass-more : r .number ≡ 0 → PassedTo bytes a (r .order) (callAfter a s (r .call)) (r .next)
       pass-more e =
           let taken = next .taken e (before .steps) (before .read .order) in
-          let asked = subst (λ (x : Call). Judged (questions [] (before .steps) x) Taken) (next .call-is e) (record-accepts bytes [] (before .steps) place (taken .0) .1) in
+          let asked = subst (λ (x : Call). Judged (questions [] (before .steps) x) Taken) (next .call-is (next .there e)) (record-accepts bytes [] (before .steps) place (taken .0) .1) in
           record {
             steps = before .steps ++ (stepFor (r .call) ∷ []);
-            read = up-to-more bytes place (before .steps) o (before .read) (r .call) (r .next) (r .order) there (next .call-is e) (next .next-is e .0) (taken .0) (taken .1);
+            read = up-to-more bytes place (before .steps) o (before .read) (r .call) (r .next) (r .order) there (next .call-is (next .there e)) (next .next-is (next .there e) .0) (taken .0) (taken .1);
             keeps = λ plain small. keeps-call a plain small (before .steps) s (before .keeps plain small) (r .call) (accepts-taken [] (before .steps) (r .call) asked);
           }
 
@@ -58,12 +58,12 @@ module _ (bytes : List ℕ) (a : Asked) where
       pass-refused h = up-to-refused bytes place (before .steps) o (before .read) (r .number) there (next .refused h (before .steps) (before .read .order))
 
     pub pass-end : length bytes ≤ place → (steps : List Step) × ReadsInOrder bytes (recording-of steps)
-        × (a .event < firstColoured → a .lower ≤ lastTime → ReadsStamps (a .late) (a .lower) (a .upper) (times (a .event) steps) (clock steps) (verdictAt a s (o .clock)))
+        × (a .event < firstColoured → a .lower ≤ lastTime → ReadsStamps (a .late) (a .lower) (a .upper) (times (a .event) steps) (clock steps) (stampsVerdict a s (o .clock)))
     pass-end end = (
       before .steps,
       up-to-end bytes place (before .steps) o (before .read) end,
       λ plain small.
-          subst (λ (now : ℕ). ReadsStamps (a .late) (a .lower) (a .upper) (times (a .event) (before .steps)) (clock (before .steps)) (verdictAt a s now))
+          subst (λ (now : ℕ). ReadsStamps (a .late) (a .lower) (a .upper) (times (a .event) (before .steps)) (clock (before .steps)) (stampsVerdict a s now))
           (sym (after-clock (before .steps) o (before .read .order)))
           (reads-now a (times (a .event) (before .steps)) (clock (before .steps)) (past-of (after-valid (before .steps) o (before .read .order)) .small) s (before .keeps plain small)),
     )

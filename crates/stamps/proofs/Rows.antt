@@ -7,8 +7,7 @@ use mathlib.Core.Option.{some}
 use lib.ListN.{length, getD, getElem?, take}
 use lib.Seq.{getD-take}
 use Rattle.constraint.specs.Steps.{at}
-use Rattle.constraint.specs.Rows.{tableOf}
-use Rattle.constraint.specs.Records.{Holds}
+use Rattle.constraint.specs.Records.{tableOf, HoldsRow}
 use Rattle.constraint.specs.Stamps.{RepeatRow, stampsQuestions}
 use Rattle.constraint.specs.Questions.{Judged}
 use Rattle.constraint.specs.declared.Answer.the-variants.{Refused}
@@ -29,7 +28,7 @@ taken-at : (xs ys : List ℕ) (n i : ℕ) → take n xs ≡ ys → i < n → at 
 taken-at xs ys n i e h = sym (getD-take n xs i 0 h) ∙ ap (λ (l : List ℕ). at l i) e
 
 -- a row of type 3 is the Repeat of its numbers
-repeat-is : (c : Constraint) (f : Fields) → Holds c f → f .line .form ≡ 3 → c ≡ Repeat (at (f .bytes) 0) (at (f .bytes) 1) (at (f .times) 0) (at (f .times) 1)
+repeat-is : (c : Constraint) (f : Fields) → HoldsRow c f → f .line .form ≡ 3 → c ≡ Repeat (at (f .bytes) 0) (at (f .bytes) 1) (at (f .times) 0) (at (f .times) 1)
 repeat-is (Repeat k span low high) f holds three =
     let k-is : at (f .bytes) 0 ≡ k = taken-at (f .bytes) (k ∷ span ∷ []) 2 0 (holds .bytes) (omega arith) in
     let span-is : at (f .bytes) 1 ≡ span = taken-at (f .bytes) (k ∷ span ∷ []) 2 1 (holds .bytes) (omega arith) in
@@ -49,7 +48,7 @@ repeat-is (Reaction stimulus response low high) f holds three = absurd (omega (a
 repeat-is (Repetition k span low high jitter) f holds three = absurd (omega (arith, holds .typed, three))
 
 -- and a Repeat of span 1 has that type and span
-repeat-of : (k low high : ℕ) (f : Fields) → Holds (Repeat k 1 low high) f → (f .line .form ≡ 3) × (at (f .bytes) 1 ≡ 1)
+repeat-of : (k low high : ℕ) (f : Fields) → HoldsRow (Repeat k 1 low high) f → (f .line .form ≡ 3) × (at (f .bytes) 1 ≡ 1)
 repeat-of k low high f holds = (holds .typed, taken-at (f .bytes) (k ∷ 1 ∷ []) 2 1 (holds .bytes) (omega arith))
 
 -- ---- what is found
@@ -65,7 +64,7 @@ module _ (table : Table) (i : ℕ) where
         found = λ zero. absurd (omega (arith, zero));
       }
 
-  module _ (d : Entry) (f : Fields) (there : i < table .count) (holds : Holds (getD (table .rows) i d .constraint) f) where
+  module _ (d : Entry) (f : Fields) (there : i < table .count) (holds : HoldsRow (getD (table .rows) i d .constraint) f) where
     is-there : (rows : List Constraint) → table ≡ tableOf rows → i < length rows
     is-there rows e = omega (arith, record-count table rows e, there)
 
@@ -80,7 +79,7 @@ module _ (table : Table) (i : ℕ) where
               let high = asked .1 .1 .0 in
               let row = asked .1 .1 .1 in
               let same : getD (table .rows) i d .constraint ≡ Repeat k 1 low high = of-row rows k low high (row-there table rows i d e (is-there rows e)) row in
-              let numbers = repeat-of k low high f (subst (λ (c : Constraint). Holds c f) same holds) in
+              let numbers = repeat-of k low high f (subst (λ (c : Constraint). HoldsRow c f) same holds) in
               never (other (numbers .0) (numbers .1))));
           found = λ zero. absurd (omega (arith, zero));
         }

@@ -9,7 +9,7 @@ use Rattle.constraint.specs.Limits.{firstColoured, lastTime, noLimit}
 use Rattle.constraint.specs.Steps.{Step, times, clock}
 use Rattle.constraint.specs.Questions.{Judged}
 use Rattle.constraint.specs.Recording.{ReadsInOrder, recording-of, recording-refused}
-use Rattle.constraint.specs.Rows.{rowsOf, tableOf}
+use Rattle.constraint.specs.Records.{rowsOf, tableOf}
 use Rattle.constraint.specs.Stamps.{ReadsStamps, RepeatRow, stampsQuestions}
 use Rattle.constraint.specs.declared.Answer.the-variants.{Taken, Refused}
 use Rattle.constraint.specs.declared.Call.{Call}
@@ -74,11 +74,11 @@ closeVerdict a s now =
     cond (s .each && leb now (plus (s .earliest) (a .upper))) StampedVerdict.Kept
     (cond (s .some && leb now (plus (s .high) (a .upper))) StampedVerdict.Unsure StampedVerdict.Broken)
 
-unfoldable pub verdictAt : Asked → Stamps → ℕ → StampedVerdict
-verdictAt a s now = cond (s .any) (closeVerdict a s now) StampedVerdict.Kept
+unfoldable pub stampsVerdict : Asked → Stamps → ℕ → StampedVerdict
+stampsVerdict a s now = cond (s .any) (closeVerdict a s now) StampedVerdict.Kept
 
 -- a pass over a recording: refused, or what a row of these fields reads after it, where they are in range and its kind is plain
-pub record Passes (bytes : List ℕ) (a : Asked) (r : Passed) : Type 0 where
+pub record PassesStamps (bytes : List ℕ) (a : Asked) (r : Passed) : Type 0 where
   pub refused : 0 < r .number → ReadsInOrder bytes (recording-refused (r .number) (r .place))
   pub taken : r .number ≡ 0 → (steps : List Step) × ReadsInOrder bytes (recording-of steps)
       × (a .event < firstColoured → a .lower ≤ lastTime → ReadsStamps (a .late) (a .lower) (a .upper) (times (a .event) steps) (clock steps) (r .verdict))

@@ -1,8 +1,7 @@
 -- The three words as bytes.
-use Prim.Native.Nat.{ℕ}
-use mathlib.Core.Path.{_≡_}
-use mathlib.Core.List.{List, [], _∷_}
-use lib.ListN.{take}
+use Prim.Native.Nat.{ℕ, _-_}
+use mathlib.Core.List.{List, [], _∷_, _++_}
+use lib.ListN.{length, replicate}
 use Rattle.constraint.specs.Report.{keptWord, brokenWord}
 use Rattle.constraint.specs.declared.StampedVerdict.{StampedVerdict}
 use Rattle.stamps.specs.declared.Spelling.{Spelling}
@@ -16,6 +15,6 @@ stampedWord StampedVerdict.Kept = keptWord
 stampedWord StampedVerdict.Broken = brokenWord
 stampedWord StampedVerdict.Unsure = unsureWord
 
--- the word is the first len bytes
-abbrev pub Spells : StampedVerdict → Spelling → Type 0
-Spells v r = take (r .len) (r .bytes) ≡ stampedWord v
+-- the word in the first of six bytes, and blanks behind it
+abbrev pub spelling : StampedVerdict → Spelling
+spelling v = record { bytes = stampedWord v ++ replicate (6 - length (stampedWord v)) 32; len = length (stampedWord v) }

@@ -16,8 +16,8 @@ ghost use mathlib.Core.Bool.{_&&_};
 ghost use lib.Dec.{leb};
 ghost use Rattle.machine.specs.Parts.{plus};
 ghost use Rattle.constraint.specs.Stamps.{AnswersStamps};
-ghost use Rattle.stamps.specs.Words.{Spells};
-ghost use Rattle.stamps.specs.Machine.{nextLow, nextHigh, noStamps, firstStamp, pairFits, laterStamp, stampAfter, callAfter, closeVerdict, verdictAt, Passes, Finds};
+ghost use Rattle.stamps.specs.Words.{spelling};
+ghost use Rattle.stamps.specs.Machine.{nextLow, nextHigh, noStamps, firstStamp, pairFits, laterStamp, stampAfter, callAfter, closeVerdict, stampsVerdict, PassesStamps, Finds};
 
 // A Repeat row of span 1, and by how much its stamps are late at most.
 pub struct Asked {
@@ -57,7 +57,7 @@ pub struct RowAsked {
     pub upper: u64,
 }
 
-// A word: the first len bytes.
+// A word: the first len bytes, and blanks behind them.
 pub struct Spelling {
     pub bytes: [u8; 6],
     pub len: usize,
@@ -65,7 +65,7 @@ pub struct Spelling {
 
 // The word for what a row reads: kept, broken or unsure.
 pub fn word(verdict: StampedVerdict) -> Spelling
-    ensures { λ r. ⌜ Spells verdict r ⌝ }
+    ensures { λ r. ⌜ r ≡ spelling verdict ⌝ }
 {
     match verdict {
         StampedVerdict::Kept => Spelling {
@@ -214,7 +214,7 @@ impl Stamps {
 
     // What the row reads at the clock.
     fn verdict(self, asked: Asked, now: u64) -> StampedVerdict
-        ensures { λ r. ⌜ r ≡ verdictAt asked self now ⌝ }
+        ensures { λ r. ⌜ r ≡ stampsVerdict asked self now ⌝ }
     {
         if self.any {
             return self.reads(asked, now);
@@ -238,7 +238,7 @@ impl Stamps {
 
 // The pass over a recording: questions 13 and 14 and those of the steps, and what the row reads in the end.
 fn pass(bytes: &[u8], asked: Asked) -> Passed
-    ensures { λ r. ⌜ Passes (now (bytes .entry)) asked r ⌝ }
+    ensures { λ r. ⌜ PassesStamps (now (bytes .entry)) asked r ⌝ }
 {
     if !recording::version_known(bytes) {
         return Passed {

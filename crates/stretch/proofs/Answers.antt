@@ -11,9 +11,9 @@ use lib.ListN.{length, take, drop, getD, getElem?, length-drop}
 use lib.Dec.{leb}
 use borrow.Author.Tests.{le-leb, lt-leb, leb-true, leb-false}
 use Rattle.constraint.specs.Steps.{Step, at}
-use Rattle.constraint.specs.Questions.{Judged, Decides}
+use Rattle.constraint.specs.Questions.{Judged}
+use Rattle.constraint.specs.Records.{Decides, tableOf}
 use Rattle.constraint.specs.Accepted.{rowsQuestions, Accepted}
-use Rattle.constraint.specs.Rows.{tableOf}
 use Rattle.constraint.specs.Recording.{ReadsInOrder, recording-of}
 use Rattle.constraint.specs.declared.Answer.{Answer}
 use Rattle.constraint.specs.declared.Answer.the-variants.{Taken, Refused}
@@ -26,7 +26,7 @@ use Rattle.row.proofs.Exact.{Sound}
 use Rattle.monitor.proofs.Demand.{accepted-sound}
 use Rattle.monitor.proofs.FittingRows.{sound-at}
 use Rattle.constraint.specs.Stretches.{Stretch, stretchOf, stretches, Some, FirstAt, Breaks, Breaking, stretchQuestions, AnswersRow, no-stretch, found}
-use Rattle.stretch.specs.Machine.{Kept, Run, Needs, NeedsFrom, Enough, Searches, Tries, TriesAll, Asks}
+use Rattle.stretch.specs.Machine.{Kept, RunOf, Needs, NeedsFrom, Enough, Searches, Tries, TriesAll, Asks}
 use Rattle.stretch.specs.declared.Found.{Found}
 use Rattle.constraint.specs.declared.StretchAnswer.{StretchAnswer}
 use Rattle.stretch.proofs.Taking.{recording-taken}
@@ -43,7 +43,7 @@ undecided {asked = asked} need m d h = subst (Decides asked) (lt-leb need m h) d
 
 module _ (c : Constraint) (streams times : List ℕ) (count : ℕ) (need : List ℕ)
     (each : (start : ℕ) → start < count → NeedsFrom c streams times count start (at need start))
-    (steps : List Step) (run : Run steps streams times count) (accepted : Accepted (c ∷ [])) where
+    (steps : List Step) (run : RunOf steps streams times count) (accepted : Accepted (c ∷ [])) where
   decides : (s : Stretch) → Inside (length steps) s → Decides (Breaking c steps s) (leb (at need (s .first)) (s .size))
   decides s inside =
       let start : s .first < count = omega (arith, inside .0, inside .1, run .counted) in
@@ -95,7 +95,7 @@ module _ (table : Table) (i : ℕ) (streams times : List ℕ) (count : ℕ) (few
     abbrev c : Constraint
     c = getD (table .rows) i d .constraint
 
-    module _ (rows : List Constraint) (steps : List Step) (e : table ≡ tableOf rows) (accepted : Accepted rows) (run : Run steps streams times count) where
+    module _ (rows : List Constraint) (steps : List Step) (e : table ≡ tableOf rows) (accepted : Accepted rows) (run : RunOf steps streams times count) where
       within : i < length rows
       within = omega (arith, record-count table rows e, there)
 
@@ -127,7 +127,7 @@ module _ (table : Table) (i : ℕ) (streams times : List ℕ) (count : ℕ) (few
 -- ---- a recording
 
 pub run-of : (bytes streams times : List ℕ) (steps : List Step) (count : ℕ) → ReadsInOrder bytes (recording-of steps) → count ≡ min (length steps) 257 → Kept steps streams times
-    → count ≤ 256 → Run steps streams times count
+    → count ≤ 256 → RunOf steps streams times count
 run-of bytes streams times steps count reads counted kept few =
     record { counted = omega (arith, counted, few); kept = kept; taken = recording-taken bytes steps reads }
 

@@ -29,7 +29,7 @@ use Rattle.order.specs.Order.{After, ReadsNext}
 use Rattle.order.specs.declared.Order.{Order}
 use Rattle.order.specs.declared.RecordRead.{RecordRead}
 use Rattle.order.proofs.Laws.{ReadUpTo, up-to-start, up-to-more, up-to-refused, up-to-end}
-use Rattle.stretch.specs.Machine.{stepAs, Kept, Keeps}
+use Rattle.stretch.specs.Machine.{stepAs, Kept, KeepsRecord}
 
 -- ---- a record's numbers
 
@@ -118,15 +118,15 @@ module _ (bytes streams times : List ℕ) where
         is =
             call-as (before .steps) (r .call)
             (accepts-taken [] (before .steps) (r .call)
-            (subst (λ (x : Call). Judged (questions [] (before .steps) x) Taken) (next .call-is e) (judged-all 14 _ _ (judged .0) .1)))
-            (λ close. never-close (at bytes 0) (bodyAt bytes place) (next .call-is e ∙ close))
+            (subst (λ (x : Call). Judged (questions [] (before .steps) x) Taken) (next .call-is (next .there e)) (judged-all 14 _ _ (judged .0) .1)))
+            (λ close. never-close (at bytes 0) (bodyAt bytes place) (next .call-is (next .there e) ∙ close))
 
-        pub gather-more : (streams′ times′ : List ℕ) (count′ : ℕ) → Keeps streams times count (occurrenceBy (r .call) 0) streams′ times′ count′
+        pub gather-more : (streams′ times′ : List ℕ) (count′ : ℕ) → KeepsRecord streams times count (occurrenceBy (r .call) 0) streams′ times′ count′
             → GatheredTo bytes streams′ times′ (r .order) count′ (r .next)
         gather-more streams′ times′ count′ keeps =
             record {
               steps = before .steps ++ (stepFor (r .call) ∷ []);
-              read = up-to-more bytes place (before .steps) o (before .read) (r .call) (r .next) (r .order) there (next .call-is e) (next .next-is e .0) (judged .0) (judged .1);
+              read = up-to-more bytes place (before .steps) o (before .read) (r .call) (r .next) (r .order) there (next .call-is (next .there e)) (next .next-is (next .there e) .0) (judged .0) (judged .1);
               counted = by-cases (decLt count 256)
                   (λ room. omega (arith, keeps .room room .0, before .counted, length-append (before .steps) (stepFor (r .call) ∷ [])))
                   (λ full. omega (arith, keeps .full (omega (arith, full)) .0, before .counted, length-append (before .steps) (stepFor (r .call) ∷ [])));

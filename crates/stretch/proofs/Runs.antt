@@ -18,13 +18,13 @@ use Rattle.row.specs.Machine.{rowFrom, freshState, rowOf, rowStep}
 use Rattle.row.specs.declared.Row.{Row}
 use Rattle.row.proofs.Exact.{Sound}
 use Rattle.monitor.proofs.Demand.{accepted-sound}
-use Rattle.stretch.specs.Machine.{seenAs, Run, Needs, NeedsFrom}
+use Rattle.stretch.specs.Machine.{seenAs, RunOf, Needs, NeedsFrom}
 use Rattle.stretch.proofs.Starts.{Running, run-start, run-end, run-crowded, run-broken, run-on}
 
 pub sound-of : (c : Constraint) → Accepted (c ∷ []) → Sound c
 sound-of c accepted = accepted-sound 0 (c ∷ []) accepted .0 .0
 
-pub few-of : (steps : List Step) (streams times : List ℕ) (count : ℕ) → Run steps streams times count → count ≤ 256 → length steps ≤ 256
+pub few-of : (steps : List Step) (streams times : List ℕ) (count : ℕ) → RunOf steps streams times count → count ≤ 256 → length steps ≤ 256
 few-of steps streams times count run small = omega (arith, run .counted, small)
 
 same-row : (c d : Constraint) → ruleOf c ≡ ruleOf d → rowOf c ≡ rowOf d
@@ -39,7 +39,7 @@ module _ (streams times : List ℕ) (count start : ℕ) (small : count ≤ 256) 
   -- the row is that of a run over the constraint
   abbrev pub RunningOver : Constraint → Row → ℕ → Type 0
   RunningOver c r size =
-      (steps : List Step) (run : Run steps streams times count) (accepted : Accepted (c ∷ [])) → start < count
+      (steps : List Step) (run : RunOf steps streams times count) (accepted : Accepted (c ∷ [])) → start < count
       → Running c (sound-of c accepted) steps (run .taken) streams times (run .kept) (few-of steps streams times count run small) start size r
 
   pub record RunningTo (rule : Rule) (waiting : List ℕ) (state : State) (size place : ℕ) : Type 0 where
@@ -67,7 +67,7 @@ module _ (streams times : List ℕ) (count start : ℕ) (small : count ≤ 256) 
       seen-here : seenAs (at streams place) (at times place) ≡ seenAs (at streams (start + size)) (at times (start + size))
       seen-here = ap (λ (i : ℕ). seenAs (at streams i) (at times i)) (to .placed)
 
-      there : (steps : List Step) → Run steps streams times count → start + size < length steps
+      there : (steps : List Step) → RunOf steps streams times count → start + size < length steps
       there steps run = omega (arith, more, to .placed, run .counted)
 
       pub to-crowded : ((number : ℕ) → true ≡ rowStep (rowFrom rule waiting state) (seenAs (at streams place) (at times place)) number .crowded)

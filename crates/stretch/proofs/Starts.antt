@@ -16,7 +16,8 @@ use Rattle.constraint.specs.Limits.{streamCount, waitingLimit}
 use Rattle.constraint.specs.Steps.{Step, event, tick, close, at, closed}
 use Rattle.constraint.specs.Continuation.{Open, Reads, reads-open, reads-kept, reads-broken}
 use Rattle.constraint.specs.Waiting.{waiting}
-use Rattle.constraint.specs.Questions.{Judged, Decides}
+use Rattle.constraint.specs.Questions.{Judged}
+use Rattle.constraint.specs.Records.{Decides}
 use Rattle.constraint.specs.Run.{stepFor, Room, questions}
 use Rattle.constraint.specs.declared.Answer.the-variants.{Taken}
 use Rattle.constraint.specs.declared.Call.{Call}

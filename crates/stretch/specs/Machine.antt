@@ -7,9 +7,8 @@ use lib.ListN.{length, take, drop, getD, set}
 use lib.Dec.{eqb, leb}
 use Rattle.constraint.specs.Limits.{streamCount}
 use Rattle.constraint.specs.Steps.{Step, event, tick, close, at}
-use Rattle.constraint.specs.Questions.{Decides}
+use Rattle.constraint.specs.Records.{Decides, tableOf}
 use Rattle.constraint.specs.Accepted.{Accepted}
-use Rattle.constraint.specs.Rows.{tableOf}
 use Rattle.constraint.specs.Recording.{ReadsInOrder, recording-of, recording-refused}
 use Rattle.constraint.specs.declared.Constraint.{Constraint}
 use Rattle.constraint.specs.declared.Table.{Table}
@@ -33,18 +32,18 @@ abbrev pub Kept : List Step → List ℕ → List ℕ → Type 0
 Kept steps streams times = (i : ℕ) → i < length steps → i < recordLimit → getD steps i close ≡ stepAs (at streams i) (at times i)
 
 -- one record more, as long as there is room; the count is 257 from then on
-pub record Keeps (streams times : List ℕ) (count : ℕ) (o : Occurrence) (streams′ times′ : List ℕ) (count′ : ℕ) : Type 0 where
+pub record KeepsRecord (streams times : List ℕ) (count : ℕ) (o : Occurrence) (streams′ times′ : List ℕ) (count′ : ℕ) : Type 0 where
   pub room : count < recordLimit → (count′ ≡ count + 1) × (streams′ ≡ set streams count (o .stream)) × (times′ ≡ set times count (o .time))
   pub full : recordLimit ≤ count → (count′ ≡ recordLimit + 1) × (streams′ ≡ streams) × (times′ ≡ times)
 
 -- the records of a recording: refused, or the numbers of the first 256, and how many there are, 257 standing for more
-pub record Gathers (bytes streams times : List ℕ) (r : Gathered) : Type 0 where
+pub record GathersRecords (bytes streams times : List ℕ) (r : Gathered) : Type 0 where
   pub refused : 0 < r .number → ReadsInOrder bytes (recording-refused (r .number) (r .place))
   pub taken : r .number ≡ 0 → (steps : List Step) × ReadsInOrder bytes (recording-of steps)
       × (r .count ≡ min (length steps) (recordLimit + 1)) × Kept steps streams times
 
 -- the numbers are those of all steps, which a monitor over no rows takes
-pub record Run (steps : List Step) (streams times : List ℕ) (count : ℕ) : Type 0 where
+pub record RunOf (steps : List Step) (streams times : List ℕ) (count : ℕ) : Type 0 where
   pub counted : length steps ≡ count
   pub kept : Kept steps streams times
   pub taken : TakesEach [] steps
@@ -56,7 +55,7 @@ Needs c rest need = (m : ℕ) → 0 < m → m ≤ length rest → Decides (Break
 -- from one start on
 abbrev pub NeedsFrom : Constraint → List ℕ → List ℕ → ℕ → ℕ → ℕ → Type 0
 NeedsFrom c streams times count start need =
-    (steps : List Step) → Run steps streams times count → Accepted (c ∷ []) → start < count → Needs c (drop start steps) need
+    (steps : List Step) → RunOf steps streams times count → Accepted (c ∷ []) → start < count → Needs c (drop start steps) need
 
 -- a stretch is as long as the number for its start says, or longer
 abbrev pub Enough : List ℕ → Stretch → Type 0
@@ -74,9 +73,9 @@ Tries c steps (StretchAnswer.Found first size tried) = FirstAt (Breaking c steps
 Tries c steps (StretchAnswer.Refused n place) = (n ≡ 23) × (place ≡ 0) × (¬ Some (Breaking c steps) (stretches (length steps)))
 
 abbrev pub TriesAll : Constraint → List ℕ → List ℕ → ℕ → StretchAnswer → Type 0
-TriesAll c streams times count answer = (steps : List Step) → Run steps streams times count → Accepted (c ∷ []) → Tries c steps answer
+TriesAll c streams times count answer = (steps : List Step) → RunOf steps streams times count → Accepted (c ∷ []) → Tries c steps answer
 
 -- and in a row of a table record
 abbrev pub Asks : Table → ℕ → List ℕ → List ℕ → ℕ → StretchAnswer → Type 0
 Asks table i streams times count answer =
-    (rows : List Constraint) (steps : List Step) → table ≡ tableOf rows → Accepted rows → Run steps streams times count → AnswersRow rows steps i answer
+    (rows : List Constraint) (steps : List Step) → table ≡ tableOf rows → Accepted rows → RunOf steps streams times count → AnswersRow rows steps i answer

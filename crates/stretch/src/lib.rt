@@ -14,7 +14,7 @@ ghost use mathlib.Core.Path.{_≡_};
 ghost use Prim.Native.Nat.{ℕ, _≤_, _<_};
 ghost use lib.ListN.{length, getD};
 ghost use Rattle.constraint.specs.Stretches.{AnswersStretch};
-ghost use Rattle.stretch.specs.Machine.{seenAs, Keeps, Gathers, NeedsFrom, Searches, TriesAll, Asks};
+ghost use Rattle.stretch.specs.Machine.{seenAs, KeepsRecord, GathersRecords, NeedsFrom, Searches, TriesAll, Asks};
 
 // How many records a recording may have.
 pub const RECORD_LIMIT: usize = 256;
@@ -63,7 +63,7 @@ fn seen(stream: u64, time: u64) -> Occurrence
 
 // Keeps a record's stream and time behind those of so many, if there is room, and answers how many there are then.
 fn keep(streams: &mut [u64; 256], times: &mut [u64; 256], count: usize, o: Occurrence) -> usize
-    ensures { λ r. ⌜ Keeps (now (streams .entry)) (now (times .entry)) count o (now (streams .exit)) (now (times .exit)) r ⌝ }
+    ensures { λ r. ⌜ KeepsRecord (now (streams .entry)) (now (times .entry)) count o (now (streams .exit)) (now (times .exit)) r ⌝ }
 {
     if RECORD_LIMIT <= count {
         return NEVER;
@@ -76,7 +76,7 @@ fn keep(streams: &mut [u64; 256], times: &mut [u64; 256], count: usize, o: Occur
 // The records of a recording: questions 13 and 14 and those of the steps.
 fn gather(bytes: &[u8], streams: &mut [u64; 256], times: &mut [u64; 256]) -> Gathered
     requires { ⌜ (length (now streams) ≡ 256) × (length (now times) ≡ 256) ⌝ }
-    ensures { λ r. ⌜ Gathers (now (bytes .entry)) (now (streams .exit)) (now (times .exit)) r ⌝ }
+    ensures { λ r. ⌜ GathersRecords (now (bytes .entry)) (now (streams .exit)) (now (times .exit)) r ⌝ }
 {
     if !recording::version_known(bytes) {
         return Gathered {

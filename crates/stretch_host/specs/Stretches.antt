@@ -12,10 +12,10 @@ abbrev pub stretchNumber : StretchAnswer → ℕ
 stretchNumber (StretchAnswer.Found first size tried) = first * 256 + size * 65536 + tried * 4294967296
 stretchNumber (StretchAnswer.Refused n place) = placeNumber place + n
 
--- the number of the answer; it tells a refusal, whose number is from 1 to 255, from a stretch, and what is told of a stretch
+-- the number of the answer; it tells a refusal, whose number is from 1 to 255, from a stretch, and what is said of a stretch
 pub record NumbersStretch (table recording : List ℕ) (i number : ℕ) : Type 0 where
   pub answer : StretchAnswer
   pub answers : AnswersStretch table recording i answer
   pub equals : number ≡ stretchNumber answer
-  pub told : (n place : ℕ) → answer ≡ StretchAnswer.Refused n place → (0 < n) × (n < 256)
+  pub small : (n place : ℕ) → answer ≡ StretchAnswer.Refused n place → (0 < n) × (n < 256)
   pub parts : (first size tried : ℕ) → answer ≡ StretchAnswer.Found first size tried → (first < 2 ^ 8) × (size < 2 ^ 16) × (tried < 2 ^ 32)

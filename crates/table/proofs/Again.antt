@@ -1,5 +1,6 @@
--- Demand 2 of the two functions: what `read` accepted `write` writes back to the same bytes, and what `write` has written `read` reads back to the same rows.
-use Prim.Native.Nat.{ℕ, _≤_}
+-- §4.9 and §4.10 of the functions: what `read` accepted `write` writes back to the same bytes, and what `write` has written `read` reads back
+-- to the same rows.
+use Prim.Native.Nat.{ℕ, _+_, _*_, _≤_, _<_}
 use mathlib.Core.Path.{_≡_, refl, sym, ap, subst, _∙_}
 use mathlib.Core.List.{List, [], _∷_, _++_}
 use native.Mathlib.Omega.{arith}
@@ -8,16 +9,16 @@ use lib.Seq.{take-append-seam}
 use Rattle.constraint.specs.Bytes.{Bytes}
 use Rattle.constraint.specs.Questions.{Question, Judged}
 use Rattle.constraint.specs.Accepted.{rowsQuestions, Accepted}
-use Rattle.constraint.specs.Rows.{rowsOf}
-use Rattle.constraint.specs.Table.{tableBytes, writerQuestions, writtenTo, TableRead, table-of, table-refused, ReadsTable}
-use Rattle.constraint.specs.declared.Answer.{Answer}
+use Rattle.constraint.specs.Records.{rowsOf}
+use Rattle.constraint.specs.Table.{tableBytes, writerQuestions, table-of, ReadsTable}
 use Rattle.constraint.specs.declared.Answer.the-variants.{Taken, Refused}
 use Rattle.constraint.specs.declared.Constraint.{Constraint}
 use Rattle.constraint.specs.declared.Table.{Table}
 use Rattle.constraint.proofs.Judged.{never, judged-none, judged-yes, judged-later, judged-parts, judged-once}
 use Rattle.constraint.proofs.Accepted.{rows-then}
 use Rattle.table.specs.Reading.{readAs, ReadsInto}
-use Rattle.table.specs.Writing.{answerOf, Writes}
+use Rattle.table.specs.Writing.{Writes}
+use Rattle.table.specs.Raw.{rawSize, RawRows, WritesRaw, all-read, stopped-at}
 use Rattle.table.specs.declared.ReadAnswer.{ReadAnswer}
 use Rattle.table.specs.declared.Reading.{Reading}
 use Rattle.table.specs.declared.WriteAnswer.{WriteAnswer}
@@ -33,47 +34,64 @@ room rows before accepted h =
     (judged-later (rowsQuestions 0 rows []) ((16, length (tableBytes rows) ≤ length before) ∷ []) Taken accepted (judged-yes 16 _ [] Taken h judged-none))
 
 -- read, then written to a buffer that is long enough: the same bytes, and those behind them stay
+pub rows-write : (bytes before after : List ℕ) (rows : List Constraint) (w : WriteAnswer) → Bytes bytes → ReadsTable bytes (table-of rows)
+    → length bytes ≤ length before → Writes rows before w after
+    → (w ≡ WriteAnswer.Written (length bytes)) × (after ≡ bytes ++ drop (length bytes) before)
+rows-write bytes before after rows w all reads long writes = go w writes
+  where
+    same : tableBytes rows ≡ bytes
+    same = read-then-write bytes rows all reads
+
+    taken : Judged (writerQuestions rows before) Taken
+    taken = room rows before (read-accepted bytes rows reads) (omega (arith, ap length same))
+
+    go : (w : WriteAnswer) → Writes rows before w after → (w ≡ WriteAnswer.Written (length bytes)) × (after ≡ bytes ++ drop (length bytes) before)
+    go (WriteAnswer.Written n) writes =
+        (ap WriteAnswer.Written (writes .counted n refl ∙ ap length same), writes .buffer ∙ ap (λ (list : List ℕ). list ++ drop (length list) before) same)
+    go (WriteAnswer.Refused n) writes = let no = judged-once (writerQuestions rows before) Taken (Refused n) taken (writes .judged) in never (cc)
+
+-- of a table record
 pub read-write : (bytes before after : List ℕ) (r : Reading) (w : WriteAnswer) → Bytes bytes → ReadsInto bytes r → r .answer ≡ ReadAnswer.Accepted
     → length bytes ≤ length before → Writes (rowsOf (r .table)) before w after
     → (w ≡ WriteAnswer.Written (length bytes)) × (after ≡ bytes ++ drop (length bytes) before)
-read-write bytes before after r w all into e long writes = go w writes
+read-write bytes before after r w all into e long writes =
+    rows-write bytes before after (rowsOf (r .table)) w all (reads-as bytes r ReadAnswer.Accepted e into) long writes
+
+-- written, then read: the bytes say the same rows
+pub written-read : (rows : List Constraint) (before after : List ℕ) (n : ℕ) → Writes rows before (WriteAnswer.Written n) after
+    → ReadsTable (take n after) (table-of rows)
+written-read rows before after n writes = subst (λ (list : List ℕ). ReadsTable list (table-of rows)) (sym bytes) (write-then-read rows accepted)
   where
-    reads : ReadsTable bytes (table-of (rowsOf (r .table)))
-    reads = reads-as bytes r ReadAnswer.Accepted e into
+    bytes : take n after ≡ tableBytes rows
+    bytes =
+        subst (λ (m : ℕ). take m after ≡ tableBytes rows) (sym (writes .counted n refl))
+        (ap (take (length (tableBytes rows))) (writes .buffer) ∙ take-append-seam (tableBytes rows) (drop (length (tableBytes rows)) before))
 
-    same : tableBytes (rowsOf (r .table)) ≡ bytes
-    same = read-then-write bytes (rowsOf (r .table)) all reads
+    accepted : Accepted rows
+    accepted =
+        judged-parts (rowsQuestions 0 rows []) ((16, length (tableBytes rows) ≤ length before) ∷ [])
+        (subst (λ (qs : List Question). Judged qs Taken) (rows-then 0 rows ((16, length (tableBytes rows) ≤ length before) ∷ [])) (writes .judged)) .0
 
-    taken : Judged (writerQuestions (rowsOf (r .table)) before) Taken
-    taken = room (rowsOf (r .table)) before (read-accepted bytes (rowsOf (r .table)) reads) (omega (arith, ap length same))
-
-    go : (w : WriteAnswer) → Writes (rowsOf (r .table)) before w after → (w ≡ WriteAnswer.Written (length bytes)) × (after ≡ bytes ++ drop (length bytes) before)
-    go (WriteAnswer.Written n) writes =
-        (ap WriteAnswer.Written (writes .counted n refl ∙ ap length same), writes .buffer ∙ ap (λ (list : List ℕ). list ++ drop (length list) before) same)
-    go (WriteAnswer.Refused n) writes =
-        let no = judged-once (writerQuestions (rowsOf (r .table)) before) Taken (Refused n) taken (writes .judged) in never (cc)
-
--- written, then read: the same rows
+-- of a table record: the record's rows
 pub write-read : (table : Table) (before after : List ℕ) (n : ℕ) (r : Reading) → Writes (rowsOf table) before (WriteAnswer.Written n) after → ReadsInto (take n after) r
     → (r .answer ≡ ReadAnswer.Accepted) × (rowsOf (r .table) ≡ rowsOf table)
-write-read table before after n r writes into = go (r .answer) refl (reads-once (take n after) (into .reads) back)
+write-read table before after n r writes into =
+    go (r .answer) refl (reads-once (take n after) (into .reads) (written-read (rowsOf table) before after n writes))
   where
-    bytes : take n after ≡ tableBytes (rowsOf table)
-    bytes =
-        subst (λ (m : ℕ). take m after ≡ tableBytes (rowsOf table)) (sym (writes .counted n refl))
-        (ap (take (length (tableBytes (rowsOf table)))) (writes .buffer) ∙ take-append-seam (tableBytes (rowsOf table)) (drop (length (tableBytes (rowsOf table))) before))
-
-    accepted : Accepted (rowsOf table)
-    accepted =
-        judged-parts (rowsQuestions 0 (rowsOf table) []) ((16, length (tableBytes (rowsOf table)) ≤ length before) ∷ [])
-        (subst (λ (qs : List Question). Judged qs Taken) (rows-then 0 (rowsOf table) ((16, length (tableBytes (rowsOf table)) ≤ length before) ∷ [])) (writes .judged)) .0
-
-    back : ReadsTable (take n after) (table-of (rowsOf table))
-    back = subst (λ (list : List ℕ). ReadsTable list (table-of (rowsOf table))) (sym bytes) (write-then-read (rowsOf table) accepted)
-
     go : (a : ReadAnswer) → r .answer ≡ a → readAs (r .answer) (r .table) ≡ table-of (rowsOf table) → (r .answer ≡ ReadAnswer.Accepted) × (rowsOf (r .table) ≡ rowsOf table)
     go ReadAnswer.Accepted e same = (e, rows-same (ap (λ (answer : ReadAnswer). readAs answer (r .table)) (sym e) ∙ same))
       where
         rows-same : table-of (rowsOf (r .table)) ≡ table-of (rowsOf table) → rowsOf (r .table) ≡ rowsOf table
         rows-same p = cc
     go (ReadAnswer.Refused m place) e same = let no = ap (λ (answer : ReadAnswer). readAs answer (r .table)) (sym e) ∙ same in never (cc)
+
+-- of rows given as raw bytes: the rows that their bodies stand for, one for each whole stretch of 34 bytes
+pub raw-read : (bytes before after : List ℕ) (n : ℕ) → WritesRaw bytes before (WriteAnswer.Written n) after
+    → (rows : List Constraint) × RawRows bytes rows × (length bytes < (length rows + 1) * rawSize) × ReadsTable (take n after) (table-of rows)
+raw-read bytes before after n writes = go refl writes
+  where
+    go : {r : WriteAnswer} {list : List ℕ} → r ≡ WriteAnswer.Written n → WritesRaw bytes before r list
+        → (rows : List Constraint) × RawRows bytes rows × (length bytes < (length rows + 1) * rawSize) × ReadsTable (take n list) (table-of rows)
+    go {list = list} e (all-read rows raw past written) =
+        (rows, raw, past, written-read rows before list n (subst (λ (w : WriteAnswer). Writes rows before w list) e written))
+    go e (stopped-at rows m raw more judged) = never (cc)

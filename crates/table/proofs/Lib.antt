@@ -13,5 +13,6 @@ pub mod Stores
 pub mod Written
 pub mod Answers
 pub mod Again
-pub mod RawRows
 pub mod Scanning
+pub mod RawRows
+pub mod RawAgain

@@ -9,7 +9,8 @@ use lib.ListN.{length, take, drop}
 use Rattle.constraint.specs.Limits.{rowLimit}
 use Rattle.constraint.specs.Steps.{at}
 use Rattle.constraint.specs.Bytes.{Bytes}
-use Rattle.constraint.specs.Questions.{Judged, Decides}
+use Rattle.constraint.specs.Questions.{Judged}
+use Rattle.constraint.specs.Records.{Decides}
 use Rattle.constraint.specs.Accepted.{rowQuestions}
 use Rattle.constraint.specs.Table.{ShapeFits, lengthAt, bodyAt, WholeAt, RowAt, placeQuestions, VersionOne}
 use Rattle.constraint.specs.declared.Answer.{Answer}

@@ -4,8 +4,7 @@ use mathlib.Core.Path.{_≡_, refl, sym, ap, subst, subst₂, _∙_}
 use mathlib.Core.List.{List, [], _∷_, _++_}
 use native.Mathlib.Omega.{arith}
 use lib.ListN.{length, length-append}
-use Rattle.constraint.specs.Rows.{rowsOf, tableOf}
-use Rattle.constraint.specs.Records.{withRow}
+use Rattle.constraint.specs.Records.{rowsOf, tableOf, withOneMore}
 use Rattle.constraint.specs.Table.{TableRead, table-of, table-refused, rowThen, ReadsRows, no-more, row-refused, row-taken}
 use Rattle.constraint.specs.declared.Constraint.{Constraint}
 use Rattle.constraint.specs.declared.Table.{Table}
@@ -76,13 +75,13 @@ pub up-to-start : (bytes : List ℕ) (table : Table) → 0 < length bytes → ta
 up-to-start bytes table there none = record { rows = []; holds = none; before = rows-start bytes there }
 
 pub up-to-more : (bytes : List ℕ) (table : Table) (place next : ℕ) (c : Constraint) → ReadUpTo bytes table place → place < length bytes
-    → ReadsAt bytes (table .count) place (RowRead.Row c next) → ReadUpTo bytes (withRow table c) next
+    → ReadsAt bytes (table .count) place (RowRead.Row c next) → ReadUpTo bytes (withOneMore table c) next
 up-to-more bytes table place next c up-to there read =
     let taken = place-taken bytes (table .count) place c (read .1) in
     let counted = record-count table (up-to .rows) (up-to .holds) in
     record {
       rows = up-to .rows ++ (c ∷ []);
-      holds = ap (λ (t : Table). withRow t c) (up-to .holds) ∙ record-more (up-to .rows) c (omega arith);
+      holds = ap (λ (t : Table). withOneMore t c) (up-to .holds) ∙ record-more (up-to .rows) c (omega arith);
       before = rows-more bytes (up-to .rows) (table .count) place next c counted (up-to .before) there read;
     }
 

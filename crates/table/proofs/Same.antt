@@ -6,11 +6,11 @@ use Rattle.constraint.specs.Types.{Field, typeOf, fieldsOf}
 use Rattle.constraint.specs.Table.{Same}
 use Rattle.constraint.specs.Records.{bytesIn, timesIn}
 use Rattle.constraint.specs.declared.Constraint.{Constraint}
-use Rattle.table.specs.Rows.{rowFrom}
+use Rattle.table.specs.Rows.{rowRead}
 use Rattle.table.proofs.Types.{regular}
 
--- "Two rows are the same if type and fields are."
+-- §4.8: rows of the same type and the same fields are equal
 pub same-equal : (c d : Constraint) → Same c d → c ≡ d
 same-equal c d same =
-    let again : ℕ → List Field → Constraint = λ t fields. rowFrom t (bytesIn fields ++ []) (timesIn fields ++ []) in
+    let again : ℕ → List Field → Constraint = λ t fields. rowRead t (bytesIn fields ++ []) (timesIn fields ++ []) in
     sym (regular c .again [] []) ∙ ap₂ again (same .0) (same .1) ∙ regular d .again [] []

@@ -86,11 +86,10 @@ scan-row bytes c later r reads placed = go reads refl placed
     go (row-taken {i = i} {place = place} {later = table-refused n p} d within at-d judged reads) e there = never (cc)
     go (row-taken {i = i} {place = place} {later = table-of others} d within at-d judged reads) e there =
         let taken = place-taken bytes i place d judged in
-        let placed = there (taken .whole) in
         let first : d ≡ c = cc in
         let rest : others ≡ later = cc in (
-          stands-once (bodyAt bytes place) (r .row) d (placed .0 (taken .shape)) (at-d (taken .shape)) ∙ first,
-          subst₂ (λ (p : ℕ) (rows : List Constraint). ReadsRows bytes (i + 1) p (table-of rows)) (sym (placed .1)) rest reads,
+          stands-once (bodyAt bytes place) (r .row) d (there .stands (taken .whole) (taken .shape)) (at-d (taken .shape)) ∙ first,
+          subst₂ (λ (p : ℕ) (rows : List Constraint). ReadsRows bytes (i + 1) p (table-of rows)) (sym (there .behind (taken .whole))) rest reads,
         )
 
 -- so the i-th row that is read is the row i

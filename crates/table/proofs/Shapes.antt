@@ -8,7 +8,7 @@ use borrow.Author.Tests.{ltb-true, ltb-false, eqb-true, eqb-false, ne-eqb}
 use lib.Dec.{ltb, eqb}
 use lib.ListN.{length, List·getD-eq-default}
 use Rattle.constraint.specs.Steps.{at}
-use Rattle.constraint.specs.Questions.{Decides}
+use Rattle.constraint.specs.Records.{Decides}
 use Rattle.constraint.specs.Types.{lengths, lengthOf}
 use Rattle.constraint.specs.Table.{ShapeFits}
 use Rattle.constraint.proofs.Lists.{split}

@@ -14,7 +14,7 @@ use Rattle.constraint.specs.Table.{rowBody, TimesFit, StandsFor}
 use Rattle.constraint.specs.Records.{bytesIn, timesIn}
 use Rattle.constraint.specs.declared.Constraint.{Constraint}
 use Rattle.number.proofs.Numbers.{bytes-length, number-of-bytes}
-use Rattle.table.specs.Rows.{rowFrom, timesStart, bytesBehind, timesBehind, constraintOf, timesBytes}
+use Rattle.table.specs.Rows.{rowRead, timesStart, bytesBehind, timesBehind, constraintOf, timesBytes}
 use Rattle.table.proofs.Types.{regular}
 
 -- The bytes of some times
@@ -113,7 +113,7 @@ module _ (c : Constraint) (fit : TimesFit (fieldsOf c)) where
   row-again : constraintOf (rowBody c) ≡ c
   unfolding constraintOf rowBody
   row-again =
-      ap₂ (rowFrom (typeOf c))
+      ap₂ (rowRead (typeOf c))
       (begins (bytesIn (fieldsOf c)) (bytesBehind (rowBody c)) (regular c .sized .few) byte-there)
       (begins (timesIn (fieldsOf c)) (timesBehind (rowBody c) (timesStart (rowBody c))) (regular c .sized .few-times) time-there)
       ∙ regular c .again _ _

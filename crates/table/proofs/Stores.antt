@@ -9,10 +9,9 @@ use lib.Seq.{sets, drop-cons, getD-take}
 use Rattle.constraint.specs.Bytes.{bytesOf}
 use Rattle.constraint.specs.Steps.{at}
 use Rattle.constraint.specs.Types.{typeOf, fieldsOf, lengthOf}
-use Rattle.constraint.specs.Records.{bytesIn, timesIn, Holds}
+use Rattle.constraint.specs.Records.{bytesIn, timesIn, HoldsRow, rowsOf}
 use Rattle.constraint.specs.declared.fields.Fields.{Fields}
 use Rattle.constraint.specs.Table.{rowBody, rowBytes, rowsBytes}
-use Rattle.constraint.specs.Rows.{rowsOf}
 use Rattle.constraint.specs.declared.Entry.{Entry}
 use Rattle.constraint.specs.declared.Table.{Table}
 use Rattle.constraint.specs.declared.Constraint.{Constraint}
@@ -26,7 +25,7 @@ use Rattle.table.specs.Rows.{timesBytes}
 
 -- A row's numbers
 
-module _ (c : Constraint) (f : Fields) (holds : Holds c f) where
+module _ (c : Constraint) (f : Fields) (holds : HoldsRow c f) where
   -- the first of the bytes stands behind the type byte
   first-byte : at (f .bytes) 0 ≡ at (rowBody c) 1
   first-byte =

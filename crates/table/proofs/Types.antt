@@ -15,7 +15,7 @@ use Rattle.constraint.specs.Records.{bytesIn, timesIn}
 use Rattle.constraint.specs.declared.Constraint.{Constraint}
 use Rattle.constraint.specs.declared.Constraint.the-variants.{Delay, StrongDelay, Repeat, Sporadic, Burst, Order}
 use Rattle.constraint.specs.declared.Constraint.the-variants.{StrongSynchronization2, StrongSynchronization3, StrongSynchronization4, ExecutionTime, Reaction, Repetition}
-use Rattle.table.specs.Rows.{groupFrom, rowFrom, constraintOf, timesBytes}
+use Rattle.table.specs.Rows.{groupFrom, rowRead, constraintOf, timesBytes}
 use Rattle.constraint.proofs.Lists.{split}
 use Rattle.table.proofs.Bodies.{stands-of}
 
@@ -28,12 +28,12 @@ pub record Sized (c : Constraint) : Type 0 where
   pub fits : ShapeFits (rowBody c)
 
 pub record Regular (c : Constraint) : Type 0 where
-  pub again : (more later : List ℕ) → rowFrom (typeOf c) (bytesIn (fieldsOf c) ++ more) (timesIn (fieldsOf c) ++ later) ≡ c
+  pub again : (more later : List ℕ) → rowRead (typeOf c) (bytesIn (fieldsOf c) ++ more) (timesIn (fieldsOf c) ++ later) ≡ c
   pub parts : fieldsBytes (fieldsOf c) ≡ bytesIn (fieldsOf c) ++ timesBytes (timesIn (fieldsOf c))
   pub sized : Sized c
 
 pub regular : (c : Constraint) → Regular c
-unfolding rowFrom groupFrom rowBody fieldsBytes timesBytes bytesOf
+unfolding rowRead groupFrom rowBody fieldsBytes timesBytes bytesOf
 regular (Delay source target low high) = record { again = λ more later. refl; parts = refl; sized = omega arith }
 regular (StrongDelay source target low high) = record { again = λ more later. refl; parts = refl; sized = omega arith }
 regular (Repeat event number low high) = record { again = λ more later. refl; parts = refl; sized = omega arith }
@@ -63,7 +63,7 @@ each-below P (suc n) h x less =
 module _ (body : List ℕ) (all : Bytes body) (fits : ShapeFits body) where
   -- the same of a body of type 7, by its n
   group-stands : at body 0 ≡ 7 → StandsFor body (constraintOf body)
-  unfolding constraintOf rowFrom groupFrom
+  unfolding constraintOf rowRead groupFrom
   group-stands e =
       let known = fits .n-known e in
       each-below (λ n. at body 1 ≡ n → StandsFor body (constraintOf body)) 5 (
@@ -86,7 +86,7 @@ module _ (body : List ℕ) (all : Bytes body) (fits : ShapeFits body) where
 
   -- the row that a body of fitting shape is read as is the one that it stands for
   pub row-stands : StandsFor body (constraintOf body)
-  unfolding constraintOf rowFrom
+  unfolding constraintOf rowRead
   row-stands =
       each-below (λ t. at body 0 ≡ t → StandsFor body (constraintOf body)) (length lengths) (
         (

@@ -1,36 +1,34 @@
 -- Rows given as raw bytes, 34 for each, and what writing them promises.
-use Prim.Native.Nat.{ℕ, zero, suc, _+_, _*_, _/_, _≤_, _<_, min}
+use Prim.Native.Nat.{ℕ, _+_, _*_, _≤_, _<_}
 use mathlib.Core.Path.{_≡_}
-use mathlib.Core.List.{List, [], _∷_, _++_}
-use lib.ListN.{length}
+use mathlib.Core.List.{List, [], _∷_}
+use lib.ListN.{length, getD}
 use Rattle.constraint.specs.Limits.{rowLimit}
 use Rattle.constraint.specs.Steps.{at}
 use Rattle.constraint.specs.Bytes.{bytesAt}
 use Rattle.constraint.specs.Questions.{Judged}
-use Rattle.constraint.specs.Types.{lengths}
+use Rattle.constraint.specs.Types.{lengths, lengthOf}
 use Rattle.constraint.specs.Accepted.{rowsQuestions}
-use Rattle.constraint.specs.Rows.{tableOf, rowsOf}
+use Rattle.constraint.specs.Records.{filler, tableOf}
+use Rattle.constraint.specs.Table.{StandsFor}
 use Rattle.constraint.specs.declared.Answer.the-variants.{Refused}
 use Rattle.constraint.specs.declared.Constraint.{Constraint}
 use Rattle.constraint.specs.declared.Table.{Table}
-use Rattle.table.specs.Rows.{constraintOf}
 use Rattle.table.specs.Writing.{Writes}
 use Rattle.table.specs.declared.WriteAnswer.{WriteAnswer}
 
--- the rows of the first n stretches of 34 bytes
-unfoldable pub rawRows : List ℕ → ℕ → List Constraint
-rawRows bytes zero = []
-rawRows bytes (suc n) = rawRows bytes n ++ (constraintOf (bytesAt 34 bytes (n * 34)) ∷ [])
+-- how many bytes each row is given, which the longest type needs
+abbrev pub rawSize : ℕ
+rawSize = 34
 
--- as many rows as there are whole stretches; the first 32 of them have an entry in a record
-abbrev pub rawCount : List ℕ → ℕ
-rawCount bytes = length bytes / 34
+-- the body of row i: as many of its bytes as its type has
+abbrev pub rawBody : List ℕ → ℕ → List ℕ
+rawBody bytes i = bytesAt (lengthOf (at bytes (i * rawSize)) (at bytes (i * rawSize + 1))) bytes (i * rawSize)
 
-abbrev pub rawEntries : List ℕ → ℕ
-rawEntries bytes = min (rawCount bytes) rowLimit
-
-abbrev pub rawTable : List ℕ → Table
-rawTable bytes = record { rows = tableOf (rawRows bytes (rawEntries bytes)) .rows; count = rawCount bytes }
+-- the bytes begin with these rows, each the one that its body stands for
+pub record RawRows (bytes : List ℕ) (rows : List Constraint) : Type 0 where
+  pub whole : length rows * rawSize ≤ length bytes
+  pub stand : (i : ℕ) → i < length rows → StandsFor (rawBody bytes i) (getD rows i filler)
 
 -- §8.4, where the type gives the length: the list of lengths has one for the type, and the n is known
 pub record TypeKnown (t n : ℕ) : Type 0 where
@@ -38,15 +36,27 @@ pub record TypeKnown (t n : ℕ) : Type 0 where
   pub n-known : t ≡ 7 → (2 ≤ n) × (n ≤ 4)
 
 abbrev pub KnownAt : List ℕ → ℕ → Type 0
-KnownAt bytes i = TypeKnown (at bytes (i * 34)) (at bytes (i * 34 + 1))
+KnownAt bytes i = TypeKnown (at bytes (i * rawSize)) (at bytes (i * rawSize + 1))
 
--- the rows before one are of known types
-abbrev pub KnownTo : List ℕ → ℕ → Type 0
-KnownTo bytes n = (i : ℕ) → i < n → KnownAt bytes i
+-- the first n rows are whole and of known types, and there is no more such row, or no entry for it
+pub record Known (bytes : List ℕ) (n : ℕ) : Type 0 where
+  pub room : n ≤ rowLimit
+  pub whole : n * rawSize ≤ length bytes
+  pub known : (i : ℕ) → i < n → KnownAt bytes i
+  pub last : n < rowLimit → (n + 1) * rawSize ≤ length bytes → ¬ KnownAt bytes n
 
--- §9.7, §9.8: the writer's promise for the rows; where a row is the first of no known type, those before it are asked, and then 4 of it
+-- the record of the first n rows
+pub record RawTable (bytes : List ℕ) (n : ℕ) (table : Table) : Type 0 where
+  pub rows : List Constraint
+  pub raw : RawRows bytes rows
+  pub counted : length rows ≡ n
+  pub holds : table ≡ tableOf rows
+
+-- §9.7, §9.8: the writer's promise for the rows of all the whole stretches of 34 bytes; or a refusal, by the questions of some first rows and
+-- then 3 and 4 of the next
 pub data WritesRaw (bytes before : List ℕ) : WriteAnswer → List ℕ → Type 0 where
-  known : {r : WriteAnswer} {after : List ℕ} → KnownTo bytes (rawEntries bytes) → Writes (rowsOf (rawTable bytes)) before r after
-      → WritesRaw bytes before r after
-  unknown : (i n : ℕ) → i < rawEntries bytes → KnownTo bytes i → Judged (rowsQuestions 0 (rawRows bytes i) ((4, KnownAt bytes i) ∷ [])) (Refused n)
+  all-read : {r : WriteAnswer} {after : List ℕ} (rows : List Constraint) → RawRows bytes rows → length bytes < (length rows + 1) * rawSize
+      → Writes rows before r after → WritesRaw bytes before r after
+  stopped-at : (rows : List Constraint) (n : ℕ) → RawRows bytes rows → (length rows + 1) * rawSize ≤ length bytes
+      → Judged (rowsQuestions 0 rows ((3, length rows < rowLimit) ∷ (4, KnownAt bytes (length rows)) ∷ [])) (Refused n)
       → WritesRaw bytes before (WriteAnswer.Refused n) before

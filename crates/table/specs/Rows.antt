@@ -29,8 +29,8 @@ groupFrom n a b c d tolerance =
     (StrongSynchronization4 a b c d tolerance))
 
 -- the row of a type byte, the bytes b behind it, and the times x
-unfoldable pub rowFrom : ℕ → List ℕ → List ℕ → Constraint
-rowFrom t b x =
+unfoldable pub rowRead : ℕ → List ℕ → List ℕ → Constraint
+rowRead t b x =
     cond (eqb t 1) (Delay (at b 0) (at b 1) (at x 0) (at x 1))
     (cond (eqb t 2) (StrongDelay (at b 0) (at b 1) (at x 0) (at x 1))
     (cond (eqb t 3) (Repeat (at b 0) (at b 1) (at x 0) (at x 1))
@@ -55,7 +55,7 @@ timesBehind body s = numberAt 8 body s ∷ numberAt 8 body (s + 8) ∷ numberAt 
 
 -- the row that a body is read as: of a fitting shape, the one that it stands for
 unfoldable pub constraintOf : List ℕ → Constraint
-constraintOf body = rowFrom (at body 0) (bytesBehind body) (timesBehind body (timesStart body))
+constraintOf body = rowRead (at body 0) (bytesBehind body) (timesBehind body (timesStart body))
 
 -- the bytes of some times
 unfoldable pub timesBytes : List ℕ → List ℕ

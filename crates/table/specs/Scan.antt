@@ -5,8 +5,10 @@ use mathlib.Core.List.{List}
 use lib.ListN.{length}
 use Rattle.constraint.specs.Limits.{rowLimit}
 use Rattle.constraint.specs.Accepted.{Accepted}
-use Rattle.constraint.specs.Table.{TableRead, table-of, table-refused, lengthAt, WholeAt, RowAt, ReadsRows, ReadsTable}
+use Rattle.constraint.specs.Records.{filler}
+use Rattle.constraint.specs.Table.{TableRead, table-of, table-refused, lengthAt, bodyAt, WholeAt, RowAt, ReadsRows, ReadsTable}
 use Rattle.constraint.specs.declared.Constraint.{Constraint}
+use Rattle.table.specs.Rows.{constraintOf}
 use Rattle.table.specs.declared.ReadAnswer.{ReadAnswer}
 use Rattle.table.specs.declared.scan.Scan.{Scan}
 use Rattle.table.specs.declared.scan.Placed.{Placed}
@@ -32,6 +34,10 @@ CountsRows bytes r = Says (ReadsRows bytes 0 1) (r .answer) (r .rows)
 abbrev pub Scans : List ℕ → Scan → Type 0
 Scans bytes r = Says (ReadsTable bytes) (r .answer) (r .rows)
 
--- the promise of reading at a place: where a row is whole, it is the row there, and the next place is the one behind it
-abbrev pub PlacedAt : List ℕ → ℕ → Placed → Type 0
-PlacedAt bytes place r = WholeAt bytes place → RowAt bytes place (r .row) × (r .next ≡ place + 2 + lengthAt bytes place)
+-- the promise of reading at a place: where a row is whole, it is read from its body, and the next place is the one behind it; where none is,
+-- the filler and the place itself
+pub record PlacedAt (bytes : List ℕ) (place : ℕ) (r : Placed) : Type 0 where
+  pub read : WholeAt bytes place → r .row ≡ constraintOf (bodyAt bytes place)
+  pub stands : WholeAt bytes place → RowAt bytes place (r .row)
+  pub behind : WholeAt bytes place → r .next ≡ place + 2 + lengthAt bytes place
+  pub none : ¬ WholeAt bytes place → (r .row ≡ filler) × (r .next ≡ place)

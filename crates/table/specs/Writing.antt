@@ -10,12 +10,12 @@ use Rattle.constraint.specs.declared.Answer.the-variants.{Taken, Refused}
 use Rattle.constraint.specs.declared.Constraint.{Constraint}
 use Rattle.table.specs.declared.WriteAnswer.{WriteAnswer}
 
-abbrev pub answerOf : WriteAnswer → Answer
-answerOf (WriteAnswer.Written n) = Taken
-answerOf (WriteAnswer.Refused n) = Refused n
+abbrev pub answerIn : WriteAnswer → Answer
+answerIn (WriteAnswer.Written n) = Taken
+answerIn (WriteAnswer.Refused n) = Refused n
 
 -- the writer's promise: its answer is that of its questions, the buffer is what writing leaves, and the number is that of the bytes written
 pub record Writes (rows : List Constraint) (before : List ℕ) (r : WriteAnswer) (after : List ℕ) : Type 0 where
-  pub judged : Judged (writerQuestions rows before) (answerOf r)
-  pub buffer : after ≡ writtenTo before rows (answerOf r)
+  pub judged : Judged (writerQuestions rows before) (answerIn r)
+  pub buffer : after ≡ writtenTo before rows (answerIn r)
   pub counted : (n : ℕ) → r ≡ WriteAnswer.Written n → n ≡ length (tableBytes rows)

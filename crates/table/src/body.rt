@@ -2,17 +2,18 @@
 use constraint::Constraint;
 ghost use mathlib.Core.Path.{_≡_};
 ghost use mathlib.Core.List.{[], _∷_};
+ghost use Prim.Native.Nat.{_/_, _%_};
 ghost use lib.ListN.{length};
-ghost use Rattle.constraint.specs.Questions.{Decides};
+ghost use Rattle.constraint.specs.Records.{Decides};
 ghost use Rattle.constraint.specs.Types.{lengthOf};
 ghost use Rattle.constraint.specs.Table.{ShapeFits};
-ghost use Rattle.table.specs.Rows.{groupFrom, rowFrom, constraintOf};
+ghost use Rattle.table.specs.Rows.{groupFrom, rowRead, constraintOf};
 
 // The length expected for each type, by the type byte; to a StrongSynchronization's its n is added.
 const LENGTHS: [usize; 11] = [0, 19, 19, 19, 34, 19, 3, 10, 21, 19, 27];
 
 // The length expected of a row of a type, with the byte behind it, which is the n of a StrongSynchronization; 0 if there is
-// no such type. As a row has fewer than eight bytes before its times, they begin at this length modulo 8.
+// no such type.
 pub(crate) fn length_of(form: u8, n: u8) -> usize
     ensures { λ r. ⌜ r ≡ lengthOf form n ⌝ }
 {
@@ -24,6 +25,20 @@ pub(crate) fn length_of(form: u8, n: u8) -> usize
         return LENGTHS[place] + n as usize;
     }
     LENGTHS[place]
+}
+
+// Where the times of a body of that size begin: fewer than eight bytes stand before them, so the three lowest bits say how many.
+pub(crate) fn times_start(size: usize) -> usize
+    ensures { λ r. ⌜ r ≡ size % 8 ⌝ }
+{
+    size & 7
+}
+
+// How many times a body of that size has.
+pub(crate) fn times_count(size: usize) -> usize
+    ensures { λ r. ⌜ r ≡ size / 8 ⌝ }
+{
+    size >> 3
 }
 
 // Question 4, of a row with a length field of that size: is the type 1 to 10, n in range, the length right?
@@ -86,7 +101,7 @@ fn row_from(
     z: u64,
     w: u64,
 ) -> Constraint
-    ensures { λ r. ⌜ r ≡ rowFrom form (a ∷ b ∷ c ∷ d ∷ e ∷ []) (x ∷ y ∷ z ∷ w ∷ []) ⌝ }
+    ensures { λ r. ⌜ r ≡ rowRead form (a ∷ b ∷ c ∷ d ∷ e ∷ []) (x ∷ y ∷ z ∷ w ∷ []) ⌝ }
 {
     match form {
         1 => Constraint::Delay {
@@ -155,7 +170,7 @@ pub fn row_of(body: &[u8]) -> Constraint
 {
     let form = number::byte_at(body, 0);
     let n = number::byte_at(body, 1);
-    let start = length_of(form, n) % 8;
+    let start = times_start(length_of(form, n));
     row_from(
         form,
         n,

@@ -7,7 +7,7 @@ mod writer;
 
 use constraint::Answer;
 use constraint::Table;
-ghost use Rattle.constraint.specs.Rows.{rowsOf};
+ghost use Rattle.constraint.specs.Records.{rowsOf};
 ghost use Rattle.table.specs.Reading.{ReadsInto};
 ghost use Rattle.table.specs.Writing.{Writes};
 

@@ -5,22 +5,11 @@ use super::body::row_of;
 use constraint::Answer;
 use constraint::Table;
 ghost use mathlib.Core.Path.{_≡_};
-ghost use Prim.Native.Nat.{_*_, _≤_, _<_, min};
-ghost use lib.ListN.{length};
-ghost use Rattle.constraint.specs.Limits.{rowLimit};
-ghost use Rattle.constraint.specs.Questions.{Decides};
-ghost use Rattle.constraint.specs.Rows.{tableOf};
-ghost use Rattle.table.specs.Raw.{rawRows, TypeKnown, KnownAt, KnownTo, WritesRaw};
+ghost use Rattle.constraint.specs.Records.{Decides};
+ghost use Rattle.table.specs.Raw.{TypeKnown, Known, RawTable, WritesRaw};
 
-// How many of some rows have an entry.
-fn entries_of(count: usize) -> usize
-    ensures { λ r. ⌜ r ≡ min count rowLimit ⌝ }
-{
-    if count < constraint::ROW_LIMIT {
-        return count;
-    }
-    constraint::ROW_LIMIT
-}
+// How many bytes each row is given, which the longest type needs.
+const RAW_SIZE: usize = 34;
 
 // Question 4 of a type byte and the byte behind it: is there a length for the type, and is n in range?
 fn type_known(form: u8, n: u8) -> bool
@@ -40,37 +29,44 @@ fn type_known(form: u8, n: u8) -> bool
     true
 }
 
-// How many of the first rows have a known type, before the first that has none.
-fn known_rows(bytes: &[u8], entries: usize) -> usize
-    requires { ⌜ entries * 34 ≤ length (now bytes) ⌝ }
-    ensures { λ r. ⌜ (r ≤ entries) × KnownTo (now (bytes .entry)) r × (r < entries → ¬ KnownAt (now (bytes .entry)) r) ⌝ }
+// How many of the first rows are whole and of known types: at most as many as a table has entries.
+fn known_rows(bytes: &[u8]) -> usize
+    ensures { λ r. ⌜ Known (now (bytes .entry)) r ⌝ }
 {
+    let mut start = 0;
     let mut i = 0;
-    while i < entries {
-        let start = i * 34;
+    while i < constraint::ROW_LIMIT {
+        if bytes.len() - start < RAW_SIZE {
+            return i;
+        }
         let form = number::byte_at(bytes, start);
         let next = start + 1;
         let n = number::byte_at(bytes, next);
         if !type_known(form, n) {
             return i;
         }
+        start += RAW_SIZE;
         i += 1;
     }
-    entries
+    i
 }
 
-// The table record of the first rows.
-fn first_rows(bytes: &[u8], entries: usize) -> Table
-    requires { ⌜ (entries * 34 ≤ length (now bytes)) × (entries ≤ rowLimit) ⌝ }
-    ensures { λ r. ⌜ r ≡ tableOf (rawRows (now (bytes .entry)) entries) ⌝ }
+// The table record of the first rows: each is read from as many of its bytes as its type has.
+fn first_rows(bytes: &[u8], count: usize) -> Table
+    requires { ⌜ Known (now bytes) count ⌝ }
+    ensures { λ r. ⌜ RawTable (now (bytes .entry)) count r ⌝ }
 {
     let mut table = Table::new();
+    let mut start = 0;
     let mut i = 0;
-    while i < entries {
-        let start = i * 34;
-        let end = start + 34;
+    while i < count {
+        let form = number::byte_at(bytes, start);
+        let next = start + 1;
+        let n = number::byte_at(bytes, next);
+        let end = start + length_of(form, n);
         let row = row_of(&bytes[start..end]);
         table = table.with_row(row);
+        start += RAW_SIZE;
         i += 1;
     }
     table
@@ -80,20 +76,19 @@ fn first_rows(bytes: &[u8], entries: usize) -> Table
 pub fn write(rows: &[u8], buffer: &mut [u8]) -> WriteAnswer
     ensures { λ r. ⌜ WritesRaw (now (rows .entry)) (now (buffer .entry)) r (now (buffer .exit)) ⌝ }
 {
-    let count = rows.len() / 34;
-    let entries = entries_of(count);
-    let known = known_rows(rows, entries);
-    let mut table = first_rows(rows, known);
-    if known < entries {
-        match table.judge() {
-            Answer::Refused(number) => {
-                return WriteAnswer::Refused(number);
-            }
-            Answer::Taken => {
-                return WriteAnswer::Refused(4);
-            }
-        }
+    let known = known_rows(rows);
+    let table = first_rows(rows, known);
+    if rows.len() - known * RAW_SIZE < RAW_SIZE {
+        return super::write(table, buffer);
     }
-    table.count = count;
-    super::write(table, buffer)
+    match table.judge() {
+        Answer::Refused(number) => {
+            return WriteAnswer::Refused(number);
+        }
+        Answer::Taken => {}
+    }
+    if known < constraint::ROW_LIMIT {
+        return WriteAnswer::Refused(4);
+    }
+    WriteAnswer::Refused(3)
 }

@@ -58,12 +58,15 @@ pub fn judge(bytes: &[u8]) -> Scan
     judge_rows(bytes)
 }
 
-// The row at a place, and the place behind it. Where no whole row of a fitting shape stands, it is any row.
+// The row at a place, and the place behind it. Where no whole row stands, it is the row of an empty entry, and the place itself.
 pub fn row_at(bytes: &[u8], place: usize) -> Placed
     ensures { λ r. ⌜ PlacedAt (now (bytes .entry)) place r ⌝ }
 {
     if !whole_at(bytes, place) {
-        let row = row_of(bytes);
+        let row = Constraint::Order {
+            source: 0,
+            target: 0,
+        };
         return Placed { row, next: place };
     }
     let start = place + 2;

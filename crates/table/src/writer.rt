@@ -7,7 +7,7 @@ ghost use Prim.Native.Nat.{_+_, _≤_};
 ghost use lib.ListN.{length, take};
 ghost use lib.Seq.{sets};
 ghost use Rattle.constraint.specs.Limits.{rowLimit};
-ghost use Rattle.constraint.specs.Rows.{rowsOf};
+ghost use Rattle.constraint.specs.Records.{rowsOf};
 ghost use Rattle.constraint.specs.Table.{rowBody, rowBytes, rowsBytes, tableBytes};
 ghost use Rattle.table.specs.Rows.{timesBytes};
 
@@ -44,11 +44,12 @@ fn put_body(buffer: &mut [u8], place: usize, row: Constraint, size: usize)
     let line = fields.line;
     let bytes = fields.bytes;
     let times = fields.times;
-    let start = size % 8;
+    let start = body::times_start(size);
     let count = start - 1;
     number::put_byte(buffer, place, line.form);
     number::put(buffer, place + 1, &bytes[..count]);
-    put_times(buffer, place + start, times, size / 8);
+    let times_count = body::times_count(size);
+    put_times(buffer, place + start, times, times_count);
 }
 
 // Stores a row in a buffer from a place on: its length, and its body.

@@ -25,7 +25,8 @@ use lib.ListN.{
 use lib.Seq.{length-take-le, drop-cons, getD-set-same, drop-set-lt, getD-take, ext-getD}
 use Rattle.constraint.specs.Steps.{at}
 use Rattle.constraint.specs.Report.{digits, decimal, blank}
-use Rattle.constraint.specs.Page.{rightIn, numberFrom}
+use Rattle.constraint.specs.Page.{rightIn}
+use Rattle.text.specs.Content.{numberFrom}
 use Rattle.constraint.proofs.Lists.{Each, each-none, each-cons, each-append}
 
 -- One by one from the last

@@ -7,7 +7,7 @@ use native.Mathlib.Omega.{arith}
 use borrow.Author.Tests.{lt-ltb, le-ltb}
 use lib.ListN.{length, getD, set, drop, replicate, length-append, length-set, length-replicate}
 use lib.Seq.{length-take-le, drop-cons, take-suc-set, sets, getD-set-other}
-use Rattle.text.specs.Content.{textLimit, emptyText, pushed, extended, Holds, Copied}
+use Rattle.text.specs.Content.{textLimit, emptyText, withByte, extended, Holds, Copied}
 use Rattle.number.proofs.Stores.{stores-front}
 use Rattle.text.specs.declared.Text.{Text}
 
@@ -16,11 +16,11 @@ use Rattle.text.specs.declared.Text.{Text}
 pub extended-append : (first later : List ℕ) (text : Text) → extended (first ++ later) text ≡ extended later (extended first text)
 unfolding extended
 extended-append [] later text = refl
-extended-append (byte ∷ first) later text = extended-append first later (pushed byte text)
+extended-append (byte ∷ first) later text = extended-append first later (withByte byte text)
 
 -- a text with room stores the byte behind what it holds
-pushed-stored : (byte : ℕ) (text : Text) → text .len < textLimit → pushed byte text ≡ record { bytes = set (text .bytes) (text .len) byte; len = text .len + 1 }
-unfolding pushed
+pushed-stored : (byte : ℕ) (text : Text) → text .len < textLimit → withByte byte text ≡ record { bytes = set (text .bytes) (text .len) byte; len = text .len + 1 }
+unfolding withByte
 pushed-stored byte text room = rw (lt-ltb (text .len) textLimit room)
 
 -- the first of the bytes left is stored
@@ -32,7 +32,7 @@ extended-next list i text there room =
 
 -- a full text takes none
 pub extended-full : (list : List ℕ) (text : Text) → textLimit ≤ text .len → extended list text ≡ text
-unfolding extended pushed
+unfolding extended withByte
 extended-full [] text full = refl
 extended-full (byte ∷ list) text full = rw (le-ltb (text .len) textLimit full) (extended-full list text full)
 
@@ -50,7 +50,7 @@ pub holds-nothing : Holds emptyText []
 unfolding emptyText
 holds-nothing = record { size = length-replicate {A = ℕ} textLimit 0; within = omega arith; held = refl; rest = λ i h. zeros textLimit i }
 
-holds-pushed : (text : Text) (list : List ℕ) (byte : ℕ) → Holds text list → length list < textLimit → Holds (pushed byte text) (list ++ (byte ∷ []))
+holds-pushed : (text : Text) (list : List ℕ) (byte : ℕ) → Holds text list → length list < textLimit → Holds (withByte byte text) (list ++ (byte ∷ []))
 holds-pushed text list byte holds room =
     let len : text .len < textLimit = omega (arith, held-length text list holds) in
     rw (pushed-stored byte text len)
@@ -66,7 +66,7 @@ unfolding extended
 holds-extended text list [] holds room = rw (append-nil list) holds
 holds-extended text list (byte ∷ more) holds room =
     rw (← append-assoc list (byte ∷ []) more)
-    (holds-extended (pushed byte text) (list ++ (byte ∷ [])) more (holds-pushed text list byte holds (omega arith)) (omega (arith, length-append list (byte ∷ []))))
+    (holds-extended (withByte byte text) (list ++ (byte ∷ [])) more (holds-pushed text list byte holds (omega arith)) (omega (arith, length-append list (byte ∷ []))))
 
 -- a text that was made from nothing holds what was put there
 pub holds-all : (list : List ℕ) → length list ≤ textLimit → Holds (extended list emptyText) list

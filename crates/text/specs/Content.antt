@@ -1,14 +1,19 @@
 -- What a text holds, and what is made of it.
-use Prim.Native.Nat.{ℕ, _+_, _≤_, _<_}
+use Prim.Native.Nat.{ℕ, _+_, _-_, _*_, _≤_, _<_}
 use mathlib.Core.Path.{_≡_}
 use mathlib.Core.Bool.{cond}
 use mathlib.Core.List.{List, [], _∷_, _++_}
 use lib.ListN.{length, getD, take, drop, set, replicate}
-use lib.Dec.{ltb}
-use Rattle.constraint.specs.Report.{decimal}
+use lib.Dec.{ltb, eqb}
+use Rattle.constraint.specs.Report.{decimal, blank}
 use Rattle.constraint.specs.Page.{rightIn}
 use Rattle.text.specs.declared.Digits.{Digits}
 use Rattle.text.specs.declared.Text.{Text}
+
+-- §7.18; CR 5: the number that digits stand for, behind those that stand for `high`; a blank stands for none
+unfoldable pub numberFrom : ℕ → List ℕ → ℕ
+numberFrom high [] = high
+numberFrom high (byte ∷ later) = numberFrom (cond (eqb byte blank) high (high * 10 + (byte - 48))) later
 
 -- the digits of a number stand at the end of 20 bytes, with blanks before them
 pub record Spells (digits : Digits) (x : ℕ) : Type 0 where
@@ -30,13 +35,13 @@ unfoldable pub emptyText : Text
 emptyText = record { bytes = replicate textLimit 0; len = 0 }
 
 -- the text with one byte more; a full one takes none
-unfoldable pub pushed : ℕ → Text → Text
-pushed byte text = cond (ltb (text .len) textLimit) (record { bytes = set (text .bytes) (text .len) byte; len = text .len + 1 }) text
+unfoldable pub withByte : ℕ → Text → Text
+withByte byte text = cond (ltb (text .len) textLimit) (record { bytes = set (text .bytes) (text .len) byte; len = text .len + 1 }) text
 
 -- the text with bytes behind those that it holds, as many as it takes
 unfoldable pub extended : List ℕ → Text → Text
 extended [] text = text
-extended (byte ∷ list) text = extended list (pushed byte text)
+extended (byte ∷ list) text = extended list (withByte byte text)
 
 -- the text holds just that list, and zeros behind it, as a new text has
 pub record Holds (text : Text) (list : List ℕ) : Type 0 where

@@ -2,7 +2,7 @@
 use constraint::Verdict;
 ghost use mathlib.Core.Path.{_≡_};
 ghost use Rattle.constraint.specs.Report.{decimal, refusedText};
-ghost use Rattle.text.specs.Content.{Spells, emptyText, pushed, extended, content, Copied};
+ghost use Rattle.text.specs.Content.{Spells, emptyText, withByte, extended, content, Copied};
 ghost use Rattle.text.specs.Lines.{closedLine, rowLine};
 
 // How many bytes a text holds at most, which no report exceeds.
@@ -71,7 +71,7 @@ impl Text {
 
     // The text with one byte more.
     pub fn push(self, byte: u8) -> Self
-        ensures { λ r. ⌜ r ≡ pushed byte self ⌝ }
+        ensures { λ r. ⌜ r ≡ withByte byte self ⌝ }
     {
         self.word(&[byte])
     }

@@ -1,15 +1,10 @@
-//! Tables of 32 rows of all types, and drives over which every row stays open until the close.
+//! The calls that are measured, over the tables and drives of [`crate::drive`].
 
-use model::constraint::stream;
-use model::{Constraint, FIRST_COLOURED, LAST_KIND, LAST_TIME, NO_LIMIT, Step, recording_bytes, table_bytes};
+use crate::drive::{self, Table};
+use model::{Constraint, FIRST_COLOURED, LAST_COLOUR, LAST_KIND, LAST_TIME, Step, recording_bytes, table_bytes};
 
-/// A signal comes once in a round of this length.
-const PERIOD: u64 = 1_000;
-/// How far the signals of one round are apart, and how late at most each can be.
-const APART: u64 = 15;
-const WOBBLE: u64 = 10;
-/// In how many rounds a rare signal comes once.
-const RARELY: u64 = 64;
+/// How many events come before calls that are refused.
+const AHEAD: usize = 2_000;
 
 /// A call of a load: a step, or the withdrawal of the last one.
 #[derive(Clone, Copy, Debug)]
@@ -18,191 +13,124 @@ pub enum Call {
     Withdraw,
 }
 
-/// A table and a drive over it.
+/// A table, and calls over it of which all are taken, or all refused.
 #[derive(Clone)]
 pub struct Load {
     pub name: String,
     pub rows: Vec<Constraint>,
-    /// The steps that are left at the end: events only.
+    /// The drive that the calls were made of: events only.
     pub steps: Vec<Step>,
+    /// The calls before those that are measured.
+    pub ahead: Vec<Call>,
+    /// The calls that are measured.
     pub calls: Vec<Call>,
+    /// Are the calls that are measured refused?
+    pub refused: bool,
 }
 
-/// The events of one stream: one in each round, or in each so many rounds, from the round `lag` on.
-#[derive(Clone, Copy)]
-struct Signal {
-    stream: u8,
-    /// Its place among the signals of a round.
-    place: u64,
-    lag: u64,
-    every: u64,
-}
-
-impl Signal {
-    fn event(self, round: u64) -> Step {
-        let late = (7 * round + 3 * self.place) % WOBBLE;
-        Step::of_stream(self.stream, round * PERIOD + self.place * APART + late)
-    }
-
-    fn comes_in(self, round: u64) -> bool {
-        self.lag <= round && round.is_multiple_of(self.every)
-    }
-
-    /// How long the first event is after another signal's first, give or take a wobble.
-    fn after(self, other: Signal) -> u64 {
-        (self.lag - other.lag) * PERIOD + (self.place - other.place) * APART
+/// The kind of which 64 can wait in a row, if there is one.
+fn waiting_source(row: &Constraint) -> Option<u8> {
+    match row {
+        Constraint::Delay { source, .. } | Constraint::StrongDelay { source, .. } => Some(*source),
+        Constraint::StrongSynchronization { kinds, .. } => kinds.first().copied(),
+        _ => None,
     }
 }
 
-/// The signals so far, in the order of a round.
-#[derive(Default)]
-struct Signals {
-    list: Vec<Signal>,
-    /// In how many rounds each new signal comes once, if not in every one.
-    every: Option<u64>,
-}
-
-impl Signals {
-    fn of_stream(&mut self, stream: u8, lag: u64) -> Signal {
-        let signal = Signal { stream, place: self.list.len() as u64, lag, every: self.every.unwrap_or(1) };
-        self.list.push(signal);
-        signal
-    }
-
-    /// The signal of the next plain kind.
-    fn next(&mut self, lag: u64) -> Signal {
-        self.of_stream(self.list.iter().filter(|signal| signal.stream < FIRST_COLOURED).count() as u8, lag)
-    }
-
-    /// The runs of a chain: stimuli of some colours, and responses of as many others.
-    fn chain(&mut self, colours: u8) -> Constraint {
-        let (stimulus, response) = (FIRST_COLOURED, FIRST_COLOURED + 1);
-        (0..colours).for_each(|colour| _ = self.of_stream(stream(stimulus, colour), 0));
-        (0..colours).for_each(|colour| _ = self.of_stream(stream(response, 7 - colour), 0));
-        Constraint::Reaction { stimulus, response, minimum: APART, maximum: LAST_TIME / 2 }
-    }
-
-    /// A source, and a target that is so many rounds behind it.
-    fn pair(&mut self, lag: u64) -> (Signal, Signal) {
-        (self.next(0), self.next(lag))
-    }
-
-    /// So many events, round by round.
-    fn drive(&self, events: usize) -> Vec<Step> {
-        let coming = |round| self.list.iter().filter(move |signal| signal.comes_in(round));
-        (0..).flat_map(|round| coming(round).map(move |signal| signal.event(round))).take(events).collect()
+/// The time of a drive's event.
+fn time(event: Step) -> u64 {
+    match event {
+        Step::Event { time, .. } | Step::Coloured { time, .. } | Step::Tick { time } => time,
+        Step::Close => LAST_TIME,
     }
 }
 
-fn delay((source, target): (Signal, Signal)) -> Constraint {
-    let (lower, upper) = (target.after(source) - WOBBLE, target.after(source) + WOBBLE);
-    Constraint::Delay { source: source.stream, target: target.stream, lower, upper }
+/// Calls that are refused where the clock stands at a time at which an event of a stream has come, and the step after it was
+/// withdrawn: with 9, 19, 10, 11 and 21, each question in each sort of call that has it.
+fn refused(clock: u64, last: u8) -> Vec<Call> {
+    let (kind, coloured, colour, beyond) = (LAST_KIND + 1, FIRST_COLOURED, LAST_COLOUR, LAST_TIME + 1);
+    let steps = [
+        Step::Event { kind, time: clock + 1 },
+        Step::Event { kind: coloured, time: clock + 1 },
+        Step::Event { kind: last, time: beyond },
+        Step::Event { kind: last, time: clock },
+        Step::Event { kind: last, time: clock - 1 },
+        Step::Coloured { kind, colour, time: clock + 1 },
+        Step::Coloured { kind: coloured, colour: colour + 1, time: clock + 1 },
+        Step::Coloured { kind: last, colour, time: clock + 1 },
+        Step::Coloured { kind: coloured, colour, time: beyond },
+        Step::Coloured { kind: coloured, colour, time: clock - 1 },
+        Step::Tick { time: beyond },
+        Step::Tick { time: clock },
+    ];
+    steps.into_iter().map(Call::Step).chain([Call::Withdraw]).collect()
 }
 
-fn strong_delay((source, target): (Signal, Signal)) -> Constraint {
-    let (lower, upper) = (target.after(source) - WOBBLE, target.after(source) + WOBBLE);
-    Constraint::StrongDelay { source: source.stream, target: target.stream, lower, upper }
-}
-
-fn order((source, target): (Signal, Signal)) -> Constraint {
-    Constraint::Order { source: source.stream, target: target.stream }
-}
-
-fn synchronization(signals: &[Signal]) -> Constraint {
-    let tolerance = signals[signals.len() - 1].after(signals[0]) + WOBBLE;
-    Constraint::StrongSynchronization { kinds: signals.iter().map(|signal| signal.stream).collect(), tolerance }
-}
-
-/// An execution from a start to a stop, with a pause.
-fn execution_time(start: Signal, (preempt, resume): (Signal, Signal), stop: Signal) -> Constraint {
-    let running = stop.after(start) - resume.after(preempt);
-    Constraint::ExecutionTime {
-        start: start.stream,
-        stop: stop.stream,
-        preempt: preempt.stream,
-        resume: resume.stream,
-        lower: running.saturating_sub(2 * WOBBLE),
-        upper: running + 2 * WOBBLE,
-    }
-}
-
-fn repeat(event: Signal, span: u8) -> Constraint {
-    let length = u64::from(span) * PERIOD;
-    Constraint::Repeat { event: event.stream, span, lower: length - WOBBLE, upper: length + WOBBLE }
-}
-
-fn burst(event: Signal, maximum: u8) -> Constraint {
-    let length = u64::from(maximum) * PERIOD - WOBBLE;
-    Constraint::Burst { event: event.stream, maximum, length, minimum: PERIOD - WOBBLE }
-}
-
-/// Points in a rhythm, or with room for a few times more or less, or with no limit above.
-fn sporadic(event: Signal, upper: u64) -> Constraint {
-    let lower = if upper == PERIOD { PERIOD } else { PERIOD - 3 };
-    Constraint::Sporadic { event: event.stream, lower, upper, jitter: WOBBLE, minimum: PERIOD - WOBBLE }
-}
-
-/// Points in a rhythm, so many places apart.
-fn repetition(event: Signal, span: u8) -> Constraint {
-    let length = u64::from(span) * PERIOD;
-    Constraint::Repetition { event: event.stream, span, lower: length, upper: length, jitter: WOBBLE }
-}
-
-/// The lags, spans, maxima and uppers of the rows of one type.
-const LAGS: [u64; 5] = [0, 4, 16, 40, 60];
-const SPANS: [u8; 5] = [1, 2, 8, 32, 64];
-const MAXIMA: [u8; 3] = [1, 16, 64];
-const UPPERS: [u64; 4] = [PERIOD, PERIOD + 3, 2 * PERIOD, NO_LIMIT];
-
-/// Each row has kinds of its own, but that a Burst or a Sporadic shares a Repeat's, and the ExecutionTime's start is a
-/// Sporadic's event: an event concerns one row, or two. All plain kinds are used, and all colours of the Reaction's.
+/// So many events of the drive over the sparse table.
 pub fn sparse(events: usize) -> Load {
-    let mut signals = Signals::default();
-    let mut rows: Vec<Constraint> = LAGS.iter().map(|lag| delay(signals.pair(*lag))).collect();
-    rows.extend(LAGS.map(|lag| strong_delay(signals.pair(lag))));
-    rows.extend(LAGS[..2].iter().map(|lag| order(signals.pair(*lag))));
-    let repeated = SPANS.map(|span| (signals.next(0), span));
-    rows.extend(repeated.map(|(event, span)| repeat(event, span)));
-    rows.extend(repeated.iter().zip(MAXIMA).map(|((event, _), maximum)| burst(*event, maximum)));
-    let rhythms = [repeated[4].0, signals.next(0), signals.next(0), signals.next(0)];
-    rows.extend(rhythms.iter().zip(UPPERS).map(|(event, upper)| sporadic(*event, upper)));
-    for (lag, n) in LAGS.into_iter().zip([2, 2, 3, 2, 3]) {
-        let group: Vec<Signal> = (0..n).map(|place| signals.next(if place == 0 { 0 } else { lag })).collect();
-        rows.push(synchronization(&group));
-    }
-    let [preempt, resume, stop] = [0; 3].map(|lag| signals.next(lag));
-    rows.push(execution_time(rhythms[3], (preempt, resume), stop));
-    rows.push(repetition(signals.next(0), 8));
-    rows.push(signals.chain(4));
-    Load::new("sparse", rows, signals.drive(events))
+    Load::new("sparse", drive::sparse(false), events)
 }
 
-/// Nearly all rows share two kinds, of which an event concerns 24 rows or 25. An execution and a run through a chain, which
-/// need kinds of their own, come once in so many rounds.
+/// The same over the dense table.
 pub fn dense(events: usize) -> Load {
-    let mut signals = Signals::default();
-    let pair = signals.pair(40);
-    let either = |place: usize| if place.is_multiple_of(2) { pair.0 } else { pair.1 };
-    let mut rows = vec![delay(pair); 5];
-    rows.extend(vec![strong_delay(pair); 5]);
-    rows.extend(vec![order(pair); 4]);
-    rows.extend(vec![synchronization(&[pair.0, pair.1]); 5]);
-    rows.extend(SPANS[1..].iter().enumerate().map(|(place, span)| repeat(either(place), *span)));
-    rows.extend(MAXIMA.iter().enumerate().map(|(place, maximum)| burst(either(place), *maximum)));
-    rows.extend(UPPERS[..3].iter().enumerate().map(|(place, upper)| sporadic(either(place + 1), *upper)));
-    rows.push(repetition(pair.0, 8));
-    signals.every = Some(RARELY);
-    let [start, preempt, resume, stop] = [0; 4].map(|lag| signals.next(lag));
-    rows.push(execution_time(start, (preempt, resume), stop));
-    rows.push(signals.chain(1));
-    Load::new("dense", rows, signals.drive(events))
+    Load::new("dense", drive::dense(false), events)
+}
+
+/// So many events over the sparse table, from where 64 wait on.
+pub fn sparse_full(events: usize) -> Load {
+    Load::full("sparse", drive::sparse(true), events)
+}
+
+/// The same over the dense table.
+pub fn dense_full(events: usize) -> Load {
+    Load::full("dense", drive::dense(true), events)
 }
 
 impl Load {
-    /// Each step given once.
-    fn new(name: &str, rows: Vec<Constraint>, steps: Vec<Step>) -> Load {
+    /// Each event given once.
+    fn new(name: &str, table: Table, events: usize) -> Load {
+        let steps = table.drive(events);
         let calls = steps.iter().map(|step| Call::Step(*step)).collect();
-        Load { name: name.into(), rows, steps, calls }
+        Load { name: name.into(), rows: table.rows, steps, ahead: Vec::new(), calls, refused: false }
+    }
+
+    /// Each event given once, those in the rounds in which fewer than 64 wait before the others.
+    fn full(name: &str, table: Table, events: usize) -> Load {
+        let ahead = table.before_full();
+        let mut load = Load::new(&format!("{name}, 64 waiting"), table, ahead + events);
+        load.ahead = load.calls.drain(..ahead).collect();
+        load
+    }
+
+    /// So many steps of the same drive with a tick at every time at which no event comes.
+    pub fn ticking(self, steps: usize) -> Load {
+        let ticks = |from: Step, to: Step| (time(from) + 1..time(to)).map(|time| Call::Step(Step::Tick { time }));
+        let filled =
+            |two: &[Step]| [Call::Step(two[0])].into_iter().chain(ticks(two[0], two[1])).collect::<Vec<Call>>();
+        let calls = self.steps.windows(2).flat_map(filled).take(steps).collect();
+        Load { name: format!("{}, ticks", self.name), calls, ..self }
+    }
+
+    /// So many calls that are refused for other reasons than 64 waiting, after the first events of the same drive.
+    pub fn refusing(self, calls: usize) -> Load {
+        let mut ahead = self.calls[..AHEAD].to_vec();
+        let plain = self.steps[..AHEAD].iter().rposition(|step| matches!(step, Step::Event { .. }));
+        ahead.truncate(plain.map_or(AHEAD, |last| last + 1));
+        let last = self.steps[ahead.len() - 1];
+        let clock = time(last);
+        ahead.extend([Call::Step(Step::Tick { time: clock + 1 }), Call::Withdraw]);
+        let calls = refused(clock, last.kind().unwrap_or(0)).into_iter().cycle().take(calls).collect();
+        Load { name: format!("{}, refused", self.name), ahead, calls, refused: true, ..self }
+    }
+
+    /// So many sources that are refused with 12, in turn those of each kind of which 64 wait.
+    pub fn crowding(self, calls: usize) -> Load {
+        let Some(Call::Step(last)) = self.ahead.last() else { return self };
+        let mut sources: Vec<u8> = self.rows.iter().filter_map(waiting_source).collect();
+        sources.dedup();
+        let again = sources.into_iter().map(|kind| Call::Step(Step::Event { kind, time: time(*last) + 1 }));
+        let calls = again.cycle().take(calls).collect();
+        Load { name: format!("{}, refused", self.name), calls, refused: true, ..self }
     }
 
     /// The same drive with a tenth of the steps withdrawn: of nine steps one is given, withdrawn and given again.
@@ -215,9 +143,9 @@ impl Load {
         Load { name: format!("{}, withdrawing", self.name), calls, ..self }
     }
 
-    /// How many steps are taken, with those that are withdrawn.
-    pub fn taken(&self) -> usize {
-        self.calls.iter().filter(|call| matches!(call, Call::Step(_))).count()
+    /// How many calls a time is given for: those refused, or the steps taken with those that are withdrawn.
+    pub fn number(&self) -> usize {
+        self.calls.iter().filter(|call| self.refused || matches!(call, Call::Step(_))).count()
     }
 
     /// The table's bytes.

@@ -1,62 +1,75 @@
-//! Prints how fast the proved library is, beside plain Rust: `make bench`.
+//! Prints how fast the proved library is, beside plain Rust: `make bench` the times, `make count` the instructions.
 
-use bench::load::{Load, dense, sparse};
-use bench::measure::{Measured, agree, reports, steps, with_rows};
+use bench::count::{PLAYED, instructions, played};
+use bench::line::{Line, lines, sizes};
+use bench::measure::{Both, Times, times};
+use std::process::ExitCode;
 
 /// "A million events".
-const EVENTS: usize = 1_000_000;
-/// So many are left of a million steps, of which a tenth is withdrawn.
-const LEFT: usize = EVENTS / 10 * 9;
-const RUNS: usize = 5;
-const NUMBERS_OF_ROWS: [usize; 6] = [1, 2, 4, 8, 16, 32];
+const CALLS: usize = 1_000_000;
+const RUNS: usize = 7;
 
-/// A number with a comma before each three digits.
-fn commas(number: f64) -> String {
-    let digits = format!("{number:.0}");
-    let comma = |place: usize| if place > 0 && (digits.len() - place).is_multiple_of(3) { "," } else { "" };
-    digits.char_indices().map(|(place, digit)| format!("{}{digit}", comma(place))).collect()
+/// The lines over whole tables, then those over more and more rows.
+fn all_lines() -> Vec<Line> {
+    lines().into_iter().chain(sizes()).collect()
 }
 
-fn print_line(measured: &Measured) {
+fn print_times(line: &Line) {
+    let measured: Times = times(line, CALLS, RUNS);
+    let (nanoseconds, ratio) = (measured.nanoseconds(), measured.ratio());
     println!(
-        "| {:<26} | {:>9} | {:>15} | {:>13} | {:>5.1} |",
-        measured.what,
-        commas(measured.number as f64),
-        commas(measured.library_rate()),
-        commas(measured.plain_rate()),
-        measured.ratio()
+        "| {:<28} | {:>7.1} | {:>7.1} | {:>12.2} | {:>6.2} | {:>8.2} |",
+        line.what(),
+        nanoseconds.library.middle,
+        nanoseconds.plain.middle,
+        ratio.least,
+        ratio.middle,
+        ratio.greatest
     );
 }
 
-/// How long a step takes over more and more rows.
-fn print_growth(loads: &[Load]) {
-    let heading = |load: &Load| format!(" {0}: library, ns | {0}: plain, ns |", load.name);
-    println!("| rows |{}", loads.iter().map(heading).collect::<String>());
-    println!("|-----:|{}", "---:|---:|".repeat(loads.len()));
-    for number in NUMBERS_OF_ROWS {
-        let cells: String = loads.iter().map(|load| growth_cells(&with_rows(load, number, RUNS))).collect();
-        println!("| {number:>4} |{cells}");
-    }
+fn print_counts(line: &Line, count: &Both<f64>) {
+    let Both { library, plain } = count;
+    println!("| {:<28} | {library:>7.1} | {plain:>7.1} | {:>5.2} |", line.what(), library / plain);
 }
 
-fn growth_cells(measured: &Measured) -> String {
-    let (library, plain) = measured.nanoseconds();
-    format!(" {library:>5.1} | {plain:>5.1} |")
+/// Times every line.
+fn bench() {
+    println!(
+        "nanoseconds of a call, processor time, in the middle of {RUNS} runs of {CALLS} calls on each monitor in turn;"
+    );
+    println!(
+        "times: how many times as long the library took, in each run for itself. Both monitors agree on every line.\n"
+    );
+    println!("| what                         | library | plain   | times, least | middle | greatest |");
+    println!("|------------------------------|--------:|--------:|-------------:|-------:|---------:|");
+    all_lines().iter().for_each(print_times);
 }
 
-fn main() {
-    let loads: [Load; 2] = [sparse(EVENTS), dense(EVENTS)];
-    let withdrawing: [Load; 2] = [sparse(LEFT), dense(LEFT)].map(Load::withdrawing);
-    for load in loads.iter().chain(&withdrawing) {
-        agree(load);
-        println!("{}: 32 rows of all types; an event concerns {:.1} of them in the mean", load.name, load.concerned());
-    }
-    println!("the verdicts of both monitors agree; every row is open until the close");
-    println!("processor time, the best of {RUNS} runs in turn\n");
-    println!("| what                       |    number | library, in 1 s | plain, in 1 s | times |");
-    println!("|----------------------------|----------:|----------------:|--------------:|------:|");
-    loads.iter().chain(&withdrawing).for_each(|load| print_line(&steps(load, RUNS)));
-    loads.iter().for_each(|load| print_line(&reports(load, RUNS)));
-    println!();
-    print_growth(&loads);
+/// Counts the instructions of every line.
+fn count() -> Result<(), String> {
+    let lines = all_lines();
+    let counts = instructions(&lines)?;
+    println!("instructions of a call, by callgrind. Both monitors agree on every line.\n");
+    println!("| what                         | library | plain   | times |");
+    println!("|------------------------------|--------:|--------:|------:|");
+    lines.iter().zip(&counts).for_each(|(line, count)| print_counts(line, count));
+    Ok(())
+}
+
+fn main() -> ExitCode {
+    let word = std::env::args().nth(1);
+    let done = match word.as_deref() {
+        None => Ok(bench()),
+        Some("count") => count(),
+        Some(PLAYED) => Ok(played(&all_lines())),
+        Some(other) => Err(format!("no such word: {other}; \"count\" counts instructions, no word takes times")),
+    };
+    done.map_or_else(
+        |error| {
+            eprintln!("{error}");
+            ExitCode::FAILURE
+        },
+        |()| ExitCode::SUCCESS,
+    )
 }

@@ -1,6 +1,7 @@
-//! The measurements: the library and plain Rust in turn, in one run, on the same steps.
+//! The measurements: the library and plain Rust in turn, on the same calls.
 
 use crate::clock::thread_time;
+use crate::line::{Line, Sort};
 use crate::load::{Call, Load};
 use crate::plain::{self, Plain};
 use delkuthi::Monitor;
@@ -8,50 +9,47 @@ use model::{Answer, Step, Verdict};
 use std::hint::black_box;
 use std::time::Duration;
 
-/// How long something took, for so many steps or records: the best of several runs each.
-pub struct Measured {
-    pub what: String,
+/// What one measurement found on both.
+#[derive(Clone, Copy, Debug)]
+pub struct Both<T> {
+    pub library: T,
+    pub plain: T,
+}
+
+/// How long a line's calls took, in several runs of both in turn.
+pub struct Times {
     pub number: usize,
-    pub library: Duration,
-    pub plain: Duration,
+    pub runs: Vec<Both<Duration>>,
 }
 
-impl Measured {
-    /// Steps or records of the library in a second.
-    pub fn library_rate(&self) -> f64 {
-        self.number as f64 / self.library.as_secs_f64()
-    }
+/// The least, the middle and the greatest of several numbers.
+#[derive(Clone, Copy, Debug, PartialEq)]
+pub struct Spread {
+    pub least: f64,
+    pub middle: f64,
+    pub greatest: f64,
+}
 
-    /// Steps or records of plain Rust in a second.
-    pub fn plain_rate(&self) -> f64 {
-        self.number as f64 / self.plain.as_secs_f64()
-    }
-
-    /// Nanoseconds of a step or record of the library, and of plain Rust.
-    pub fn nanoseconds(&self) -> (f64, f64) {
-        (1e9 / self.library_rate(), 1e9 / self.plain_rate())
-    }
-
-    /// How many times as long the library takes.
-    pub fn ratio(&self) -> f64 {
-        self.library.as_secs_f64() / self.plain.as_secs_f64()
+impl Spread {
+    /// Of an odd number of numbers the middle one is the median.
+    pub fn of(mut numbers: Vec<f64>) -> Spread {
+        numbers.sort_by(f64::total_cmp);
+        Spread { least: numbers[0], middle: numbers[numbers.len() / 2], greatest: numbers[numbers.len() - 1] }
     }
 }
 
-/// Runs both, in turn, so many times; gives the best time of each.
-fn in_turn(runs: usize, mut library: impl FnMut(), mut plain: impl FnMut()) -> (Duration, Duration) {
-    let mut best = (Duration::MAX, Duration::MAX);
-    for _ in 0..runs {
-        best = (best.0.min(time(&mut library)), best.1.min(time(&mut plain)));
+impl Times {
+    /// How many times as long the library took, each run for itself.
+    pub fn ratio(&self) -> Spread {
+        Spread::of(self.runs.iter().map(|run| run.library.as_secs_f64() / run.plain.as_secs_f64()).collect())
     }
-    best
-}
 
-/// The processor time that something takes.
-fn time(act: &mut impl FnMut()) -> Duration {
-    let start = thread_time();
-    act();
-    thread_time() - start
+    /// Nanoseconds of a call.
+    pub fn nanoseconds(&self) -> Both<Spread> {
+        let each = |time: Duration| time.as_secs_f64() * 1e9 / self.number as f64;
+        let spread = |side: fn(&Both<Duration>) -> Duration| Spread::of(self.runs.iter().map(side).map(each).collect());
+        Both { library: spread(|run| run.library), plain: spread(|run| run.plain) }
+    }
 }
 
 /// A monitor that takes the calls of a load.
@@ -84,11 +82,11 @@ impl Played for Plain {
 /// Gives the calls to a monitor.
 ///
 /// # Panics
-/// If one is refused.
-fn play(monitor: &mut impl Played, calls: &[Call]) {
+/// If one is refused that is to be taken, or taken that is to be refused.
+fn play(monitor: &mut impl Played, calls: &[Call], refused: bool) {
     for call in calls {
         let answer = monitor.call(*call);
-        assert!(answer.is_ok(), "{call:?}: {answer:?}");
+        assert!(answer.is_err() == refused, "{call:?}: {answer:?}");
     }
 }
 
@@ -102,61 +100,67 @@ fn verdicts(monitor: &Monitor) -> Vec<Verdict> {
     monitor.verdicts().map(as_model).collect()
 }
 
-/// Plays the load on both: every row is open until the close, and the verdicts agree, before it and after.
+/// The monitors as they are before the calls of a load that are measured.
+fn ready(load: &Load) -> (Monitor, Plain) {
+    let mut library = Monitor::fresh(&load.table()).expect("an accepted table");
+    let mut plain = Plain::new(&load.rows);
+    play(&mut library, &load.ahead, false);
+    play(&mut plain, &load.ahead, false);
+    (library, plain)
+}
+
+/// Plays the load on both: the answers are the same, every row is open until the close, and the verdicts agree, before it
+/// and after. The reports on the load's drive are the same too.
 ///
 /// # Panics
 /// If it is not so.
 pub fn agree(load: &Load) {
-    let mut library = Monitor::fresh(&load.table()).expect("an accepted table");
-    let mut plain = Plain::new(&load.rows);
-    play(&mut library, &load.calls);
-    play(&mut plain, &load.calls);
+    let (mut library, mut plain) = ready(load);
+    for call in &load.calls {
+        let answer = library.call(*call);
+        assert_eq!(answer, plain.call(*call), "{}: {call:?}", load.name);
+        assert_eq!(answer.is_err(), load.refused, "{}: {call:?}", load.name);
+    }
     assert_eq!(verdicts(&library), vec![Verdict::Open; load.rows.len()], "{}: open until the close", load.name);
     assert_eq!(plain.verdicts(), verdicts(&library), "{}: before the close", load.name);
-    play(&mut library, &[Call::Step(Step::Close)]);
-    play(&mut plain, &[Call::Step(Step::Close)]);
+    play(&mut library, &[Call::Step(Step::Close)], false);
+    play(&mut plain, &[Call::Step(Step::Close)], false);
     assert_eq!(plain.verdicts(), verdicts(&library), "{}: at the close", load.name);
-}
-
-/// Times the steps of a load on both monitors.
-pub fn steps(load: &Load, runs: usize) -> Measured {
-    let fresh = Monitor::fresh(&load.table()).expect("an accepted table");
-    let (library, plain) = in_turn(
-        runs,
-        || {
-            let mut monitor = fresh.clone();
-            play(&mut monitor, &load.calls);
-            black_box(monitor.rows());
-        },
-        || {
-            let mut monitor = Plain::new(&load.rows);
-            play(&mut monitor, &load.calls);
-            black_box(monitor.count());
-        },
-    );
-    Measured { what: format!("steps, {}", load.name), number: load.taken(), library, plain }
-}
-
-/// Times a report on the load's recording.
-///
-/// # Panics
-/// If the reports differ.
-pub fn reports(load: &Load, runs: usize) -> Measured {
     let (table, recording) = (load.table(), load.recording());
     let mut buffers = [[0; delkuthi::REPORT_LIMIT]; 2];
-    let [one, other] = &mut buffers;
-    let (library, plain) = in_turn(
-        runs,
-        || _ = black_box(delkuthi::report(&table, &recording, one)),
-        || _ = black_box(plain::report::report(&table, &recording, other)),
-    );
+    delkuthi::report(&table, &recording, &mut buffers[0]);
+    plain::report::report(&table, &recording, &mut buffers[1]);
     assert!(buffers[0] == buffers[1] && buffers[0].starts_with(b"closed "), "{}: the reports", load.name);
-    Measured { what: format!("records, {}", load.name), number: load.steps.len(), library, plain }
 }
 
-/// Times the steps of the load's drive over so many of its rows, on which both monitors agree too.
-pub fn with_rows(load: &Load, number: usize, runs: usize) -> Measured {
-    let some = load.with_rows(number);
-    agree(&some);
-    steps(&some, runs)
+/// Has the line's calls on the library, and those on plain Rust, run by the meter: nothing else is done in it.
+pub fn both<T>(line: &Line, load: &Load, meter: impl Fn(&mut dyn FnMut()) -> T) -> Both<T> {
+    if line.sort == Sort::Records {
+        let (table, recording) = (load.table(), load.recording());
+        let mut buffer = [0; delkuthi::REPORT_LIMIT];
+        let library = meter(&mut || _ = black_box(delkuthi::report(&table, &recording, &mut buffer)));
+        let plain = meter(&mut || _ = black_box(plain::report::report(&table, &recording, &mut buffer)));
+        return Both { library, plain };
+    }
+    let (mut library, mut plain) = ready(load);
+    let both = Both {
+        library: meter(&mut || play(&mut library, &load.calls, load.refused)),
+        plain: meter(&mut || play(&mut plain, &load.calls, load.refused)),
+    };
+    black_box((library, plain));
+    both
+}
+
+/// The processor time that something takes.
+fn time(act: &mut dyn FnMut()) -> Duration {
+    let start = thread_time();
+    act();
+    thread_time() - start
+}
+
+/// Times a line of so many calls, on which both agree, in so many runs.
+pub fn times(line: &Line, calls: usize, runs: usize) -> Times {
+    let load = line.load(calls);
+    agree(&load);
+    Times { number: load.number(), runs: (0..runs).map(|_| both(line, &load, time)).collect() }
 }

@@ -1,12 +1,14 @@
 //! The loads of the benchmark: what they claim to be, and the verdicts of both monitors on them.
 
-use bench::load::{Call, Load, dense, sparse};
-use bench::measure::agree;
+use bench::line::{lines, sizes};
+use bench::load::{Call, Load, dense, dense_full, sparse, sparse_full};
+use bench::measure::{Spread, agree};
+use bench::plain::Plain;
 use bench::plain::report::report;
 use model::random::Random;
 use model::random::recordings::{damaged_recording, recording};
 use model::random::tables::{any_table, damaged_table};
-use model::{Constraint, TYPES, Verdict, report_text, table_bytes};
+use model::{Constraint, Step, TYPES, Verdict, report_text, table_bytes};
 use std::collections::BTreeSet;
 
 fn loads(events: usize) -> [Load; 2] {
@@ -15,7 +17,7 @@ fn loads(events: usize) -> [Load; 2] {
 
 #[test]
 fn thirty_two_rows_of_all_types() {
-    for load in loads(10) {
+    for load in [sparse, dense, sparse_full, dense_full].map(|load| load(10)) {
         let types: BTreeSet<u8> = load.rows.iter().map(Constraint::type_byte).collect();
         assert_eq!((load.rows.len(), types), (32, BTreeSet::from(TYPES)));
     }
@@ -37,19 +39,72 @@ fn every_row_hears_events() {
 
 #[test]
 fn both_monitors_agree_and_rows_stay_open() {
-    for load in loads(30_000) {
-        [1, 8, 32].map(|number| load.with_rows(number)).iter().for_each(agree);
-        agree(&load.withdrawing());
-    }
+    lines().iter().chain(&sizes()).for_each(|line| agree(&line.load(10_000)));
+}
+
+#[test]
+fn every_line_has_its_own_name_and_as_many_calls_as_asked() {
+    let (lines, sizes) = (lines(), sizes());
+    assert_eq!((lines.len(), sizes.len()), (14, 10));
+    let names: BTreeSet<String> = lines.iter().chain(&sizes).map(|line| line.what()).collect();
+    assert_eq!(names.len(), 24, "{names:?}");
+    lines.iter().chain(&sizes).for_each(|line| assert_eq!(line.load(10_000).number(), 10_000, "{}", line.what()));
 }
 
 #[test]
 fn a_tenth_is_withdrawn() {
     for load in loads(9_000).map(Load::withdrawing) {
         let withdrawn = load.calls.iter().filter(|call| matches!(call, Call::Withdraw)).count();
-        assert_eq!((load.taken(), withdrawn), (10_000, 1_000));
-        assert_eq!(load.taken() - withdrawn, load.steps.len());
+        assert_eq!((load.number(), withdrawn), (10_000, 1_000));
+        assert_eq!(load.number() - withdrawn, load.steps.len());
     }
+}
+
+#[test]
+fn nine_in_ten_are_ticks() {
+    for load in loads(10_000).map(|load| load.ticking(10_000)) {
+        let ticks = load.calls.iter().filter(|call| matches!(call, Call::Step(Step::Tick { .. }))).count();
+        assert!(ticks > 9_000, "{}: {ticks}", load.name);
+    }
+}
+
+/// The numbers that the calls of a load are refused with.
+fn refusals(load: &Load) -> BTreeSet<u8> {
+    let mut plain = Plain::new(&load.rows);
+    let mut answer = |call: &Call| match call {
+        Call::Step(step) => plain.step(*step),
+        Call::Withdraw => plain.withdraw(),
+    };
+    load.ahead.iter().for_each(|call| assert_eq!(answer(call), Ok(()), "{}: {call:?}", load.name));
+    load.calls.iter().map(|call| answer(call).expect_err(&load.name)).collect()
+}
+
+#[test]
+fn refusals_of_each_number() {
+    for load in loads(4_000).map(|load| load.refusing(1_000)) {
+        assert_eq!(refusals(&load), BTreeSet::from([9, 10, 11, 19, 21]), "{}", load.name);
+    }
+    for load in [sparse_full, dense_full].map(|load| load(4_000).crowding(1_000)) {
+        assert_eq!(refusals(&load), BTreeSet::from([12]), "{}", load.name);
+    }
+}
+
+#[test]
+fn sixty_four_wait_in_every_row_in_which_they_can() {
+    for load in [sparse_full, dense_full].map(|load| load(1_000)) {
+        let mut monitor = model::Monitor::fresh(&load.rows).expect("an accepted table");
+        let ahead = &load.steps[..load.ahead.len()];
+        ahead.iter().for_each(|step| assert_eq!(monitor.step(*step), Ok(()), "{step}"));
+        let full = |row: &usize| matches!(load.rows[*row].type_byte(), 1 | 2 | 7);
+        let waiting: Vec<usize> = (0..32).filter(full).filter_map(|row| monitor.waiting(row).ok()).collect();
+        assert_eq!(waiting, vec![64; 15], "{}", load.name);
+    }
+}
+
+#[test]
+fn the_middle_of_runs() {
+    let spread = Spread::of(vec![1.5, 0.9, 1.2]);
+    assert_eq!((spread.least, spread.middle, spread.greatest), (0.9, 1.2, 1.5));
 }
 
 #[test]

@@ -49,8 +49,8 @@ pub fn blocks<'a>(text: &'a str, sort: &str) -> Vec<Vec<&'a str>> {
     blocks
 }
 
-/// A recording of an example: each step, and what the contract says after it, word for word.
-pub type Recording = Vec<(Step, Option<String>)>;
+/// A recording of an example: each step, or none where the last one is withdrawn, and what the contract says after it, word for word.
+pub type Recording = Vec<(Option<Step>, Option<String>)>;
 
 /// An example: the rows of its table, and recordings for a fresh monitor each.
 pub struct Example {
@@ -136,7 +136,7 @@ fn number(word: &str) -> u64 {
     if word == "none" { NO_LIMIT } else { word.parse().unwrap_or_else(|_| panic!("no number: {word}")) }
 }
 
-/// "0@10, tick 13: open, 1@20..22".
+/// "0@10, tick 13: open, 1@20..22, withdraw".
 fn recording(line: &str) -> Recording {
     let mut steps = Recording::new();
     for part in line.split(", ") {
@@ -145,7 +145,8 @@ fn recording(line: &str) -> Recording {
             None => (part, None),
         };
         for step in in_full(step) {
-            steps.push((step.parse().unwrap_or_else(|error| panic!("{error} in {line}")), None));
+            let parsed = || step.parse().unwrap_or_else(|error| panic!("{error} in {line}"));
+            steps.push(((step != "withdraw").then(parsed), None));
         }
         steps.last_mut().expect("a step").1 = said;
     }
@@ -174,7 +175,7 @@ pub struct Page {
 pub fn pages(text: &str) -> Vec<Page> {
     let page = |lines: Vec<&str>| {
         let rows: Vec<Constraint> = lines.iter().map_while(|line| row(line)).collect();
-        let steps = recording(lines[rows.len()]).into_iter().map(|(step, _)| step).collect();
+        let steps = recording(lines[rows.len()]).into_iter().map(|(step, _)| step.expect("a step")).collect();
         let printed = lines[rows.len() + 1..].iter().map(|line| format!("{line:<72}\n")).collect();
         Page { rows, steps, printed }
     };

@@ -134,6 +134,17 @@ pub fn ran(output: std::io::Result<Output>) -> Ran {
     Ran { status: output.status.code(), printed: String::from_utf8(output.stdout).expect("ASCII") }
 }
 
+/// Runs a command, which has to end well, and gives what it prints and says.
+///
+/// # Panics
+/// If it does not.
+pub fn done(command: &mut Command) -> String {
+    let output = command.output().unwrap_or_else(|error| panic!("{command:?}: {error}"));
+    let said = String::from_utf8_lossy(&output.stdout).into_owned() + &String::from_utf8_lossy(&output.stderr);
+    assert!(output.status.success(), "{command:?}: {said}");
+    said
+}
+
 /// Is there a program of this name, or at this path?
 pub fn found(name: impl AsRef<OsStr>) -> bool {
     let file = Path::new(name.as_ref());

@@ -12,3 +12,4 @@ pub mod reports;
 pub mod rows;
 pub mod sources;
 pub mod table_host;
+pub mod words;

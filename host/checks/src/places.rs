@@ -49,11 +49,24 @@ impl Folder {
         &self.path
     }
 
-    /// Writes a file and gives its path.
+    /// Writes a file, with the folders that it stands in, and gives its path.
     pub fn write(&self, name: &str, bytes: &[u8]) -> PathBuf {
         let file = self.path.join(name);
+        fs::create_dir_all(file.parent().expect("a folder")).expect("a folder can be made");
         fs::write(&file, bytes).expect("a temporary file can be written");
         file
+    }
+}
+
+impl Folder {
+    /// A folder with a program of the repository in it, at its place, and with these files. Gives the program's path too.
+    pub fn around(program: &str, files: &[(&str, &str)]) -> (Folder, PathBuf) {
+        let folder = Folder::new();
+        for (name, text) in files {
+            folder.write(name, text.as_bytes());
+        }
+        let copied = folder.write(program, &fs::read(root().join(program)).expect("a program of the repository"));
+        (folder, copied)
     }
 }
 

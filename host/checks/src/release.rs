@@ -7,17 +7,23 @@ use std::path::{Path, PathBuf};
 use std::process::{Command, Output};
 use std::{env, fs};
 
-/// `make` at the repository's root, with the archive that the tests have, and what it builds in a folder of its own.
+/// `make` in a folder of sources, with the archive that the tests have, and with no setting of whoever started the tests.
+pub fn make_in(sources: &Path) -> Command {
+    let mut command = Command::new("make");
+    // the tests may have been started by make themselves
+    for name in ["MAKEFLAGS", "MAKELEVEL", "MFLAGS", "DESTDIR", "PREFIX", "CFLAGS", "CPPFLAGS", "LDFLAGS"] {
+        command.env_remove(name);
+    }
+    command.current_dir(sources).env("DELKUTHI_LIB", archive_folder());
+    command
+}
+
+/// `make` at the repository's root, and what it builds in a folder of its own.
 ///
 /// # Panics
 /// If there is no `make`.
 pub fn make(build: &Path, words: &[&str]) -> Output {
-    let mut command = Command::new("make");
-    // the tests may have been started by make themselves
-    for name in ["MAKEFLAGS", "MAKELEVEL", "MFLAGS", "DESTDIR", "PREFIX"] {
-        command.env_remove(name);
-    }
-    command.current_dir(root()).env("DELKUTHI_LIB", archive_folder());
+    let mut command = make_in(&root());
     command.arg(format!("BUILD={}", build.display())).args(words);
     command.output().expect("make, which builds and installs the library, must be in the PATH")
 }
@@ -104,6 +110,14 @@ pub fn version() -> String {
     fs::read_to_string(root().join("VERSION")).expect("VERSION").trim_end().to_string()
 }
 
+/// The first two numbers of the version: what a host is linked with is good for all versions that share them.
+///
+/// # Panics
+/// If the version has not three numbers.
+pub fn interface() -> String {
+    version().rsplit_once('.').expect("three numbers").0.to_string()
+}
+
 /// A Rust program of its own that depends on the crate `delkuthi` by its path, as a buyer's would.
 pub struct RustHost {
     folder: Folder,
@@ -154,7 +168,7 @@ impl RustHost {
 }
 
 /// The `PATH`, where a folder that has the program is replaced by one with links to all else that it has.
-fn path_without(program: &str, folder: &Folder) -> OsString {
+pub fn path_without(program: &str, folder: &Folder) -> OsString {
     let without = |(number, path): (usize, PathBuf)| {
         if !path.join(program).exists() {
             return path;

@@ -1,6 +1,7 @@
 //! Reports of the library beside the model's.
 
 use crate::beside::take;
+use crate::words::untouched;
 use delkuthi::{Monitor, report};
 use model::random::seen::Seen;
 use model::recording::read_record;
@@ -48,24 +49,24 @@ pub fn compare(table: &[u8], recording: &[u8], seen: &mut Seen) {
     let told = || format!("table {table:02x?}, recording {recording:02x?}");
     assert_eq!(report_in(table, recording, length).as_ref(), Some(&expected), "{}", told());
     assert_eq!(report_in(table, recording, length - 1), None, "{}", told());
-    if let Some(number) = refusal(&expected) {
-        seen.refusal(number);
-    }
+    refusal(&expected).into_iter().for_each(|number| seen.refusal(number));
 }
 
 /// Compares the report on a lent monitor with the model's, in buffers that are just long enough and one byte short; and
-/// what is left of the monitor: all as it was where the table is refused, and otherwise what the calls leave.
+/// what is left of the monitor, word for word: all as it was where the table is refused, and otherwise what the calls leave. Counts
+/// the refusal.
 ///
 /// # Panics
 /// If one differs.
-pub fn compare_on(monitor: &Monitor, table: &[u8], recording: &[u8]) {
+pub fn compare_on(monitor: &Monitor, table: &[u8], recording: &[u8], seen: &mut Seen) {
     let expected = report_text(table, recording).into_bytes();
+    refusal(&expected).into_iter().for_each(|number| seen.refusal(number));
     let left = left_by(monitor, table, recording);
     let told = || format!("table {table:02x?}, recording {recording:02x?}");
     for (length, written) in [(expected.len(), Some(&expected)), (expected.len() - 1, None), (0, None)] {
         let mut lent = Monitor::from_words(*monitor.words());
         assert_eq!(report_on(&mut lent, table, recording, length).as_ref(), written, "{}", told());
-        assert!(lent.words() == left.words(), "another monitor is left: {}", told());
+        untouched(&left, &lent, &told());
     }
 }
 

@@ -1,4 +1,5 @@
 //! The header and the archive in C and C++: hosts compiled at -O0 and -O2, run, and run under valgrind.
+//! Clauses: §3.4, §3.5, §9.7, §9.8, §11.1 to §11.6.
 
 use checks::hosts::{Host, Ran, c_host, c_host_alone, c_host_with_header, compile_with, cpp_host, found};
 use checks::places::{Folder, archive_folder, example, example_bytes, root};

@@ -1,4 +1,6 @@
 //! Lists of calls through the exports, beside the model after every call.
+//! Clauses: §1.1 to §1.7, §1.9, §2.1 to §2.6, §3.1 to §3.9, §5.1 to §5.10, §6.1 to §6.5, §8.8 to §8.12, §8.15, §8.19,
+//! §8.24, §9.1, §9.2, §9.5, §9.6, §11.2 to §11.4.
 
 use checks::beside::{Beside, counting_from, fresh, take, take_all, verdict};
 use delkuthi::{Monitor, WORDS};

@@ -19,16 +19,19 @@ fn play(Example { rows, recordings }: &Example) -> usize {
         let mut model = model::Monitor::fresh(rows).expect("an accepted table");
         let mut library = fresh(rows);
         for (step, expected) in recording {
-            let answer = model.step(*step);
-            assert_eq!(take(&mut library, *step), answer, "{rows:?}: {step}");
+            let (answer, given) = match step {
+                Some(step) => (model.step(*step), take(&mut library, *step)),
+                None => (model.withdraw(), library.withdraw().map_err(|refusal| refusal.number())),
+            };
+            assert_eq!(given, answer, "{rows:?}: {step:?}");
             let modelled = read(model.verdicts().into_iter());
             let proved = read((0..rows.len()).map(|row| verdict(&library, row).expect("a row")));
-            assert_eq!(proved, modelled, "{rows:?}: {step}");
+            assert_eq!(proved, modelled, "{rows:?}: {step:?}");
             let told = answer.map_or_else(|number| format!("refused {number}"), |()| proved);
-            assert_eq!(expected.as_ref().unwrap_or(&told), &told, "{rows:?}: {step}");
+            assert_eq!(expected.as_ref().unwrap_or(&told), &told, "{rows:?}: {step:?}");
             assert!(
                 answer.is_ok() || expected.is_some(),
-                "a refusal that the contract does not show: {rows:?}: {step}"
+                "a refusal that the contract does not show: {rows:?}: {step:?}"
             );
             said += usize::from(expected.is_some());
         }

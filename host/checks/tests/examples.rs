@@ -1,4 +1,5 @@
 //! The contract's examples through the exports: each verdict after each step, each break at the very step.
+//! Clauses: §10.1 to §10.12.
 
 use checks::beside::{fresh, take, verdict};
 use delkuthi::Monitor;

@@ -1,4 +1,5 @@
 //! Long lists of calls over an ExecutionTime, beside the model: it stays open for long, and breaks in every way.
+//! Clauses: §5.8.
 
 use checks::beside::{fresh, take, verdict};
 use model::random::Random;

@@ -1,4 +1,5 @@
 //! Two recordings joined: the exported function beside the model.
+//! Clauses: §8.16, §8.20, §13.1 to §13.8.
 
 use checks::contract::{blocks, text};
 use checks::places::example;
@@ -103,7 +104,7 @@ fn random_pairs() {
     assert!(seen.iter().all(|&(_, number)| number != 8 && number != 12 && number != 17));
 }
 
-/// What falls away, counted: nothing of the first, and of the second the ticks at a time of which the first has a record.
+/// The ticks that are dropped, counted: none of the first, and of the second the ticks at a time of which the first has a record.
 #[test]
 fn ticks_that_fall_away() {
     let mut random = Random::new(802);
@@ -221,7 +222,7 @@ fn the_example() {
         Step::Tick { time: 190 * ms },
     ]);
     let joined = library(&bus, &pressed, bus.len() + pressed.len()).expect("a join");
-    assert_eq!(joined.len(), bus.len() + pressed.len() - 1 - 10, "one tick falls away");
+    assert_eq!(joined.len(), bus.len() + pressed.len() - 1 - 10, "one tick is dropped");
     let report = report_in(&table_bytes(&rows), &joined, REPORT_LIMIT).expect("a report");
     assert_eq!(report, b"closed 10\n0 kept\n1 broken 2\n");
     let files = [

@@ -7,6 +7,7 @@ const CONSTRAINT: &str = "crates/constraint/src/lib.rt";
 const LIMITS: &str = "crates/constraint/specs/Limits.antt";
 const LENT: &str = "crates/delkuthi/src/lent.rt";
 const LENT_DEFINED: &str = "crates/delkuthi/specs/Lent.antt";
+const PROGRAM_DEFINED: &str = "crates/delkuthi/specs/Program.antt";
 
 /// Numbers by their names.
 fn by_name<const N: usize>(numbers: [(&str, u64); N]) -> BTreeMap<String, u64> {
@@ -231,11 +232,16 @@ fn the_models_numbers_are_the_crates() {
         (SPAN_LIMIT.into(), CONSTRAINT, "SPAN_LIMIT", "spanLimit"),
         (REPETITION_SPAN_LIMIT.into(), CONSTRAINT, "REPETITION_SPAN_LIMIT", "repetitionSpanLimit"),
         (WAITING_LIMIT as u64, CONSTRAINT, "WAITING_LIMIT", "waitingLimit"),
-        (TABLE_SIZE_LIMIT as u64, PROGRAM, "TABLE_SIZE_LIMIT", "tableSizeLimit"),
-        (RECORDING_SIZE_LIMIT as u64, PROGRAM, "RECORDING_SIZE_LIMIT", "recordingSizeLimit"),
     ];
     for (number, file, in_code, defined) in limits {
         assert_eq!((number, number), (constant(file, in_code), definition(LIMITS, defined)), "{defined}");
+    }
+    let sizes = [
+        (TABLE_SIZE_LIMIT as u64, "TABLE_SIZE_LIMIT", "tableSizeLimit"),
+        (RECORDING_SIZE_LIMIT as u64, "RECORDING_SIZE_LIMIT", "recordingSizeLimit"),
+    ];
+    for (number, in_code, defined) in sizes {
+        assert_eq!((number, number), (constant(PROGRAM, in_code), definition(PROGRAM_DEFINED, defined)), "{defined}");
     }
 }
 
@@ -260,8 +266,8 @@ fn the_size_of_a_row_is_the_same_everywhere() {
     let size = longest_row();
     assert_eq!(size, number_between(&Header::read().text, "uint8_t body[", "]"));
     assert_eq!(size, constant("host/delkuthi/src/table.rs", "ROW_SIZE"));
-    assert_eq!(size, number_between(&text("crates/table/specs/Raw.antt"), "length bytes / ", "\n"));
-    assert_eq!(size, number_between(&text("crates/table/src/raw.rt"), "rows.len() / ", ";"));
+    assert_eq!(size, number_between(&text("crates/table/specs/Raw.antt"), "\nrawSize = ", "\n"));
+    assert_eq!(size, constant("crates/table/src/raw.rt", "RAW_SIZE"));
 }
 
 #[test]

@@ -1,4 +1,5 @@
 //! The printed page through the exported function, beside the model's, byte by byte.
+//! Clauses: §7.14 to §7.19.
 
 use checks::beside::{fresh, take, take_all};
 use checks::pages::{compare, lines, page_in, read_back};

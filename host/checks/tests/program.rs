@@ -1,7 +1,9 @@
 //! The small programs on files, beside what the model says they print, and how the one with an exit status ends.
+//! Clauses: §7.10, §7.13, §8.17, §9.9.
 
 use checks::places::{Folder, example_bytes};
 use checks::program::{files, printed, program, with_status};
+use checks::release::version;
 use checks::reports::refusal;
 use model::examples::{RECORDING, REPORT, TABLE};
 use model::notation::{delay, order};
@@ -34,13 +36,36 @@ fn the_four_exit_statuses() {
     }
 }
 
-/// The program has no arguments: they are refused and not passed over.
+/// What the program with an exit status does with arguments: its status, and what it prints and says.
+fn with_arguments(arguments: &[&str]) -> (Option<i32>, String, String) {
+    let folder = files(Some(&table_bytes(&[order()])), Some(&recording_bytes(&[])));
+    let ended = Command::new(with_status()).args(arguments).current_dir(folder.path()).output().expect("it can be run");
+    let [printed, said] = [ended.stdout, ended.stderr].map(|bytes| String::from_utf8(bytes).expect("text"));
+    (ended.status.code(), printed, said)
+}
+
+/// The program has no arguments but two: others are refused and not passed over.
 #[test]
 fn arguments_are_refused() {
-    let folder = files(Some(&table_bytes(&[order()])), Some(&recording_bytes(&[])));
-    let ended = Command::new(with_status()).arg("check").current_dir(folder.path()).output().expect("it can be run");
-    assert_eq!((ended.status.code(), ended.stdout), (Some(2), Vec::new()));
-    assert!(String::from_utf8_lossy(&ended.stderr).contains("takes no arguments"));
+    for arguments in [&["check"][..], &["--version", "--help"], &["--versions"], &[""], &["-h"]] {
+        let (status, printed, said) = with_arguments(arguments);
+        assert_eq!((status, printed.as_str()), (Some(2), ""));
+        assert!(said.contains("takes no arguments but"), "{said}");
+    }
+}
+
+/// `--version` says the version, and `--help` what the program reads and how it ends.
+#[test]
+fn version_and_help() {
+    assert_eq!(with_arguments(&["--version"]), (Some(0), format!("delkuthi {}\n", version()), String::new()));
+    let (status, printed, said) = with_arguments(&["--help"]);
+    assert_eq!((status, said.as_str()), (Some(0), ""));
+    for word in ["usage:", "table.bin", "recording.bin", "2,048", "61,440", "status: 0"] {
+        assert!(printed.contains(word), "{word} in {printed}");
+    }
+    let full = File::options().write(true).open("/dev/full").expect("/dev/full");
+    let status = Command::new(with_status()).arg("--help").stdout(full).stderr(Stdio::null()).status();
+    assert_eq!(status.expect("it can be run").code(), Some(3));
 }
 
 /// An output that is closed, and a pipe that nobody reads, are outputs that cannot be written.

@@ -1,10 +1,12 @@
 //! The release: what `make` builds and `make install` puts where, and hosts in C, C++ and Python that use the copy.
 
-use checks::hosts::{Host, Ran, c_compiler, compile_with, cpp_compiler, found, ran, say};
-use checks::places::{Folder, example, example_bytes, root};
-use checks::release::{Installed, RustHost, make, version};
+use checks::documents::{files, text_of};
+use checks::hosts::{Host, Ran, c_compiler, compile_with, cpp_compiler, done, found, ran, say};
+use checks::places::{Folder, archive_folder, example, example_bytes, root};
+use checks::release::{Installed, RustHost, interface, make, version};
 use std::ffi::OsString;
-use std::path::Path;
+use std::fs;
+use std::path::{Path, PathBuf};
 use std::process::Command;
 
 /// The report on the drive in `examples/`.
@@ -39,23 +41,40 @@ fn copies() -> [Installed; 2] {
     [Installed::in_prefix(), Installed::staged()]
 }
 
+/// What is installed beside the headers and the files of the shared library.
+const INSTALLED: [&str; 21] = [
+    "bin/delkuthi",
+    "lib/cmake/delkuthi/delkuthi-config-version.cmake",
+    "lib/cmake/delkuthi/delkuthi-config.cmake",
+    "lib/libdelkuthi.a",
+    "lib/libdelkuthi.so",
+    "lib/pkgconfig/delkuthi.pc",
+    "share/doc/delkuthi/CHANGELOG.md",
+    "share/doc/delkuthi/CONTRACT.md",
+    "share/doc/delkuthi/DATASHEET.md",
+    "share/doc/delkuthi/LICENSE",
+    "share/doc/delkuthi/NOTICE",
+    "share/doc/delkuthi/SAFETY.md",
+    "share/doc/delkuthi/TRACE.md",
+    "share/doc/delkuthi/examples/bench_loop.c",
+    "share/doc/delkuthi/examples/file.c",
+    "share/doc/delkuthi/examples/file.h",
+    "share/doc/delkuthi/examples/recording.bin",
+    "share/doc/delkuthi/examples/report.c",
+    "share/doc/delkuthi/examples/table.bin",
+    "share/man/man1/delkuthi.1",
+    "share/man/man3/delkuthi.3",
+];
+
 #[test]
 fn what_is_installed_and_taken_away_again() {
-    let version = version();
-    let interface = version.rsplit_once('.').expect("three numbers").0.to_string();
+    let (version, interface) = (version(), interface());
     for copy in copies() {
-        let mut expected = vec![
-            "bin/delkuthi".to_string(),
-            "include/delkuthi.h".to_string(),
-            "lib/libdelkuthi.a".to_string(),
-            "lib/libdelkuthi.so".to_string(),
-            format!("lib/libdelkuthi.so.{interface}"),
-            format!("lib/libdelkuthi.so.{version}"),
-            "lib/pkgconfig/delkuthi.pc".to_string(),
-            "share/doc/delkuthi/CHANGELOG.md".to_string(),
-            "share/doc/delkuthi/CONTRACT.md".to_string(),
-            "share/doc/delkuthi/DATASHEET.md".to_string(),
-        ];
+        let mut expected = vec![format!("lib/libdelkuthi.so.{interface}"), format!("lib/libdelkuthi.so.{version}")];
+        expected.extend(INSTALLED.map(str::to_string));
+        let headers = files("include", &[".h", ".hpp"]);
+        let name = |file: &PathBuf| format!("include/{}", file.file_name().expect("a name").display());
+        expected.extend(headers.iter().map(name));
         expected.sort();
         assert_eq!(copy.files(), expected);
         copy.uninstall();
@@ -71,6 +90,22 @@ fn a_host_in_c() {
             assert_eq!(host.run(&drive_files()), Ran::new(0, &drive()));
         }
     }
+}
+
+/// The archive with another C library than glibc.
+#[test]
+fn a_host_with_musl() {
+    if !found("musl-gcc") {
+        return say("musl-gcc is not installed: no host was linked with musl");
+    }
+    let copy = Installed::in_prefix();
+    let host = compile_with(
+        Command::new("musl-gcc").arg("-static"),
+        &["report.c", "file.c"],
+        &copy.include(),
+        &archive(&copy),
+    );
+    assert_eq!(host.run(&drive_files()), Ran::new(0, &drive()));
 }
 
 #[test]
@@ -129,22 +164,132 @@ fn the_program_of_the_copy() {
     }
 }
 
-/// The shared library shows the calls of the header and nothing else, and has the name that hosts are linked with.
+/// The archive is the one that was proved, byte for byte: what is installed is a copy.
+#[test]
+fn the_archive_is_copied() {
+    for copy in copies() {
+        let [installed, given] =
+            [copy.lib(), archive_folder().to_path_buf()].map(|folder| folder.join("libdelkuthi.a"));
+        assert!(fs::read(installed).expect("an archive") == fs::read(given).expect("an archive"));
+    }
+}
+
+/// The shared library shows the calls of the header and nothing else, each under the name of the interface, and has the name
+/// that hosts are linked with.
 #[test]
 fn what_the_shared_library_shows() {
     let copy = Installed::in_prefix();
     let library = copy.lib().join("libdelkuthi.so");
-    let header = std::fs::read_to_string(copy.include().join("delkuthi.h")).expect("the header");
+    let header = text_of(&copy.include().join("delkuthi.h"));
+    let node = format!("DELKUTHI_{}", interface());
     let symbols = told("nm", &["-D", "--defined-only"], &library);
     let names: Vec<&str> = symbols.lines().map(|line| line.rsplit(' ').next().expect("a name")).collect();
-    assert!(names.contains(&"delkuthi_report"));
-    for name in names {
-        assert!(name.starts_with("delkuthi_") && header.contains(&format!("{name}(")), "{name}");
+    assert!(names.contains(&format!("delkuthi_report@@{node}").as_str()), "{names:?}");
+    for name in names.into_iter().filter(|name| *name != node) {
+        let (call, under) = name.split_once("@@").expect("a version");
+        assert!(call.starts_with("delkuthi_") && header.contains(&format!("{call}(")) && under == node, "{name}");
     }
-    let version = version();
-    let interface = version.rsplit_once('.').expect("three numbers").0;
     let dynamic = told("readelf", &["-dW"], &library);
-    assert!(dynamic.contains(&format!("Library soname: [libdelkuthi.so.{interface}]")), "{dynamic}");
+    assert!(dynamic.contains(&format!("Library soname: [libdelkuthi.so.{}]", interface())), "{dynamic}");
+}
+
+/// Two interfaces in one process: each caller gets the library that it was linked with.
+#[test]
+fn two_interfaces_in_one_process() {
+    let folder = Folder::new();
+    let library = |version: &str| {
+        let place = folder.path().join(version);
+        let output = make(&place, &["lib", &format!("VERSION={version}")]);
+        assert!(output.status.success(), "{}", String::from_utf8_lossy(&output.stderr));
+        place
+    };
+    let link = |place: &Path, words: &[&str], out: &str| {
+        let mut compiler = c_compiler();
+        compiler.args(words).arg("-fPIC").arg("-I").arg(root().join("include")).arg(root().join("host/c/which.c"));
+        compiler.arg(format!("-L{0}", place.display())).arg(format!(
+            "-Wl,-rpath,{0}:{1}",
+            place.display(),
+            folder.path().display()
+        ));
+        compiler.arg("-Wl,--no-as-needed").arg("-ldelkuthi").arg(format!("-L{}", folder.path().display()));
+        done(
+            compiler.args(if words.is_empty() { &["-lpart"][..] } else { &[] }).arg("-o").arg(folder.path().join(out)),
+        );
+    };
+    let (one, other) = (library("7.1.0"), library("7.2.0"));
+    link(&other, &["-shared", "-DPART"], "libpart.so");
+    link(&one, &[], "which");
+    let printed = done(&mut Command::new(folder.path().join("which")));
+    let files: Vec<&str> = printed.lines().map(|line| line.rsplit('/').next().expect("a name")).collect();
+    assert_eq!(files, ["libdelkuthi.so.7.1", "libdelkuthi.so.7.2"]);
+}
+
+/// The shared library needs glibc 2.14 and no later one, and has no variables; neither it nor the program has a stack that
+/// can be executed or an address that can be overwritten once it runs.
+#[test]
+fn what_the_library_and_the_program_need() {
+    let copy = Installed::in_prefix();
+    let library = copy.lib().join("libdelkuthi.so");
+    let needed = told("readelf", &["-VW"], &library);
+    let later = |line: &&str| {
+        let number =
+            line.split("GLIBC_2.").nth(1).map(|rest| rest.chars().take_while(char::is_ascii_digit).collect::<String>());
+        number.is_some_and(|number| number.parse::<u32>().expect("a number") > 14)
+    };
+    assert_eq!(needed.lines().find(later), None);
+    let sections = told("readelf", &["-SW"], &archive_folder().join("libdelkuthi.a"));
+    let variables = |line: &&str| [" .data", " .bss", " .tdata", " .tbss"].iter().any(|name| line.contains(name));
+    assert_eq!(sections.lines().find(variables), None);
+    for file in [library, copy.at.join("bin/delkuthi")] {
+        let (segments, dynamic) = (told("readelf", &["-lW"], &file), told("readelf", &["-dW"], &file));
+        let stack = segments.lines().find(|line| line.contains("GNU_STACK")).expect("a stack");
+        assert!(stack.contains(" RW ") && !stack.contains(" RWE "), "{stack}");
+        assert!(segments.contains("GNU_RELRO") && dynamic.contains("NOW"), "{}", file.display());
+        assert!(told("readelf", &["-hW"], &file).contains("DYN"), "{}", file.display());
+    }
+}
+
+/// A host that CMake builds, with the shared library and with the archive, from a copy that was moved.
+#[test]
+fn a_host_of_cmake() {
+    if !found("cmake") {
+        return say("cmake is not installed: the files for it were not used");
+    }
+    let copy = Installed::staged();
+    let folder = Folder::new();
+    let sources = root().join("host/c");
+    let project = format!(
+        "cmake_minimum_required(VERSION 3.13)\nproject(buyer C)\nfind_package(delkuthi {} REQUIRED)\n\
+         foreach(form delkuthi archive)\n add_executable(of_${{form}} {}/report.c {}/file.c)\n\
+         target_link_libraries(of_${{form}} delkuthi::${{form}})\nendforeach()\n\
+         find_package(delkuthi 0.1)\nif(delkuthi_FOUND)\n message(FATAL_ERROR \"another interface was taken\")\nendif()\n",
+        interface(),
+        sources.display(),
+        sources.display()
+    );
+    folder.write("CMakeLists.txt", project.as_bytes());
+    let build = folder.path().join("build");
+    let mut configure = Command::new("cmake");
+    configure.arg("-S").arg(folder.path()).arg("-B").arg(&build);
+    configure.arg(format!("-DCMAKE_PREFIX_PATH={}", copy.at.display()));
+    done(&mut configure);
+    done(Command::new("cmake").arg("--build").arg(&build));
+    for form in ["of_delkuthi", "of_archive"] {
+        let ran = ran(Command::new(build.join(form)).args(drive_files()).output());
+        assert_eq!(ran, Ran::new(0, &drive()));
+    }
+}
+
+/// The flags of whoever builds are used, and do not take the program's own away.
+#[test]
+fn flags_from_outside() {
+    let folder = Folder::new();
+    let planned = make(folder.path(), &["-n", "program", "CPPFLAGS=-DMINE", "CFLAGS=-O1 -g", "LDFLAGS=-Wl,-O1"]);
+    let planned = String::from_utf8(planned.stdout).expect("text");
+    let line = planned.lines().find(|line| line.contains("program/delkuthi.c")).expect("the program is compiled");
+    for flag in ["-DMINE", "-O1 -g", "-Wl,-O1", "-fstack-protector-strong", "-pie"] {
+        assert!(line.contains(flag), "{flag} in {line}");
+    }
 }
 
 #[test]
@@ -175,7 +320,65 @@ fn what_make_says() {
     let planned = String::from_utf8(planned.stdout).expect("text");
     assert!(planned.contains("program/delkuthi.c") && !planned.contains(".ci/run"), "{planned}");
     let help = String::from_utf8(make(folder.path(), &["help"]).stdout).expect("text");
-    for target in ["lib", "program", "install", "uninstall", "clean", "run", "test", "bench"] {
+    let makefile = text_of(&root().join("Makefile"));
+    let targets = makefile.lines().find_map(|line| line.strip_prefix(".PHONY: ")).expect("the targets");
+    let inner = ["all", "help", "always", "install-lib", "install-dev"];
+    for target in targets.split(' ').filter(|target| !inner.contains(target)) {
         assert!(help.contains(&format!("make {target} ")), "{target} in {help}");
+    }
+}
+
+/// The words of a text that have the form of a file of this repository, or of a path in it.
+fn files_named(text: &str) -> Vec<String> {
+    const FOLDERS: [&str; 8] =
+        ["crates/", "docs/", "examples/", "host/", "include/", "program/", "python/", "release/"];
+    const ENDINGS: [&str; 8] = [".md", ".rs", ".rt", ".antt", ".c", ".h", ".hpp", ".py"];
+    let part = |letter: char| letter.is_ascii_alphanumeric() || "._-/".contains(letter);
+    let words = text.split(|letter: char| !part(letter)).map(|word| word.trim_matches('.'));
+    let names = |word: &&str| {
+        FOLDERS.iter().any(|folder| word.starts_with(folder)) || ENDINGS.iter().any(|end| word.ends_with(end))
+    };
+    words.filter(names).map(str::to_string).collect()
+}
+
+/// What is installed names only what is installed: no path of the sources, no document that stayed there. A host's own file
+/// is called bench.c or host.c.
+#[test]
+fn installed_files_name_installed_files() {
+    let copy = Installed::in_prefix();
+    let installed = copy.files();
+    let texts = installed
+        .iter()
+        .filter(|file| !file.starts_with("bin/") && (!file.starts_with("lib/lib")) && !file.ends_with(".bin"));
+    let mut missing = Vec::new();
+    for file in texts {
+        let lines = text_of(&copy.at.join(file));
+        let text: Vec<&str> = lines.lines().filter(|line| !line.starts_with("#include <")).collect();
+        let there = |name: &String| {
+            let own = ["bench.c", "host.c", ".h", ".c", ".md", "bench.h"].contains(&name.as_str());
+            own || installed.iter().any(|file| file == name || file.ends_with(&format!("/{name}")))
+        };
+        missing.extend(
+            files_named(&text.join("\n")).into_iter().filter(|name| !there(name)).map(|name| format!("{file}: {name}")),
+        );
+    }
+    assert!(missing.is_empty(), "{}", missing.join("\n"));
+}
+
+/// The manual pages name every call of the header, and what the program's arguments and its statuses are.
+#[test]
+fn the_manual_pages() {
+    let copy = Installed::in_prefix();
+    let page = |name: &str| text_of(&copy.at.join("share/man").join(name));
+    let library = page("man3/delkuthi.3");
+    let symbols = told("nm", &["--defined-only", "-g"], &copy.lib().join("libdelkuthi.a"));
+    let calls: Vec<&str> = symbols.lines().filter_map(|line| line.split_once(" T ")).map(|(_, name)| name).collect();
+    let unnamed: Vec<&&str> =
+        calls.iter().filter(|call| call.starts_with("delkuthi_") && !library.contains(*call)).collect();
+    assert!(!calls.is_empty() && unnamed.is_empty(), "{unnamed:?}");
+    let program = page("man1/delkuthi.1");
+    assert!([".B \\-\\-version", ".B \\-\\-help", ".B 3"].iter().all(|text| program.contains(text)));
+    for text in [library, program] {
+        assert!(text.contains(&format!("Delkuthi {}", version())) && !text.contains('@'), "{text}");
     }
 }

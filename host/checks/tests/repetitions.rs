@@ -1,5 +1,6 @@
 //! Long lists of events over a Repetition of every span, beside the model: it stays open beyond the second span, and
 //! breaks there, in every way there is.
+//! Clauses: §5.10.
 
 use checks::beside::{fresh, take, verdict};
 use model::random::Random;

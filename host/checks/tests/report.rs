@@ -1,4 +1,5 @@
 //! The report through the exported function, beside the model's, byte by byte.
+//! Clauses: §6.5, §7.1 to §7.9, §7.22, §8.13, §8.14, §9.3, §9.4, §9.10.
 
 use checks::places::example_bytes;
 use checks::reports::{compare, compare_on, report_in};
@@ -60,6 +61,7 @@ fn thousands_of_tables_and_recordings() {
 #[test]
 fn on_a_lent_monitor() {
     let mut random = Random::new(204);
+    let mut seen = Seen::default();
     let mut lent = Monitor::from_words([0; WORDS]);
     for _ in 0..400 {
         let rows = any_table(&mut random);
@@ -73,12 +75,13 @@ fn on_a_lent_monitor() {
         let any = Monitor::from_words(std::array::from_fn(|_| random.number()));
         for recording in &recordings {
             for monitor in [&lent, &any] {
-                compare_on(monitor, &table, recording);
-                compare_on(monitor, &damaged_table(&mut random), recording);
+                compare_on(monitor, &table, recording, &mut seen);
+                compare_on(monitor, &damaged_table(&mut random), recording, &mut seen);
             }
             lent.report_on(&table, recording, &mut []);
         }
     }
+    seen.demand_refusals((1..=7).chain(9..=14).chain([18, 19]));
 }
 
 /// Buffers of every length, to some bytes more than the report has.

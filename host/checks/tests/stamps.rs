@@ -1,4 +1,5 @@
 //! Stamps known within a range: the exported function beside the model, which tries every choice of true times.
+//! Clauses: §8.25, §12.1 to §12.6.
 
 use checks::contract::{blocks, text};
 use checks::reports::report_in;

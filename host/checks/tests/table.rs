@@ -1,4 +1,5 @@
 //! The proved table reader and writer beside the model's; the writer is called as the Rust crate offers it.
+//! Clauses: §4.1 to §4.10, §5.9.6, §8.1 to §8.7, §8.16, §8.18, §9.3, §9.7, §9.8.
 
 use checks::rows::write;
 use checks::table_host::{read, rewrite};

@@ -1,76 +1,160 @@
 //! Lists of calls in which steps are withdrawn, beside the model that strikes them out and takes the rest anew.
+//! Clauses: §3.12 to §3.15, §8.21, §9.2.
 
-use checks::beside::{fresh, take, take_all, verdict};
+use checks::beside::{counting_from, fresh, take, take_all, verdict};
+use checks::words::{Differing, untouched};
 use delkuthi::Monitor;
 use model::random::Random;
 use model::random::calls::calls;
 use model::random::seen::Seen;
 use model::random::tables::{any_table, table};
-use model::{Answer, Constraint, Step, Verdict};
-
-/// The words of a monitor before those that say what may be withdrawn.
-const KEPT: usize = 2868;
+use model::{Answer, Constraint, LAST_COUNT, Step, Verdict};
 
 fn withdraw(monitor: &mut Monitor) -> Answer {
     monitor.withdraw().map_err(|refusal| refusal.number())
 }
 
-/// Plays calls, a third of them withdrawals, and compares after each: the answer, the verdicts, and word for word the memory of a
-/// monitor that took only the steps that are left. A refusal changes no word at all. Gives how many close calls were withdrawn.
-fn play(random: &mut Random, rows: &[Constraint], number: usize, seen: &mut Seen) -> usize {
-    let mut monitor = fresh(rows);
-    let mut model = model::Monitor::fresh(rows).expect("an accepted table");
-    let mut closes = 0;
-    for call in calls(random, rows, number) {
-        let before = monitor.clone();
-        let closed = model.steps().last() == Some(&Step::Close);
-        let (answer, expected, what) = if random.below(3) == 0 {
-            let answer = withdraw(&mut monitor);
-            closes += usize::from(closed && answer.is_ok());
-            (answer, model.withdraw(), "withdraw".to_string())
-        } else {
-            (take(&mut monitor, call), model.step(call), call.to_string())
-        };
-        assert_eq!(answer, expected, "{what} after {:?}", model.steps());
-        if seen.answer(answer).is_err() {
-            assert!(monitor == before, "{what} refused");
-        }
-        for (row, expected) in model.verdicts().into_iter().enumerate() {
-            assert_eq!(verdict(&monitor, row), Ok(expected), "row {row} after {what}");
-            seen.verdict(&rows[row], expected);
-        }
-        let mut left = fresh(rows);
-        assert!(take_all(&mut left, model.steps()).iter().all(Answer::is_ok));
-        assert!(monitor.words()[..KEPT] == left.words()[..KEPT], "memory after {what}");
+/// What the lists of a test have come across.
+#[derive(Default)]
+struct Found {
+    seen: Seen,
+    differing: Differing,
+    /// How many closes were withdrawn.
+    closes: usize,
+}
+
+/// A monitor of the library beside the model, both with the count as after so many steps.
+struct Beside<'a> {
+    rows: &'a [Constraint],
+    count: u64,
+    monitor: Monitor,
+    model: model::Monitor,
+}
+
+impl<'a> Beside<'a> {
+    fn new(rows: &'a [Constraint], count: u64) -> Beside<'a> {
+        let model = model::Monitor::counting_from(rows, count).expect("an accepted table");
+        Beside { rows, count, monitor: counting_from(rows, count), model }
     }
-    closes
+
+    /// Takes a step, or withdraws the last one where there is none to take, and compares: the answer, the verdicts, and word for
+    /// word the memory of a monitor that took only the steps that are left. A refusal changes no word at all.
+    fn ask(&mut self, request: Option<Step>, found: &mut Found) {
+        let before = self.monitor.clone();
+        let closed = self.model.steps().last() == Some(&Step::Close);
+        let what = request.map_or("withdraw".into(), |step| step.to_string());
+        let (answer, expected) = match request {
+            Some(step) => (take(&mut self.monitor, step), self.model.step(step)),
+            None => (withdraw(&mut self.monitor), self.model.withdraw()),
+        };
+        assert_eq!(answer, expected, "{what} after {:?}", self.model.steps());
+        match found.seen.answer(answer) {
+            Err(_) => untouched(&before, &self.monitor, &what),
+            Ok(()) => found.closes += usize::from(closed),
+        }
+        for (row, expected) in self.model.verdicts().into_iter().enumerate() {
+            assert_eq!(verdict(&self.monitor, row), Ok(expected), "row {row} after {what}");
+            found.seen.verdict(&self.rows[row], expected);
+        }
+        let mut left = counting_from(self.rows, self.count);
+        assert!(take_all(&mut left, self.model.steps()).iter().all(Answer::is_ok));
+        found.differing.compare(&self.monitor, &left, &what);
+    }
+}
+
+/// Plays so many random calls, and about half as many withdrawals between them.
+fn play(random: &mut Random, rows: &[Constraint], number: usize, count: u64, found: &mut Found) {
+    let mut beside = Beside::new(rows, count);
+    for call in calls(random, rows, number) {
+        let request = if random.below(3) == 0 { None } else { Some(call) };
+        beside.ask(request, found);
+    }
 }
 
 #[test]
 fn thousands_of_lists() {
     let mut random = Random::new(121);
-    let mut seen = Seen::default();
-    let mut closes = 0;
+    let mut found = Found::default();
     for _ in 0..1_500 {
         let rows = any_table(&mut random);
         let number = 60 + random.place(60);
-        closes += play(&mut random, &rows, number, &mut seen);
+        play(&mut random, &rows, number, 0, &mut found);
     }
-    seen.demand_refusals((8..=11).chain([19, 21]));
-    seen.demand_verdicts();
-    assert!(closes > 0);
+    found.seen.demand_refusals((8..=11).chain([19, 21]));
+    found.seen.demand_verdicts();
+    found.differing.demand_all();
+    assert!(found.closes > 0);
 }
 
 #[test]
 fn long_lists() {
     let mut random = Random::new(122);
-    let mut seen = Seen::default();
+    let mut found = Found::default();
     for _ in 0..8 {
         let number = 1 + random.place(4);
         let rows = table(&mut random, number);
-        play(&mut random, &rows, 500, &mut seen);
+        play(&mut random, &rows, 500, 0, &mut found);
     }
-    seen.demand_refusals([11, 21]);
+    found.seen.demand_refusals([11, 21]);
+}
+
+/// Lists that run into the end of the count, and come back from it.
+#[test]
+fn at_the_end_of_the_count() {
+    let mut random = Random::new(123);
+    let mut found = Found::default();
+    for _ in 0..300 {
+        let rows = any_table(&mut random);
+        let count = LAST_COUNT - random.below(20);
+        play(&mut random, &rows, 60, count, &mut found);
+    }
+    found.seen.demand_refusals((8..=11).chain([19, 21, 24]));
+}
+
+/// Rows in which something waits, with the kinds 0 to 3 at most, and far from being due.
+fn waiting_rows() -> Vec<Constraint> {
+    let group = |n: u8| Constraint::StrongSynchronization { kinds: (0..n).collect(), tolerance: 5_000 };
+    vec![
+        Constraint::Delay { source: 0, target: 1, lower: 0, upper: 5_000 },
+        Constraint::Delay { source: 0, target: 1, lower: 60, upper: 5_000 },
+        Constraint::StrongDelay { source: 0, target: 1, lower: 0, upper: 5_000 },
+        group(2),
+        group(3),
+        group(4),
+    ]
+}
+
+/// A request where 64 wait or nearly so many: a source mostly, another kind, a tick, or a withdrawal.
+fn near_the_limit(random: &mut Random, clock: u64) -> Option<Step> {
+    let time = clock + random.below(2);
+    match random.below(10) {
+        0..=3 => Some(Step::Event { kind: 0, time: clock + 1 }),
+        4..=5 => Some(Step::Event { kind: 1 + random.below(3) as u8, time }),
+        6 => Some(Step::Tick { time }),
+        _ => None,
+    }
+}
+
+/// Rows in which 64 wait, among others: steps refused with 12, answers taken and withdrawn, and sources that find room again.
+#[test]
+fn where_sixty_four_wait() {
+    let mut random = Random::new(124);
+    let mut found = Found::default();
+    for waiting in waiting_rows() {
+        for _ in 0..6 {
+            let mut rows = table(&mut random, 2);
+            rows.insert(random.place(3), waiting.clone());
+            let mut beside = Beside::new(&rows, 0);
+            let sources = (1..=62).map(|time| Step::Event { kind: 0, time });
+            sources.for_each(|source| beside.ask(Some(source), &mut found));
+            for _ in 0..60 {
+                let request = near_the_limit(&mut random, beside.model.recorded().clock());
+                beside.ask(request, &mut found);
+            }
+        }
+        assert!(found.seen.refusals(12) > 5, "{waiting:?}");
+        found.seen = Seen::default();
+    }
 }
 
 /// Plays a list in words: a call, or "withdraw".

@@ -68,7 +68,9 @@ impl Monitor {
     /// a refusal the monitor stays as it was.
     ///
     /// # Errors
-    /// 8 closed, 9 the kind, 19 a coloured kind, 10 the time's range, 11 its order, 12 more than 64 would wait in a row.
+    /// 8 closed, 24 all steps taken, 9 the kind, 19 a coloured kind, 10 the time's range, 11 its order, 12 more than 64
+    /// would wait in a row.
+    #[inline]
     pub fn event(&mut self, kind: u8, time: u64) -> Result<(), Refusal> {
         Refusal::of_step(ffi::delkuthi_event(self, kind, time))
     }
@@ -77,8 +79,9 @@ impl Monitor {
     /// earlier event of its kind and colour. On a refusal the monitor stays as it was.
     ///
     /// # Errors
-    /// 8 closed, 9 the kind, 19 a plain kind or no colour, 10 the time's range, 11 its order, 12 more than 64 would wait
-    /// in a row.
+    /// 8 closed, 24 all steps taken, 9 the kind, 19 a plain kind or no colour, 10 the time's range, 11 its order, 12 more
+    /// than 64 would wait in a row.
+    #[inline]
     pub fn coloured_event(&mut self, kind: u8, colour: u8, time: u64) -> Result<(), Refusal> {
         Refusal::of_step(ffi::delkuthi_coloured_event(self, kind, colour, time))
     }
@@ -86,7 +89,8 @@ impl Monitor {
     /// Takes a tick: the clock moves to a time later than it. On a refusal the monitor stays as it was.
     ///
     /// # Errors
-    /// 8 closed, 10 the time's range, 11 its order.
+    /// 8 closed, 24 all steps taken, 10 the time's range, 11 its order.
+    #[inline]
     pub fn tick(&mut self, time: u64) -> Result<(), Refusal> {
         Refusal::of_step(ffi::delkuthi_tick(self, time))
     }
@@ -94,7 +98,8 @@ impl Monitor {
     /// Closes the recording: no step is taken after it, and no row is open.
     ///
     /// # Errors
-    /// 8 closed already.
+    /// 8 closed already, 24 all steps taken.
+    #[inline]
     pub fn close(&mut self) -> Result<(), Refusal> {
         Refusal::of_step(ffi::delkuthi_close(self))
     }
@@ -104,6 +109,7 @@ impl Monitor {
     ///
     /// # Errors
     /// 21 nothing to withdraw.
+    #[inline]
     pub fn withdraw(&mut self) -> Result<(), Refusal> {
         Refusal::of_step(ffi::delkuthi_withdraw(self))
     }

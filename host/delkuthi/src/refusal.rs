@@ -24,11 +24,13 @@ impl Refusal {
     }
 
     /// What the answer of a step says.
+    #[inline]
     pub(crate) fn of_step(number: u8) -> Result<(), Refusal> {
         if number == 0 { Ok(()) } else { Err(Refusal { number, place: None }) }
     }
 
     /// The refusal's number, as `include/delkuthi.h` lists them.
+    #[inline]
     pub fn number(&self) -> u8 {
         self.number
     }

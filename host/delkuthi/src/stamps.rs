@@ -14,8 +14,8 @@ pub enum Stamped {
     Unsure,
 }
 
-/// Says what a Repeat row of span 1 reads at the close of a recording whose stamps are late by at most `late`: a true
-/// time lies from that much before its stamp to the stamp, not below 0, and the true times of the row rise strictly.
+/// Says what a Repeat row of span 1 reads at the close of a recording whose stamps are late by at most `late`: each event
+/// of the row happened at a time t with stamp - late <= t <= stamp and 0 <= t, each after the one before.
 ///
 /// ```
 /// use delkuthi::{Row, Stamped, TABLE_LIMIT, stamped, write_table};

@@ -1,4 +1,4 @@
-//! Steps that one row cannot tell apart (paper 02, request 7, "Rows that don't hear each other").
+//! Steps that one row cannot tell apart (§3.10).
 
 use crate::constraint::Constraint;
 use crate::steps::Step;

@@ -51,7 +51,7 @@ fn apart(first: &[Step], second: &[Step]) -> Result<(), Refusal> {
 }
 
 /// By time, input and place in the input (§13.1); then from the front, with the clock at 0, a tick that is not later than
-/// the clock falls away (§13.2).
+/// the clock is dropped (§13.2).
 pub fn joined_steps(first: &[Step], second: &[Step]) -> Vec<Step> {
     let mut all: Vec<((u64, usize, usize), Step)> = Vec::new();
     for (input, steps) in [first, second].into_iter().enumerate() {

@@ -4,6 +4,7 @@ pub mod calls;
 pub mod executions;
 pub mod recordings;
 pub mod repetitions;
+pub mod script;
 pub mod seen;
 pub mod tables;
 

@@ -1,4 +1,5 @@
-//! Rows that don't hear each other (request 7): lists beside each other for a row, over tables that share it.
+//! Rows that are independent of each other (§3.10): lists beside each other for a row, over tables that share it.
+//! Clauses: §3.10, §3.11.
 
 mod common;
 
@@ -110,7 +111,7 @@ fn other_rows_change_no_verdict_while_none_has_64() {
     seen.demand_verdicts();
 }
 
-/// What Delay 0→1, 2 to 3 reads after all steps of a list in the paper's notation, alone in its table.
+/// What Delay 0→1, 2 to 3 reads after all steps of a list in the contract's notation, alone in its table.
 fn delay_reads(text: &str) -> Verdict {
     let table = Shared { rows: vec![delay(2, 3)], place: 0 };
     *readings(&table, &steps(text)).last().expect("a step")

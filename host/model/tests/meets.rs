@@ -1,4 +1,5 @@
 //! The definitions beside their plainest wording, and the corners of each.
+//! Clauses: §2.2, §5.1 to §5.10.
 
 mod common;
 

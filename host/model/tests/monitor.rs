@@ -1,4 +1,5 @@
 //! Steps and lists of calls: the questions in order, count and clock, what waits, and the verdicts by definition.
+//! Clauses: §6.1 to §6.5, §5.9.7.
 
 mod common;
 

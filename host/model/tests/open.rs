@@ -1,4 +1,5 @@
 //! The quick decision of "open" beside the search over all continuations, on small histories.
+//! Clauses: §2.3, §2.4.
 
 mod common;
 

@@ -6,17 +6,18 @@ use native.Mathlib.Omega.{arith}
 use mathlib.Core.Path.{_≡_, refl, sym, ap, _∙_, subst, subst₂}
 use mathlib.Core.Bool.{Bool, true, false, cond}
 use mathlib.Core.List.{List, [], _∷_, _++_, append-assoc}
-use mathlib.Core.Logic.{by-cases, inr}
+use mathlib.Core.Logic.{by-cases}
 use lib.ListN.{length, replicate}
 use lib.Dec.{eqb}
 use borrow.Author.Tests.{eqb-true, eqb-false, eq-eqb, ne-eqb}
 use Rattle.constraint.specs.Limits.{lastKind, firstColoured, lastColour, streamCount, lastTime, noLimit}
-use Rattle.constraint.specs.Streams.{stream, colours, kindOf}
+use Rattle.constraint.specs.Streams.{stream, kindOf}
+use Rattle.constraint.proofs.Streams.{colours, streams}
 use Rattle.constraint.specs.Steps.{Step, event, tick, at, times, own, clock, closed}
 use Rattle.constraint.specs.Meets.{Meets, MeetsReaction}
 use Rattle.constraint.specs.Continuation.{EventInOrder, Continues, more, Open}
 use Rattle.constraint.specs.Waiting.{waiting}
-use Rattle.constraint.specs.Accepted.{streams, KindsFit, KindsSuit, InRange, LowerFirst}
+use Rattle.constraint.specs.Accepted.{KindsFit, KindsSuit, InRange, LowerFirst}
 use Rattle.constraint.specs.declared.Constraint.{Constraint}
 use Rattle.constraint.specs.declared.Constraint.the-variants.{Reaction}
 use Rattle.constraint.proofs.Lists.{split, at-left, at-right, Each, each-left, each-right}
@@ -25,7 +26,7 @@ use Rattle.constraint.proofs.History.{Accepts, Past, times-append, times-own, t
 use Rattle.constraint.proofs.Continuations.{SameTimes, same-times, of-colour, continues-late}
 use Rattle.constraint.proofs.Verdicts.{open-of-meets}
 use Rattle.machine.specs.Rule.{ruleOf, startWords}
-use Rattle.machine.specs.Parts.{goesOn, breaking}
+use Rattle.machine.specs.Parts.{continuesWith, breaking}
 use Rattle.queue.specs.declared.Edit.the-variants.{Store}
 use Rattle.machine.specs.declared.Marks.{Marks}
 use Rattle.machine.specs.declared.Rule.{Rule}
@@ -179,7 +180,7 @@ module _ (stimulus response minimum maximum : ℕ) (sound : Sound (Reaction stim
         (λ x. cond x (LostColour minimum maximum t (times (stream stimulus d) after) (times (stream response d) after))
         (GoesAt minimum maximum t (times (stream stimulus d) after) (times (stream response d) after) low high)
         → ByOutcome (¬ Open c after) (GoesOn (λ m. Live after) due kept words t)
-        (cond x breaking (goesOn (Store (2 * d) low high) marks now (eqb now noLimit))))
+        (cond x breaking (continuesWith (Store (2 * d) low high) marks now (eqb now noLimit))))
         (λ e lost. shut t after (clock-event s t steps) d few lost)
         (λ e goes. record {
           live = live-stored low high (goes .0);
@@ -366,7 +367,7 @@ module _ (stimulus response minimum maximum : ℕ) (sound : Sound (Reaction stim
         same = same _ _ _;
         late = λ past live. late _ _ _ live;
         is-open = λ past o live soon. goes-on 8 _ _ (waiting-few 8 _) o live soon;
-        waits = λ past live. inr (refl, omega (arith, live .whole));
+        waits = λ past live. (refl, omega (arith, live .whole));
         is-kept = λ past live soon k. kept-met _ _ live k;
         not-kept = λ past live k. unkept-missed _ _ live k;
       }

@@ -1,4 +1,4 @@
--- What is told on the lent monitor goes to the covered writer with the buffer, whose contract says what is then in it.
+-- The summary of the lent monitor goes to the covered writer with the buffer, whose contract says what is then in it.
 use mathlib.Core.Path.{refl}
 use Prim.Native.Nat.{ℕ}
 use mathlib.Core.List.{[], _∷_, List}
@@ -36,13 +36,13 @@ use Rattle.inplace.proofs.Locals.{env, leaves, copies, sets, lands-in}
 use Rattle.inplace.proofs.Calls.{ref-to}
 use Rattle.inplace.proofs.Bytes.{slice, bytes-at}
 use Rattle.delkuthi.specs.Reporting.{ReportsOn}
-use Rattle.delkuthi.specs.Telling.{WritesTold}
+use Rattle.delkuthi.specs.Telling.{WritesSummary}
 use Rattle.delkuthi.proofs.Telling.{reports-on}
 use Rattle.delkuthi.proofs.Several.{Several, promised, Walk, machine, calls-several, enters-several, lends-loan, ends-loan}
-use Rattle.delkuthi.proofs.Lending.{told-type, told-on, loan-of, all-hands, all-back}
-use Rattle.delkuthi.proofs.report.told_on.Symbol as on-def
-use Rattle.delkuthi.proofs.report.told_on.Symbol.{name as #delkuthi·report·told-on}
-use Rattle.delkuthi.proofs.report.told_on.Met as on-thm
+use Rattle.delkuthi.proofs.Lending.{summary-type, summary-on, loan-of, all-hands, all-back}
+use Rattle.delkuthi.proofs.report.summary_on.Symbol as on-def
+use Rattle.delkuthi.proofs.report.summary_on.Symbol.{name as #delkuthi·report·summary-on}
+use Rattle.delkuthi.proofs.report.summary_on.Met as on-thm
 use Rattle.delkuthi.proofs.report.write.Symbol as write-def
 use Rattle.delkuthi.proofs.report.write.Symbol.{name as #delkuthi·report·write}
 use Rattle.delkuthi.proofs.report.write.Met as write-thm
@@ -55,11 +55,11 @@ abbrev write : Several
 write =
     record {
       count = 1;
-      slots = plain (λ _. told-type .row) ∷ mutSliceOf (0 ∷ []) tt (plain (λ _. u8)) ∷ [];
+      slots = plain (λ _. summary-type .row) ∷ mutSliceOf (0 ∷ []) tt (plain (λ _. u8)) ∷ [];
       kept = (yes, (yes, tt));
       result = word-type;
       asks = λ κs a. no-demand;
-      gives = λ κs a r e. WritesTold (a .0) (a .1 .0 .now) r (e .1 .0 .now);
+      gives = λ κs a r e. WritesSummary (a .0) (a .1 .0 .now) r (e .1 .0 .now);
     }
 
 -- ---- a function of a monitor, of two byte slices and of a buffer, which it gives to the writer
@@ -128,7 +128,7 @@ module _ {M : Type 1} (𝓤 : URA M) (H : Heap 𝓤) (A : Atoms 𝓤) (W : Given
 
 module _
     {M : Type 1} (𝓤 : URA M) (H : Heap 𝓤) (A : Atoms 𝓤) (W : Given 𝓤 H A) (𝓣 : Tables 𝓤 H)
-    (cites-on : Triple 𝓤 (𝓣 .C #delkuthi·report·told-on) (promised told-on 𝓤 H A))
+    (cites-on : Triple 𝓤 (𝓣 .C #delkuthi·report·summary-on) (promised summary-on 𝓤 H A))
     (cites-write : Triple 𝓤 (𝓣 .C #delkuthi·report·write) (promised write 𝓤 H A)) where
   walk : Walk report-on stay spell 𝓤 H A W (𝓣 .C) (𝓣 .Λ) code.function
   walk κs qs a are free Kf ends bs =
@@ -141,19 +141,19 @@ module _
       sets ! (addr ! (from ! (hop ! (look ! 9 refl) (stop !)))) 14 refl (tt, tt) $
       lends-loan ! tt indexed-type L h (λ α δ.
       move ! (0 ∷ 1 ∷ 3 ∷ 4 ∷ 5 ∷ 6 ∷ []) $ all-hands κ q s κ′ q′ s′ (L .block) (L .offset) h α δ !
-      (calls-several ! (fmOf 𝓤 H (W .laws) 𝓣) told-on cites-on (α ∷ [], (κ, (κ′, tt))) (fullShare, (q, (q′, tt)))
+      (calls-several ! (fmOf 𝓤 H (W .laws) 𝓣) summary-on cites-on (α ∷ [], (κ, (κ′, tt))) (fullShare, (q, (q′, tt)))
       (ref-to (L .block) (L .offset) h δ, (s, (s′, tt)))
       (vptr (L .block) (L .offset) ∷ [], (slice s ∷ [], (slice s′ ∷ [], tt))) tt (and-then ! (copies ! 12 refl)
-      (and-then ! (copies ! 8 refl) (and-then ! (copies ! 9 refl) (no-more !)))) (λ told ws told-is said.
+      (and-then ! (copies ! 8 refl) (and-then ! (copies ! 9 refl) (no-more !)))) (λ summary ws summary-is said.
       all-back κ q s κ′ q′ s′ (L .block) (L .offset) h α δ ! (ws .0) (move ! (0 ∷ 6 ∷ 1 ∷ []) $ ends-loan ! tt indexed-type L h (ws .0) α δ
-      (lands-in ! 13 refl (typed 𝓤 H A W told-type told told-is) $
+      (lands-in ! 13 refl (typed 𝓤 H A W summary-type summary summary-is) $
       sets ! (addr ! (from ! (fld ! refl (hop ! (look-in ! 12 (sub ! 0 refl (whole !))) (stop !))))) 15 refl (tt, tt) $
       sets ! (agg ! (and-then ! (copies ! 15 refl) (and-then ! (load ! (from ! (fld ! refl (stop !))) (look-in ! 12 (sub ! 1 refl (whole !))))
       (no-more !)))) 16 refl (tt, (tt, (record { fits = room .0 }, tt))) $
-      -- what is told and the buffer go to the writer
-      nothing ! $ move ! (7 ∷ 0 ∷ []) $ fjoin ! $ owned ! (told-type .row) (Is (told-type .row)) (told-type .makes 𝓤 H A W) told _ told-is $ fjoin ! $
+      -- the summary and the buffer go to the writer
+      nothing ! $ move ! (7 ∷ 0 ∷ []) $ fjoin ! $ owned ! (summary-type .row) (Is (summary-type .row)) (summary-type .makes 𝓤 H A W) summary _ summary-is $ fjoin ! $
       nothing ! $ move ! (8 ∷ 0 ∷ []) $ join ! $ use1 W (raw (toks 𝓤 A 1 (κ″, tt) (q″, tt))) (id⊢ 𝓤 _) $
-      calls-several ! (fmOf 𝓤 H (W .laws) 𝓣) write cites-write (κ″, tt) (q″, tt) (told, (t, tt)) (told-type .val told ∷ [], (slice t ∷ [], tt)) tt
+      calls-several ! (fmOf 𝓤 H (W .laws) 𝓣) write cites-write (κ″, tt) (q″, tt) (summary, (t, tt)) (summary-type .val summary ∷ [], (slice t ∷ [], tt)) tt
       (and-then ! (copies ! 12 refl) (and-then ! (copies ! 15 refl) (no-more !))) (λ n zs n-is written.
       use1 W (‵ (flft κ″ q″) ⊛ ‵ ftrue) (id⊢ 𝓤 _) $ split ! $ move ! (1 ∷ []) $ drop ! $
       move ! (1 ∷ []) $ fsplit ! $ drop ! $ fsplit ! $ move ! (1 ∷ []) $ drop ! $ fsplit ! $ move ! (1 ∷ []) $ feqL ! (λ l.
@@ -161,7 +161,7 @@ module _
       lands-in ! 8 refl (typed 𝓤 H A W word-type n n-is) $
       move ! (3 ∷ 4 ∷ 5 ∷ 6 ∷ 7 ∷ 0 ∷ 1 ∷ []) $ group ! 7 $ move ! (1 ∷ 0 ∷ []) $
       leaves ! (code.function .locals) tt bs (vint w64 n) refl (via 𝓤 _ (back (ws .0) (zs .1 .0))
-      (ends n (ws .0, (tt, (tt, (zs .1 .0, tt)))) n-is (tt, (tt, (tt, (l, tt)))) (reports-on h (s .now) (s′ .now) told (ws .0) (t .now) n
+      (ends n (ws .0, (tt, (tt, (zs .1 .0, tt)))) n-is (tt, (tt, (tt, (l, tt)))) (reports-on h (s .now) (s′ .now) summary (ws .0) (t .now) n
       (zs .1 .0) said written))))))))))
     where
       κ : Lft
@@ -224,7 +224,7 @@ delkuthi-report-on-spec 𝓤 H 𝓜 𝓖 𝓡 =
     (go 𝓤 H (𝓖 .A) (givenOf 𝓤 H 𝓜 𝓖))
     (λ κs a are. all-typed 𝓤 H (𝓖 .A) (typesAt slots κs) (lawful 𝓤 H (𝓖 .A) (givenOf 𝓤 H 𝓜 𝓖) κs) a (machine report-on stay spell κs a) are)
     (walk 𝓤 H (𝓖 .A) (givenOf 𝓤 H 𝓜 𝓖) (tablesOf 𝓤 H 𝓜 (tables 𝓤 H 𝓜 𝓡 code.env))
-    (cited 𝓤 H (promised told-on 𝓤 H (𝓖 .A)) 𝓜 𝓡 code.env #delkuthi·report·told-on on-def.routine code.calls-delkuthi·report·told-on
+    (cited 𝓤 H (promised summary-on 𝓤 H (𝓖 .A)) 𝓜 𝓡 code.env #delkuthi·report·summary-on on-def.routine code.calls-delkuthi·report·summary-on
     (on-thm.met 𝓤 H 𝓜 𝓖 𝓡))
     (cited 𝓤 H (promised write 𝓤 H (𝓖 .A)) 𝓜 𝓡 code.env #delkuthi·report·write write-def.routine code.calls-delkuthi·report·write
     (write-thm.met 𝓤 H 𝓜 𝓖 𝓡)))

@@ -3,8 +3,8 @@ use native.Mathlib.Omega.{arith}
 use borrow.Author.Needs.{needs}
 use borrow.Author.Tests.{ltb-true, ltb-false}
 use mathlib.Core.Logic.{⊎-elim}
-use Rattle.constraint.specs.Report.{too-large, fits}
-use Rattle.delkuthi.proofs.Telling.{tells-refusal, tells-told}
+use Rattle.delkuthi.specs.Program.{too-large, fits}
+use Rattle.delkuthi.proofs.Telling.{tells-refusal, tells-summary}
 use Rattle.delkuthi.proofs.program_text.Statement.{statement}
 use Rattle.delkuthi.proofs.program_text.Tie as tie
 
@@ -23,19 +23,19 @@ returns c =
       holds = tells-refusal 17 0 (c .refused-line .result) (rw (← c .before .new .ensures) (c .refused-line .ensures));
     }
 
-told-alone-requires : tie.Need-told-alone-requires
-told-alone-requires c κs = search needs
+summary-alone-requires : tie.Need-summary-alone-requires
+summary-alone-requires c κs = search needs
 
 text-of-requires : tie.Need-text-of-requires
 text-of-requires c κs = search needs
 
 returns-2 : tie.Need-returns-2
 returns-2 c =
-    let at-told = c .before in
-    let alone = at-told .told-alone .ensures in
-    let tells = tells-told (alone .before) _ _ (at-told .told-alone .result) (alone .after) (c .text-of .result) (alone .told-on) (c .text-of .ensures) in
+    let at-summary = c .before in
+    let alone = at-summary .summary-alone .ensures in
+    let tells = tells-summary (alone .before) _ _ (at-summary .summary-alone .result) (alone .after) (c .text-of .result) (alone .summary-on) (c .text-of .ensures) in
     record { bytes = tells .bytes; said = fits (omega arith) (omega (arith, ltb-false)) (tells .said); holds = tells .holds }
 
 pub program-text-spec : {M : Type 1} → statement M
 program-text-spec =
-    tie.close (tie.spec new-requires refused-line-requires returns told-alone-requires text-of-requires returns-2)
+    tie.close (tie.spec new-requires refused-line-requires returns summary-alone-requires text-of-requires returns-2)

@@ -5,19 +5,19 @@ use native.Mathlib.Omega.{arith}
 use mathlib.Core.Path.{_≡_, refl, sym, _∙_}
 use mathlib.Core.Bool.{true, false, false≢true}
 use mathlib.Core.List.{List, [], _∷_, _++_}
-use mathlib.Core.Logic.{inl}
 use lib.ListN.{length}
 use Rattle.constraint.specs.Limits.{lastTime}
 use Rattle.constraint.specs.Steps.{Step, event, tick, at, own, clock, closed}
 use Rattle.constraint.specs.Meets.{Meets, MeetsStrongSynchronization}
 use Rattle.constraint.specs.Continuation.{Open}
 use Rattle.constraint.specs.Waiting.{waiting, begunIncomplete}
-use Rattle.constraint.specs.Accepted.{kinds, streams, KindsFit}
+use Rattle.constraint.specs.Accepted.{kinds, KindsFit}
+use Rattle.constraint.proofs.Streams.{streams}
 use Rattle.constraint.specs.declared.Constraint.{Constraint}
 use Rattle.constraint.specs.declared.Constraint.the-variants.{StrongSynchronization2, StrongSynchronization3, StrongSynchronization4}
 use Rattle.constraint.proofs.History.{Accepts, Past}
 use Rattle.constraint.proofs.Continuations.{SameTimes, same-times}
-use Rattle.machine.specs.Rule.{ruleOf, startWords}
+use Rattle.machine.specs.Rule.{ruleOf, waitsIn, startWords}
 use Rattle.machine.specs.Parts.{dueOldest, none-left}
 use Rattle.machine.specs.declared.Marks.{Marks}
 use Rattle.machine.proofs.Exact.{Sound, OfStream, Starts, GoesOn, ByOutcome, Exact}
@@ -34,6 +34,7 @@ record Synchronized (c : Constraint) : Type 1 where
   streams-are : streams c ≡ kinds c
   no-words : startWords (ruleOf c) ≡ []
   meets : (steps : List Step) → Meets c steps ≡ MeetsStrongSynchronization (kinds c) (ruleOf c .upper) steps
+  waits-in : waitsIn (ruleOf c .form) ≡ true
   waits : (steps : List Step) → waiting c steps ≡ begunIncomplete (kinds c) steps
 
 module _ (c : Constraint) (s : Synchronized c) where
@@ -117,7 +118,7 @@ module _ (c : Constraint) (s : Synchronized c) where
         same = live-same _ _ _ _;
         late = λ past live. live-late _ _ _ _ live;
         is-open = live-open _ _ _;
-        waits = λ past live. inl (s .waits _ ∙ groups-wait (kinds c) tolerance _ (live .groups) (live .behind));
+        waits = λ past live. rw (s .waits-in) (s .waits _ ∙ groups-wait (kinds c) tolerance _ (live .groups) (live .behind));
         is-kept = λ past live in-time. live-kept _ _ _ live;
         not-kept = λ past live. live-not-kept _ _ _ live;
       }
@@ -131,6 +132,7 @@ exactStrongSynchronization2 a b tolerance sound =
       streams-are = refl;
       no-words = refl;
       meets = λ steps. refl;
+      waits-in = refl;
       waits = λ steps. refl;
     })
 
@@ -143,6 +145,7 @@ exactStrongSynchronization3 a b c tolerance sound =
       streams-are = refl;
       no-words = refl;
       meets = λ steps. refl;
+      waits-in = refl;
       waits = λ steps. refl;
     })
 
@@ -155,5 +158,6 @@ exactStrongSynchronization4 a b c d tolerance sound =
       streams-are = refl;
       no-words = refl;
       meets = λ steps. refl;
+      waits-in = refl;
       waits = λ steps. refl;
     })

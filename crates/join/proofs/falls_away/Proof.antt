@@ -1,4 +1,4 @@
--- Only a tick can fall away, and it does where it is not later than the clock.
+-- Only a tick can be dropped, and it is where it is not later than the clock.
 use borrow.Author.Needs.{needs}
 use Rattle.join.proofs.falls_away.Statement.{statement}
 use Rattle.join.proofs.falls_away.Tie as tie

@@ -1,4 +1,4 @@
--- The test is that of what falls away.
+-- The test is that of what is dropped.
 use mathlib.Core.Path.{sym, _∙_}
 use Rattle.queue.proofs.Shared.{free}
 use Rattle.join.proofs.left_clock.Statement.{statement}

@@ -47,7 +47,8 @@ loop-less : tie.Need-loop-less Inv-loop μ-loop
 loop-less c =
     let left = c .before .before .before .before .before in
     let at-read = left .before .before in
-    let next = at-read .read .ensures .next-is (omega (arith, left .if2 .left)) in
+    let found = at-read .read .ensures in
+    let next = found .next-is (found .there (omega (arith, left .if2 .left))) in
     omega (arith, next .0, next .1)
 
 loop-again : tie.Need-loop-again Inv-loop μ-loop

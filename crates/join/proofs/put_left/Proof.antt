@@ -1,4 +1,4 @@
--- A record that falls away is not stored.
+-- A record that is dropped is not stored.
 use native.Mathlib.Omega.{arith}
 use borrow.Author.Needs.{needs}
 use mathlib.Core.Path.{_≡_, sym, _∙_}

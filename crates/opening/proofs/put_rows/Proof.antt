@@ -22,7 +22,7 @@ use sound.WpLaws.{fmOf}
 use denote.Struct.Laws as LL
 use denote.Triple.Statement.{Triple}
 use denote.Triple.Table.{cited}
-use Rattle.constraint.specs.Rows.{filler}
+use Rattle.constraint.specs.Records.{filler}
 use Rattle.constraint.specs.Table.{ReadsRows, table-of}
 use Rattle.constraint.specs.declared.Constraint.{Constraint}
 use Rattle.table.specs.declared.scan.Placed.{Placed}

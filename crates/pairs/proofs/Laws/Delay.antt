@@ -221,7 +221,7 @@ module _ (source target lower upper : ℕ) (sound : Sound (Delay source target l
 
   -- ---- Exact
 
-  delay-laws : TwoKinds (decideDelay rule) source target (MeetsDelay lower upper) (unanswered lower upper)
+  delay-laws : TwoKinds (decideDelay rule) source target (MeetsDelay lower upper) true (unanswered lower upper)
   delay-laws =
       record {
         Live = LiveDelay lower upper;
@@ -232,14 +232,14 @@ module _ (source target lower upper : ℕ) (sound : Sound (Delay source target l
         target-does = λ r before live soon. target-does r live soon before;
         late = delay-late;
         is-open = λ r live soon. inr (delay-open r live soon);
-        waits = λ live. inl (delay-waits live);
+        waits = delay-waits;
         is-kept = λ live. delay-kept _ _ _ (live .unmet-are);
         not-kept = λ live. delay-not-kept _ _ _ (live .unmet-are);
       }
 
-  delay-of : OfTwoKinds (Delay source target lower upper) source target (MeetsDelay lower upper) (unanswered lower upper)
+  delay-of : OfTwoKinds (Delay source target lower upper) source target (MeetsDelay lower upper) true (unanswered lower upper)
   unfolding Meets waiting
-  delay-of = record { kinds-are = refl; streams-are = refl; kinds-fit = sound .kinds-fit; no-words = refl; meets-are = λ steps. refl; waiting-is = λ steps. refl }
+  delay-of = record { kinds-are = refl; streams-are = refl; kinds-fit = sound .kinds-fit; no-words = refl; meets-are = λ steps. refl; waits-are = refl; waiting-is = λ steps. refl }
 
   pub exactDelay : Exact (Delay source target lower upper) (decideDelay rule)
   exactDelay = exactTwoKinds delay-of (decideDelay rule) delay-laws

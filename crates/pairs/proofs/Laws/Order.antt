@@ -16,7 +16,7 @@ use Rattle.constraint.specs.declared.Constraint.the-variants.{Order}
 use Rattle.constraint.proofs.Lists.{split, both, Each, each-right, Rising, rising-by}
 use Rattle.machine.specs.Rule.{ruleOf}
 use Rattle.queue.specs.declared.Edit.the-variants.{Drop}
-use Rattle.machine.specs.Parts.{noMarks, plus, earlyOf, withLast, goesOn}
+use Rattle.machine.specs.Parts.{noMarks, plus, earlyOf, withLast, continuesWith}
 use Rattle.machine.specs.declared.Rule.{Rule}
 use Rattle.machine.specs.declared.Marks.{Marks}
 use Rattle.machine.proofs.Exact.{Sound, GoesOn, ByOutcome, Exact}
@@ -64,7 +64,7 @@ module _ (source target : ℕ) (sound : Sound (Order source target)) where
   goes-to sources targets marks times t live in-time =
       split (eqb (earlyOf marks) 0)
       (λ x. eqb (earlyOf marks) 0 ≡ x → ByOutcome (Lost t (Paired _≤_) sources targets) (GoesOn (LiveOrder sources targets) due kept times t)
-      (cond x (goesOn (Drop 0) marks noLimit (eqb (aheadOf marks) 0)) (goesOn (Drop 0) marks (earlyOf marks - 1) false)))
+      (cond x (continuesWith (Drop 0) marks noLimit (eqb (aheadOf marks) 0)) (continuesWith (Drop 0) marks (earlyOf marks - 1) false)))
       (λ e f. record { live = live; due-is = rw f; kept-is = rw f; in-time = rw f at in-time })
       (λ e f. record { live = live; due-is = rw f; kept-is = rw f; in-time = rw f at in-time })
       refl
@@ -170,7 +170,7 @@ module _ (source target : ℕ) (sound : Sound (Order source target)) where
 
   -- ---- Exact
 
-  order-laws : TwoKinds (decideOrder rule) source target (Paired _≤_) (λ sources targets. 0)
+  order-laws : TwoKinds (decideOrder rule) source target (Paired _≤_) false (λ sources targets. 0)
   order-laws =
       record {
         Live = LiveOrder;
@@ -181,7 +181,7 @@ module _ (source target : ℕ) (sound : Sound (Order source target)) where
         target-does = λ r before live. target-by _ _ _ _ _ r before (live .no-times) (live .waiting) (live .count) (live .pairing);
         late = λ live. late-by _ _ _ (live .waiting) _ (live .pairing);
         is-open = λ r live. open-by _ _ _ _ (live .waiting) r (live .pairing);
-        waits = λ live. inl (sym (ap length (live .no-times)));
+        waits = λ live. (refl, omega (arith, ap length (live .no-times)));
         is-kept = λ live. order-kept _ _ _ _ live;
         not-kept = λ live. order-not-kept _ _ _ _ live;
       }
@@ -190,5 +190,5 @@ module _ (source target : ℕ) (sound : Sound (Order source target)) where
   unfolding Meets MeetsOrder waiting
   exactOrder =
       exactTwoKinds
-      (record { kinds-are = refl; streams-are = refl; kinds-fit = sound .kinds-fit; no-words = refl; meets-are = λ steps. refl; waiting-is = λ steps. refl })
+      (record { kinds-are = refl; streams-are = refl; kinds-fit = sound .kinds-fit; no-words = refl; meets-are = λ steps. refl; waits-are = refl; waiting-is = λ steps. refl })
       (decideOrder rule) order-laws

@@ -19,7 +19,7 @@ use Rattle.constraint.proofs.Lists.{split, both, Each, Rising, rising-across}
 use Rattle.constraint.proofs.Counting.{next-least}
 use Rattle.queue.specs.declared.Edit.the-variants.{Drop, Push}
 use Rattle.machine.specs.Rule.{ruleOf}
-use Rattle.machine.specs.Parts.{noMarks, plus, earlyOf, withLast, goesOn, breaking, waits, dueOldest, none-left}
+use Rattle.machine.specs.Parts.{noMarks, plus, earlyOf, withLast, continuesWith, breaking, waits, dueOldest, none-left}
 use Rattle.machine.specs.declared.Rule.{Rule}
 use Rattle.machine.specs.declared.Marks.{Marks}
 use Rattle.machine.proofs.Exact.{Sound, GoesOn, ByOutcome, Exact}
@@ -104,7 +104,7 @@ module _ (source target lower upper : ℕ) (sound : Sound (StrongDelay source ta
         (split (eqb lower 0)
         (λ x. ByOutcome (Lost t (Paired (Between lower upper)) sources (targets ++ t ∷ []))
         (GoesOn (LiveStrongDelay lower upper sources (targets ++ t ∷ [])) (due upper) kept [] t)
-        (cond x (goesOn (Drop 0) (withLast marks (plus t 1)) t false) breaking))
+        (cond x (continuesWith (Drop 0) (withLast marks (plus t 1)) t false) breaking))
         (λ e. record {
           live = record { pairing = inr (t, omega (arith, r .small), refl, target-beyond t a (omega (arith, eqb-true lower 0 e), omega arith)) };
           due-is = omega (arith, due-beyond (plus t 1) (dueOldest upper []) t (omega (arith, r .small)));
@@ -194,7 +194,7 @@ module _ (source target lower upper : ℕ) (sound : Sound (StrongDelay source ta
 
   -- ---- Exact
 
-  strong-delay-laws : TwoKinds (decideStrongDelay rule) source target (Paired (Between lower upper))
+  strong-delay-laws : TwoKinds (decideStrongDelay rule) source target (Paired (Between lower upper)) true
       (λ sources targets. length sources - length targets)
   strong-delay-laws =
       record {
@@ -206,7 +206,7 @@ module _ (source target lower upper : ℕ) (sound : Sound (StrongDelay source ta
         target-does = λ r before live. target-by _ _ _ _ r _ before (live .pairing);
         late = λ live. late-by _ _ _ _ _ (live .pairing);
         is-open = λ r live. open-by _ _ _ _ _ r (live .pairing);
-        waits = λ live. inl (pairing-waits (live .pairing));
+        waits = λ live. pairing-waits (live .pairing);
         is-kept = λ live. kept-by _ _ _ _ (live .pairing);
         not-kept = λ live. not-kept-by _ _ _ _ (live .pairing);
       }
@@ -215,5 +215,5 @@ module _ (source target lower upper : ℕ) (sound : Sound (StrongDelay source ta
   unfolding Meets MeetsStrongDelay waiting
   exactStrongDelay =
       exactTwoKinds
-      (record { kinds-are = refl; streams-are = refl; kinds-fit = sound .kinds-fit; no-words = refl; meets-are = λ steps. refl; waiting-is = λ steps. refl })
+      (record { kinds-are = refl; streams-are = refl; kinds-fit = sound .kinds-fit; no-words = refl; meets-are = λ steps. refl; waits-are = refl; waiting-is = λ steps. refl })
       (decideStrongDelay rule) strong-delay-laws

@@ -378,7 +378,7 @@ module _ (start stop preempt resume lower upper : ℕ) (sound : Sound (Execution
         late = λ p live passed recordable. shut _
             (rw (clock-tick _ _, own-tick ks _ _) (λ further first. too-late _ _ _ _ live passed recordable further first));
         is-open = λ p o live soon. is-open _ _ _ o live soon;
-        waits = λ p live. inr (refl, omega (arith, ap length (live .no-times)));
+        waits = λ p live. (refl, omega (arith, ap length (live .no-times)));
         is-kept = λ p live soon e. meets-of _ (told (at-close _ _ _ live) e);
         not-kept = λ p live e m. told-not (at-close _ _ _ live) e (of-meets _ m);
       }

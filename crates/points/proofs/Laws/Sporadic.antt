@@ -301,6 +301,7 @@ exactSporadic kind lower upper jitter minimum sound =
       one-kind = refl;
       no-words = refl;
       meets = λ steps. (λ m. m, λ m. m);
+      none-waits = refl;
       waits-none = λ steps. refl;
       says-first = sporadic-first lower upper jitter minimum;
       keeps-none = sporadic-none rule;

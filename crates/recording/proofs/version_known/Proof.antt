@@ -9,7 +9,7 @@ use lib.Dec.{eqb}
 use borrow.Author.Tests.{eqb-true, eqb-false, eq-eqb}
 use denote.Ref.{now}
 use Rattle.constraint.specs.Steps.{at}
-use Rattle.constraint.specs.Questions.{Decides}
+use Rattle.constraint.specs.Records.{Decides}
 use Rattle.constraint.specs.Recording.{VersionKnown}
 use Rattle.recording.proofs.version_known.Statement.{statement}
 use Rattle.recording.proofs.version_known.Tie as tie

@@ -17,7 +17,7 @@ use Rattle.constraint.proofs.Lists.{split, at-left, at-next, Rising, rising-at}
 use Rattle.machine.specs.Parts.{plus, front}
 use Rattle.machine.specs.declared.Rule.{Rule}
 use Rattle.machine.proofs.Oldest.{front-at}
-use Rattle.repetition.specs.Repetition.{points, lowest, firstHigh, highest}
+use Rattle.repetition.specs.Repetition.{points, lowestPoint, firstHigh, highestPoint}
 use Rattle.repetition.proofs.Laws.Chains.{Keeps, Next, first, later, keeps-none}
 
 -- ---- Lows and highs in turn
@@ -162,10 +162,10 @@ module _ (rule : Rule) where
 
       -- the two numbers that an event at t puts in
       abbrev pub newLow : ℕ
-      newLow = lowest rule (points kept) (front kept) t
+      newLow = lowestPoint rule (points kept) (front kept) t
 
       abbrev pub newHigh : ℕ
-      newHigh = highest rule (points kept) (firstHigh kept t) t
+      newHigh = highestPoint rule (points kept) (firstHigh kept t) t
 
       -- no sum is so large that it stops
       sum-high : newHigh ≡ min t (firstHigh kept t + (rule .upper - rule .span) + points kept)

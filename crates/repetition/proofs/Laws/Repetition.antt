@@ -17,7 +17,7 @@ use Rattle.constraint.specs.declared.Constraint.the-variants.{Repetition}
 use Rattle.constraint.proofs.Lists.{split, Rising}
 use Rattle.queue.specs.declared.Edit.the-variants.{PushTwo}
 use Rattle.machine.specs.Rule.{ruleOf}
-use Rattle.machine.specs.Parts.{goesOn, breaking}
+use Rattle.machine.specs.Parts.{continuesWith, breaking}
 use Rattle.machine.specs.declared.Rule.{Rule}
 use Rattle.machine.specs.declared.Marks.{Marks}
 use Rattle.machine.specs.declared.Change.{Change}
@@ -62,7 +62,7 @@ module _ (rule : Rule) (asked : Asked rule) (events : List ℕ) (marks : Marks) 
 
   -- the row goes on: as many numbers leave as are not of the last span any more
   goes-on : Fits → (dropped : ℕ) → cond (ltb (points kept) (rule .span)) 0 2 ≡ dropped
-      → TurnsRepetition (goesOn (PushTwo dropped low high) marks noLimit true)
+      → TurnsRepetition (continuesWith (PushTwo dropped low high) marks noLimit true)
   goes-on fits dropped is =
       record {
         live = record {
@@ -85,7 +85,7 @@ module _ (rule : Rule) (asked : Asked rule) (events : List ℕ) (marks : Marks) 
 
   -- an event after the first span
   later-event : ltb (points kept) (rule .span) ≡ false
-      → TurnsRepetition (cond (hasPlace rule low high) (goesOn (PushTwo 2 low high) marks noLimit true) breaking)
+      → TurnsRepetition (cond (hasPlace rule low high) (continuesWith (PushTwo 2 low high) marks noLimit true) breaking)
   later-event full = turn has-place
     where
       many : rule .span ≤ length events
@@ -95,7 +95,7 @@ module _ (rule : Rule) (asked : Asked rule) (events : List ℕ) (marks : Marks) 
       has-place = tells-and (tells-leb (rule .span) (rule .upper)) (tells-leb low high)
 
       turn : {test : Bool} → Tells ((rule .span ≤ rule .upper) × (low ≤ high)) test
-          → TurnsRepetition (cond test (goesOn (PushTwo 2 low high) marks noLimit true) breaking)
+          → TurnsRepetition (cond test (continuesWith (PushTwo 2 low high) marks noLimit true) breaking)
       turn (holds both) = goes-on (λ m. both) 2 (ap (λ b. cond b 0 2) full)
       turn (fails none) = breaks (λ fits. none (fits many))
 
@@ -103,8 +103,8 @@ module _ (rule : Rule) (asked : Asked rule) (events : List ℕ) (marks : Marks) 
   unfolding decideRepetition placed
   repetition-event kind =
       split (ltb (points kept) (rule .span))
-      (λ b. TurnsRepetition (cond b (goesOn (PushTwo 0 low high) marks noLimit true)
-      (cond (hasPlace rule low high) (goesOn (PushTwo 2 low high) marks noLimit true) breaking)))
+      (λ b. TurnsRepetition (cond b (continuesWith (PushTwo 0 low high) marks noLimit true)
+      (cond (hasPlace rule low high) (continuesWith (PushTwo 2 low high) marks noLimit true) breaking)))
       (λ few. goes-on
       (λ many. absurd (omega (arith, ltb-true (points kept) (rule .span) few, kept-points rule events kept row))) 0 (ap (λ b. cond b 0 2) few))
       later-event
@@ -140,6 +140,7 @@ exactRepetition kind span lower upper jitter sound =
       one-kind = refl;
       no-words = refl;
       meets = λ steps. (λ m. m, λ m. m);
+      none-waits = refl;
       waits-none = λ steps. refl;
       says-first = λ xs ys now later h after m. repetition-first span lower upper jitter xs ys m;
       keeps-none = last-none rule;

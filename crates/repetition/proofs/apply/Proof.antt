@@ -11,14 +11,14 @@ use Rattle.machine.specs.Parts.{front}
 use Rattle.machine.specs.Words.{rowWords, numberWords, changedWords}
 use Rattle.machine.specs.declared.Rule.{Rule}
 use Rattle.machine.specs.declared.Marks.{Marks}
-use Rattle.repetition.specs.Repetition.{points, firstHigh, lowest, highest, placed, decideRepetition}
+use Rattle.repetition.specs.Repetition.{points, firstHigh, lowestPoint, highestPoint, placed, decideRepetition}
 use borrow.Author.Needs.{needs}
 use Rattle.repetition.proofs.apply.Statement.{statement}
 use Rattle.repetition.proofs.apply.Tie as tie
 
 -- the machine's change, by the length of the ring and the places of the point
 decided : (rule : Rule) (marks : Marks) (times : List ℕ) (head len stream t low high : ℕ)
-    → low ≡ lowest rule (len / 2) (front (ring times head len)) t → high ≡ highest rule (len / 2) (firstHigh (ring times head len) t) t
+    → low ≡ lowestPoint rule (len / 2) (front (ring times head len)) t → high ≡ highestPoint rule (len / 2) (firstHigh (ring times head len) t) t
     → decideRepetition rule marks (ring times head len) stream t ≡ placed rule marks (len / 2) low high
 unfolding decideRepetition
 decided rule marks times head len stream t low high l h =
@@ -38,10 +38,10 @@ returns c stream rule times state past e =
     let m = g .before .before in
     let a = m .before .before .before .before .before .before .args in
     let kept = ring times (state .head) (state .len) in
-    let high : z .smaller .result ≡ highest rule (state .len / 2) (firstHigh kept (a .t)) (a .t) =
+    let high : z .smaller .result ≡ highestPoint rule (state .len / 2) (firstHigh kept (a .t)) (a .t) =
     z .smaller .ensures ∙ rw (q .plus2 .ensures, y .plus .ensures, d .minus2 .ensures, g .first-high .ensures, e) refl in
     let few = lt-ltb _ _ (rw e at (i .if1 .taken)) in
-    let low : m .minus .result ≡ lowest rule (state .len / 2) (front kept) (a .t) = m .minus .ensures ∙ rw (e, few) refl in
+    let low : m .minus .result ≡ lowestPoint rule (state .len / 2) (front kept) (a .t) = m .minus .ensures ∙ rw (e, few) refl in
     let pushed = p .push-two .ensures rule times state past e in
     let done = c .settle .ensures rule _ _ (ap (λ w. getD w 1 []) pushed) in
     rw (done, pushed, decided rule (state .marks) times (state .head) (state .len) stream (a .t) _ _ low high, few) refl
@@ -63,9 +63,9 @@ returns-2 c stream rule times state past e =
     let m = g .before .before in
     let a = m .before .before .before .before .before .before .args in
     let kept = ring times (state .head) (state .len) in
-    let high : z .smaller .result ≡ highest rule (state .len / 2) (firstHigh kept (a .t)) (a .t) =
+    let high : z .smaller .result ≡ highestPoint rule (state .len / 2) (firstHigh kept (a .t)) (a .t) =
     z .smaller .ensures ∙ rw (q .plus2 .ensures, y .plus .ensures, d .minus2 .ensures, g .first-high .ensures, e) refl in
-    let low : l .larger .result ≡ lowest rule (state .len / 2) (front kept) (a .t) =
+    let low : l .larger .result ≡ lowestPoint rule (state .len / 2) (front kept) (a .t) =
     l .larger .ensures ∙ rw (m .minus .ensures, l .before .plus3 .ensures, f .front .ensures, e, le-ltb _ _ (rw e at (n .if1 .left))) refl in
     let pushed = p .push-two2 .ensures rule times state past e in
     let done = c .settle2 .ensures rule _ _ (ap (λ w. getD w 1 []) pushed) in
@@ -94,9 +94,9 @@ returns-3 c stream rule times state past e =
     let m = g .before .before in
     let a = m .before .before .before .before .before .before .args in
     let kept = ring times (state .head) (state .len) in
-    let high : z .smaller .result ≡ highest rule (state .len / 2) (firstHigh kept (a .t)) (a .t) =
+    let high : z .smaller .result ≡ highestPoint rule (state .len / 2) (firstHigh kept (a .t)) (a .t) =
     z .smaller .ensures ∙ rw (q .plus2 .ensures, y .plus .ensures, d .minus2 .ensures, g .first-high .ensures, e) refl in
-    let low : l .larger .result ≡ lowest rule (state .len / 2) (front kept) (a .t) =
+    let low : l .larger .result ≡ lowestPoint rule (state .len / 2) (front kept) (a .t) =
     l .larger .ensures ∙ rw (m .minus .ensures, l .before .plus3 .ensures, f .front .ensures, e, le-ltb _ _ (rw e at (n .if1 .left))) refl in
     rw (
       c .break-at .ensures rule times state past e,

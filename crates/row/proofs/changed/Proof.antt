@@ -1,8 +1,7 @@
 -- The tests are those of `changedRow`, in its order.
 use mathlib.Core.Path.{sym, _∙_, ap}
 use Rattle.queue.proofs.Laws.{ring-length}
-use Rattle.row.specs.Machine.{changedRow, stays}
-use Rattle.row.specs.Machine.{brokenRow}
+use Rattle.row.specs.Machine.{changedRow, stays, brokenRow}
 use Rattle.row.specs.declared.RowStep.{RowStep}
 use Rattle.queue.proofs.Shared.{free, cond-false}
 use Rattle.row.proofs.changed.Statement.{statement}

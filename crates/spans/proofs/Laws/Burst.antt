@@ -44,6 +44,7 @@ exactBurst kind maximum len minimum sound =
       one-kind = refl;
       no-words = refl;
       meets = λ steps. (λ m. m, λ m. m);
+      none-waits = refl;
       waits-none = λ steps. refl;
       says-first = λ xs ys now later h after m. (apart-first maximum len noLimit xs ys (m .0), apart-first 1 minimum noLimit xs ys (m .1));
       keeps-none = repeat-none rule;

@@ -24,7 +24,7 @@ use Rattle.constraint.proofs.History.{times-append}
 use Rattle.constraint.proofs.Continuations.{not-later-earlier, continues-late, continues-clock}
 use Rattle.queue.specs.declared.Edit.the-variants.{Push}
 use Rattle.machine.specs.Rule.{ruleOf}
-use Rattle.machine.specs.Parts.{noMarks, plus, withLast, goesOn, breaking, front, dueOldest}
+use Rattle.machine.specs.Parts.{noMarks, plus, withLast, continuesWith, breaking, front, dueOldest}
 use Rattle.machine.specs.declared.Rule.{Rule}
 use Rattle.machine.specs.declared.Marks.{Marks}
 use Rattle.machine.proofs.Exact.{Sound, Exact}
@@ -34,7 +34,7 @@ use Rattle.machine.proofs.Oldest.{front-at, due-or-pushed, due-within, due-reac
 use Rattle.machine.proofs.Spans.{apart-first, ApartFromNew, apart-new, apart-more, rising-apart, LastIs, last-none, last-new, far-enough}
 use Rattle.spans.specs.Repeat.{spanReached, leaving, dueWith, decideRepeat}
 
--- of any span + 1 consecutive events, last minus first is from lower to upper
+-- each event and the one span places after it are lower to upper apart
 abbrev pub MeetsSpan : Rule → List ℕ → Type 0
 MeetsSpan rule events = SpansApart (rule .span) (rule .lower) (rule .upper) events
 
@@ -126,7 +126,7 @@ module _ (rule : Rule) (events : List ℕ) (marks : Marks) (kept : List ℕ) (ke
       where
         turn : {test : Bool} → Tells (AtLeastApart (rule .minimum) (events ++ (t ∷ [])) × MeetsSpan rule (events ++ (t ∷ []))) test
             → Turns Says (KeepsRepeat rule) (dueRepeat rule) events kept t
-            (cond test (goesOn (Push (leaving rule (length kept)) t) (withLast marks (plus t 1)) (dueWith rule kept t) true) breaking)
+            (cond test (continuesWith (Push (leaving rule (length kept)) t) (withLast marks (plus t 1)) (dueWith rule kept t) true) breaking)
         turn (holds m) =
             record {
               live = record { spans = m .1; apart = m .0; newest = kept-new; last-is = last-new events t (plus t 1) (omega arith) };
@@ -212,6 +212,7 @@ exactRepeat kind span lower upper sound =
       one-kind = refl;
       no-words = refl;
       meets = λ steps. (λ m. m, λ m. m);
+      none-waits = refl;
       waits-none = λ steps. refl;
       says-first = repeat-first span lower upper;
       keeps-none = repeat-none rule;

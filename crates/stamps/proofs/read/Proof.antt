@@ -3,7 +3,7 @@ use native.Mathlib.Omega.{arith}
 use borrow.Author.Needs.{needs}
 use mathlib.Core.Path.{_≡_}
 use denote.Ref.{now}
-use Rattle.constraint.specs.Rows.{rowsOf, tableOf}
+use Rattle.constraint.specs.Records.{rowsOf, tableOf}
 use Rattle.constraint.specs.Table.{ReadsTable, table-of, table-refused}
 use Rattle.constraint.specs.Stamps.{no-table}
 use Rattle.queue.proofs.Shared.{free}

@@ -47,7 +47,8 @@ returns-2 c =
 loop-less : tie.Need-loop-less Inv-loop μ-loop
 loop-less c =
     let at-read = c .before .before .before .before .before .before .before in
-    let next = at-read .read .ensures .next-is (omega (arith, c .before .before .before .before .before .if2 .left)) in
+    let found = at-read .read .ensures in
+    let next = found .next-is (found .there (omega (arith, c .before .before .before .before .before .if2 .left))) in
     omega (arith, next .0, next .1)
 
 loop-again : tie.Need-loop-again Inv-loop μ-loop

@@ -3,7 +3,7 @@ use native.Mathlib.Omega.{arith}
 use borrow.Author.Needs.{needs}
 use mathlib.Core.Path.{_≡_, refl}
 use denote.Ref.{now}
-use Rattle.constraint.specs.Rows.{rowsOf, tableOf}
+use Rattle.constraint.specs.Records.{rowsOf, tableOf}
 use Rattle.constraint.specs.Table.{ReadsTable, table-of, table-refused}
 use Rattle.queue.proofs.Shared.{free}
 use Rattle.table.proofs.AcceptedRows.{read-accepted}

@@ -12,14 +12,14 @@ use Rattle.stretch_host.proofs.StretchNumbers.{stretch-above}
 use Rattle.stretch_host.proofs.delkuthi_shortest_stretch.Statement.{statement}
 use Rattle.stretch_host.proofs.delkuthi_shortest_stretch.Tie as tie
 
--- what is told of a refusal
-refusal-told : (n place m at : ℕ) → 0 < n → n < 256 → StretchAnswer.Refused n place ≡ StretchAnswer.Refused m at → (0 < m) × (m < 256)
-refusal-told n place m at above below e = let same : n ≡ m = cc in (omega (arith, same, above), omega (arith, same, below))
+-- the number of a refusal is small
+refusal-small : (n place m at : ℕ) → 0 < n → n < 256 → StretchAnswer.Refused n place ≡ StretchAnswer.Refused m at → (0 < m) × (m < 256)
+refusal-small n place m at above below e = let same : n ≡ m = cc in (omega (arith, same, above), omega (arith, same, below))
 
 -- and of a stretch
-stretch-told : (first size tried a b c : ℕ) → first < 256 → size < 65536 → tried < 4294967296 → StretchAnswer.Found first size tried ≡ StretchAnswer.Found a b c
+stretch-parts : (first size tried a b c : ℕ) → first < 256 → size < 65536 → tried < 4294967296 → StretchAnswer.Found first size tried ≡ StretchAnswer.Found a b c
     → (a < 256) × (b < 65536) × (c < 4294967296)
-stretch-told first size tried a b c one two three e =
+stretch-parts first size tried a b c one two three e =
     let first-is : first ≡ a = cc in
     let size-is : size ≡ b = cc in
     let tried-is : tried ≡ c = cc in
@@ -69,8 +69,8 @@ returns c =
       answer = StretchAnswer.Found (given .0 .0) (given .0 .1 .0) (given .0 .1 .1 .0);
       answers = rw (given .1) at (at-answer .before .before .shortest .ensures);
       equals = refl;
-      told = λ n place e. never (cc);
-      parts = λ first size tried e. stretch-told (given .0 .0) (given .0 .1 .0) (given .0 .1 .1 .0) first size tried (omega arith) (omega arith) (omega arith) e;
+      small = λ n place e. never (cc);
+      parts = λ first size tried e. stretch-parts (given .0 .0) (given .0 .1 .0) (given .0 .1 .1 .0) first size tried (omega arith) (omega arith) (omega arith) e;
     }
 
 returns-2 : tie.Need-returns-2
@@ -84,7 +84,7 @@ returns-2 c =
       answer = StretchAnswer.Refused (given .0 .0) (given .0 .1 .0);
       answers = says;
       equals = omega (arith, c .place-number .ensures);
-      told = λ n place e. refusal-told (given .0 .0) (given .0 .1 .0) n place (stretch-above _ _ _ _ _ says) (omega arith) e;
+      small = λ n place e. refusal-small (given .0 .0) (given .0 .1 .0) n place (stretch-above _ _ _ _ _ says) (omega arith) e;
       parts = λ first size tried e. never (cc);
     }
 

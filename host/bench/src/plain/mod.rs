@@ -8,7 +8,7 @@ mod rule;
 
 use model::constraint::stream;
 use model::{Answer, Constraint, FIRST_COLOURED, LAST_COLOUR, LAST_COUNT, LAST_KIND, LAST_TIME, Step, Verdict};
-use rule::{Before, Rule};
+use rule::{Before, Left, Rule};
 
 /// A row: its rule, the last clock at which it is open without an event of its own, and the step that broke it (or 0).
 #[derive(Clone, Debug)]
@@ -212,10 +212,15 @@ impl Plain {
     }
 
     /// Would more than 64 wait in one of these rows that the event leaves open?
-    fn crowded(&self, rows: u32, kind: u8, time: u64) -> bool {
-        let mut crowded = false;
-        each(rows, |row| crowded |= time <= self.rows[row].due && self.rows[row].rule.crowded(kind, time));
-        crowded
+    fn crowded(&self, mut rows: u32, kind: u8, time: u64) -> bool {
+        while rows != 0 {
+            let row = &self.rows[rows.trailing_zeros() as usize];
+            if time <= row.due && row.rule.crowded(kind, time) {
+                return true;
+            }
+            rows &= rows - 1;
+        }
+        false
     }
 
     /// The clock has passed to a time: rows that were due before are broken.
@@ -237,13 +242,12 @@ impl Plain {
     fn row_event(&mut self, place: usize, kind: u8, time: u64) {
         let row = &mut self.rows[place];
         row.due_before = row.due;
-        if !row.rule.event(kind, time, &mut row.before) {
+        let Some(Left { due, full }) = row.rule.event(kind, time, &mut row.before) else {
             return self.break_row(place);
-        }
-        row.due = row.rule.due();
-        self.soonest = self.soonest.min(row.due);
-        let full = u32::from(row.rule.is_full()) << place;
-        self.full = self.full & !(1 << place) | full;
+        };
+        row.due = due;
+        self.soonest = self.soonest.min(due);
+        self.full = self.full & !(1 << place) | u32::from(full) << place;
     }
 
     /// The step just counted breaks a row.

@@ -40,6 +40,14 @@ pub struct Before {
     colour: Colour,
 }
 
+/// What an event leaves of a row that is still open: the last clock at which it is open if none of its events comes, and
+/// whether 64 wait.
+#[derive(Clone, Copy, Debug)]
+pub struct Left {
+    pub due: u64,
+    pub full: bool,
+}
+
 /// Between two executions, in a running one, or in a preempted one.
 #[derive(Clone, Copy, Debug, Default, PartialEq, Eq)]
 pub enum Phase {
@@ -109,52 +117,47 @@ impl Rule {
         }
     }
 
-    /// Takes an event of one of its streams, before which it was not overdue, and keeps what that changes. Is it still open?
-    pub fn event(&mut self, kind: u8, time: u64, before: &mut Before) -> bool {
+    /// Takes an event of one of its streams, before which it was not overdue, and keeps what that changes. What it leaves, if the row
+    /// is still open. The type is asked for once.
+    #[inline]
+    pub fn event(&mut self, kind: u8, time: u64, before: &mut Before) -> Option<Left> {
         match self {
-            Rule::Delay { source, lower, waiting, target, .. } => {
+            Rule::Delay { source, lower, upper, waiting, target } => {
                 (before.ends, before.marks[0]) = (waiting.ends(), *target);
-                delay_event(kind == *source, *lower, waiting, target, time)
+                delay_event(kind == *source, *lower, waiting, target, time);
+                Some(Left { due: due(waiting, *upper), full: waiting.is_full() })
             }
-            Rule::StrongDelay { source, lower, waiting, early, .. } => {
+            Rule::StrongDelay { source, lower, upper, waiting, early } => {
                 (before.ends, before.marks[0]) = (waiting.ends(), *early);
-                strong_delay_event(kind == *source, *lower, waiting, early, time)
+                if !strong_delay_event(kind == *source, *lower, waiting, early, time) {
+                    return None;
+                }
+                let due = waiting.first().map_or(*early, |first| first + *upper);
+                Some(Left { due, full: waiting.is_full() })
             }
-            Rule::Repeat { span, lower, minimum, events, last, .. } => {
-                before.ends = events.ends();
-                (before.marks[0], before.marks[1]) = (*last, events.at_head());
-                let far_enough = *last == NEVER || time - *last >= *minimum;
-                *last = time;
-                let gap = if events.length() == *span { events.pop().map(|first| time - first) } else { None };
-                events.push(time);
-                far_enough && gap.is_none_or(|gap| *lower <= gap)
-            }
-            Rule::Sporadic { .. } => self.sporadic_event(time, before),
             Rule::Order { source, ahead, early } => {
                 (before.marks[0], before.marks[1]) = (*ahead, *early);
-                match (kind == *source, *early == NEVER) {
-                    (true, true) => *ahead += 1,
-                    (true, false) => *early = NEVER,
-                    (false, _) if *ahead > 0 => *ahead -= 1,
-                    (false, _) => *early = time,
-                }
-                true
+                order_event(kind == *source, ahead, early, time);
+                Some(Left { due: *early, full: false })
             }
-            Rule::StrongSynchronization { kinds, n, begun, counts, .. } => {
+            Rule::StrongSynchronization { kinds, n, tolerance, begun, counts } => {
                 (before.ends, before.counts) = (begun.ends(), *counts);
                 group_event(place(kinds, kind), &mut counts[..*n], begun, time);
-                true
+                Some(Left { due: due(begun, *tolerance), full: begun.is_full() })
             }
-            Rule::ExecutionTime { .. } => self.execution_event(kind, time, before),
             Rule::Reaction { stimuli, minimum, maximum, colours } => {
                 let colour = &mut colours[usize::from(kind % 8)];
                 before.colour = *colour;
-                if kind - kind % 8 == *stimuli {
+                let open = if kind - kind % 8 == *stimuli {
                     stimulus(colour, *minimum, *maximum, time)
                 } else {
                     response(colour, time)
-                }
+                };
+                open.then(|| Left { due: colours.iter().map(last_moment).min().unwrap_or(NEVER), full: false })
             }
+            Rule::Repeat { .. } => self.repeat_event(time, before),
+            Rule::Sporadic { .. } => self.sporadic_event(time, before),
+            Rule::ExecutionTime { .. } => self.execution_event(kind, time, before),
             Rule::Repetition { .. } => self.repetition_event(time, before),
         }
     }
@@ -183,9 +186,24 @@ impl Rule {
         }
     }
 
+    /// A Repeat's or a Burst's event: it is far enough from the last one, and from the one a span before.
+    fn repeat_event(&mut self, time: u64, before: &mut Before) -> Option<Left> {
+        let Rule::Repeat { span, lower, upper, minimum, events, last } = self else { return None };
+        before.ends = events.ends();
+        (before.marks[0], before.marks[1]) = (*last, events.at_head());
+        let far_enough = *last == NEVER || time - *last >= *minimum;
+        *last = time;
+        let gap = if events.length() == *span { events.pop().map(|first| time - first) } else { None };
+        events.push(time);
+        if !(far_enough && gap.is_none_or(|gap| *lower <= gap)) {
+            return None;
+        }
+        Some(Left { due: due(events, *upper), full: false })
+    }
+
     /// A Sporadic's event: the places for the next point are those a stride to an upper behind the places for the last.
-    fn sporadic_event(&mut self, time: u64, before: &mut Before) -> bool {
-        let Rule::Sporadic { stride, upper, jitter, minimum, low, high, last } = self else { return true };
+    fn sporadic_event(&mut self, time: u64, before: &mut Before) -> Option<Left> {
+        let Rule::Sporadic { stride, upper, jitter, minimum, low, high, last } = self else { return None };
         before.marks = [*low, *high, *last];
         let first = *last == NEVER;
         let fits = first || (time - *last >= *minimum && *stride <= *upper);
@@ -193,12 +211,15 @@ impl Rule {
         *low = if first { near } else { near.max(low.saturating_add(*stride)) };
         *high = if first { time } else { time.min(high.saturating_add(*upper)) };
         *last = time;
-        fits && *low <= *high
+        if !(fits && *low <= *high) {
+            return None;
+        }
+        Some(Left { due: high.saturating_add(*upper).saturating_add(*jitter), full: false })
     }
 
     /// An ExecutionTime's event: the next phase, if the event is one that may come.
-    fn execution_event(&mut self, kind: u8, time: u64, before: &mut Before) -> bool {
-        let Rule::ExecutionTime { kinds, lower, upper, phase, last, ran } = self else { return true };
+    fn execution_event(&mut self, kind: u8, time: u64, before: &mut Before) -> Option<Left> {
+        let Rule::ExecutionTime { kinds, lower, upper, phase, last, ran } = self else { return None };
         (before.phase, before.marks[0], before.marks[1]) = (*phase, *last, *ran);
         let [start, stop, preempt, resume] = *kinds;
         let run = if *phase == Phase::Running { *ran + (time - *last) } else { *ran };
@@ -207,18 +228,19 @@ impl Rule {
             Phase::Running if kind == stop => (Phase::Idle, *lower <= run),
             Phase::Running if kind == preempt => (Phase::Preempted, run < *upper),
             Phase::Preempted if kind == resume => (Phase::Running, true),
-            _ => return false,
+            _ => return None,
         };
         let later = *last != time;
         (*phase, *last) = (next, time);
         *ran = if next == Phase::Idle { 0 } else { run };
-        fits && later
+        let due = || if next == Phase::Running { time + (*upper - *ran) } else { NEVER };
+        (fits && later).then(|| Left { due: due(), full: false })
     }
 
     /// A Repetition's event: a point is lower to upper behind the one span places before; while there is none, it leaves
     /// a place for each that is still to come before the first one's upper.
-    fn repetition_event(&mut self, time: u64, before: &mut Before) -> bool {
-        let Rule::Repetition { span, lower, upper, jitter, places } = self else { return true };
+    fn repetition_event(&mut self, time: u64, before: &mut Before) -> Option<Left> {
+        let Rule::Repetition { span, lower, upper, jitter, places } = self else { return None };
         before.ends = places.ends();
         let number = places.length() as u64 / 2;
         let near = time.saturating_sub(*jitter);
@@ -231,25 +253,7 @@ impl Rule {
         }
         places.push(low);
         places.push(high);
-        number < *span || (*span <= *upper && low <= high)
-    }
-
-    /// The last clock at which the row is open if none of its events comes.
-    pub fn due(&self) -> u64 {
-        match self {
-            Rule::Delay { upper, waiting, .. } => waiting.first().map_or(NEVER, |first| first.saturating_add(*upper)),
-            Rule::StrongDelay { upper, waiting, early, .. } => waiting.first().map_or(*early, |first| first + upper),
-            Rule::Order { early, .. } => *early,
-            Rule::StrongSynchronization { tolerance, begun, .. } => {
-                begun.first().map_or(NEVER, |first| first + tolerance)
-            }
-            Rule::Repeat { upper, events, .. } => events.first().map_or(NEVER, |first| first.saturating_add(*upper)),
-            Rule::Sporadic { last: NEVER, .. } => NEVER,
-            Rule::Sporadic { upper, jitter, high, .. } => high.saturating_add(*upper).saturating_add(*jitter),
-            Rule::ExecutionTime { upper, phase: Phase::Running, last, ran, .. } => last + (upper - ran),
-            Rule::ExecutionTime { .. } | Rule::Repetition { .. } => NEVER,
-            Rule::Reaction { colours, .. } => colours.iter().map(last_moment).min().unwrap_or(NEVER),
-        }
+        (number < *span || (*span <= *upper && low <= high)).then_some(Left { due: NEVER, full: false })
     }
 
     /// Is it kept if the recording is closed now?
@@ -264,20 +268,11 @@ impl Rule {
             Rule::Repeat { .. } | Rule::Sporadic { .. } | Rule::Repetition { .. } => true,
         }
     }
+}
 
-    /// Do 64 wait?
-    pub fn is_full(&self) -> bool {
-        match self {
-            Rule::Delay { waiting, .. } | Rule::StrongDelay { waiting, .. } => waiting.is_full(),
-            Rule::StrongSynchronization { begun, .. } => begun.is_full(),
-            Rule::Repeat { .. }
-            | Rule::Sporadic { .. }
-            | Rule::Order { .. }
-            | Rule::ExecutionTime { .. }
-            | Rule::Reaction { .. }
-            | Rule::Repetition { .. } => false,
-        }
-    }
+/// The last clock at which a row is open whose oldest time is due so long after it.
+fn due(ring: &Ring, upper: u64) -> u64 {
+    ring.first().map_or(NEVER, |first| first.saturating_add(upper))
 }
 
 /// The last moment for a colour's first response.
@@ -325,18 +320,17 @@ fn place(kinds: &[u8; 4], kind: u8) -> usize {
 }
 
 /// A Delay's source waits, unless the last target is its own; a target answers all sources that are far enough back.
-fn delay_event(source: bool, lower: u64, waiting: &mut Ring, target: &mut u64, time: u64) -> bool {
+fn delay_event(source: bool, lower: u64, waiting: &mut Ring, target: &mut u64, time: u64) {
     if source {
         if lower != 0 || *target != time {
             waiting.push(time);
         }
-        return true;
+        return;
     }
     while waiting.first().is_some_and(|first| time - first >= lower) {
         waiting.pop();
     }
     *target = time;
-    true
 }
 
 /// A StrongDelay's source is the partner of the target beyond, or waits; a target is the oldest source's, or beyond.
@@ -354,6 +348,16 @@ fn strong_delay_event(source: bool, lower: u64, waiting: &mut Ring, early: &mut 
             *early = time;
             lower == 0
         }
+    }
+}
+
+/// An Order's source is one more ahead, or the partner of the target beyond; a target is one less ahead, or beyond.
+fn order_event(source: bool, ahead: &mut u64, early: &mut u64, time: u64) {
+    match (source, *early == NEVER) {
+        (true, true) => *ahead += 1,
+        (true, false) => *early = NEVER,
+        (false, _) if *ahead > 0 => *ahead -= 1,
+        (false, _) => *early = time,
     }
 }
 

@@ -10,7 +10,7 @@ use Rattle.constraint.proofs.Rows.{rows-length, rows-from}
 use Rattle.constraint.proofs.Accepted.{rows-taken, rows-refused, rows-full}
 use Rattle.constraint.specs.Questions.{Judged}
 use Rattle.constraint.specs.Accepted.{rowsQuestions}
-use Rattle.constraint.specs.Rows.{rowsOf}
+use Rattle.constraint.specs.Records.{rowsOf}
 use Rattle.constraint.specs.declared.Answer.{Answer}
 use Rattle.constraint.specs.declared.Answer.the-variants.{Taken, Refused}
 use Rattle.constraint.proofs.Table.judge.Statement.{statement}

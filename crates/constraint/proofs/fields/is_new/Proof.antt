@@ -4,9 +4,8 @@ use Prim.Native.Nat.{_-_, _≤_}
 use mathlib.Core.Path.{sym, _∙_}
 use mathlib.Core.Bool.{Bool, true, false}
 use mathlib.Core.Logic.{⊎-elim}
-use Rattle.constraint.specs.Questions.{Decides}
+use Rattle.constraint.specs.Records.{Decides, Absent, byteField, bytesFrom}
 use Rattle.constraint.specs.Accepted.{kindsIn}
-use Rattle.constraint.specs.Records.{Absent, byteField, bytesFrom}
 use Rattle.constraint.proofs.Judged.{free, same-test}
 use Rattle.constraint.proofs.FieldByField.{fields-end, kind-here, kind-elsewhere}
 use Rattle.constraint.proofs.fields.is_new.Statement.{statement}

@@ -5,9 +5,8 @@ use mathlib.Core.Path.{sym, _∙_}
 use mathlib.Core.Bool.{Bool, true, false}
 use mathlib.Core.Logic.{⊎-elim}
 use Rattle.constraint.specs.Steps.{at}
-use Rattle.constraint.specs.Questions.{Decides}
+use Rattle.constraint.specs.Records.{Decides, byteField, bytesFrom}
 use Rattle.constraint.specs.Accepted.{kindsIn, KindsFit}
-use Rattle.constraint.specs.Records.{byteField, bytesFrom}
 use Rattle.constraint.proofs.Judged.{free, passed, failed, same-test}
 use Rattle.constraint.proofs.FittingKinds.{kinds-none, kinds-more, kinds-first, kinds-rest}
 use Rattle.constraint.proofs.FieldByField.{fields-end, kind-here, kind-elsewhere}

@@ -5,9 +5,8 @@ use mathlib.Core.Bool.{Bool, true}
 use mathlib.Core.Logic.{⊎-elim}
 use lib.Dec.{leb}
 use Rattle.constraint.specs.Steps.{at}
-use Rattle.constraint.specs.Questions.{Decides}
+use Rattle.constraint.specs.Records.{Decides, timeField, timesFrom}
 use Rattle.constraint.specs.Accepted.{NotBelow}
-use Rattle.constraint.specs.Records.{timeField, timesFrom}
 use Rattle.constraint.proofs.Judged.{test-le}
 use Rattle.constraint.proofs.FieldByField.{fields-end, bounds-lower, bounds-upper, bounds-upper-or-none, bounds-other}
 use Rattle.constraint.proofs.fields.lower_first.Statement.{statement}

@@ -2,9 +2,8 @@
 use native.Mathlib.Omega.{arith}
 use Prim.Native.Nat.{_-_, _≤_}
 use mathlib.Core.Bool.{Bool, true, false}
-use Rattle.constraint.specs.Questions.{Decides}
+use Rattle.constraint.specs.Records.{Decides, byteField, bytesFrom}
 use Rattle.constraint.specs.Accepted.{SortsFit}
-use Rattle.constraint.specs.Records.{byteField, bytesFrom}
 use Rattle.constraint.proofs.Judged.{free, passed, failed}
 use Rattle.constraint.proofs.FieldByField.{fields-end, sort-wise, field-here, field-missed}
 use Rattle.constraint.proofs.fields.sorts_fit.Statement.{statement}

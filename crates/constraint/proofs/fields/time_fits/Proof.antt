@@ -3,7 +3,7 @@ use mathlib.Core.Path.{sym, subst}
 use mathlib.Core.Logic.{inl, inr, ⊎-elim}
 use lib.Dec.{leb}
 use Rattle.constraint.specs.Limits.{lastTime}
-use Rattle.constraint.specs.Questions.{Decides}
+use Rattle.constraint.specs.Records.{Decides}
 use Rattle.constraint.proofs.Judged.{same-test, test-le}
 use Rattle.constraint.proofs.FieldByField.{plain-range}
 use Rattle.constraint.proofs.fields.time_fits.Statement.{statement}

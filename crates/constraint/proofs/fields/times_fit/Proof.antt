@@ -2,9 +2,8 @@
 use native.Mathlib.Omega.{arith}
 use Prim.Native.Nat.{_-_, _≤_}
 use mathlib.Core.Bool.{Bool, true, false}
-use Rattle.constraint.specs.Questions.{Decides}
+use Rattle.constraint.specs.Records.{Decides, timeField, timesFrom}
 use Rattle.constraint.specs.Accepted.{FieldsInRange}
-use Rattle.constraint.specs.Records.{timeField, timesFrom}
 use Rattle.constraint.proofs.Judged.{free, passed, failed}
 use Rattle.constraint.proofs.FieldByField.{fields-end, range-wise, field-here, field-missed}
 use Rattle.constraint.proofs.fields.times_fit.Statement.{statement}

@@ -6,7 +6,7 @@ use denote.Ref.{now}
 use Rattle.constraint.specs.Joined.{AnswersJoin}
 use Rattle.constraint.specs.declared.JoinAnswer.{JoinAnswer}
 use Rattle.queue.proofs.Shared.{free}
-use Rattle.delkuthi.proofs.JoinNumbers.{join-told}
+use Rattle.delkuthi.proofs.JoinNumbers.{join-small, numbers-join}
 use Rattle.delkuthi.proofs.joining.delkuthi_join.Statement.{statement}
 use Rattle.delkuthi.proofs.joining.delkuthi_join.Tie as tie
 
@@ -41,7 +41,7 @@ add-result-3 : tie.Need-add-result-3
 add-result-3 c =
     let at-answer = c .before .before in
     let says = answered (at-answer .before .before .before .before) _ (at-answer .answer3 .given .1) in
-    omega (arith, join-told _ _ _ says (at-answer .answer3 .given .0 .0) refl .1, c .place-number3 .ensures)
+    omega (arith, join-small _ _ _ says (at-answer .answer3 .given .0 .0) refl .1, c .place-number3 .ensures)
 
 enum-told : tie.Need-enum-told
 enum-told c = search needs
@@ -53,7 +53,7 @@ returns : tie.Need-returns
 returns c =
     let at-answer = c .before .before in
     let says = answered (at-answer .before .before .before .before) _ (at-answer .answer .given .1) in
-    record { answer = _; answers = says; equals = c .place-number .ensures; told = join-told _ _ _ says }
+    numbers-join _ _ _ _ says (c .place-number .ensures)
 
 same-length-2 : tie.Need-same-length-2
 same-length-2 c = search needs
@@ -62,7 +62,7 @@ returns-2 : tie.Need-returns-2
 returns-2 c =
     let at-answer = c .before .before in
     let says = answered (at-answer .before .before .before .before) _ (at-answer .answer2 .given .1) in
-    record { answer = _; answers = says; equals = omega (arith, c .place-number2 .ensures); told = join-told _ _ _ says }
+    numbers-join _ _ _ _ says (omega (arith, c .place-number2 .ensures))
 
 same-length-3 : tie.Need-same-length-3
 same-length-3 c = search needs
@@ -71,7 +71,7 @@ returns-3 : tie.Need-returns-3
 returns-3 c =
     let at-answer = c .before .before in
     let says = answered (at-answer .before .before .before .before) _ (at-answer .answer3 .given .1) in
-    record { answer = _; answers = says; equals = omega (arith, c .place-number3 .ensures); told = join-told _ _ _ says }
+    numbers-join _ _ _ _ says (omega (arith, c .place-number3 .ensures))
 
 same-length-4 : tie.Need-same-length-4
 same-length-4 c = search needs
@@ -79,7 +79,7 @@ same-length-4 c = search needs
 returns-4 : tie.Need-returns-4
 returns-4 c =
     let says = answered (c .before .before .before .before) _ (c .enum-told .given .1) in
-    record { answer = _; answers = says; equals = refl; told = join-told _ _ _ says }
+    numbers-join _ _ _ _ says refl
 
 pub delkuthi-join-spec : {M : Type 1} → statement M
 delkuthi-join-spec =

@@ -100,7 +100,7 @@ use Rattle.machine.proofs.State as State
 use Rattle.machine.proofs.State.Laws as StateLaws
 use Rattle.monitor.proofs.Monitor as T
 use Rattle.monitor.proofs.Monitor.Laws as T′
-use Rattle.page.specs.Sheet.{blankPage, withRow, textOf}
+use Rattle.page.specs.Sheet.{blankPage, withLine, textOf}
 use Rattle.page.specs.declared.Page.{Page}
 use Rattle.page.proofs.Page as P
 use Rattle.page.proofs.Page.Laws as P′
@@ -152,7 +152,7 @@ with-row =
       front = page-type ∷ word-type ∷ word-type ∷ word-type ∷ [];
       result = page-type;
       asks = λ a. no-demand;
-      gives = λ a r. r ≡ withRow (a .0) (a .1 .0) (a .1 .1 .0) (a .1 .1 .1 .0);
+      gives = λ a r. r ≡ withLine (a .0) (a .1 .0) (a .1 .1 .0) (a .1 .1 .1 .0);
     }
 
 -- the references to the monitor and to the buffer; the second is given to the writer

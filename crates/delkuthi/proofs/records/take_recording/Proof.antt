@@ -39,8 +39,7 @@ use Rattle.delkuthi.specs.Taking.{left, Turns, NextAtStart, NextAfter}
 use Rattle.delkuthi.specs.declared.records.Turn.{Turn}
 use Rattle.delkuthi.proofs.Progress.{turns-over}
 use Rattle.delkuthi.proofs.Several.{Walk, machine, enters-several}
-use Rattle.delkuthi.proofs.Lending.{answer-type, take-recording, both-stay, both-spell, both-tell, both-go, both-lawful, loan-of}
-use Rattle.delkuthi.proofs.Lending.{parts, whole}
+use Rattle.delkuthi.proofs.Lending.{answer-type, take-recording, both-stay, both-spell, both-tell, both-go, both-lawful, loan-of, parts, whole}
 use Rattle.delkuthi.proofs.records.Turn as T
 use Rattle.delkuthi.proofs.records.Turn.Laws as T′
 use Rattle.delkuthi.proofs.records.first_turn.Symbol as first-def

@@ -25,12 +25,12 @@ small : (at row : ℕ) → at ≡ placeOf row → at < rowLimit
 small at row e = subst (λ (k : ℕ). k < rowLimit) (sym e) (place-small row)
 
 abbrev Inv-loop : tie.InvT-loop
-Inv-loop told lines₀ row₀ lines row =
-    (m : Monitor) → Gathers m (told .answer) told → (rows : List Constraint) (steps : List Step) → Took rows steps m
+Inv-loop summary lines₀ row₀ lines row =
+    (m : Monitor) → Gathers m (summary .answer) summary → (rows : List Constraint) (steps : List Step) → Took rows steps m
     → LinesUpTo rows steps lines₀ row lines
 
 abbrev μ-loop : tie.MeasureT-loop
-μ-loop told lines₀ row₀ lines row = told .len - row
+μ-loop summary lines₀ row₀ lines row = summary .len - row
 
 loop-holds : tie.Need-loop-holds Inv-loop μ-loop
 loop-holds c = λ m gathers rows steps took. lines-none rows steps (c .args .text)
@@ -57,10 +57,10 @@ reads : (c : tie.After-by Inv-loop μ-loop) (m : Monitor) → Gathers m (c .befo
 reads c m gathers =
     let at-place = c .before .before in
     let at-loop = at-place .before .before in
-    let told = at-loop .before .args .t2 in
+    let summary = at-loop .before .args .t2 in
     let row = at-loop .loop .row in
-    gathered-reads told m gathers row (c .by .result)
-    (c .by .ensures ∙ ap (λ (k : ℕ). verdictBy row (told .len) (told .closed) (getD (told .steps) k 0)) (at-place .place .ensures))
+    gathered-reads summary m gathers row (c .by .result)
+    (c .by .ensures ∙ ap (λ (k : ℕ). verdictBy row (summary .len) (summary .closed) (getD (summary .steps) k 0)) (at-place .place .ensures))
 
 enum-known-verdict : tie.Need-enum-known-verdict Inv-loop μ-loop
 enum-known-verdict c = search needs

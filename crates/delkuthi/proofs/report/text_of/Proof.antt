@@ -32,9 +32,9 @@ returns : tie.Need-returns
 returns c m gathers =
     let at-line = c .before in
     let at-answer = at-line .before .before in
-    let told = at-answer .before .before .args .told in
+    let summary = at-answer .before .before .args .summary in
     subst (λ (answer : ReadAnswer). TellsRecording answer m (c .row-lines .result)) (sym (at-answer .enum-told .given .1))
-    (tells-closed told (at-line .closed-line .result) (c .row-lines .result) (rw (← at-line .before .new .ensures) (at-line .closed-line .ensures))
+    (tells-closed summary (at-line .closed-line .result) (c .row-lines .result) (rw (← at-line .before .new .ensures) (at-line .closed-line .ensures))
     (c .row-lines .ensures) m gathers)
 
 returns-2 : tie.Need-returns-2

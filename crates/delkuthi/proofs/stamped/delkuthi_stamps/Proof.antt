@@ -12,9 +12,9 @@ use Rattle.delkuthi.proofs.StampNumbers.{stamped-above}
 use Rattle.delkuthi.proofs.stamped.delkuthi_stamps.Statement.{statement}
 use Rattle.delkuthi.proofs.stamped.delkuthi_stamps.Tie as tie
 
--- what is told of a refusal
-refusal-told : (n place m at : ℕ) → 0 < n → n < 256 → StampedAnswer.Refused n place ≡ StampedAnswer.Refused m at → (0 < m) × (m < 256)
-refusal-told n place m at above below e = let same : n ≡ m = cc in (omega (arith, same, above), omega (arith, same, below))
+-- the number of a refusal is small
+refusal-small : (n place m at : ℕ) → 0 < n → n < 256 → StampedAnswer.Refused n place ≡ StampedAnswer.Refused m at → (0 < m) × (m < 256)
+refusal-small n place m at above below e = let same : n ≡ m = cc in (omega (arith, same, above), omega (arith, same, below))
 
 enum-known-answer : tie.Need-enum-known-answer
 enum-known-answer c = search needs
@@ -35,7 +35,7 @@ returns c =
       answer = StampedAnswer.Reads (at-answer .answer .given .0 .0);
       answers = rw (at-answer .answer .given .1) at (at-answer .before .before .read .ensures);
       equals = c .verdict-number .ensures;
-      told = λ n place e. never (cc);
+      small = λ n place e. never (cc);
     }
 
 returns-2 : tie.Need-returns-2
@@ -49,7 +49,7 @@ returns-2 c =
       answer = StampedAnswer.Refused (given .0 .0) (given .0 .1 .0);
       answers = says;
       equals = omega (arith, c .place-number .ensures);
-      told = λ n place e. refusal-told (given .0 .0) (given .0 .1 .0) n place (stamped-above _ _ _ _ _ _ says) (omega arith) e;
+      small = λ n place e. refusal-small (given .0 .0) (given .0 .1 .0) n place (stamped-above _ _ _ _ _ _ says) (omega arith) e;
     }
 
 pub delkuthi-stamps-spec : {M : Type 1} → statement M

@@ -5,7 +5,7 @@ use mathlib.Core.Path.{ap, _∙_}
 use lib.Seq.{take-all}
 use Rattle.constraint.specs.Accepted.{Accepted}
 use Rattle.constraint.specs.Promise.{play}
-use Rattle.constraint.specs.Rows.{rowsOf}
+use Rattle.constraint.specs.Records.{rowsOf}
 use Rattle.constraint.proofs.Judged.{never}
 use Rattle.constraint.proofs.Rows.{rows-length}
 use Rattle.monitor.specs.Machine.{monitorOf}

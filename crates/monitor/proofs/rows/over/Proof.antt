@@ -5,7 +5,7 @@ use borrow.Author.Needs.{needs}
 use mathlib.Core.Path.{_≡_, sym, _∙_}
 use lib.ListN.{length, getD, length-map}
 use lib.Seq.{length-take-le, drop-cons}
-use Rattle.constraint.specs.Rows.{filler, rowsOf}
+use Rattle.constraint.specs.Records.{filler, rowsOf}
 use Rattle.constraint.specs.declared.Entry.{Entry}
 use Rattle.constraint.specs.declared.Table.{Table}
 use Rattle.constraint.proofs.Rows.{rows-length, rows-from}

@@ -19,7 +19,7 @@ use types.Run.{look, store, forget, stop, hop, from, lit, unit-lit, bin, addr, o
 use sound.WpLaws.{fmOf}
 use denote.Triple.Statement.{Triple}
 use denote.Triple.Table.{cited}
-use Rattle.constraint.specs.Rows.{filler as the-filler}
+use Rattle.constraint.specs.Records.{filler as the-filler}
 use Rattle.constraint.specs.declared.Constraint.{Constraint}
 use Rattle.monitor.specs.declared.Monitor.{Monitor}
 use Rattle.inplace.proofs.Plain.{Known, typed}

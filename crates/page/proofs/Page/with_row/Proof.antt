@@ -3,7 +3,7 @@ use native.Mathlib.Omega.{arith}
 use mathlib.Core.Path.{_≡_, refl, sym, _∙_}
 use lib.ListN.{length, length-map}
 use Rattle.constraint.specs.Limits.{rowLimit}
-use Rattle.page.specs.Sheet.{withRow}
+use Rattle.page.specs.Sheet.{withLine}
 use Rattle.page.proofs.Writing.{with-none}
 -- Past the last row nothing is stored.
 use borrow.Author.Needs.{needs}
@@ -35,7 +35,7 @@ element-write-self-2 : tie.Need-element-write-self-2
 element-write-self-2 c = search needs
 
 returns-2 : tie.Need-returns-2
-unfolding withRow
+unfolding withLine
 returns-2 c = refl
 
 pub with-row-spec : {M : Type 1} → statement M

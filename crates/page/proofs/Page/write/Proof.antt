@@ -8,7 +8,8 @@ use borrow.Author.Needs.{needs}
 use denote.Ref.{now}
 use Rattle.constraint.specs.Limits.{rowLimit}
 use Rattle.constraint.specs.Steps.{at}
-use Rattle.constraint.specs.Page.{hyphens, pageLines, pageLength}
+use Rattle.constraint.specs.Page.{hyphens, pageLines}
+use Rattle.page.specs.ReadBack.{pageLength}
 use Rattle.page.specs.Sheet.{verdictsOf}
 use Rattle.page.specs.declared.Page.{Page}
 use Rattle.page.proofs.Writing.{some-rows, copied-nothing, copied-page}

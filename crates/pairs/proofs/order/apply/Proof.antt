@@ -9,7 +9,7 @@ use borrow.Author.Tests.{eq-eqb, ne-eqb}
 use Rattle.constraint.specs.Limits.{noLimit}
 use Rattle.queue.specs.Ring.{ringOf, dropRing}
 use Rattle.queue.specs.declared.Edit.the-variants.{Drop}
-use Rattle.machine.specs.Parts.{goesOn}
+use Rattle.machine.specs.Parts.{continuesWith}
 use Rattle.machine.specs.Words.{rowWords, numberWords, changedWords, pastOf, goingOn}
 use Rattle.machine.specs.declared.Rule.{Rule}
 use Rattle.machine.specs.declared.Marks.{Marks}
@@ -26,9 +26,9 @@ going-to : (rule : Rule) (times : List ℕ) (state : State) (marks : Marks) (num
 unfolding changedWords changesTo
 going-to rule times state marks number = either (eqb (marks .last) 0) noLimit (marks .last - 1) (eqb (marks .first) 0) false
   where
-    either : (b : Bool) (d f : ℕ) (k l : Bool) → changedWords rule times state (cond b (goesOn (Drop 0) marks d k) (goesOn (Drop 0) marks f l)) number
+    either : (b : Bool) (d f : ℕ) (k l : Bool) → changedWords rule times state (cond b (continuesWith (Drop 0) marks d k) (continuesWith (Drop 0) marks f l)) number
         ≡ rowWords rule times
-        (goingOn (dropRing 0 (ringOf times (state .head) (state .len))) marks (cond b (goesOn (Drop 0) marks d k) (goesOn (Drop 0) marks f l) .due) (cond b (goesOn (Drop 0) marks d k) (goesOn (Drop 0) marks f l) .kept))
+        (goingOn (dropRing 0 (ringOf times (state .head) (state .len))) marks (cond b (continuesWith (Drop 0) marks d k) (continuesWith (Drop 0) marks f l) .due) (cond b (continuesWith (Drop 0) marks d k) (continuesWith (Drop 0) marks f l) .kept))
         (pastOf times state 0 number)
     either true d f k l = refl
     either false d f k l = refl

@@ -8,7 +8,7 @@ use borrow.Author.Tests.{lt-ltb, le-ltb, not-true, not-false}
 use Rattle.queue.specs.Ring.{ring}
 use Rattle.queue.proofs.Laws.{ring-length}
 use Rattle.queue.specs.declared.Edit.the-variants.{Push}
-use Rattle.machine.specs.Parts.{plus, goesOn, withLast}
+use Rattle.machine.specs.Parts.{plus, continuesWith, withLast}
 use Rattle.machine.specs.Words.{rowWords, numberWords, changedWords}
 use Rattle.machine.proofs.Oldest.{due-or-pushed}
 use Rattle.spans.specs.Repeat.{leaving, spanReached, decideRepeat}
@@ -66,7 +66,7 @@ returns-3 c stream rule times state past e =
       ring-length,
       left,
     )
-    (ap (λ (due : ℕ). changedWords rule times state (goesOn (Push (leaving rule (state .len)) (a .t)) (withLast (state .marks) (plus (a .t) 1)) due true) (a .number))
+    (ap (λ (due : ℕ). changedWords rule times state (continuesWith (Push (leaving rule (state .len)) (a .t)) (withLast (state .marks) (plus (a .t) 1)) due true) (a .number))
     (sym (due-or-pushed (rule .upper) (a .t) (drop (leaving rule (state .len)) kept))))
 
 pub apply-spec : {M : Type 1} → statement M

@@ -1,15 +1,15 @@
 -- Before the first stamp the row is kept.
-use Rattle.stamps.specs.Machine.{closeVerdict, verdictAt}
+use Rattle.stamps.specs.Machine.{closeVerdict, stampsVerdict}
 use Rattle.queue.proofs.Shared.{free}
 use Rattle.stamps.proofs.Stamps.verdict.Statement.{statement}
 use Rattle.stamps.proofs.Stamps.verdict.Tie as tie
 
 returns : tie.Need-returns
-unfolding verdictAt closeVerdict
+unfolding stampsVerdict closeVerdict
 returns c = rw (c .before .if1 .taken) (c .reads .ensures)
 
 returns-2 : tie.Need-returns-2
-unfolding verdictAt
+unfolding stampsVerdict
 returns-2 c = rw (c .if1 .left)
 
 pub verdict-spec : {M : Type 1} → statement M

@@ -30,12 +30,13 @@ returns c =
       times .before .before .byte-at5 .ensures,
       times .before .before .before .byte-at4 .ensures,
       kinds .byte-at3 .ensures,
-      start .length-of .ensures,
-      start .before .byte-at2 .ensures,
-      start .before .before .byte-at .ensures,
+      start .times-start .ensures,
+      start .before .length-of .ensures,
+      start .before .before .byte-at2 .ensures,
+      start .before .before .before .byte-at .ensures,
     )
 
 pub row-of-spec : {M : Type 1} → statement M
 row-of-spec =
     tie.close
-    (tie.spec free free free free free free free free add-eight-at free add-eight-at-2 free add-eight-at-3 free free returns)
+    (tie.spec free free free free free free free free free add-eight-at free add-eight-at-2 free add-eight-at-3 free free returns)

@@ -1,47 +1,59 @@
--- The loop decodes stretch after stretch.
+-- The loop reads row after row from its body.
 use native.Mathlib.Omega.{arith}
-use Prim.Native.Nat.{ℕ, _*_, _-_, _≤_}
-use mathlib.Core.Path.{_≡_, ap, _∙_}
-use Rattle.constraint.specs.Rows.{tableOf}
-use Rattle.table.specs.Rows.{constraintOf}
-use Rattle.table.specs.Raw.{rawRows}
-use Rattle.table.proofs.RawRows.{raw-more, stretch}
+use Prim.Native.Nat.{ℕ, _+_, _*_, _-_, _≤_}
+use mathlib.Core.Path.{_≡_, subst, _∙_}
+use denote.Ref.{now}
+use lib.ListN.{length}
+use Rattle.constraint.specs.Bytes.{Bytes}
+use Rattle.constraint.proofs.Judged.{free}
+use Rattle.table.specs.Raw.{rawSize, RawTable}
+use Rattle.table.proofs.RawRows.{body-within, table-none, table-more}
 use Rattle.table.proofs.raw.first_rows.Statement.{statement}
 use Rattle.table.proofs.raw.first_rows.Tie as tie
 
 abbrev Inv-loop : tie.InvT-loop
-Inv-loop bytes entries table₀ i₀ table i = (i ≤ entries) × (table ≡ tableOf (rawRows bytes i))
+Inv-loop bytes count table₀ start₀ i₀ table start i = (i ≤ count) × (start ≡ i * rawSize) × RawTable bytes i table
 
 abbrev μ-loop : tie.MeasureT-loop
-μ-loop bytes entries table₀ i₀ table i = entries - i
+μ-loop bytes count table₀ start₀ i₀ table start i = count - i
 
-new-requires : tie.Need-new-requires Inv-loop μ-loop
-new-requires c κs = tt
+-- a slice of bytes holds bytes
+each : (c : tie.After-shared-slice-known Inv-loop μ-loop) → Bytes (now (c .before .args .bytes))
+unfolding Bytes
+each c i h = omega (arith, c .shared-slice-known .given i)
+
+-- the bytes of a row end within those that there are
+ends : (c : tie.After-length-of Inv-loop μ-loop) → c .before .before .before .before .loop .start + c .length-of .result
+    ≤ length (now (c .before .before .before .before .before .before .before .args .bytes))
+ends c =
+    let at-loop = c .before .before .before .before in
+    let loop = at-loop .loop in
+    let start = at-loop .before .before .before in
+    let first = c .before .before .byte-at in
+    let second = c .before .byte-at2 in
+    rw (c .length-of .ensures, first .ensures, second .ensures, loop .inv .1)
+    (body-within (now (start .args .bytes)) (loop .i) (start .pre .known (loop .i) (omega arith)) (omega (arith, start .pre .whole)))
 
 loop-holds : tie.Need-loop-holds Inv-loop μ-loop
-unfolding rawRows
-loop-holds c = (omega arith, c .new .ensures)
+loop-holds c = (omega arith, omega arith, table-none _ _ (c .new .ensures))
 
-mul-start : tie.Need-mul-start Inv-loop μ-loop
-mul-start c = omega arith
+add-next : tie.Need-add-next Inv-loop μ-loop
+add-next c = omega (arith, c .before .before .before .before .before .pre .whole)
 
 add-end : tie.Need-add-end Inv-loop μ-loop
-add-end c = omega arith
+add-end c = omega (arith, ends c)
 
 sub-row-of : tie.Need-sub-row-of Inv-loop μ-loop
-sub-row-of c = omega arith
+sub-row-of c = omega (arith, ends c)
 
 part-row-of-start : tie.Need-part-row-of-start Inv-loop μ-loop
-part-row-of-start c = omega arith
+part-row-of-start c = omega (arith, ends c)
 
 part-row-of-end : tie.Need-part-row-of-end Inv-loop μ-loop
-part-row-of-end c = omega arith
+part-row-of-end c = omega (arith, ends c)
 
-row-of-requires : tie.Need-row-of-requires Inv-loop μ-loop
-row-of-requires c κs = tt
-
-with-row-requires : tie.Need-with-row-requires Inv-loop μ-loop
-with-row-requires c κs = tt
+add-start : tie.Need-add-start Inv-loop μ-loop
+add-start c = omega (arith, ends (c .before .before .before))
 
 add-i : tie.Need-add-i Inv-loop μ-loop
 add-i c = omega arith
@@ -51,20 +63,26 @@ loop-less c = omega arith
 
 loop-again : tie.Need-loop-again Inv-loop μ-loop
 loop-again c =
-    let at-loop = c .before .before .before .before in
+    let at-length = c .before .before .before in
+    let at-loop = at-length .before .before .before .before in
     let loop = at-loop .loop in
-    let bytes = at-loop .before .before .before .args .bytes .now in (
+    let start = at-loop .before .before .before in
+    let first = at-length .before .before .byte-at in
+    let second = at-length .before .byte-at2 in
+    let bytes = now (start .args .bytes) in (
       omega arith,
-      raw-more bytes (loop .i) (loop .table) (c .with-row .result) (c .before .row-of .result) (omega arith) (loop .inv .1)
-          (c .before .row-of .ensures ∙ ap constraintOf (stretch bytes (loop .i * 34))) (c .with-row .ensures),
+      omega (arith, loop .inv .1),
+      table-more bytes (loop .i) (loop .start) (first .result) (second .result) (loop .table) (c .with-row .result) (c .before .row-of .result)
+          (each (at-loop .before .before)) (omega (arith, start .pre .room)) (start .pre .known (loop .i) (omega arith)) (omega (arith, start .pre .whole)) (loop .inv .1)
+          (first .ensures) (second .ensures) (c .before .row-of .ensures ∙ rw (at-length .length-of .ensures)) (c .with-row .ensures) (loop .inv .2),
     )
 
 returns : tie.Need-returns Inv-loop μ-loop
 returns c =
     let loop = c .before .loop in
-    let bytes = c .before .before .before .before .args .bytes .now in
-    let all : loop .i ≡ c .before .before .before .before .args .entries = omega arith in
-    loop .inv .1 ∙ ap (λ (n : ℕ). tableOf (rawRows bytes n)) all
+    let start = c .before .before .before .before in
+    let all : loop .i ≡ start .args .count = omega arith in
+    subst (λ (n : ℕ). RawTable (now (start .args .bytes)) n (loop .table)) all (loop .inv .2)
 
 pub first-rows-spec : {M : Type 1} → statement M
 first-rows-spec =
@@ -72,15 +90,19 @@ first-rows-spec =
     (tie.spec
     Inv-loop
     μ-loop
-    new-requires
+    free
     loop-holds
-    mul-start
+    free
+    add-next
+    free
+    free
     add-end
     sub-row-of
     part-row-of-start
     part-row-of-end
-    row-of-requires
-    with-row-requires
+    free
+    free
+    add-start
     add-i
     loop-less
     loop-again

@@ -1,49 +1,63 @@
--- The loop asks row after row for its type, and stops at the first that has none.
+-- The loop asks row after row for its bytes and its type, and stops at the first that lacks one.
 use native.Mathlib.Omega.{arith}
-use Prim.Native.Nat.{_-_, _≤_}
+use Prim.Native.Nat.{ℕ, _*_, _-_, _≤_, _<_}
+use mathlib.Core.Path.{_≡_}
 use denote.Ref.{now}
-use Rattle.constraint.proofs.Judged.{passed, failed}
-use Rattle.table.specs.Raw.{KnownTo}
+use lib.ListN.{length}
+use Rattle.constraint.specs.Limits.{rowLimit}
+use Rattle.constraint.specs.Records.{Decides}
+use Rattle.constraint.proofs.Judged.{free, passed, failed}
+use Rattle.table.specs.Raw.{rawSize, KnownAt}
 use Rattle.table.proofs.RawRows.{known-test, known-more}
 use Rattle.table.proofs.raw.known_rows.Statement.{statement}
 use Rattle.table.proofs.raw.known_rows.Tie as tie
 
 abbrev Inv-loop : tie.InvT-loop
-Inv-loop bytes entries i₀ i = (i ≤ entries) × KnownTo bytes i
+Inv-loop bytes start₀ i₀ start i = (i ≤ rowLimit) × (start ≡ i * rawSize) × (start ≤ length bytes) × ((j : ℕ) → j < i → KnownAt bytes j)
 
 abbrev μ-loop : tie.MeasureT-loop
-μ-loop bytes entries i₀ i = entries - i
+μ-loop bytes start₀ i₀ start i = rowLimit - i
 
 loop-holds : tie.Need-loop-holds Inv-loop μ-loop
-loop-holds c = (omega arith, λ i below. absurd (omega arith))
+loop-holds c = (omega arith, omega arith, omega arith, λ i below. absurd (omega arith))
 
-mul-start : tie.Need-mul-start Inv-loop μ-loop
-mul-start c = omega arith
+sub-if1 : tie.Need-sub-if1 Inv-loop μ-loop
+sub-if1 c = omega arith
 
-byte-at-requires : tie.Need-byte-at-requires Inv-loop μ-loop
-byte-at-requires c κs = tt
+returns : tie.Need-returns Inv-loop μ-loop
+returns c =
+    let loop = c .before .before .loop in
+    record {
+      room = loop .inv .0;
+      whole = omega (arith, loop .inv);
+      known = loop .inv .3;
+      last = λ room whole. absurd (omega (arith, c .if1 .taken, loop .inv .1));
+    }
+
+-- the test is that of the row
+test : (c : tie.After-type-known Inv-loop μ-loop) → Decides (KnownAt (now (c .before .before .before .before .before .before .before .args .bytes)) (c .before .before .before .before .before .loop .i)) (c .type-known .result)
+test c =
+    let second = c .before .byte-at2 in
+    let first = c .before .before .byte-at in
+    let at-loop = c .before .before .before .before .before in
+    known-test (now (at-loop .before .before .args .bytes)) (at-loop .loop .i) (at-loop .loop .start) (first .result) (second .result) (c .type-known .result)
+    (at-loop .loop .inv .1) (first .ensures) (second .ensures) (c .type-known .ensures)
 
 add-next : tie.Need-add-next Inv-loop μ-loop
 add-next c = omega arith
 
-byte-at-requires-2 : tie.Need-byte-at-requires-2 Inv-loop μ-loop
-byte-at-requires-2 c κs = tt
+returns-2 : tie.Need-returns-2 Inv-loop μ-loop
+returns-2 c =
+    let loop = c .before .before .before .before .before .before .loop in
+    record {
+      room = loop .inv .0;
+      whole = omega (arith, loop .inv);
+      known = loop .inv .3;
+      last = λ room whole. failed (c .before .type-known .result) (test (c .before)) (c .if2 .taken);
+    }
 
-type-known-requires : tie.Need-type-known-requires Inv-loop μ-loop
-type-known-requires c κs = tt
-
-returns : tie.Need-returns Inv-loop μ-loop
-returns c =
-    let at-loop = c .before .before .before .before .before in
-    let loop = at-loop .loop in
-    let bytes = now (at-loop .before .before .args .bytes) in
-    let test = c .before .type-known in
-    let first = c .before .before .before .byte-at in
-    let second = c .before .before .byte-at2 in (
-      loop .inv .0,
-      loop .inv .1,
-      λ there. failed (test .result) (known-test bytes (loop .i) (first .result) (second .result) (test .result) (first .ensures) (second .ensures) (test .ensures)) (c .if1 .taken),
-    )
+add-start : tie.Need-add-start Inv-loop μ-loop
+add-start c = omega arith
 
 add-i : tie.Need-add-i Inv-loop μ-loop
 add-i c = omega arith
@@ -53,19 +67,18 @@ loop-less c = omega arith
 
 loop-again : tie.Need-loop-again Inv-loop μ-loop
 loop-again c =
-    let at-loop = c .before .before .before .before .before in
-    let loop = at-loop .loop in
-    let bytes = now (at-loop .before .before .args .bytes) in
-    let test = c .before .type-known in
-    let first = c .before .before .before .byte-at in
-    let second = c .before .before .byte-at2 in (
+    let at-loop = c .before .before .before .before .before .before in
+    let loop = at-loop .loop in (
       omega arith,
-      known-more bytes (loop .i) (loop .inv .1)
-          (passed (test .result) (known-test bytes (loop .i) (first .result) (second .result) (test .result) (first .ensures) (second .ensures) (test .ensures)) (c .if1 .left)),
+      omega (arith, loop .inv .1),
+      omega arith,
+      known-more (now (at-loop .before .before .args .bytes)) (loop .i) (loop .inv .3) (passed (c .before .type-known .result) (test (c .before)) (c .if2 .left)),
     )
 
-returns-2 : tie.Need-returns-2 Inv-loop μ-loop
-returns-2 c = (omega arith, λ i below. c .before .loop .inv .1 i (omega arith), λ there. absurd (omega arith))
+returns-3 : tie.Need-returns-3 Inv-loop μ-loop
+returns-3 c =
+    let loop = c .before .loop in
+    record { room = loop .inv .0; whole = omega (arith, loop .inv); known = loop .inv .3; last = λ room whole. absurd (omega arith) }
 
 pub known-rows-spec : {M : Type 1} → statement M
 known-rows-spec =
@@ -74,13 +87,15 @@ known-rows-spec =
     Inv-loop
     μ-loop
     loop-holds
-    mul-start
-    byte-at-requires
-    add-next
-    byte-at-requires-2
-    type-known-requires
+    sub-if1
     returns
+    free
+    add-next
+    free
+    free
+    returns-2
+    add-start
     add-i
     loop-less
     loop-again
-    returns-2)
+    returns-3)

@@ -1,53 +1,22 @@
--- The rows of known types are decoded; where there is a row of none, those before it are judged, and else all are written.
+-- The rows up to the first that stops are read; where none stops all are written, and else those are judged before it.
 use native.Mathlib.Omega.{arith}
 use borrow.Author.Needs.{needs}
-use mathlib.Core.Path.{_≡_, subst}
 use denote.Ref.{now}
-use Rattle.constraint.specs.Rows.{rowsOf}
-use Rattle.constraint.specs.declared.Table.{Table}
-use Rattle.table.specs.Raw.{rawEntries, known}
-use Rattle.table.specs.Writing.{Writes}
-use Rattle.table.proofs.RawRows.{raw-table, before-refused, before-taken}
+use Rattle.table.proofs.RawRows.{all-written, before-refused, unknown-refused, full-refused}
 use Rattle.table.proofs.raw.write.Statement.{statement}
 use Rattle.table.proofs.raw.write.Tie as tie
 
-entries-of-requires : tie.Need-entries-of-requires
-entries-of-requires c κs = tt
-
 known-rows-requires : tie.Need-known-rows-requires
-known-rows-requires c κs = omega arith
+known-rows-requires c κs = search needs
 
 first-rows-requires : tie.Need-first-rows-requires
-first-rows-requires c κs = (omega arith, omega arith)
+first-rows-requires c κs = search needs
 
-judge-requires : tie.Need-judge-requires
-judge-requires c κs = search needs
+mul-if1 : tie.Need-mul-if1
+mul-if1 c = search needs
 
-enum-known-number : tie.Need-enum-known-number
-enum-known-number c = search needs
-
-returns : tie.Need-returns
-returns c =
-    let at-judge = c .before .before .before in
-    let at-first = at-judge .before .before in
-    let at-known = at-first .before in
-    let a = at-known .before .before .before .before .args in
-    before-refused (now (a .rows)) (now (a .buffer)) (at-known .known-rows .result) (at-first .first-rows .result)
-    (omega (arith, at-judge .before .if1 .taken, at-known .before .entries-of .ensures)) (at-known .known-rows .ensures .1) (at-first .first-rows .ensures) _
-    (rw (c .before .number .given .1) at (at-judge .judge .ensures))
-
-enum-told : tie.Need-enum-told
-enum-told c = search needs
-
-returns-2 : tie.Need-returns-2
-returns-2 c =
-    let at-judge = c .before .before in
-    let at-first = at-judge .before .before in
-    let at-known = at-first .before in
-    let a = at-known .before .before .before .before .args in
-    before-taken (now (a .rows)) (now (a .buffer)) (at-known .known-rows .result) (at-first .first-rows .result)
-    (omega (arith, at-judge .before .if1 .taken, at-known .before .entries-of .ensures)) (at-known .known-rows .ensures .1) (at-first .first-rows .ensures)
-    (at-known .known-rows .ensures .2 (at-judge .before .if1 .taken)) (rw (c .enum-told .given .1) at (at-judge .judge .ensures))
+sub-if1 : tie.Need-sub-if1
+sub-if1 c = search needs
 
 write-requires : tie.Need-write-requires
 write-requires c κs = search needs
@@ -55,32 +24,69 @@ write-requires c κs = search needs
 same-length : tie.Need-same-length
 same-length c = search needs
 
+returns : tie.Need-returns
+returns c =
+    let at-write = c .before .before in
+    let at-first = at-write .before .before .before in
+    let at-known = at-first .before in
+    let a = at-known .before .before .before .args in
+    all-written (now (a .rows)) (now (a .buffer)) _ (at-known .known-rows .result) (at-first .first-rows .result) (at-write .write .result)
+    (at-first .first-rows .ensures) (omega (arith, at-write .before .before .if1 .taken, at-known .known-rows .ensures .whole)) (at-write .write .ensures)
+
+judge-requires : tie.Need-judge-requires
+judge-requires c κs = search needs
+
+enum-known-number : tie.Need-enum-known-number
+enum-known-number c = search needs
+
+returns-2 : tie.Need-returns-2
+returns-2 c =
+    let at-judge = c .before .before .before in
+    let at-first = at-judge .before .before in
+    let at-known = at-first .before in
+    let a = at-known .before .before .before .args in
+    before-refused (now (a .rows)) (now (a .buffer)) (at-known .known-rows .result) (at-first .first-rows .result) (at-first .first-rows .ensures)
+    (omega (arith, at-judge .before .if1 .left, at-known .known-rows .ensures .whole)) _ (rw (c .before .number .given .1) at (at-judge .judge .ensures))
+
+enum-told : tie.Need-enum-told
+enum-told c = search needs
+
 returns-3 : tie.Need-returns-3
 returns-3 c =
-    let at-write = c .before .before in
-    let at-else = at-write .before .before in
-    let at-first = at-else .before in
+    let at-told = c .before in
+    let at-judge = at-told .before .before in
+    let at-first = at-judge .before .before in
     let at-known = at-first .before in
-    let a = at-known .before .before .before .before .args in
-    let bytes = now (a .rows) in
-    let all : at-known .known-rows .result ≡ rawEntries bytes =
-    omega (arith, at-else .if1 .left, at-known .known-rows .ensures .0, at-known .before .entries-of .ensures) in
-    known (λ i below. at-known .known-rows .ensures .1 i (omega (arith, all)))
-    (subst (λ (t : Table). Writes (rowsOf t) (now (a .buffer)) (at-write .write .result) (at-write .write .last .1 .0))
-    (raw-table bytes (at-first .first-rows .result) (at-known .known-rows .result) all (at-first .first-rows .ensures)) (at-write .write .ensures))
+    let a = at-known .before .before .before .args in
+    let found = at-known .known-rows .ensures in
+    unknown-refused (now (a .rows)) (now (a .buffer)) (at-known .known-rows .result) (at-first .first-rows .result) (at-first .first-rows .ensures)
+    (omega (arith, at-judge .before .if1 .left, found .whole)) (c .if2 .taken)
+    (found .last (c .if2 .taken) (omega (arith, at-judge .before .if1 .left, found .whole))) (rw (at-told .enum-told .given .1) at (at-judge .judge .ensures))
+
+returns-4 : tie.Need-returns-4
+returns-4 c =
+    let at-told = c .before in
+    let at-judge = at-told .before .before in
+    let at-first = at-judge .before .before in
+    let at-known = at-first .before in
+    let a = at-known .before .before .before .args in
+    full-refused (now (a .rows)) (now (a .buffer)) (at-known .known-rows .result) (at-first .first-rows .result) (at-first .first-rows .ensures)
+    (omega (arith, at-judge .before .if1 .left, at-known .known-rows .ensures .whole)) (c .if2 .left) (rw (at-told .enum-told .given .1) at (at-judge .judge .ensures))
 
 pub write-spec : {M : Type 1} → statement M
 write-spec =
     tie.close
     (tie.spec
-    entries-of-requires
     known-rows-requires
     first-rows-requires
-    judge-requires
-    enum-known-number
-    returns
-    enum-told
-    returns-2
+    mul-if1
+    sub-if1
     write-requires
     same-length
-    returns-3)
+    returns
+    judge-requires
+    enum-known-number
+    returns-2
+    enum-told
+    returns-3
+    returns-4)

@@ -3,7 +3,8 @@ use native.Mathlib.Omega.{arith}
 use borrow.Author.Needs.{needs}
 use mathlib.Core.Path.{_≡_, ap, subst, subst⁻¹, _∙_}
 use denote.Ref.{now}
-use Rattle.constraint.specs.Questions.{Judged, Decides}
+use Rattle.constraint.specs.Questions.{Judged}
+use Rattle.constraint.specs.Records.{Decides}
 use Rattle.constraint.specs.Bytes.{Bytes}
 use Rattle.constraint.specs.Table.{ShapeFits, bodyAt, WholeAt, RowAt, placeQuestions}
 use Rattle.constraint.specs.declared.Answer.{Answer}

@@ -1,7 +1,7 @@
 -- Where a row is whole, its body is the part behind the length field, and it is read as the row that it stands for.
 use native.Mathlib.Omega.{arith}
 use borrow.Author.Needs.{needs}
-use mathlib.Core.Path.{_≡_, ap, subst⁻¹, _∙_}
+use mathlib.Core.Path.{refl, ap, subst⁻¹, _∙_}
 use denote.Ref.{now}
 use Rattle.constraint.specs.Bytes.{Bytes}
 use Rattle.constraint.specs.Table.{bodyAt, WholeAt, RowAt}
@@ -21,7 +21,15 @@ unfolding Bytes
 row c = let a = c .before .args in row-at (now (a .bytes)) (a .place) (λ i h. omega (arith, c .shared-slice-known .given i))
 
 returns : tie.Need-returns
-returns c = let asked = c .before .before .whole-at in λ there. absurd (failed (asked .result) (asked .ensures) (c .before .if1 .taken) there)
+returns c =
+    let asked = c .before .whole-at in
+    let not-whole = failed (asked .result) (asked .ensures) (c .if1 .taken) in
+    record {
+      read = λ there. absurd (not-whole there);
+      stands = λ there. absurd (not-whole there);
+      behind = λ there. absurd (not-whole there);
+      none = λ _. (refl, refl);
+    }
 
 add-start : tie.Need-add-start
 add-start c = omega (arith, whole c)
@@ -42,14 +50,18 @@ returns-2 : tie.Need-returns-2
 returns-2 c =
     let a = c .before .before .before .before .before .before .args in
     let size = c .before .before .two-at in
-    let same = c .row-of2 .ensures ∙ ap constraintOf (part-body (now (a .bytes)) (a .place) (size .result) (size .ensures)) in
-    λ there. (subst⁻¹ (RowAt (now (a .bytes)) (a .place)) same (row (c .before .before .before .before .before)), omega (arith, size .ensures))
+    let same = c .row-of .ensures ∙ ap constraintOf (part-body (now (a .bytes)) (a .place) (size .result) (size .ensures)) in
+    record {
+      read = λ there. same;
+      stands = λ there. subst⁻¹ (RowAt (now (a .bytes)) (a .place)) same (row (c .before .before .before .before .before));
+      behind = λ there. omega (arith, size .ensures);
+      none = λ not-whole. absurd (not-whole (whole (c .before .before .before)));
+    }
 
 pub row-at-spec : {M : Type 1} → statement M
 row-at-spec =
     tie.close
     (tie.spec
-    free
     free
     returns
     add-start

@@ -1,9 +1,8 @@
 -- The type byte, the other bytes and the times are stored one behind the other, as many as the length says.
 use native.Mathlib.Omega.{arith}
 use borrow.Author.Needs.{needs}
-use Prim.Native.Nat.{ℕ, _+_, _/_, _%_, _-_, _≤_}
+use Prim.Native.Nat.{ℕ, _+_, _-_, _≤_}
 use mathlib.Core.Path.{_≡_, sym, ap, _∙_}
-use mathlib.Core.List.{List}
 use lib.ListN.{length, take}
 use lib.Seq.{length-take-le}
 use denote.Ref.{now}
@@ -17,53 +16,65 @@ use Rattle.table.proofs.writer.put_body.Statement.{statement}
 use Rattle.table.proofs.writer.put_body.Tie as tie
 
 -- the length says how many bytes and how many times there are
-start : (c : tie.Start) → c .args .size % 8 ≡ 1 + length (bytesIn (fieldsOf (c .args .row)))
-start c = rw (c .pre .0) (body-start (c .args .row))
-
-times : (c : tie.Start) → c .args .size / 8 ≡ length (timesIn (fieldsOf (c .args .row)))
-times c = rw (c .pre .0) (body-times (c .args .row))
+start : (c : tie.After-times-start) → c .times-start .result ≡ 1 + length (bytesIn (fieldsOf (c .before .before .before .before .before .before .args .row)))
+start c = let a = c .before .before .before .before .before .before in c .times-start .ensures ∙ rw (a .pre .0) (body-start (a .args .row))
 
 -- and the array has that many bytes
-there : (c : tie.After-fields) → c .before .before .args .size % 8 - 1 ≤ length (c .fields .result .bytes)
-there c = omega (arith, start (c .before .before), numbers-there _ (c .fields .result) (c .fields .ensures))
+there : (c : tie.After-times-start) → c .times-start .result - 1 ≤ length (c .before .before .before .before .fields .result .bytes)
+there c =
+    let fields = c .before .before .before .before .fields in
+    omega (arith, start c, numbers-there _ (fields .result) (fields .ensures))
+
+times : (c : tie.After-times-count) → c .times-count .result ≡ length (timesIn (fieldsOf (c .before .before .before .before .before .before .before .before .before .before .before .before .before .before .before .before .args .row)))
+times c =
+    let a = c .before .before .before .before .before .before .before .before .before .before .before .before .before .before .before .before in
+    c .times-count .ensures ∙ rw (a .pre .0) (body-times (a .args .row))
 
 sub-count : tie.Need-sub-count
-sub-count c = omega (arith, start (c .before .before .before .before .before))
+sub-count c = omega (arith, start c)
 
 add-put : tie.Need-add-put
 add-put c = search needs
 
 array-share-prefix-bytes : tie.Need-array-share-prefix-bytes
-array-share-prefix-bytes c = there (c .before .before .before .before .before .before .before .before)
+array-share-prefix-bytes c = there (c .before .before .before .before .before)
 
 slice-aggregate-put : tie.Need-slice-aggregate-put
-slice-aggregate-put c = let at-fields = c .before .before .before .before .before .before .before .before .before in sym (length-take-le _ (at-fields .fields .result .bytes) (there at-fields))
+slice-aggregate-put c =
+    let at-start = c .before .before .before .before .before .before in
+    sym (length-take-le _ (at-start .before .before .before .before .fields .result .bytes) (there at-start))
 
 add-put-times : tie.Need-add-put-times
 add-put-times c = search needs
 
 put-times-requires : tie.Need-put-times-requires
 put-times-requires c κs =
-    let at-start = c .before .before .before .before .before .before .before .before .before .before .before .before .before .before .before in
-    let row = at-start .args .row in
-    let kept = c .before .before .before .put .kept .0 ∙ c .before .before .before .before .before .before .before .before .put-byte .kept .0 in
-    (omega (arith, start at-start, body-length row, at-start .pre, kept), omega (arith, times at-start, regular row .sized .few-times))
+    let at-count = c .before in
+    let at-put = at-count .before .before .before in
+    let at-byte = at-put .before .before .before .before .before in
+    let at-start = at-byte .before .before in
+    let begin = at-start .before .before .before .before .before .before in
+    let row = begin .args .row in
+    let kept = at-put .put .kept .0 ∙ at-byte .put-byte .kept .0 in
+    (omega (arith, start at-start, body-length row, begin .pre, kept), omega (arith, times at-count, regular row .sized .few-times))
 
 same-length : tie.Need-same-length
 same-length c = search needs
 
 returns : tie.Need-returns
 returns c =
-    let at-put = c .before .before .before .before .before .before in
+    let at-count = c .before .before .before .before in
+    let at-put = at-count .before .before .before in
     let at-byte = at-put .before .before .before .before .before in
-    let at-fields = at-byte .before .before .before .before .before in
-    let at-start = at-fields .before .before in
-    let a = at-start .args in
+    let at-start = at-byte .before .before in
+    let at-fields = at-start .before .before .before .before in
+    let a = at-fields .before .before .args in
     let held = at-fields .fields .ensures in
-    let count : a .size % 8 - 1 ≡ length (bytesIn (fieldsOf (a .row))) = omega (arith, start at-start) in
-    body-stores (now (a .buffer)) _ _ _ (a .place) (a .row) _ (a .place + a .size % 8) _ _ (held .typed)
+    let n = at-start .times-start .result in
+    let count : n - 1 ≡ length (bytesIn (fieldsOf (a .row))) = omega (arith, start at-start) in
+    body-stores (now (a .buffer)) _ _ _ (a .place) (a .row) _ (a .place + n) _ _ (held .typed)
     (ap (λ (n : ℕ). take n (at-fields .fields .result .bytes)) count ∙ held .bytes) (omega (arith, start at-start))
-    (ap (λ (n : ℕ). take n (at-fields .fields .result .times)) (times at-start) ∙ held .times)
+    (ap (λ (n : ℕ). take n (at-fields .fields .result .times)) (times at-count) ∙ held .times)
     (at-byte .put-byte .ensures) (at-put .put .ensures) (c .before .before .put-times .ensures)
 
 pub put-body-spec : {M : Type 1} → statement M
@@ -71,11 +82,13 @@ put-body-spec =
     tie.close
     (tie.spec
     free
+    free
     sub-count
     free
     add-put
     array-share-prefix-bytes
     slice-aggregate-put
+    free
     free
     add-put-times
     put-times-requires

@@ -4,7 +4,7 @@ use Prim.Native.Nat.{_+_, _*_, _-_, _≤_}
 use mathlib.Core.Path.{_≡_, sym, _∙_}
 use mathlib.Core.List.{[]}
 use lib.ListN.{length, drop, length-map, drop-of-length-le}
-use Rattle.constraint.specs.Rows.{rowsOf}
+use Rattle.constraint.specs.Records.{rowsOf}
 use Rattle.constraint.specs.Table.{rowsBytes, tableBytes}
 use Rattle.constraint.proofs.Rows.{rows-length}
 use Rattle.table.proofs.Standing.{body-short}

@@ -1,0 +1,89 @@
+-- The promise of the exported calls on lent memory, over whole lists of them (§11.2).
+use Prim.Native.Nat.{ℕ, _<_}
+use mathlib.Core.Path.{_≡_}
+use mathlib.Core.List.{List, [], _∷_, _++_, map}
+use mathlib.Core.Option.{Option}
+use lib.ListN.{length}
+use Rattle.constraint.specs.Steps.{Step, close}
+use Rattle.constraint.specs.Run.{Request, Left, noneLeft, Run}
+use Rattle.constraint.specs.Promise.{ReadsRow}
+use Rattle.constraint.specs.Table.{ReadsTable, table-of, table-refused}
+use Rattle.constraint.specs.Recording.{ReadsRecording, recording-of, recording-refused}
+use Rattle.constraint.specs.Page.{Pages}
+use Rattle.constraint.specs.Report.{Reports}
+use Rattle.constraint.specs.declared.Constraint.{Constraint}
+use Rattle.constraint.specs.declared.Verdict.{Verdict}
+use Rattle.monitor.specs.Contract.{stepIn}
+use Rattle.monitor.specs.declared.Monitor.{Monitor}
+use Rattle.inplace.specs.Store.{answerFrom}
+use Rattle.inplace.specs.Index.{Takes}
+use Rattle.inplace.specs.declared.index.Indexed.{Indexed}
+use Rattle.opening.specs.Begins.{Begins}
+use Rattle.delkuthi.specs.Taking.{StepsBefore}
+use Rattle.delkuthi.specs.Lent.{wordOf, WordOfVerdict, StepOfVerdict, NumberOfRows}
+use Rattle.delkuthi.specs.Printed.{WritesPage}
+use Rattle.delkuthi.specs.Reporting.{ReportsOn}
+
+-- ---- the memory
+
+-- what a host lends to the calls, and the monitor in it
+abbrev pub Memory : Type 0
+Memory = Indexed
+
+abbrev pub monitorIn : Memory → Monitor
+monitorIn h = h .monitor
+
+-- ---- a host's calls
+
+-- one after the other, from the memory before to the memory after, and the numbers that they answer: each known by its contract alone
+pub data Host : Memory → List Request → List ℕ → Memory → Type 0 where
+  over : {h : Memory} → Host h [] [] h
+  asked : {h mid end : Memory} {requests : List Request} {numbers : List ℕ} (r : Request) (number : ℕ)
+      → Takes h r number mid → Host mid requests numbers end → Host h (r ∷ requests) (number ∷ numbers) end
+
+-- §9.2: each of them that is refused leaves the memory as it was
+abbrev pub Untouched : {h end : Memory} {requests : List Request} {numbers : List ℕ} → Host h requests numbers end → Type 0
+Untouched over = Unit {0}
+Untouched (asked {h = h} {mid = mid} r number takes rest) = (0 < number → mid ≡ h) × Untouched rest
+
+-- ---- what is read then
+
+-- what the exported readers answer is what the rows read after these steps: the word and the step of each row number, the number of rows, the page
+pub record ReadsAs (h : Memory) (rows : List Constraint) (steps : List Step) : Type 0 where
+  pub verdicts : (i : ℕ) → (v : Option Verdict) × ReadsRow rows steps i v
+      × ((word : ℕ) → WordOfVerdict (monitorIn h) i word → word ≡ wordOf v)
+      × ((step : ℕ) → StepOfVerdict (monitorIn h) i step → step ≡ stepIn v)
+  pub counted : (number : ℕ) → NumberOfRows (monitorIn h) number → number ≡ length rows
+  pub paged : (buffer : List ℕ) (number : ℕ) (written : List ℕ) → WritesPage (monitorIn h) buffer number written
+      → Pages rows steps buffer number written
+
+-- after a recording: its steps and the close, or the steps before the record that was refused
+pub data ReadsRecorded (h : Memory) (rows : List Constraint) (recording : List ℕ) : Type 0 where
+  whole : (steps : List Step) → ReadsRecording rows recording (recording-of steps) → ReadsAs h rows (steps ++ (close ∷ []))
+      → ReadsRecorded h rows recording
+  cut : (n place : ℕ) (steps : List Step) → ReadsRecording rows recording (recording-refused n place) → StepsBefore rows recording place steps
+      → ReadsAs h rows steps → ReadsRecorded h rows recording
+
+-- §7.22: the report is that of its table and recording, whatever lay in the memory; where the table is refused the memory is as it was, and else
+-- the readers read what the recording has left
+pub record Reported (before : Memory) (table recording buffer : List ℕ) (number : ℕ) (written : List ℕ) (h : Memory) : Type 0 where
+  pub reports : Reports table recording buffer number written
+  pub refused : (n place : ℕ) → ReadsTable table (table-refused n place) → h ≡ before
+  pub used : (rows : List Constraint) → ReadsTable table (table-of rows) → ReadsRecorded h rows recording
+
+-- ---- the promise
+
+-- §3.6, §3.8 and §3.13 for the exported calls, over a table's bytes and any list of calls and withdrawals: the numbers are the answers of the
+-- questions, a refused call leaves the memory as it was, and the readers answer what the rows read after the steps that are left. After the
+-- list a report is as §7.22 says, and a `delkuthi_fresh` that is refused leaves the memory as it was
+pub record LentExact (bytes : List ℕ) {h end : Memory} {requests : List Request} {numbers : List ℕ} (host : Host h requests numbers end)
+    : Type 0 where
+  pub rows : List Constraint
+  pub read : ReadsTable bytes (table-of rows)
+  pub left : Left
+  pub run : Run rows noneLeft requests (map answerFrom numbers) left
+  pub untouched : Untouched host
+  pub reads : ReadsAs end rows (left .steps)
+  pub reported : (table recording buffer : List ℕ) (number : ℕ) (written : List ℕ) (after : Memory)
+      → ReportsOn end table recording buffer number written after → Reported end table recording buffer number written after
+  pub refused : (table : List ℕ) (number : ℕ) (after : Memory) → Begins table end number after → 0 < number → after ≡ end

@@ -1,0 +1,37 @@
+-- What does not concern a row: its machine looks at an event's kind only to ask whether it is one of the row's, so an event of no
+-- kind of the row's does to it what a tick to that time does.
+use Prim.Native.Nat.{ℕ, _<_}
+use mathlib.Core.Path.{_≡_, refl, ap, _∙_}
+use mathlib.Core.Bool.{false}
+use lib.ListN.{length}
+use Rattle.constraint.specs.Limits.{streamCount}
+use Rattle.constraint.specs.Streams.{kindOf}
+use Rattle.constraint.specs.Steps.{at, among}
+use Rattle.constraint.specs.Accepted.{kinds}
+use Rattle.constraint.proofs.Streams.{among-where}
+use Rattle.constraint.specs.declared.Constraint.{Constraint}
+use Rattle.constraint.proofs.Lists.{split}
+use Rattle.machine.specs.Rule.{ruleOf}
+use Rattle.row.specs.Machine.{concerns, noEvent, eventAt, tickAt, rowStep}
+use Rattle.row.specs.declared.Occurrence.{Occurrence}
+use Rattle.row.specs.declared.Row.{Row}
+use Rattle.row.proofs.Exact.{Sound}
+use Rattle.row.proofs.OwnKinds.{concerns-stream, concerns-none}
+
+-- two occurrences that are none of the row's, alike but for the kind and the stream
+unconcerned : (r : Row) (o p : Occurrence) (number : ℕ) → concerns (r .rule) (o .kind) ≡ false → concerns (r .rule) (p .kind) ≡ false
+    → o .time ≡ p .time → o .closes ≡ p .closes → rowStep r o number ≡ rowStep r p number
+unfolding rowStep
+unconcerned r o p number quiet quiet′ same-time same-close = rw (quiet, quiet′, same-time, same-close)
+
+-- an event of no kind of the row's, and a tick
+pub event-as-tick : (c : Constraint) → Sound c → (r : Row) → r .rule ≡ ruleOf c → (s t number : ℕ) → s < streamCount
+    → ¬ ((i : ℕ) × (i < length (kinds c)) × (at (kinds c) i ≡ kindOf s)) → rowStep r (eventAt s t) number ≡ rowStep r (tickAt t) number
+event-as-tick c sound r rule s t number small other =
+    unconcerned r (eventAt s t) (tickAt t) number
+    (of-rule (kindOf s) (concerns-stream c s small
+    ∙ split (among (kindOf s) (kinds c)) (λ b. b ≡ false) (λ e. absurd (other (among-where (kindOf s) (kinds c) e))) (λ e. refl)))
+    (of-rule noEvent (concerns-none c (sound .kinds-fit))) refl refl
+  where
+    of-rule : (j : ℕ) → concerns (ruleOf c) j ≡ false → concerns (r .rule) j ≡ false
+    of-rule j e = ap (λ rule. concerns rule j) rule ∙ e

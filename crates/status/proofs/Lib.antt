@@ -1,0 +1,6 @@
+-- Why the numbers are what the definitions say.
+pub mod Deadlines
+pub mod Waiting
+pub mod Marks
+pub mod Crowded
+pub mod Theorem

@@ -1,0 +1,4 @@
+-- What a host asks of a monitor while it runs: the numbers that answer, and what they promise.
+pub mod Deadlines
+pub mod Numbers
+pub mod Contract

@@ -1,0 +1,10 @@
+-- A mask of three bits keeps the remainder by 8.
+use lib.Bits.{and-mask}
+use Rattle.table.proofs.body.times_start.Statement.{statement}
+use Rattle.table.proofs.body.times_start.Tie as tie
+
+returns : tie.Need-returns
+returns c = and-mask (c .args .size) 3
+
+pub times-start-spec : {M : Type 1} → statement M
+times-start-spec = tie.close (tie.spec returns)

@@ -1,0 +1,212 @@
+//! Tables of 32 rows of all types, with signals on which every row stays open until the close.
+
+use model::constraint::stream;
+use model::{Constraint, FIRST_COLOURED, LAST_TIME, NO_LIMIT, Step};
+
+/// A signal comes once in a round of this length.
+const PERIOD: u64 = 1_000;
+/// How far the signals of one round are apart, and how late at most each can be.
+const APART: u64 = 15;
+const WOBBLE: u64 = 10;
+/// How many wait in a row that is full.
+const WAITING: u64 = 64;
+/// In how many rounds a rare signal comes once.
+const RARELY: u64 = 64;
+
+/// The events of one stream: one in each round, or in each so many rounds, from the round `lag` on.
+#[derive(Clone, Copy)]
+struct Signal {
+    stream: u8,
+    /// Its place among the signals of a round.
+    place: u64,
+    lag: u64,
+    every: u64,
+}
+
+impl Signal {
+    fn event(self, round: u64) -> Step {
+        let late = (7 * round + 3 * self.place) % WOBBLE;
+        Step::of_stream(self.stream, round * PERIOD + self.place * APART + late)
+    }
+
+    fn comes_in(self, round: u64) -> bool {
+        self.lag <= round && round.is_multiple_of(self.every)
+    }
+
+    /// How long the first event is after another signal's first, give or take a wobble.
+    fn after(self, other: Signal) -> u64 {
+        (self.lag * PERIOD + self.place * APART) - (other.lag * PERIOD + other.place * APART)
+    }
+}
+
+/// The signals so far, in the order of a round.
+#[derive(Default)]
+struct Signals {
+    list: Vec<Signal>,
+    /// In how many rounds each new signal comes once, if not in every one.
+    every: Option<u64>,
+    /// Whatever the lag, 64 sources wait from each source on to the next target, which is earlier in its round than the source.
+    full: bool,
+}
+
+impl Signals {
+    fn of_stream(&mut self, stream: u8, lag: u64) -> Signal {
+        let signal = Signal { stream, place: self.list.len() as u64, lag, every: self.every.unwrap_or(1) };
+        self.list.push(signal);
+        signal
+    }
+
+    /// The signal of the next plain kind.
+    fn next(&mut self, lag: u64) -> Signal {
+        self.of_stream(self.list.iter().filter(|signal| signal.stream < FIRST_COLOURED).count() as u8, lag)
+    }
+
+    /// The runs of a chain: stimuli of some colours, and responses of as many others.
+    fn chain(&mut self, colours: u8) -> Constraint {
+        let (stimulus, response) = (FIRST_COLOURED, FIRST_COLOURED + 1);
+        (0..colours).for_each(|colour| _ = self.of_stream(stream(stimulus, colour), 0));
+        (0..colours).for_each(|colour| _ = self.of_stream(stream(response, 7 - colour), 0));
+        Constraint::Reaction { stimulus, response, minimum: APART, maximum: LAST_TIME / 2 }
+    }
+
+    /// A source, and so many targets that are so many rounds behind it.
+    fn group(&mut self, number: usize, lag: u64) -> Vec<Signal> {
+        if self.full {
+            let mut targets: Vec<Signal> = (0..number).map(|_| self.next(WAITING)).collect();
+            targets.insert(0, self.next(0));
+            return targets;
+        }
+        (0..=number).map(|place| self.next(if place == 0 { 0 } else { lag })).collect()
+    }
+
+    /// A source, and a target that is so many rounds behind it.
+    fn pair(&mut self, lag: u64) -> (Signal, Signal) {
+        let group = self.group(1, lag);
+        (group[0], group[1])
+    }
+
+    /// The events of a round.
+    fn round(&self, round: u64) -> impl Iterator<Item = Step> {
+        self.list.iter().filter(move |signal| signal.comes_in(round)).map(move |signal| signal.event(round))
+    }
+}
+
+fn delay((source, target): (Signal, Signal)) -> Constraint {
+    let (lower, upper) = (target.after(source) - WOBBLE, target.after(source) + WOBBLE);
+    Constraint::Delay { source: source.stream, target: target.stream, lower, upper }
+}
+
+fn strong_delay((source, target): (Signal, Signal)) -> Constraint {
+    let (lower, upper) = (target.after(source) - WOBBLE, target.after(source) + WOBBLE);
+    Constraint::StrongDelay { source: source.stream, target: target.stream, lower, upper }
+}
+
+fn order((source, target): (Signal, Signal)) -> Constraint {
+    Constraint::Order { source: source.stream, target: target.stream }
+}
+
+fn synchronization(signals: &[Signal]) -> Constraint {
+    let tolerance = signals[signals.len() - 1].after(signals[0]) + WOBBLE;
+    Constraint::StrongSynchronization { kinds: signals.iter().map(|signal| signal.stream).collect(), tolerance }
+}
+
+/// An execution from a start to a stop, with a pause.
+fn execution_time(start: Signal, (preempt, resume): (Signal, Signal), stop: Signal) -> Constraint {
+    let running = stop.after(start) - resume.after(preempt);
+    Constraint::ExecutionTime {
+        start: start.stream,
+        stop: stop.stream,
+        preempt: preempt.stream,
+        resume: resume.stream,
+        lower: running.saturating_sub(2 * WOBBLE),
+        upper: running + 2 * WOBBLE,
+    }
+}
+
+fn repeat(event: Signal, span: u8) -> Constraint {
+    let length = u64::from(span) * PERIOD;
+    Constraint::Repeat { event: event.stream, span, lower: length - WOBBLE, upper: length + WOBBLE }
+}
+
+fn burst(event: Signal, maximum: u8) -> Constraint {
+    let length = u64::from(maximum) * PERIOD - WOBBLE;
+    Constraint::Burst { event: event.stream, maximum, length, minimum: PERIOD - WOBBLE }
+}
+
+/// Points in a rhythm, or with room for a few times more or less, or with no limit above.
+fn sporadic(event: Signal, upper: u64) -> Constraint {
+    let lower = if upper == PERIOD { PERIOD } else { PERIOD - 3 };
+    Constraint::Sporadic { event: event.stream, lower, upper, jitter: WOBBLE, minimum: PERIOD - WOBBLE }
+}
+
+/// Points in a rhythm, so many places apart.
+fn repetition(event: Signal, span: u8) -> Constraint {
+    let length = u64::from(span) * PERIOD;
+    Constraint::Repetition { event: event.stream, span, lower: length, upper: length, jitter: WOBBLE }
+}
+
+/// The lags, spans, maxima and uppers of the rows of one type.
+const LAGS: [u64; 5] = [0, 4, 16, 40, 60];
+const SPANS: [u8; 5] = [1, 2, 8, 32, 64];
+const MAXIMA: [u8; 3] = [1, 16, 64];
+const UPPERS: [u64; 4] = [PERIOD, PERIOD + 3, 2 * PERIOD, NO_LIMIT];
+
+/// A table with the signals of its rows.
+pub struct Table {
+    pub rows: Vec<Constraint>,
+    signals: Signals,
+}
+
+impl Table {
+    /// So many events of the signals, round by round.
+    pub fn drive(&self, events: usize) -> Vec<Step> {
+        (0..).flat_map(|round| self.signals.round(round)).take(events).collect()
+    }
+
+    /// How many events come before as many wait as can.
+    pub fn before_full(&self) -> usize {
+        (0..WAITING).map(|round| self.signals.round(round).count()).sum()
+    }
+}
+
+/// Each row has kinds of its own, but that a Burst or a Sporadic shares a Repeat's, and the ExecutionTime's start is a
+/// Sporadic's event: an event concerns one row, or two. All plain kinds are used, and all colours of the Reaction's.
+/// A full table has 64 sources or groups waiting in each row in which they can, but between a target and the next source.
+pub fn sparse(full: bool) -> Table {
+    let mut signals = Signals { full, ..Signals::default() };
+    let mut rows: Vec<Constraint> = LAGS.iter().map(|lag| delay(signals.pair(*lag))).collect();
+    rows.extend(LAGS.map(|lag| strong_delay(signals.pair(lag))));
+    rows.extend(LAGS[..2].iter().map(|lag| order(signals.pair(*lag))));
+    let repeated = SPANS.map(|span| (signals.next(0), span));
+    rows.extend(repeated.map(|(event, span)| repeat(event, span)));
+    rows.extend(repeated.iter().zip(MAXIMA).map(|((event, _), maximum)| burst(*event, maximum)));
+    let rhythms = [repeated[4].0, signals.next(0), signals.next(0), signals.next(0)];
+    rows.extend(rhythms.iter().zip(UPPERS).map(|(event, upper)| sporadic(*event, upper)));
+    rows.extend(LAGS.into_iter().zip([1, 1, 2, 1, 2]).map(|(lag, n)| synchronization(&signals.group(n, lag))));
+    let [preempt, resume, stop] = [0; 3].map(|lag| signals.next(lag));
+    rows.push(execution_time(rhythms[3], (preempt, resume), stop));
+    rows.push(repetition(signals.next(0), 8));
+    rows.push(signals.chain(4));
+    Table { rows, signals }
+}
+
+/// Nearly all rows share two kinds, of which an event concerns 24 rows or 25. An execution and a run through a chain, which
+/// need kinds of their own, come once in so many rounds. Full as the sparse one is.
+pub fn dense(full: bool) -> Table {
+    let mut signals = Signals { full, ..Signals::default() };
+    let pair = signals.pair(40);
+    let either = |place: usize| if place.is_multiple_of(2) { pair.0 } else { pair.1 };
+    let mut rows = vec![delay(pair); 5];
+    rows.extend(vec![strong_delay(pair); 5]);
+    rows.extend(vec![order(pair); 4]);
+    rows.extend(vec![synchronization(&[pair.0, pair.1]); 5]);
+    rows.extend(SPANS[1..].iter().enumerate().map(|(place, span)| repeat(either(place), *span)));
+    rows.extend(MAXIMA.iter().enumerate().map(|(place, maximum)| burst(either(place), *maximum)));
+    rows.extend(UPPERS[..3].iter().enumerate().map(|(place, upper)| sporadic(either(place + 1), *upper)));
+    rows.push(repetition(pair.0, 8));
+    signals.every = Some(RARELY);
+    let [start, preempt, resume, stop] = [0; 4].map(|lag| signals.next(lag));
+    rows.push(execution_time(start, (preempt, resume), stop));
+    rows.push(signals.chain(1));
+    Table { rows, signals }
+}

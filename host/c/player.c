@@ -1,0 +1,226 @@
+/*
+ * Plays a script of calls and prints each answer: player SCRIPT [words]
+ *
+ * Of two libraries that are played the same script, on machines alike or not,
+ * the texts are the same exactly when all answers are. Behind a call on the
+ * monitor stands what each row reads: o open, k kept, b and a step broken. A
+ * buffer that a call writes is printed whole. With `words`, for machines with
+ * sizes of 64 bits, a sum of the monitor's bytes stands there too. A call that
+ * is refused and yet changed the monitor or a buffer is an exit status of 1.
+ *
+ * A line of the script is a call and its arguments: numbers, bytes in
+ * hexadecimal, and for a buffer its length. An empty stretch of bytes is a "-".
+ */
+#include "delkuthi.h"
+#include <inttypes.h>
+#include <stdio.h>
+#include <stdlib.h>
+#include <string.h>
+
+#define LINE_LIMIT   65536
+#define BUFFER_LIMIT 8192
+#define FILL         0xA5
+
+static delkuthi_monitor monitor, before;
+static char line[LINE_LIMIT];
+static uint8_t bytes[3][LINE_LIMIT / 2];
+static size_t lengths[3];
+static uint8_t buffer[BUFFER_LIMIT];
+static int with_words, well = 1;
+
+/* The next word of the line. */
+static const char *word(void)
+{
+    const char *found = strtok(NULL, " \n");
+
+    return found ? found : "";
+}
+
+static uint64_t number(void)
+{
+    return strtoull(word(), NULL, 10);
+}
+
+static uint8_t byte(void)
+{
+    return (uint8_t)number();
+}
+
+/* Reads bytes in hexadecimal to a place of their own, which is given. */
+static const uint8_t *stretch(int place)
+{
+    const char *text = word();
+    size_t length = 0;
+    unsigned value;
+
+    while (sscanf(text + 2 * length, "%2x", &value) == 1)
+        bytes[place][length++] = (uint8_t)value;
+    lengths[place] = length;
+    return bytes[place];
+}
+
+/* Whether so many bytes from a place on are as they were. */
+static int untouched(size_t from, size_t length)
+{
+    while (from < length && buffer[from] == FILL)
+        from++;
+    return from >= length;
+}
+
+/* The length of the buffer that a call is lent, filled so that a byte that is written is seen. */
+static size_t lent(void)
+{
+    uint64_t length = number();
+
+    memset(buffer, FILL, sizeof buffer);
+    return length < BUFFER_LIMIT ? (size_t)length : BUFFER_LIMIT;
+}
+
+/* Prints an answer and the bytes that were written; nothing behind them may have been. */
+static void wrote(uint64_t answer, size_t written)
+{
+    size_t i;
+
+    printf(" %" PRIu64 " ", answer);
+    for (i = 0; i < written; i++)
+        printf("%02x", buffer[i]);
+    well &= untouched(written, sizeof buffer);
+}
+
+/* A sum of the monitor's bytes (FNV-1a). */
+static uint64_t sum(void)
+{
+    const uint8_t *place = (const uint8_t *)&monitor;
+    uint64_t result = UINT64_C(14695981039346656037);
+    size_t i;
+
+    for (i = 0; i < sizeof monitor; i++)
+        result = (result ^ place[i]) * UINT64_C(1099511628211);
+    return result;
+}
+
+/* Prints what the rows read, and some that are not there. */
+static void rows(void)
+{
+    static const uint64_t behind[] = {32, 33, 64, UINT64_C(4294967296), UINT64_C(4294967297), UINT64_MAX};
+    uint64_t row, count = delkuthi_rows(&monitor);
+    size_t i;
+
+    putchar(' ');
+    for (row = 0; row < count; row++) {
+        uint8_t verdict = delkuthi_row_verdict(&monitor, row);
+
+        putchar(verdict < 3 ? "okb"[verdict] : '?');
+        if (verdict == DELKUTHI_BROKEN)
+            printf("%" PRIu64, delkuthi_row_step(&monitor, row));
+    }
+    for (i = 0; i < sizeof behind / sizeof *behind; i++)
+        well &= delkuthi_row_verdict(&monitor, behind[i]) == DELKUTHI_NO_ROW && delkuthi_row_step(&monitor, behind[i]) == 0;
+    if (with_words)
+        printf(" %016" PRIx64, sum());
+}
+
+/* Prints the answer of a call on the monitor. One that is refused has changed nothing. */
+static void stepped(uint64_t answer)
+{
+    printf(" %" PRIu64, answer);
+    well &= answer == DELKUTHI_TAKEN || memcmp(&monitor, &before, sizeof monitor) == 0;
+    rows();
+}
+
+/* Calls on the monitor; returns whether this is one. */
+static int played_monitor(const char *call)
+{
+    memcpy(&before, &monitor, sizeof monitor);
+    if (strcmp(call, "fresh") == 0) {
+        const uint8_t *table = stretch(0);
+
+        stepped(delkuthi_fresh(&monitor, table, lengths[0]));
+    } else if (strcmp(call, "event") == 0) {
+        uint8_t kind = byte();
+
+        stepped(delkuthi_event(&monitor, kind, number()));
+    } else if (strcmp(call, "coloured") == 0) {
+        uint8_t kind = byte(), colour = byte();
+
+        stepped(delkuthi_coloured_event(&monitor, kind, colour, number()));
+    } else if (strcmp(call, "tick") == 0)
+        stepped(delkuthi_tick(&monitor, number()));
+    else if (strcmp(call, "close") == 0)
+        stepped(delkuthi_close(&monitor));
+    else if (strcmp(call, "withdraw") == 0)
+        stepped(delkuthi_withdraw(&monitor));
+    else
+        return 0;
+    return 1;
+}
+
+/* Calls that write to a buffer; returns whether this is one. */
+static int played_writer(const char *call)
+{
+    size_t length, written;
+    uint64_t answer;
+
+    if (strcmp(call, "page") == 0) {
+        length = lent();
+        written = delkuthi_page(&monitor, buffer, length);
+        wrote(written, written);
+    } else if (strcmp(call, "report") == 0 || strcmp(call, "report_on") == 0) {
+        (void)stretch(0);
+        (void)stretch(1);
+        length = lent();
+        written = call[6] ? delkuthi_report_on(&monitor, bytes[0], lengths[0], bytes[1], lengths[1], buffer, length)
+                          : delkuthi_report(bytes[0], lengths[0], bytes[1], lengths[1], buffer, length);
+        wrote(written, written);
+        rows();
+    } else if (strcmp(call, "join") == 0) {
+        (void)stretch(0);
+        (void)stretch(1);
+        length = lent();
+        answer = delkuthi_join(bytes[0], lengths[0], bytes[1], lengths[1], buffer, length);
+        wrote(answer, DELKUTHI_NUMBER(answer) == DELKUTHI_TAKEN ? (size_t)DELKUTHI_LENGTH(answer) : 0);
+    } else if (strcmp(call, "table") == 0) {
+        (void)stretch(0);
+        length = lent();
+        answer = delkuthi_table((const delkuthi_row *)bytes[0], lengths[0], buffer, length);
+        wrote(answer, DELKUTHI_NUMBER(answer) == DELKUTHI_TAKEN ? (size_t)DELKUTHI_LENGTH(answer) : 0);
+    } else
+        return 0;
+    return 1;
+}
+
+/* Calls on bytes alone; returns whether this is one. */
+static int played_reader(const char *call)
+{
+    uint64_t row;
+
+    (void)stretch(0);
+    (void)stretch(1);
+    row = number();
+    if (strcmp(call, "stamps") == 0)
+        printf(" %" PRIu64, delkuthi_stamps(bytes[0], lengths[0], bytes[1], lengths[1], row, number()));
+    else if (strcmp(call, "stretch") == 0)
+        printf(" %" PRIu64, delkuthi_shortest_stretch(bytes[0], lengths[0], bytes[1], lengths[1], row));
+    else
+        return 0;
+    return 1;
+}
+
+int main(int argc, char **argv)
+{
+    FILE *script = argc > 1 ? fopen(argv[1], "r") : NULL;
+    const char *call;
+
+    if (script == NULL || !DELKUTHI_MATCHES())
+        return 3;
+    with_words = argc > 2;
+    while (well && fgets(line, sizeof line, script)) {
+        call = strtok(line, " \n");
+        fputs(call, stdout);
+        if (!played_monitor(call) && !played_writer(call) && !played_reader(call))
+            return 2;
+        putchar('\n');
+    }
+    fclose(script);
+    return well ? 0 : 1;
+}

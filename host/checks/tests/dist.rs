@@ -1,0 +1,190 @@
+//! The release as a buyer gets it: made twice in different folders, unpacked, checked, and used without the kit.
+
+use checks::documents::text_of;
+use checks::hosts::{Ran, c_compiler, done, ran, say};
+use checks::places::{Folder, archive_folder, root};
+use checks::release::{make_in, path_without, version};
+use std::fs;
+use std::path::{Path, PathBuf};
+use std::process::Command;
+use std::sync::OnceLock;
+
+/// What the gate keeps of a run.
+const GATE: &str = "12 passed, 0 failed\n3 minutes on 2 processors\n";
+
+/// The commit, in a line.
+fn commit() -> String {
+    done(Command::new("git").args(["rev-parse", "HEAD"]).current_dir(root()))
+}
+
+/// The tarball that a clone of the repository at this place gives, with what the gate said of its commit if it ran; none where the
+/// sources are in no repository.
+fn tarball(clone: &Path, gate: Option<&str>) -> Option<PathBuf> {
+    if !root().join(".git").exists() {
+        say("the sources are in no git repository: no release was made");
+        return None;
+    }
+    done(Command::new("git").arg("clone").arg("--quiet").arg(root()).arg(clone));
+    if let Some(text) = gate {
+        fs::create_dir(clone.join("target")).expect("a folder");
+        fs::write(clone.join("target/gate"), format!("{}{text}", commit())).expect("a file");
+    }
+    done(make_in(clone).arg("dist"));
+    Some(clone.join(format!("build/{}.tar.gz", release_name())))
+}
+
+fn release_name() -> String {
+    format!("delkuthi-{}-x86_64-linux", version())
+}
+
+/// The release, unpacked; none where the sources are in no repository.
+fn release() -> Option<&'static Path> {
+    static RELEASE: OnceLock<Option<PathBuf>> = OnceLock::new();
+    let made = || {
+        let folder = Path::new(env!("OUT_DIR")).join("release");
+        let _ = fs::remove_dir_all(&folder);
+        let packed = tarball(&folder.join("clone"), Some(GATE))?;
+        done(Command::new("tar").arg("-xzf").arg(packed).arg("-C").arg(&folder));
+        Some(folder.join(release_name()))
+    };
+    RELEASE.get_or_init(made).as_deref()
+}
+
+#[test]
+fn two_releases_are_the_same_to_the_byte() {
+    let (one, other) = (Folder::new(), Folder::new());
+    let places = [one.path().join("a"), other.path().join("another-folder/below")];
+    let [Some(first), Some(second)] = places.map(|place| tarball(&place, None)) else { return };
+    assert!(fs::read(&first).expect("a tarball") == fs::read(second).expect("a tarball"));
+    let manifest = text_of(&first.with_file_name(release_name()).join("MANIFEST.md"));
+    assert!(manifest.contains("| gate, last line | not run on this commit"), "{manifest}");
+}
+
+#[test]
+fn the_checksums() {
+    let Some(release) = release() else { return };
+    let check = || Command::new("sha256sum").args(["--check", "--quiet", "SHA256SUMS"]).current_dir(release).output();
+    assert_eq!(ran(check()), Ran::new(0, ""));
+    let sums = text_of(&release.join("SHA256SUMS"));
+    for name in [
+        "MANIFEST.md",
+        "lib/libdelkuthi.a",
+        "include/delkuthi.h",
+        "portable/src/lib.rs",
+        "source/crates.txt",
+        "LICENSE",
+    ] {
+        assert!(sums.lines().any(|line| line.ends_with(&format!("  {name}"))), "{name}");
+    }
+    let archive = |folder: &Path| fs::read(folder.join("libdelkuthi.a")).expect("an archive");
+    assert!(archive(&release.join("lib")) == archive(archive_folder()));
+}
+
+/// The manifest says what the release is of, and names each function of the archive with the place that declares it.
+#[test]
+fn the_manifest() {
+    let Some(release) = release() else { return };
+    let text = text_of(&release.join("MANIFEST.md"));
+    let commit = commit();
+    let kit = "rattle logic=";
+    assert!(
+        text.contains(&format!("| version | {} |", version()))
+            && text.contains(&format!("| commit | {} |", commit.trim()))
+    );
+    let identity = text.split(kit).nth(1).expect("the kit").split('`').next().expect("its end");
+    assert_eq!(identity.len(), 64);
+    assert!(
+        text.contains("| gate, last line | 12 passed, 0 failed |\n| gate, time | 3 minutes on 2 processors |\n"),
+        "{text}"
+    );
+    let functions: Vec<Vec<&str>> = text
+        .lines()
+        .filter(|line| line.starts_with("| `") && line.contains("crates/"))
+        .map(|line| line.split(" | ").collect())
+        .collect();
+    let symbols = done(Command::new("nm").args(["-g", "--defined-only"]).arg(release.join("lib/libdelkuthi.a")));
+    let calls = symbols.lines().filter_map(|line| line.split_once(" T delkuthi_"));
+    for (_, call) in calls {
+        assert!(functions.iter().any(|row| row[0] == format!("| `delkuthi_{call}`")), "{call}");
+    }
+    for row in functions {
+        let (file, line) = row[2].rsplit_once(':').expect("a file and a line");
+        let source = text_of(&release.join("source").join(file));
+        let declared = source.lines().nth(line.parse::<usize>().expect("a number") - 1).expect("a line");
+        let name = row[0].trim_matches(['|', ' ', '`']).rsplit("::").next().expect("a name");
+        assert!(declared.contains(&format!("fn {name}(")), "{row:?}: {declared}");
+    }
+}
+
+/// The list of parts has every file that is delivered to be linked, with its checksum, and says that nothing of the kit is in it.
+#[test]
+fn the_list_of_parts() {
+    let Some(release) = release() else { return };
+    let text = text_of(&release.join("delkuthi.spdx"));
+    for line in
+        ["SPDXVersion: SPDX-2.3", "PackageName: delkuthi", "Relationship: SPDXRef-Kit BUILD_TOOL_OF SPDXRef-Delkuthi"]
+    {
+        assert!(text.lines().any(|found| found == line), "{line}");
+    }
+    for file in ["include/delkuthi.h", "lib/libdelkuthi.a", "bin/delkuthi"] {
+        let sum = done(Command::new("sha256sum").arg(release.join(file)));
+        let after = text.split(&format!("FileName: ./{file}\n")).nth(1).unwrap_or_else(|| panic!("{file} in the list"));
+        let line = after.lines().find_map(|line| line.strip_prefix("FileChecksum: SHA256: ")).expect("a checksum");
+        assert!(sum.starts_with(line), "{file}");
+    }
+}
+
+/// From the tarball alone and without the kit: the lines of its README, a host by pkg-config, the program.
+#[test]
+fn a_buyer_without_the_kit() {
+    let Some(release) = release() else { return };
+    let without = Folder::new();
+    let path = path_without("rt", &without);
+    let readme = text_of(&release.join("README.md"));
+    let lines: Vec<&str> = readme.lines().filter_map(|line| line.strip_prefix("    ")).collect();
+    let shell = |text: &str| done(Command::new("sh").arg("-ec").arg(text).current_dir(release).env("PATH", &path));
+    let out = Folder::new();
+    let here = lines.join("\n").replace("-o report", &format!("-o {}/report", out.path().display()));
+    let here = here.replace("./report", &format!("{}/report", out.path().display()));
+    let drive = text_of(&root().join("examples/report.txt"));
+    assert_eq!(shell(&here), drive, "{here}");
+    assert_eq!(shell("bin/delkuthi --version"), format!("delkuthi {}\n", version()));
+    if !checks::hosts::found("pkg-config") {
+        return say("pkg-config is not installed: the release's file for it was not used");
+    }
+    let flags = shell("PKG_CONFIG_PATH=lib/pkgconfig pkg-config --cflags --libs delkuthi");
+    let build = format!(
+        "cc share/doc/delkuthi/examples/report.c share/doc/delkuthi/examples/file.c {} -Wl,-rpath,$PWD/lib -o {}/report",
+        flags.trim(),
+        out.path().display()
+    );
+    shell(&build);
+    let examples = "share/doc/delkuthi/examples";
+    let report = shell(&format!("{}/report {examples}/table.bin {examples}/recording.bin", out.path().display()));
+    assert_eq!(report, drive);
+}
+
+/// The portable sources of the tarball build by themselves, and answer the calls that come with them as the proved archive did.
+#[test]
+fn the_portable_sources_of_the_release() {
+    let Some(release) = release() else { return };
+    let target = Folder::new();
+    let mut cargo = Command::new(env!("CARGO"));
+    cargo.args(["build", "--release", "--offline", "--quiet", "--locked"]).current_dir(release.join("portable"));
+    let said = done(cargo.env("CARGO_TARGET_DIR", target.path()));
+    assert_eq!(said, "");
+    let archive = target.path().join("release/libdelkuthi.a");
+    let (test, player) = (release.join("portable/test"), target.path().join("player"));
+    let mut compiler = c_compiler();
+    compiler
+        .arg("-I")
+        .arg(release.join("portable/include"))
+        .arg(test.join("player.c"))
+        .arg(archive)
+        .arg("-o")
+        .arg(&player);
+    assert_eq!(done(&mut compiler), "");
+    let answers = text_of(&test.join("answers"));
+    assert_eq!(ran(Command::new(player).arg(test.join("script")).output()), Ran::new(0, &answers));
+    assert!(answers.lines().count() > 1_000);
+}

@@ -1,0 +1,99 @@
+//! The page for the safety assessor, and the trace that a program makes for it: from each promise to its tests.
+
+use checks::contract::{clauses, text};
+use checks::documents::text_of;
+use checks::places::{Folder, root};
+use checks::release::make;
+use std::process::{Command, Output};
+
+/// The rows of the trace, cell by cell.
+fn trace() -> Vec<Vec<String>> {
+    let folder = Folder::new();
+    let output = make(folder.path(), &["trace"]);
+    assert_eq!((output.status.code(), String::from_utf8_lossy(&output.stderr).as_ref()), (Some(0), ""));
+    let text = text_of(&folder.path().join("TRACE.md"));
+    let cells = |line: &str| line.trim_matches('|').split('|').map(|cell| cell.trim().to_string()).collect();
+    text.lines().filter(|line| line.starts_with("| §")).map(cells).collect()
+}
+
+/// Each promise of the contract has its row, in the contract's order, and each row names tests that are there.
+#[test]
+fn each_promise_is_traced_to_a_test() {
+    let rows = trace();
+    let promises: Vec<String> = clauses(&text())
+        .into_iter()
+        .filter(|clause| clause.promises)
+        .map(|clause| format!("§{}", clause.number))
+        .collect();
+    assert_eq!(rows.iter().map(|row| row[0].clone()).collect::<Vec<String>>(), promises);
+    for row in &rows {
+        assert!(row.len() == 5 && row[1..4].iter().any(|cell| !cell.is_empty()) && !row[4].is_empty(), "{row:?}");
+        for test in row[4].split(", ") {
+            let (package, name) = test.split_once('/').expect("a folder and a file");
+            assert!(root().join(format!("host/{package}/tests/{name}.rs")).is_file(), "{test}");
+        }
+    }
+}
+
+/// The program over a contract, a reading guide and one test file.
+fn traced(contract: &str, reading: &str, test: &str) -> Output {
+    let files = [
+        ("VERSION", "1.2.3\n"),
+        ("docs/CONTRACT.md", contract),
+        ("docs/READING.md", reading),
+        ("host/checks/tests/small.rs", test),
+    ];
+    let (folder, program) = Folder::around("release/trace.py", &files);
+    Command::new("python3").arg(program).arg(folder.path().join("out")).output().expect("python3 can be run")
+}
+
+#[test]
+fn a_promise_without_a_row_or_a_test_is_named() {
+    let contract = "**1.1** One.\n\n**1.2** Two.\n\n*1.3* Three.\n\n**1.4** Four.\n\n```example\n```\n";
+    let reading = "| §1.1, §1.2 | a | b | c |\n| §1.4 | a | b | c |\n";
+    assert_eq!(traced(contract, reading, "//! A test.\n//! Clauses: §1.1 to §1.2.\n").stderr, b"");
+    let said = |reading: &str, test: &str| {
+        let output = traced(contract, reading, test);
+        assert!(output.status.success());
+        String::from_utf8(output.stderr).expect("text")
+    };
+    assert!(said(reading, "//! Clauses: §1.1.\n").starts_with("§1.2 has no test"));
+    assert!(
+        said("| §1.1 | a | b | c |\n| §1.4 | a | b | c |\n", "//! Clauses: §1.1 to §1.2.\n")
+            .starts_with("§1.2 has no row")
+    );
+}
+
+/// What the documents for a buyer call by a name of the header is there.
+#[test]
+fn names_of_the_header() {
+    let header = text_of(&root().join("include/delkuthi.h"));
+    for file in ["docs/SAFETY.md", "docs/DATASHEET.md", "release/delkuthi.3.in"] {
+        let text = text_of(&root().join(file));
+        let words = text.split(|letter: char| !letter.is_ascii_alphanumeric() && letter != '_');
+        let names = words.filter(|word| word.to_ascii_lowercase().starts_with("delkuthi_") && *word != "delkuthi_cli");
+        let unknown: Vec<&str> = names.filter(|name| !header.contains(name)).collect();
+        assert!(unknown.is_empty(), "{file}: {unknown:?}");
+    }
+}
+
+/// The page has its sections, a number for each duty, and stays short enough to be read.
+#[test]
+fn the_page_for_the_assessor() {
+    let text = text_of(&root().join("docs/SAFETY.md"));
+    let sections: Vec<&str> = text.lines().filter_map(|line| line.strip_prefix("## ")).collect();
+    let expected = [
+        "Intended use",
+        "What is proved",
+        "What is assumed",
+        "Duties of a host",
+        "Failures, their effect, and how a host would notice",
+        "Confidence in the tool",
+        "Reporting an anomaly",
+    ];
+    assert_eq!(sections, expected);
+    let duties: Vec<String> =
+        text.lines().filter_map(|line| Some(line.strip_prefix("| D")?.split(' ').next()?.to_string())).collect();
+    assert_eq!(duties, (1..=duties.len()).map(|number| number.to_string()).collect::<Vec<String>>());
+    assert!(duties.len() >= 8 && text.split_whitespace().count() < 2_000, "{} words", text.split_whitespace().count());
+}

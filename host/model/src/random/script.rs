@@ -1,0 +1,118 @@
+//! Random calls of every sort as a script, for a host that plays them on any machine (`host/c/player.c`): a line is a call
+//! and its arguments, bytes in hexadecimal.
+
+use super::Random;
+use super::calls::calls;
+use super::recordings::{damaged_recording, recording};
+use super::tables::{any_table, damaged_rows, damaged_table};
+use crate::{Constraint, LAST_TIME, NO_LIMIT, Step, recording_bytes, table_bytes};
+
+/// Bytes in hexadecimal; "-" where there are none.
+fn hex(bytes: &[u8]) -> String {
+    let digits: String = bytes.iter().map(|byte| format!("{byte:02x}")).collect();
+    if digits.is_empty() { "-".to_string() } else { digits }
+}
+
+fn step_line(step: Step) -> String {
+    match step {
+        Step::Event { kind, time } => format!("event {kind} {time}"),
+        Step::Coloured { kind, colour, time } => format!("coloured {kind} {colour} {time}"),
+        Step::Tick { time } => format!("tick {time}"),
+        Step::Close => "close".to_string(),
+    }
+}
+
+/// A fresh monitor and calls on it, one in seven a withdrawal, with a page now and then.
+fn put_list(random: &mut Random, rows: &[Constraint], script: &mut Vec<String>) {
+    script.push(format!("fresh {}", hex(&table_bytes(rows))));
+    let number = if random.chance(85) { 30 + random.place(90) } else { 250 };
+    for step in calls(random, rows, number) {
+        script.push(step_line(step));
+        if random.chance(14) {
+            script.push("withdraw".to_string());
+        }
+        if random.chance(3) {
+            script.push(format!("page {}", random.place(2_600)));
+        }
+    }
+    script.push(format!("fresh {}", hex(&damaged_table(random))));
+}
+
+/// Reports, and tables made of rows, accepted and refused, in buffers long enough and too short.
+fn put_texts(random: &mut Random, rows: &[Constraint], script: &mut Vec<String>) {
+    let table = if random.chance(80) { table_bytes(rows) } else { damaged_table(random) };
+    let records = random.place(60);
+    let taken =
+        if random.chance(70) { recording(random, rows, records) } else { damaged_recording(random, rows, records) };
+    for call in ["report", "report_on"] {
+        let room = if random.chance(80) { 1_024 } else { random.place(300) };
+        script.push(format!("{call} {} {} {room}", hex(&table), hex(&taken)));
+    }
+    let rows = if random.chance(50) { any_table(random) } else { damaged_rows(random) };
+    let bodies: Vec<u8> = rows.iter().flat_map(raw).collect();
+    script.push(format!("table {} {}", hex(&bodies), random.place(1_300)));
+}
+
+/// The 34 bytes of a row for the table writer: its body, and zeros behind it.
+fn raw(row: &Constraint) -> Vec<u8> {
+    let mut body = table_bytes(std::slice::from_ref(row)).split_off(3);
+    body.resize(34, 0);
+    body
+}
+
+/// Events of some kinds at rising times, with a tick now and then.
+fn events(random: &mut Random, kinds: &[u8], number: u64) -> Vec<u8> {
+    let mut time = random.below(4);
+    let mut steps = Vec::new();
+    for _ in 0..random.below(number) {
+        steps.push(if random.chance(20) {
+            Step::Tick { time }
+        } else {
+            Step::Event { kind: *random.pick(kinds), time }
+        });
+        time += 1 + random.below(9);
+    }
+    recording_bytes(&steps)
+}
+
+/// Recordings joined, late stamps, and the shortest stretch, of recordings in order and of damaged ones.
+fn put_searches(random: &mut Random, rows: &[Constraint], script: &mut Vec<String>) {
+    let others: &[u8] = if random.chance(80) { &[8, 9] } else { &[7, 8] };
+    let (first, second) = (events(random, &[6, 7], 12), events(random, others, 12));
+    script.push(format!(
+        "join {} {} {}",
+        hex(&first),
+        hex(&second),
+        if random.chance(80) { 600 } else { random.place(200) }
+    ));
+    script.push(format!("join {} {} 600", hex(&damaged_recording(random, rows, 6)), hex(&second)));
+    let lower = random.below(9);
+    let upper = if random.chance(15) { NO_LIMIT } else { lower + random.below(9) };
+    let span = if random.chance(90) { 1 } else { 2 };
+    let repeat = table_bytes(&[Constraint::Repeat { event: 0, span, lower, upper }]);
+    let late = if random.chance(95) { random.below(7) } else { LAST_TIME + random.below(2) };
+    script.push(format!(
+        "stamps {} {} {} {late}",
+        hex(&repeat),
+        hex(&events(random, &[0, 0, 1], 9)),
+        random.below(9) / 8
+    ));
+    let records = random.place(40);
+    let searched = recording(random, rows, records);
+    script.push(format!("stretch {} {} {}", hex(&table_bytes(rows)), hex(&searched), random.place(rows.len() + 1)));
+    script.push(format!("stretch {} {} 0", hex(&repeat), hex(&damaged_recording(random, rows, 6))));
+}
+
+/// So many times a list of calls on a monitor with withdrawals and pages among them, and reports, a table, joins, late stamps
+/// and stretches.
+pub fn script(seed: u64, number: u64) -> String {
+    let mut random = Random::new(seed);
+    let mut script = Vec::new();
+    for _ in 0..number {
+        let rows = any_table(&mut random);
+        put_list(&mut random, &rows, &mut script);
+        put_texts(&mut random, &rows, &mut script);
+        put_searches(&mut random, &rows, &mut script);
+    }
+    script.join("\n") + "\n"
+}

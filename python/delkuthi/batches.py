@@ -1,0 +1,213 @@
+"""Thousands of lines of a log at a time: their stamps and their events side by side, and the records that the library reads in one call.
+
+What is done for each line is done by what Python has in C: splitting, looking up, packing. Lines that are not all alike raise
+:class:`Irregular`, and are then looked at one by one; both ways give the same steps.
+"""
+from __future__ import annotations
+
+import json
+import sys
+from array import array
+from math import gcd
+from itertools import chain, islice, takewhile
+from operator import gt, lt
+from typing import IO, TYPE_CHECKING, Iterator, NamedTuple, Sequence
+
+from .library import FIRST_COLOURED
+from .signals import parts, signals_of
+from .units import UNITS
+
+if TYPE_CHECKING:
+    from .table import Table
+
+#: The code of a line that is no event of the table.
+OTHER = 255
+#: So many bytes of a log are looked at together.
+BLOCK = 1 << 16
+
+
+class Irregular(Exception):
+    """Lines that are not all alike."""
+
+
+class Batch(NamedTuple):
+    """Lines that follow each other: their stamps, the codes of their events, and the place of the first."""
+
+    times: list[int]
+    codes: bytes
+    place: int
+
+
+class Codes:
+    """A number below :data:`OTHER` for each signal of a table, so that the events of many lines are a string of bytes."""
+
+    def __init__(self, table: Table):
+        """Codes for the signals of a table's event lines and of its rows; :class:`Irregular` if it has too many."""
+        named = {number for event in table.events for number in (event.kind, *signals_of(event.kind))}
+        self.numbers = sorted(named | {number for row in table.rows for number in row.signals})
+        if len(self.numbers) >= OTHER - 1:
+            raise Irregular
+        self.of = {number: code for code, number in enumerate(self.numbers)}
+        #: The signal of each code; none for other lines.
+        self.signals: list[int | None] = [*self.numbers, *[None] * (256 - len(self.numbers))]
+
+
+def blocks(file: IO[bytes]) -> Iterator[bytes]:
+    """The rest of a file in blocks of whole lines, each ended by a line feed; but for the last line, which may have none."""
+    rest = b""
+    while data := file.read(BLOCK):
+        cut = data.rfind(b"\n") + 1
+        if not cut:
+            rest += data
+            continue
+        yield rest + data[:cut]
+        rest = data[cut:]
+    if rest:
+        yield rest
+
+
+class Shape:
+    """Lines that are all cut in the same way: by these characters, in this order, the last being the line feed."""
+
+    def __init__(self, marks: bytes, dropped: bytes = b""):
+        """``dropped`` are marks that only stand beside another one: no cell ends there."""
+        self._marks, self._dropped, self.cells = marks, dropped, len(marks) - len(dropped)
+        self._others = bytes(byte for byte in range(256) if byte not in marks)
+        self._cuts = bytes(10 if byte in marks else byte for byte in range(256))
+
+    def cut(self, block: bytes) -> list[bytes]:
+        """The cells of a block of lines, one behind the other; :class:`Irregular` if a line is cut in another way."""
+        if b"\r" in block:
+            block = block.replace(b"\r\n", b"\n")
+        found = block.translate(None, self._others)
+        if b'"' in block or b"\r" in block or not block.endswith(b"\n") or found != self._marks * (len(found) // len(self._marks)):
+            raise Irregular
+        if len(set(self._marks)) == 2:
+            cells = block.replace(b"\n", self._marks[:1]).split(self._marks[:1])
+        else:
+            cells = block.translate(self._cuts, self._dropped).split(b"\n")
+        cells.pop()
+        return cells
+
+
+class Scale:
+    """How stamps, decimal numbers of one unit, become whole numbers of another."""
+
+    def __init__(self, written: str | None, unit: str | None):
+        self.above, self.below = (1, 1) if written is None or unit is None else (UNITS[written], UNITS[unit])
+
+    def times(self, cells: list[bytes]) -> list[int]:
+        """The times of stamps that have all the same number of digits behind the point, or none."""
+        joined, digits = b",".join(cells), 0
+        try:
+            if b"." in joined:
+                digits = _digits(cells, joined.replace(b",", b""))
+                times = list(map(int, joined.replace(b".", b"").split(b",")))
+            else:
+                times = _whole(cells, joined)
+        except (ValueError, RecursionError):
+            raise Irregular from None
+        above, below = self.above, self.below * 10**digits
+        common = gcd(above, below)
+        above, below = above // common, below // common
+        if below > 1 and any([time % below for time in times]):
+            raise Irregular
+        return times if above == below == 1 else [time * above // below for time in times]
+
+
+def _whole(cells: list[bytes], joined: bytes) -> list[int]:
+    """Whole numbers; what is not one of them is no integer, or is found here."""
+    try:
+        # The reader of JSON takes a list of numbers in one call. What else it takes is no stamp: true and false have an e, of others
+        # there is no sum that is a whole number.
+        times: list[int] = json.loads(f"[{joined.decode('ascii')}]")
+        if len(times) == len(cells) and b"e" not in joined and type(sum(times)) is int:
+            return times
+    except (TypeError, ValueError):
+        pass
+    if not joined.replace(b",", b"").isdigit():
+        raise Irregular
+    return list(map(int, cells))
+
+
+def _digits(cells: list[bytes], joined: bytes) -> int:
+    """How many digits each cell has behind its point."""
+    number, size, point = len(cells), len(cells[0]), cells[0].find(b".")
+    if joined.count(b".") != number or not joined.replace(b".", b"").isdigit():
+        raise Irregular
+    if point > 0 and len(joined) == size * number and joined[point::size] == b"." * number and len(set(map(len, cells))) == 1:
+        return size - point - 1
+    behind = {len(cell) - cell.find(b".") for cell in cells if cell.find(b".") > 0}
+    if len(behind) != 1 or not all([b"." in cell[1:] for cell in cells]):
+        raise Irregular
+    return behind.pop() - 1
+
+
+def rising(times: Sequence[int], clock: int) -> bool:
+    """Is each time later than the one before it, and the first later than the clock?"""
+    return times[0] > clock and all(map(lt, times, islice(times, 1, None)))
+
+
+def level(times: list[int], codes: bytes, clock: int, taken: set[int]) -> tuple[list[int], bytes]:
+    """Lines of which some share a stamp, without those that are no event and do not move the clock. ``taken`` are the codes of the events
+    at the clock. :class:`Irregular` where two events of one code share a stamp, or a stamp is before another."""
+    if any(map(gt, times, islice(times, 1, None))):
+        raise Irregular
+    kept = [(time, code) for time, before, code in zip(times, chain((clock,), times), codes) if code != OTHER or time > before]
+    if len(set(kept)) != len(kept) or any(code in taken for _, code in takewhile(lambda one: one[0] == clock, kept)):
+        raise Irregular
+    return [time for time, _ in kept], bytes([code for _, code in kept])
+
+
+def last_kept(times: list[int], codes: bytes) -> int:
+    """The place of the last line that :func:`level` keeps."""
+    place = len(codes) - 1
+    while place and codes[place] == OTHER and times[place] == times[place - 1]:
+        place -= 1
+    return place
+
+
+def ends(times: Sequence[int], codes: bytes) -> Iterator[tuple[int, int]]:
+    """The events at the last time, with it."""
+    for time, code in takewhile(lambda one: one[0] == times[-1], zip(reversed(times), reversed(codes))):
+        if code != OTHER:
+            yield code, time
+
+
+class Records:
+    """Steps as the records of a recording, by their codes."""
+
+    def __init__(self, numbers: Sequence[int | None]):
+        """The signals of the codes; ``None`` for one that only moves the clock."""
+        known = {parts(number)[0] for number in numbers if number is not None}
+        free = [kind for kind in range(FIRST_COLOURED) if kind not in known]
+        self._heads = [b"\x00\x08" if number is None else _head(number) for number in numbers]
+        self._heads += [b"\x00\x08"] * (256 - len(self._heads))
+        # Without colours all records have one length, if what only moves the clock is an event of a kind that no row names.
+        self._kinds = bytes(head[2] if len(head) == 3 else free[0] if free and len(head) == 2 else 0 for head in self._heads)
+        self._alike = bytes(code for code, head in enumerate(self._heads) if len(head) == 3 or free and len(head) == 2)
+
+    def of(self, times: Sequence[int], codes: bytes) -> bytes | bytearray:
+        """The records of steps; each is later than the one before it, or an event that may have its time."""
+        number = len(codes)
+        try:
+            stamps = array("Q", times)
+        except (OverflowError, TypeError):
+            raise Irregular from None
+        if sys.byteorder == "little":
+            stamps.byteswap()
+        data = stamps.tobytes()
+        if codes.translate(None, self._alike):
+            return b"".join([self._heads[code] + data[at : at + 8] for code, at in zip(codes, range(0, len(data), 8))])
+        records = bytearray(11 * number)
+        records[1::11] = b"\x09" * number
+        records[2::11] = codes.translate(self._kinds)
+        for at in range(8):
+            records[3 + at :: 11] = data[at::8]
+        return records
+
+
+def _head(number: int) -> bytes:
+    """What stands before the time in the record of an event."""
+    kind, colour = parts(number)
+    return bytes([0, 9, kind]) if colour is None else bytes([0, 10, kind, colour])

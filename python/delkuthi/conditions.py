@@ -1,0 +1,70 @@
+"""When a sampled value is an event: it rises above a limit, falls below one, becomes a value, or changes.
+
+A first sample is never an event: what it was before is not known. All comparisons are exact.
+"""
+from __future__ import annotations
+
+import re
+from dataclasses import dataclass
+from decimal import Decimal
+from fractions import Fraction
+from typing import Callable, Union
+
+#: What a sample is: a number, or text where it is none.
+Sample = Union[int, float, Decimal, Fraction, str]
+
+#: The conditions by the words of a table, and whether a value follows.
+WORDS = {"rises above": True, "falls below": True, "becomes": True, "changes": False}
+#: What a value of a condition looks like.
+VALUE = r"-?[0-9]{1,40}(?:\.[0-9]{1,40})?"
+
+
+@dataclass(frozen=True)
+class Condition:
+    """A condition as a table has it: its word, and the value as it is written, of which ``quoted`` says that it is text."""
+
+    word: str
+    value: str = ""
+    quoted: bool = False
+
+    @property
+    def number(self) -> Fraction | None:
+        """The value as a number, if it is one."""
+        return Fraction(self.value) if not self.quoted and re.fullmatch(VALUE, self.value) else None
+
+    def text(self) -> str:
+        """The condition as a table has it."""
+        if not WORDS[self.word]:
+            return self.word
+        value = '"' + re.sub(r'(["\\])', r"\\\1", self.value) + '"' if self.quoted else self.value
+        return f"{self.word} {value}"
+
+    def holds(self) -> Callable[[Sample], bool] | None:
+        """What has to become true for an event; ``None`` where each change is one."""
+        number = self.number
+        if self.word == "changes":
+            return None
+        if self.word == "becomes":
+            wanted: Sample = self.value if number is None else number
+            return lambda sample: sample == wanted
+        assert number is not None
+        limit = number
+        return (lambda sample: sample > limit) if self.word == "rises above" else (lambda sample: sample < limit)  # type: ignore[operator]
+
+
+class Edge:
+    """A condition over samples that come one after the other."""
+
+    def __init__(self, condition: Condition):
+        self._holds = condition.holds()
+        self._before: Sample | bool | None = None
+
+    def take(self, sample: Sample) -> bool:
+        """Is this sample an event?"""
+        before = self._before
+        if self._holds is None:
+            self._before = sample
+            return before is not None and sample != before
+        now = self._holds(sample)
+        self._before = now
+        return now and before is False

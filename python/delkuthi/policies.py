@@ -1,0 +1,78 @@
+"""What the options of a command say about how a log is read."""
+from __future__ import annotations
+
+import argparse
+import codecs
+import re
+
+from .logs import LogError, Policy
+from .table import Table
+from .units import NUMBER, UNITS, NotWhole, in_unit
+
+
+def time_of(what: str, text: str, table: Table) -> int:
+    """A time in the table's unit, such as ``300 ms``."""
+    match = re.fullmatch(rf"({NUMBER}) ?([a-z]+)?", text)
+    if match is None or match[2] is not None and match[2] not in UNITS:
+        raise LogError(what, "", f"expected a time such as 300 ms, found {text}")
+    if match[2] is not None and table.unit is None:
+        raise LogError(what, "", "the table has no unit line")
+    try:
+        return in_unit(match[1], match[2], table.unit)
+    except NotWhole as found:
+        raise LogError(what, "", f"{found} is no whole number of {table.unit or 'units'}") from None
+
+
+def add_options(parser: argparse.ArgumentParser) -> None:
+    """The options that every command on logs has."""
+    group = parser.add_argument_group("how the log is read")
+    group.add_argument("--equal", choices=["refuse", "drop", "later"], default="refuse",
+                       help="two events of one kind at one stamp: an error, leave out the second, or one unit later")
+    group.add_argument("--unsorted", choices=["refuse", "sort"], default="refuse",
+                       help="a stamp before the one above it: an error, or sort the log first (in memory)")
+    group.add_argument("--round", action="store_true", help="stamps finer than the table's unit count as the nearest")
+    group.add_argument("--from-zero", action="store_true", help="count the stamps from the first one")
+    group.add_argument("--as-stamped", action="store_true",
+                       help="give the monitor the stamps as they are, not ahead by the largest jitter of the table")
+    group.add_argument("--until", metavar="TIME", help="the clock went on to this time after the last line")
+    group.add_argument("--no-close", action="store_true", help="the end of the log is not the end: rows may stay open")
+    group.add_argument("--time-column", metavar="NAME", help="CSV: the column of the times (time, time_ms, ..)")
+    group.add_argument("--event-column", metavar="NAME", help="CSV: the column of the events (event)")
+    group.add_argument("--task-column", metavar="NAME", help="CSV: the column of the tasks (task)")
+    group.add_argument("--action-column", metavar="NAME", help="CSV: the column of what happens to them (action)")
+    group.add_argument("--encoding", metavar="NAME", type=_encoding, default="utf-8", help="of a text log, such as cp1252 (utf-8)")
+    group.add_argument("--format", metavar="ENDING", type=_format, help="what the log is, such as csv, whatever its name ends with")
+    add_databases(parser)
+
+
+def add_databases(parser: argparse.ArgumentParser) -> None:
+    """The option that every command on frames has."""
+    parser.add_argument("--dbc", metavar="FILE", action="append", default=[], help="signals by name: a DBC or ARXML file, by canmatrix")
+
+
+def _encoding(text: str) -> str:
+    """The name of an encoding that Python knows."""
+    try:
+        "\n".encode(codecs.lookup(text).name)
+    except (LookupError, ValueError):
+        raise argparse.ArgumentTypeError(f"expected an encoding such as cp1252, found {text}") from None
+    return codecs.lookup(text).name
+
+
+def _format(text: str) -> str:
+    return f".{text.lower().lstrip('.')}"
+
+
+def read_table(given: argparse.Namespace, recorded: bool = False) -> Table:
+    """The table, with the files of signals that the options name. What is recorded can only have the library's own kinds."""
+    table = Table.read(given.table).with_databases(given.dbc)
+    if recorded and not table.recordable:
+        raise LogError(str(given.table), "", "a recording has at most 48 events, and 16 with colours")
+    return table
+
+
+def policy(given: argparse.Namespace, table: Table) -> Policy:
+    """The policy that the options say."""
+    until = None if given.until is None else time_of("--until", given.until, table)
+    return Policy(given.equal, given.unsorted, given.round, given.from_zero, given.as_stamped, until, not given.no_close,
+                  given.time_column, given.event_column, given.task_column, given.action_column, given.encoding, given.format)

@@ -1,0 +1,132 @@
+"""CSV and TSV."""
+from __future__ import annotations
+
+import csv
+from itertools import chain
+from operator import itemgetter
+from typing import Iterable, Iterator
+
+from ..batches import OTHER, Batch, Codes, Irregular, Scale, Shape, blocks
+from .base import Lines, Reader, Stamped, ending, lines_of
+from .python_can import PythonCanReader
+from .sheets import Columns, SheetReader
+
+
+class CsvReader(SheetReader):
+    """Columns by name, between commas, semicolons or tabs; with semicolons a comma is the point of a number. A file of python-can's own
+    columns is read by python-can."""
+
+    endings = (".csv", ".tsv")
+    delimiter = ","
+
+    def lines(self) -> Iterator[Stamped]:
+        for _, first in self.text_lines():
+            yield from self._frames() if "arbitration_id" in self._header(first) else super().lines()
+            return
+        yield from super().lines()
+
+    def _header(self, first: str) -> list[str]:
+        """The names of the columns; from them it is seen what separates them."""
+        self.delimiter = "\t" if ending(self.path) == ".tsv" or self.policy.format == ".tsv" else max(",;\t", key=first.count)
+        self.comma = self.delimiter == ";"
+        return next(csv.reader([first], delimiter=self.delimiter), [])
+
+    def rows(self) -> Iterator[tuple[int, list[str]]]:
+        return self._cells(self.text_lines())
+
+    def _cells(self, lines: Iterable[tuple[int, str]]) -> Iterator[tuple[int, list[str]]]:
+        number = 1
+
+        def texts() -> Iterator[str]:
+            nonlocal number
+            for number, line in lines:
+                yield line
+
+        for cells in csv.reader(texts(), delimiter=self.delimiter):
+            yield number, cells
+
+    def _frames(self) -> Iterator[Stamped]:
+        """A file of python-can, whose first frame is in the second line."""
+        frames = PythonCanReader(self.path, self.table, self.policy)
+        frames.buses, frames.progress, frames.state, frames.file = self.buses, self.progress, self.state, self.file
+        for time, kinds, place in frames.lines():
+            yield Stamped(time, kinds, place + 1)
+            self.rounded = frames.rounded
+
+    def batches(self, codes: Codes) -> Iterator[Batch | Lines]:
+        with self.opened() as file:
+            header = [] if self.wide else self._header(self.decoded(file.readline(), 1))
+            if not header or "arbitration_id" in header:
+                yield self.lines()
+                return
+            columns = Columns(self, header, self.comma)
+            if columns.event is None or columns.samples or columns.tasks:
+                yield self.lines()
+                return
+            several = _Blocks(self, columns, codes)
+            number, rest = 2, blocks(file)
+            for block in rest:
+                self.advance(len(block))
+                if b'"' in block:
+                    # A cell in quotes may go on in the next block.
+                    yield self._one_by_one(columns, (line for one in chain([block], rest) for line in lines_of(one)), number)
+                    return
+                try:
+                    batch = several.batch(block, number)
+                    number += len(batch.codes)
+                    yield batch
+                except Irregular:
+                    lines = lines_of(block)
+                    yield self._one_by_one(columns, lines, number)
+                    number += len(lines)
+
+    def _one_by_one(self, columns: Columns, lines: Iterable[bytes], number: int) -> Iterator[Stamped]:
+        """Lines from a number on, each by itself."""
+        for place, cells in self._cells((at, self.decoded(line, at)) for at, line in enumerate(lines, number)):
+            if cells:
+                yield columns.line(cells, place)
+            else:
+                self.skipped += 1
+
+
+class _Events:
+    """The codes of what stands in the events' column, kept from line to line."""
+
+    def __init__(self, reader: Reader, columns: Columns, codes: Codes):
+        self.reader, self.columns, self.codes = reader, columns, codes
+        self._known: dict[bytes, int] = {}
+
+    def of(self, cells: list[bytes]) -> bytes:
+        """The codes of some cells."""
+        try:
+            return bytes(itemgetter(*cells, b"")(self._known))[:-1]
+        except KeyError:
+            if len(self._known) > 10_000:
+                self._known.clear()
+            for cell in {*cells, b""}:
+                name = self.reader.decoded(cell, 2).strip()
+                kinds = self.columns.kinds.get(name) or self.reader.other(name)
+                self._known[cell] = self.codes.of[kinds[0]] if kinds else OTHER
+            return bytes(map(self._known.__getitem__, cells))
+
+
+class _Blocks:
+    """Blocks of lines that all have a plain stamp and an event."""
+
+    def __init__(self, reader: CsvReader, columns: Columns, codes: Codes):
+        self.reader, self.columns = reader, columns
+        self.shape = Shape(reader.delimiter.encode() * (len(columns.header) - 1) + b"\n")
+        self.events = _Events(reader, columns, codes)
+        if columns.unit is not None and reader.table.unit is None:
+            raise reader.error(2, f"the stamps are in {columns.unit}, but the table has no unit line")
+        self.scale = Scale(columns.unit, reader.table.unit)
+
+    def batch(self, block: bytes, number: int) -> Batch:
+        """The lines of a block."""
+        if not block.isascii():
+            self.reader.decoded(block, 2)
+        cells, number_of = self.shape.cut(block), self.shape.cells
+        stamps = cells[self.columns.time :: number_of]
+        if self.reader.comma:
+            stamps = b"\n".join(stamps).replace(b",", b".").split(b"\n")
+        return Batch(self.scale.times(stamps), self.events.of(cells[self.columns.event or 0 :: number_of]), number)

@@ -1,0 +1,83 @@
+"""Frames side by side: what is the same for all frames of an identifier is worked out once."""
+from __future__ import annotations
+
+import re
+from operator import itemgetter
+from typing import Callable, Sequence
+
+from ..batches import OTHER, Batch, Codes, Irregular, Scale
+from ..mapping import CanMapping
+from .base import Lines, Reader, Stamped
+
+#: The code of a frame whose bus or data has to be looked at.
+_LOOK = 254
+_HEX = b"0123456789abcdefABCDEF"
+
+
+class Frames:
+    """The frames of a log, many at a time, in the columns of their stamps, buses, identifiers and data."""
+
+    def __init__(self, reader: Reader, mapping: CanMapping, codes: Codes, identified: Callable[[bytes], tuple[int, bool]]):
+        """``identified`` gives the number of an identifier as it is written, and whether it is an extended one."""
+        self._reader, self._mapping, self._codes, self._identified = reader, mapping, codes, identified
+        self._scale = Scale("s", reader.table.unit)
+        self._known: dict[bytes, int] = {}
+
+    def found(self, stamps: list[bytes], buses: list[bytes], identifiers: list[bytes], data: Sequence[bytes], place: int) -> Batch | Lines:
+        """The frames of lines that follow each other; :class:`Irregular`, before anything is looked at, if they are not all data frames.
+        Where one of them is several events they are given as lines."""
+        times = self._scale.times(stamps)
+        events = self._events(identifiers)
+        names = {bus: bus.decode("ascii") for bus in set(buses)}
+        digits = _hexadecimal(data)
+        self._reader.buses.update(names.values())
+        several: dict[int, tuple[int, ...]] = {}
+        at = events.find(_LOOK)
+        found = bytearray(events)
+        while at >= 0:
+            number, extended = self._identified(identifiers[at])
+            kinds = self._mapping.kinds(number, extended, names[buses[at]], bytes.fromhex(digits[at].decode("ascii")))
+            found[at] = self._codes.of[kinds[0]] if kinds else OTHER
+            if len(kinds) > 1:
+                several[at] = kinds
+            at = events.find(_LOOK, at + 1)
+        batch = Batch(times, bytes(found), place)
+        return batch if not several else self._lines(batch, several)
+
+    def _lines(self, batch: Batch, several: dict[int, tuple[int, ...]]) -> Lines:
+        return [Stamped(time, several.get(at) or (() if code == OTHER else (self._codes.numbers[code],)), batch.place + at)
+                for at, (time, code) in enumerate(zip(batch.times, batch.codes))]
+
+    def _events(self, identifiers: list[bytes]) -> bytes:
+        """The codes of frames by their identifiers alone."""
+        try:
+            return bytes(itemgetter(*identifiers, identifiers[0])(self._known))[:-1]
+        except KeyError:
+            for written in {*identifiers} - self._known.keys():
+                kinds = self._mapping.known(*self._identified(written))
+                self._known[written] = _LOOK if kinds is None or len(kinds) > 1 else self._codes.of[kinds[0]] if kinds else OTHER
+            return bytes(map(self._known.__getitem__, identifiers))
+
+
+def _hexadecimal(data: Sequence[bytes]) -> Sequence[bytes]:
+    """The data, if it is all of whole bytes in hexadecimal digits."""
+    if b"".join(data).translate(None, _HEX) or any(size % 2 for size in set(map(len, data))):
+        raise Irregular
+    return data
+
+
+def written_in_hex(pattern: str) -> Callable[[bytes], tuple[int, bool]]:
+    """What reads an identifier that is written as the pattern says, in hexadecimal digits: its first group; a second one, or more than
+    three digits where there is none, says that it is an extended one."""
+    compiled = re.compile(pattern.encode())
+
+    def read(written: bytes) -> tuple[int, bool]:
+        match = compiled.fullmatch(written)
+        if match is None:
+            raise Irregular
+        number = int(match[1], 16)
+        if number >= 2**29:
+            raise Irregular
+        return number, bool(match[2]) if compiled.groups > 1 else len(match[1]) > 3
+
+    return read

@@ -1,0 +1,151 @@
+"""Sheets: lines of cells under a header. Events by name in one column, sampled values in several, or tasks and what happens to them."""
+from __future__ import annotations
+
+import re
+from decimal import Decimal
+from typing import Iterator
+
+from ..conditions import Edge, Sample
+from ..signals import is_coloured, colours, parts, signal
+from ..sources import ColumnSource, TaskSource
+from ..table import CsvSource, Table
+from ..timestamps import Stamps
+from ..units import UNITS
+from .base import Reader, Stamped
+from .btf import Waiting
+
+_UNIT = re.compile(r"(?:^|[ _(\[])(%s)[)\]]?$" % "|".join(UNITS))
+_TIME = re.compile(r"(?:time(?:stamp)?|date|uhrzeit|zeit)(?:$|[ _(\[])")
+#: A sampled number.
+_NUMBER = re.compile(r"[+-]?(?:[0-9]{1,40}(?:\.[0-9]{0,40})?|\.[0-9]{1,40})(?:[eE][+-]?[0-9]{1,2})?")
+
+
+def named_kinds(table: Table) -> dict[str, tuple[int, ...]]:
+    """The signals of a table by what stands in the events' column."""
+    kinds: dict[str, tuple[int, ...]] = {event.name: (event.kind,) for event in table.events}
+    for event in table.events:
+        for source in event.sources:
+            if isinstance(source, CsvSource):
+                kinds[source.text] = (signal(event.kind, source.colour),)
+        if is_coloured(event.kind):
+            kinds.update((f"{event.name}/{parts(number)[1]}", (number,)) for number in colours(event.kind))
+    return kinds
+
+
+class Columns:
+    """What the columns of a sheet are, by its header."""
+
+    def __init__(self, reader: Reader, header: list[str], comma: bool):
+        self.reader, self.header, self.comma = reader, header, comma
+        self.names = [cell.strip().lower() for cell in header]
+        self.stamps = Stamps()
+        self.time, self.unit = self._time_column()
+        policy = reader.policy
+        self.event = self._optional(policy.event_column, "event")
+        self.task = self._optional(policy.task_column, "task")
+        self.action = self._optional(policy.action_column, "action")
+        self.kinds = named_kinds(reader.table)
+        self.samples = list(self._samples())
+        self.tasks = self._tasks() if self.task is not None and self.action is not None else {}
+        self.waiting: Waiting = reader.state.setdefault("waiting", Waiting())
+        if self.event is None and not self.samples and not self.tasks:
+            raise self._lacks(policy.event_column or "event")
+        used = [self.time, self.event, *(place for place, _, _, _ in self.samples), *((self.task, self.action) if self.tasks else ())]
+        self.last = max(place for place in used if place is not None)
+
+    def _lacks(self, name: str) -> Exception:
+        wanted = [source.column for event in self.reader.table.events for source in event.sources if isinstance(source, ColumnSource)]
+        names = " or ".join([name, *sorted(set(wanted))])
+        return self.reader.error(1, f"expected a column {names}, found {', '.join(self.header) or 'nothing'}")
+
+    def _optional(self, given: str | None, usual: str) -> int | None:
+        """The place of a column: the one that was asked for, which has to be there, or the one of the usual name if it is."""
+        name = (given or usual).strip().lower()
+        if name in self.names:
+            return self.names.index(name)
+        if given is not None:
+            raise self._lacks(given)
+        return None
+
+    def _time_column(self) -> tuple[int, str | None]:
+        """The place of the column of the times, and the unit that its name ends with, as in ``time_ms`` or ``time [ms]``."""
+        given = self.reader.policy.time_column
+        place = self._optional(given, "time")
+        if place is None:
+            found = [at for at, name in enumerate(self.names) if _TIME.match(name)]
+            if not found:
+                raise self.reader.error(1, f"expected a column time, found {', '.join(self.header) or 'nothing'}")
+            place = found[0]
+        unit = _UNIT.search(self.header[place].strip())
+        return place, unit[1] if unit else None
+
+    def _samples(self) -> Iterator[tuple[int, Edge, int, bool]]:
+        """The sampled columns that the table names: place, condition, signal, and whether it needs numbers."""
+        for event in self.reader.table.events:
+            for source in event.sources:
+                if isinstance(source, ColumnSource) and source.column.strip().lower() in self.names:
+                    place, number = self.names.index(source.column.strip().lower()), signal(event.kind, source.colour)
+                    edge = self.reader.state.setdefault(f"edge {number} {source}", Edge(source.condition))
+                    yield place, edge, number, source.condition.word in ("rises above", "falls below")
+
+    def _tasks(self) -> dict[tuple[str, str], tuple[int, ...]]:
+        found: dict[tuple[str, str], tuple[int, ...]] = {}
+        for event in self.reader.table.events:
+            for source in event.sources:
+                if isinstance(source, TaskSource):
+                    key = source.name, source.action
+                    found[key] = (*found.get(key, ()), signal(event.kind, source.colour))
+        return found
+
+    def line(self, cells: list[str], number: int) -> Stamped:
+        """What a line says."""
+        if len(cells) <= self.last:
+            raise self.reader.error(number, f"expected {len(self.header)} columns, found {len(cells)}")
+        name = "" if self.event is None else cells[self.event].strip()
+        kinds = self.kinds.get(name) or self.reader.other(name)
+        if self.tasks:
+            name, action = cells[self.task or 0].strip(), cells[self.action or 0].strip().lower()
+            kinds += self.tasks.get((name, self.waiting.action((name,), action)), ())
+        for place, edge, one, numeric in self.samples:
+            sample = self._sample(cells[place].strip(), numeric, place, number)
+            if sample is not None and edge.take(sample) and one not in kinds:
+                kinds += (one,)
+        return Stamped(self._stamp(cells[self.time].strip(), number), kinds, number)
+
+    def _stamp(self, text: str, number: int) -> int:
+        found = self.stamps.read(text.replace(",", ".") if self.comma else text)
+        if found is None:
+            raise self.reader.error(number, f"expected a time, found {text or 'nothing'}")
+        return self.reader.time(found[0], found[1] or self.unit, number)
+
+    def _sample(self, text: str, numeric: bool, place: int, number: int) -> Sample | None:
+        """A sampled value; ``None`` where the cell is empty."""
+        if not text:
+            return None
+        decimal = text.replace(",", ".") if self.comma else text
+        if _NUMBER.fullmatch(decimal):
+            return Decimal(decimal)
+        if numeric:
+            raise self.reader.error(number, f"expected a number in the column {self.header[place].strip()}, found {text}")
+        return text
+
+
+class SheetReader(Reader):
+    """A reader of a sheet: a subclass has ``rows``."""
+
+    #: Is a comma the point of a number?
+    comma = False
+
+    def rows(self) -> Iterator[tuple[int, list[str]]]:
+        """The header and the lines below it, each with its number; an empty list for an empty line."""
+        raise NotImplementedError
+
+    def lines(self) -> Iterator[Stamped]:
+        rows = self.rows()
+        header = next(rows, None)
+        columns = Columns(self, [] if header is None else header[1], self.comma)
+        for number, cells in rows:
+            if cells:
+                yield columns.line(cells, number)
+            else:
+                self.skipped += 1

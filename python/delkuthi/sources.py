@@ -1,0 +1,78 @@
+"""Where events come from: frames, signals by name, sampled columns, what happens to tasks, texts of a CSV file, and keys."""
+from __future__ import annotations
+
+from dataclasses import dataclass
+
+from .conditions import Condition
+
+#: What a table can name in a scheduler trace.
+TARGETS = ("task", "isr", "runnable")
+#: What happens to them; a ``wake`` is the resume that ends a wait.
+ACTIONS = ("activate", "start", "preempt", "suspend", "resume", "wait", "wake", "release", "poll", "park", "terminate")
+
+
+@dataclass(frozen=True)
+class CanSource:
+    """Frames of a CAN bus that are an event: an identifier, and what their data begins with (``.`` is any digit)."""
+
+    identifier: int
+    extended: bool = False
+    bus: str | None = None
+    data: str | None = None
+    change: bool = False
+    colour: int | None = None
+
+    def matches(self, data: bytes) -> bool:
+        """Does the data begin with the digits asked for?"""
+        if self.data is None:
+            return True
+        digits = data.hex().upper()
+        return len(digits) >= len(self.data) and all(a in (".", b) for a, b in zip(self.data, digits))
+
+
+@dataclass(frozen=True)
+class CsvSource:
+    """What stands in the event's column of a CSV file where it is not the event's name."""
+
+    text: str
+    colour: int | None = None
+
+
+@dataclass(frozen=True)
+class KeySource:
+    """A key that gives the event while a bus is watched."""
+
+    key: str
+    colour: int | None = None
+
+
+@dataclass(frozen=True)
+class SignalSource:
+    """A signal of a DBC or ARXML file, ``Frame.Signal``, and when it is an event."""
+
+    signal: str
+    condition: Condition
+    bus: str | None = None
+    colour: int | None = None
+
+
+@dataclass(frozen=True)
+class ColumnSource:
+    """A column of samples, and when one of them is an event."""
+
+    column: str
+    condition: Condition
+    colour: int | None = None
+
+
+@dataclass(frozen=True)
+class TaskSource:
+    """What happens to a task, an interrupt routine or a runnable: an event of a scheduler trace."""
+
+    target: str
+    name: str
+    action: str
+    colour: int | None = None
+
+
+Source = CanSource | SignalSource | ColumnSource | TaskSource | CsvSource | KeySource

@@ -1,0 +1,196 @@
+"""Many lines at a time give what one line after the other gives: steps, counts, verdicts, reasons, errors."""
+import random
+from contextlib import contextmanager
+from dataclasses import replace
+
+import pytest
+
+from delkuthi import Row, Table, batches, monitors
+from delkuthi.check import check
+from delkuthi.logs import Log, LogError, Policy
+from delkuthi.measure import measure
+from delkuthi.monitors import Monitors, monitor_of
+from delkuthi.readers import READERS, Reader
+from delkuthi.rowtypes import TYPES
+from delkuthi.table import CanSource, Event
+
+from test_measure import random_row
+
+
+@contextmanager
+def set_to(place, name, value):
+    before = getattr(place, name)
+    setattr(place, name, value)
+    try:
+        yield
+    finally:
+        setattr(place, name, before)
+
+
+@contextmanager
+def one_by_one():
+    """No reader has a way to read many lines together."""
+    kept = [(one, one.__dict__["batches"]) for one in READERS if "batches" in one.__dict__]
+    for one, _ in kept:
+        one.batches = Reader.batches
+    try:
+        yield
+    finally:
+        for one, own in kept:
+            one.batches = own
+
+
+def random_table(rng):
+    """Rows over a few kinds, with sources of all sorts."""
+    rows = [random_row(rng, rng.choice(TYPES)) for _ in range(rng.randint(0, 5))]
+    events = []
+    for kind in range(5):
+        source = CanSource(0x100 + kind, data=rng.choice([None, None, "0."]), bus=rng.choice([None, None, "can0", "1"]), change=rng.random() < 0.2)
+        more = (CanSource(0x100),) if kind == 3 and rng.random() < 0.3 else ()
+        events.append(Event(f"e{kind}", kind, (source, *more)))
+    for kind in (48, 49):
+        events.append(Event(f"c{kind}", kind, tuple(CanSource(0x100 + kind, data=f"0{colour}", colour=colour) for colour in range(3))))
+    return Table(rows, events, "us")
+
+
+def random_lines(rng):
+    """Events of a log: times in microseconds, a number for what comes, a bus, data; now and then a fault."""
+    time, found = rng.choice([0, 0, 3, 10**9]), []
+    for _ in range(rng.randint(0, 80)):
+        time += rng.choice([0, 1, 1, 1, 2, 9]) - (rng.random() < 0.003)
+        data = bytes(rng.choice([0, 1, 2, 0x12]) for _ in range(rng.choice([1, 1, 1, 2, 8, 0])))
+        found.append((max(time, 0), rng.choice([0, 1, 2, 3, 4, 48, 49, 99]), rng.choice(["can0", "can1"]), data))
+    return found
+
+
+def as_csv(rng, lines):
+    colour = lambda: rng.choice(["/0", "/1", "/2"]) if rng.random() < 0.998 else rng.choice(["", "/9"])  # noqa: E731
+    ends, unit = rng.choice(["\n", "\n", "\r\n"]), rng.choice(["time_us", "time_s", "time"])
+    comma = unit == "time_s" and rng.random() < 0.3
+    mark = ";" if comma else rng.choice([",", "\t"])
+    text = mark.join([unit, "note", "event"]) + ends
+    for time, kind, _, _ in lines:
+        name = f"c{kind}{colour()}" if kind >= 48 and kind != 99 else f"e{kind}" if kind != 99 else rng.choice(["", "other", "e 1"])
+        stamp = f"{time // 10**6}.{time % 10**6:06d}" if unit == "time_s" else rng.choice([str(time)] * 20 + [f" {time}", f"{time}.0"])
+        stamp = stamp.replace(".", ",") if comma else stamp
+        note = rng.choice(["", "", "", "x", '"a b"'] if rng.random() < 0.1 else ["", "n"])
+        text += mark.join([stamp, note, name]) + ends + rng.choice([""] * 60 + [ends])
+        if rng.random() < 0.002:
+            text += rng.choice(["soon" + mark + mark + "e1", "1_0" + mark + mark + "e1", "5", "true" + mark + mark, "1e3" + mark + mark]) + ends
+    return text[: -len(ends)] if rng.random() < 0.2 else text
+
+
+def as_candump(rng, lines):
+    text = ""
+    for time, kind, bus, data in lines:
+        digits = data.hex().upper() if rng.random() < 0.99 else rng.choice(["R", "R8", "#1AA"])
+        text += f"({time // 10**6}.{time % 10**6:06d}) {bus} {0x100 + kind:03X}#{digits}\n{'' if rng.random() < 0.99 else chr(10)}"
+        if rng.random() < 0.002:
+            text += rng.choice(["no line\n", "(1.0) can0 1#0\n", "(0.000001) can0 FFFFFFFF#00\n"])
+    return text
+
+
+def as_asc(rng, lines):
+    text = f"date today\nbase hex  timestamps {rng.choice(['absolute', 'absolute', 'relative'])}\n0.0 Start of measurement\n"
+    for time, kind, bus, data in lines:
+        bytes_of = data.hex(" ").upper()
+        rest = rng.choice(["", "  Length = 5 BitCount = 4"]) if rng.random() < 0.9 else rng.choice([" 0", " AB", "A"])
+        text += f"   {time // 10**6}.{time % 10**6:06d} {bus[-1]}  {0x100 + kind:X}       Rx   d {len(data)} {bytes_of}{rest}\n"
+        if rng.random() < 0.005:
+            text += rng.choice(["// a note\n", "9.9 CAN 1 Status:chip status\n", "9999.0 1 1A0 Rx d 2 01\n", f"{time / 1e6:.6f} 1 ErrorFrame\n"])
+    return text
+
+
+FORMATS = {"csv": as_csv, "log": as_candump, "asc": as_asc}
+
+
+def outcome_of(table, path, policy):
+    """All that a check says; of an error the text alone."""
+    found = check(table, str(path), policy, measured=True)
+    return found.error or replace(found)
+
+
+def steps_of(table, path, policy):
+    """The steps and counts of a log, or what is said against it."""
+    log = Log(path, table, policy)
+    try:
+        return [tuple(step) for step in log.steps()], log.counts, log.moments
+    except LogError as error:
+        return str(error)
+
+
+@pytest.mark.parametrize("ending", FORMATS)
+def test_random_logs(tmp_path, ending):
+    rng = random.Random(9)
+    path, broken, errors = tmp_path / f"a.{ending}", 0, 0
+    for number in range(250):
+        table = random_table(rng)
+        path.write_bytes(FORMATS[ending](rng, random_lines(rng)).encode())
+        policy = Policy(equal=rng.choice(["refuse", "drop", "later", "later"]), round=rng.random() < 0.2, from_zero=rng.random() < 0.3,
+                        close=rng.random() < 0.8, until=rng.choice([None, None, 10**10]), unsorted=rng.choice(["refuse"] * 4 + ["sort"]))
+        with set_to(batches, "BLOCK", rng.choice([150, 700, 1 << 16])), set_to(monitors, "KEPT", rng.choice([100, 10**6])):
+            found, steps = outcome_of(table, path, policy), steps_of(table, path, policy)
+            with one_by_one():
+                assert found == outcome_of(table, path, policy)
+                assert steps == steps_of(table, path, policy)
+        broken += not isinstance(found, str) and bool(found.broken)
+        errors += isinstance(found, str)
+    assert broken > 40 and errors > 10, (broken, errors)
+
+
+def test_more_rows_than_a_monitor_has(tmp_path):
+    """A table of many rows reads, row by row, what each row reads alone; steps and pages are numbered over all."""
+    rng = random.Random(11)
+    path, broken = tmp_path / "a.csv", 0
+    for number in range(25):
+        rows = [random_row(rng, rng.choice(TYPES)) for _ in range(rng.randint(33, 90))]
+        names = {kind: f"e{kind}" for kind in range(5)} | {48: "c48", 49: "c49"}
+        events = [Event(name, kind) for kind, name in names.items()]
+        table = Table(rows, events, "us")
+        assert len(table.parts) == -(-len(rows) // 32)
+        path.write_text(as_csv(rng, random_lines(rng)))
+        policy = Policy(equal="later", close=rng.random() < 0.8)
+        with set_to(batches, "BLOCK", rng.choice([150, 1 << 16])):
+            found = check(table, str(path), policy)
+            for at in rng.sample(range(len(rows)), 8):
+                alone = check(Table([rows[at]], events, "us"), str(path), policy)
+                if found.error or alone.error:
+                    continue
+                one, other = found.rows[at], alone.rows[0]
+                assert (one.verdict, one.step, one.place, one.events) == (other.verdict, other.step, other.place, other.events)
+                if found.moments == alone.moments:
+                    assert one.reason == other.reason
+                broken += one.verdict == "broken"
+        if not found.error:
+            lines = [line for line in found.page.splitlines() if not line.startswith("-")]
+            assert [int(line[:3]) for line in lines] == list(range(len(rows)))
+            assert [line[37:57].strip() for line in lines] == [str(row.step or "") for row in found.rows]
+    assert broken > 20
+
+
+def test_more_events_than_a_monitor_has():
+    text = "".join(f"event e{number}\n" for number in range(400)) + "".join(f"Order e{number} -> e{number + 1}\n" for number in range(0, 400, 2))
+    table = Table.from_text(text)
+    assert len(table.parts) == 9 and {len(part.rows) for part in table.parts} <= {24, 8}
+    monitor = monitor_of(table)
+    assert isinstance(monitor, Monitors)
+    for number in range(400):
+        monitor.event(f"e{number}", number)
+    monitor.event("e7", 1000)
+    monitor.tick(1001)
+    monitor.close()
+    assert [verdict.word for verdict in monitor.verdicts].count("kept") == 199
+    assert str(monitor.verdict(3)) == "broken 402"
+    assert measure(table, [(table.kind(f"e{number}"), number, 1) for number in range(400)])[3].greatest == 1
+
+
+def test_a_step_that_one_monitor_refuses_is_taken_by_none():
+    table = Table([Row.of("Order", source=0, target=1)] * 32 + [Row.of("Delay", source=2, target=3, lower=0, upper=10**6)])
+    monitor = monitor_of(table)
+    for time in range(64):
+        monitor.take(2, time)
+    before = [str(verdict) for verdict in monitor.verdicts], monitor.steps
+    with pytest.raises(Exception, match="refused with 12"):
+        monitor.take(2, 64)
+    assert ([str(verdict) for verdict in monitor.verdicts], monitor.steps) == before
+    monitor.take(0, 64)

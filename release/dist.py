@@ -1,0 +1,184 @@
+#!/usr/bin/env python3
+"""Makes the release of what `make install` has put to BUILD/dist/tree: a folder and a tarball, the same bytes wherever it is made.
+
+    dist.py BUILD
+
+Beside the installed files it has the portable crate, the sources, a manifest, a list of parts in the form of SPDX, and checksums.
+Times are those of the commit, owners are none, files stand in the order of their names.
+"""
+import gzip
+import hashlib
+import os
+import re
+import shutil
+import subprocess
+import sys
+import tarfile
+import uuid
+from datetime import datetime, timezone
+from pathlib import Path
+
+ROOT = Path(__file__).resolve().parent.parent
+KIT = re.compile(rb"rattle logic=[0-9a-f]{64}")
+NEEDED_OF_C = {"memcpy", "memmove", "memset", "memcmp"}
+
+
+def said(*words):
+    """What a command prints."""
+    try:
+        return subprocess.run(words, cwd=ROOT, check=True, capture_output=True, text=True).stdout
+    except (OSError, subprocess.CalledProcessError) as error:
+        sys.exit(f"dist.py: {' '.join(words)}: {getattr(error, 'stderr', '') or error}")
+
+
+def digest(path, kind="sha256"):
+    """The checksum of a file."""
+    return hashlib.new(kind, path.read_bytes()).hexdigest()
+
+
+def files(folder):
+    """The files below a folder, links among them, in the order of their names."""
+    return sorted((path for path in folder.rglob("*") if path.is_symlink() or path.is_file()), key=lambda path: path.as_posix())
+
+
+def commit():
+    """The commit that the sources are of, with a word if they were changed since, and its time."""
+    changed = " with changes that are not committed" if said("git", "status", "--porcelain", "--untracked-files=no") else ""
+    return said("git", "rev-parse", "HEAD").strip() + changed, int(said("git", "log", "-1", "--format=%ct"))
+
+
+def gate(of_commit):
+    """The gate's last line and how long it took, if it ran on this commit: .ci/run keeps both."""
+    kept = ROOT / "target/gate"
+    lines = kept.read_text().splitlines() if kept.is_file() else []
+    if len(lines) == 3 and lines[0] == of_commit:
+        return lines[1], lines[2]
+    return "not run on this commit where the release was made", "see the check times in source/docs/SPEED.md"
+
+
+class Archive:
+    """The proved archive: its objects, the kit that proved each, and its functions."""
+
+    def __init__(self, path):
+        self.path = path
+        self.objects = said("ar", "t", str(path)).split()
+        self.kits = sorted({found.decode() for found in KIT.findall(path.read_bytes())})
+        self.functions, self.needed = [], set()
+        for line in said("nm", "-S", str(path)).splitlines():
+            words = line.split(maxsplit=3)
+            if len(words) == 4 and words[2] in "Tt":
+                self.functions.append((words[3], int(words[1], 16)))
+            elif len(words) == 2 and words[0] == "U":
+                self.needed.add(words[1])
+        defined = {name for name, _ in self.functions}
+        self.needed -= defined
+        if len(KIT.findall(path.read_bytes())) < len(self.objects) or len(self.kits) != 1:
+            sys.exit(f"dist.py: the objects of {path} do not carry one kit's identity: {self.kits}")
+        if not self.needed <= NEEDED_OF_C:
+            sys.exit(f"dist.py: {path} needs more of a C library than is said: {sorted(self.needed)}")
+
+
+def declared(function):
+    """Where a function of the archive is declared: its file and line, and the definitions that its contract names."""
+    *before, name = function.split("::")
+    crate, *within = before or ["*", "*"]
+    of_type = "".join(rf"^impl {word}\b[\s\S]*?" for word in within if word[0].isupper())
+    module = next((word for word in within if not word[0].isupper()), "lib")
+    for file in sorted(ROOT.glob(f"crates/{crate}/src/{module}.rt")):
+        text = file.read_text(encoding="utf-8")
+        found = re.search(rf"{of_type}^ *(?:pub(?:\(\w+\))? )?(?:extern \"C\" )?(?P<here>fn {name}\b)", text, re.M)
+        if found:
+            start = found.start("here")
+            clause = re.search(r"ensures \{(.*?)\n *\{", text[start:], re.S)
+            brought = set(re.findall(r"\w+", " ".join(re.findall(r"^ghost use Rattle·[^{]*\{([^}]*)\}", text, re.M))))
+            cited = [word for word in re.findall(r"\w+", clause[1]) if word in brought] if clause else []
+            line = text[:start].count("\n") + 1
+            return f"{file.relative_to(ROOT)}:{line}", ", ".join(dict.fromkeys(cited)) or "its result, in its own words"
+    sys.exit(f"dist.py: no crate declares {function}, which is in the archive")
+
+
+def manifest(version, of_commit, archive, tree):
+    """What the release is of, which proof stands behind which function, and how to check it all again."""
+    line, took = gate(of_commit)
+    rows = [(f"`{name}`", str(size), *declared(name)) for name, size in sorted(archive.functions)]
+    table = "".join(f"| {name} | {size} | {place} | {contract} |\n" for name, size, place, contract in rows)
+    text = (ROOT / "release/MANIFEST.md.in").read_text(encoding="utf-8")
+    values = {"VERSION": version, "COMMIT": of_commit, "KIT": archive.kits[0], "GATE": line, "TOOK": took, "FUNCTIONS": table,
+              "OBJECTS": ", ".join(archive.objects), "ARCHIVE": digest(tree / "lib/libdelkuthi.a"),
+              "SHARED": digest(tree / f"lib/libdelkuthi.so.{version}"), "BYTES": str(sum(size for _, size in archive.functions)),
+              "NEEDED": ", ".join(f"`{name}`" for name in sorted(archive.needed))}
+    return re.sub(r"@([A-Z]+)@", lambda found: values[found[1]], text)
+
+
+def spdx(version, created, archive, tree):
+    """The list of parts: what is delivered, what is linked in, and what built it."""
+    delivered = [path for path in files(tree) if not path.is_symlink() and path.parts[len(tree.parts)] in ("bin", "lib", "include")]
+    listed = "".join(f"FileName: ./{path.relative_to(tree)}\nSPDXID: SPDXRef-File-{number}\nFileChecksum: SHA1: {digest(path, 'sha1')}\n"
+                     f"FileChecksum: SHA256: {digest(path)}\nLicenseConcluded: LicenseRef-Delkuthi\nLicenseInfoInFile: NOASSERTION\n"
+                     "FileCopyrightText: NOASSERTION\n\n" for number, path in enumerate(delivered))
+    verified = hashlib.sha1("".join(sorted(digest(path, "sha1") for path in delivered)).encode()).hexdigest()
+    text = (ROOT / "release/delkuthi.spdx.in").read_text(encoding="utf-8")
+    values = {"VERSION": version, "CREATED": created, "KIT": archive.kits[0], "FILES": listed, "LICENSE": (ROOT / "LICENSE").read_text(),
+              "VERIFIED": verified, "UUID": str(uuid.uuid5(uuid.NAMESPACE_URL, version + verified))}
+    return re.sub(r"@([A-Z]+)@", lambda found: values[found[1]], text)
+
+
+def put_sources(folder):
+    """The sources, as git has them."""
+    for name in said("git", "ls-files", "-z").split("\0"):
+        if name and (ROOT / name).exists():
+            (folder / name).parent.mkdir(parents=True, exist_ok=True)
+            shutil.copy(ROOT / name, folder / name)
+
+
+def put_answers(folder, build):
+    """What the proved archive answers to the script of the portable crate, for a machine to be compared with."""
+    player = build / "dist/player"
+    said(os.environ.get("CC", "cc"), "-std=c99", "-O2", f"-I{folder}/include", f"{folder}/portable/test/player.c", f"{folder}/lib/libdelkuthi.a",
+         "-o", str(player))
+    (folder / "portable/test/answers").write_text(said(str(player), f"{folder}/portable/test/script"))
+
+
+def pack(folder, time):
+    """The tarball of a folder."""
+    def plain(entry):
+        entry.uid = entry.gid = 0
+        entry.uname = entry.gname = ""
+        entry.mtime = time
+        entry.mode = 0o755 if entry.isdir() or entry.mode & 0o100 else 0o644
+        return entry
+
+    name = folder.with_name(f"{folder.name}.tar.gz")
+    with name.open("wb") as file, gzip.GzipFile("", "wb", 9, file, 0) as packed, tarfile.open(fileobj=packed, mode="w") as tar:
+        for path in [folder, *sorted(folder.rglob("*"), key=lambda path: path.as_posix())]:
+            tar.add(path, path.relative_to(folder.parent).as_posix(), recursive=False, filter=plain)
+    return name
+
+
+def main():
+    if len(sys.argv) != 2:
+        sys.exit("dist.py BUILD")
+    build = Path(sys.argv[1]).resolve()
+    version = (ROOT / "VERSION").read_text().strip()
+    of_commit, time = commit()
+    created = datetime.fromtimestamp(time, timezone.utc).strftime("%Y-%m-%dT%H:%M:%SZ")
+    folder = build / f"delkuthi-{version}-x86_64-linux"
+    shutil.rmtree(folder, ignore_errors=True)
+    shutil.move(build / "dist/tree", folder)
+    archive = Archive(folder / "lib/libdelkuthi.a")
+    shutil.copytree(build / "portable", folder / "portable", ignore=shutil.ignore_patterns("target"))
+    put_sources(folder / "source")
+    put_answers(folder, build)
+    for name in ("LICENSE", "NOTICE"):
+        shutil.copy(ROOT / name, folder / name)
+    (folder / "README.md").write_text((ROOT / "release/README.md.in").read_text(encoding="utf-8").replace("@VERSION@", version), encoding="utf-8")
+    (folder / "delkuthi.spdx").write_text(spdx(version, created, archive, folder), encoding="utf-8")
+    (folder / "MANIFEST.md").write_text(manifest(version, of_commit, archive, folder), encoding="utf-8")
+    sums = "".join(f"{digest(path)}  {path.relative_to(folder)}\n" for path in files(folder) if not path.is_symlink())
+    (folder / "SHA256SUMS").write_text(sums, encoding="utf-8")
+    packed = pack(folder, time)
+    print(f"{digest(packed)}  {packed}")
+
+
+if __name__ == "__main__":
+    main()

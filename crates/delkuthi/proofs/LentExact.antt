@@ -101,11 +101,11 @@ untouched-all over = tt
 untouched-all (asked r number takes rest) = (λ above. takes .untouched (λ zero. omega arith), untouched-all rest)
 
 fresh-over : (bytes : List ℕ) (before : Memory) (number : ℕ) (h : Memory) → Begins bytes before number h → number ≡ 0 → FreshOver bytes h
-fresh-over bytes before number h (begun rows _ reads made indexes) e = record { rows = rows; reads = reads; made = made; indexes = indexes }
+fresh-over bytes before number h (begun rows _ reads accepted made indexes) e = record { rows = rows; reads = reads; made = made; indexes = indexes }
 fresh-over bytes before number h (refused n place reads above below) e = absurd (omega (arith, e, above))
 
 fresh-refused : {bytes : List ℕ} {before : Memory} {number : ℕ} {h : Memory} → Begins bytes before number h → 0 < number → h ≡ before
-fresh-refused (begun rows h reads made indexes) above = absurd (omega arith)
+fresh-refused (begun rows h reads accepted made indexes) above = absurd (omega arith)
 fresh-refused (refused n place reads low high) above = refl
 
 pub lent-is-exact : (bytes : List ℕ) (before : Memory) {h end : Memory} {requests : List Request} {numbers : List ℕ} → Begins bytes before 0 h

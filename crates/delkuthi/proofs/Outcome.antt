@@ -23,7 +23,7 @@ module _ (table : List ℕ) (before : Indexed) where
   -- the number 0 says that the monitor was begun
   begun-over : (number : ℕ) (h : Indexed) → Begins table before number h → number ≡ 0
       → (rows : List Constraint) × ReadsTable table (table-of rows) × (h .monitor ≡ after rows []) × Indexes h
-  begun-over number h (begun rows _ read made indexes) e = (rows, read, made, indexes)
+  begun-over number h (begun rows _ read accepted made indexes) e = (rows, read, made, indexes)
   begun-over number h (refused n place read above below) e = absurd (omega (arith, e, above))
 
   pub begun-indexes : (number : ℕ) (h : Indexed) → Begins table before number h → number ≡ 0 → Indexes h
@@ -46,7 +46,7 @@ module _ (table : List ℕ) (before : Indexed) where
     -- another number is the refusal's
     pub left-unused : (number : ℕ) (h : Indexed) → Begins table before number h → (number ≡ 0 → ⊥)
         → LeftBy before table recording (refusalOf number) h
-    left-unused number h (begun rows _ read made indexes) other = absurd (other refl)
+    left-unused number h (begun rows _ read accepted made indexes) other = absurd (other refl)
     left-unused number h (refused n place read above below) other =
         subst (λ (answer : ReadAnswer). LeftBy before table recording answer before) (sym (refusal n place below)) (unused n place read)
       where

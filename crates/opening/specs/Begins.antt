@@ -2,6 +2,7 @@
 use Prim.Native.Nat.{ℕ, _+_, _*_, _<_}
 use mathlib.Core.Path.{_≡_}
 use mathlib.Core.List.{List, []}
+use Rattle.constraint.specs.Accepted.{Accepted}
 use Rattle.constraint.specs.Table.{ReadsTable, table-of, table-refused}
 use Rattle.constraint.specs.declared.Constraint.{Constraint}
 use Rattle.table.specs.Scan.{Counted}
@@ -13,7 +14,8 @@ use Rattle.opening.specs.declared.Judged.{Judged}
 -- §11.5: the number that answers and what lies behind the reference then: 0, the fresh monitor over the table's rows and its index; or 256 times the
 -- place and the number of the refusal, and all as it was
 pub data Begins (bytes : List ℕ) (before : Indexed) : ℕ → Indexed → Type 0 where
-  begun : (rows : List Constraint) (h : Indexed) → ReadsTable bytes (table-of rows) → h .monitor ≡ after rows [] → Indexes h → Begins bytes before 0 h
+  begun : (rows : List Constraint) (h : Indexed) → ReadsTable bytes (table-of rows) → Accepted rows → h .monitor ≡ after rows [] → Indexes h
+      → Begins bytes before 0 h
   refused : (n place : ℕ) → ReadsTable bytes (table-refused n place) → 0 < n → n < 256 → Begins bytes before (place * 256 + n) before
 
 -- the refusal that a number answers with

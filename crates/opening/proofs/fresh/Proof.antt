@@ -22,6 +22,7 @@ use Rattle.inplace.proofs.Types.{word-type, indexed-type}
 use Rattle.inplace.proofs.Locals.{env, leaves, copies, sets, lands-in, holds, fails}
 use Rattle.inplace.proofs.Calls.{triple}
 use Rattle.inplace.proofs.Bytes.{calls-bytes}
+use Rattle.table.proofs.AcceptedRows.{read-accepted}
 use Rattle.opening.specs.Begins.{Begins, begun, refused}
 use Rattle.opening.proofs.Judged as J
 use Rattle.opening.proofs.Judged.Laws as J′
@@ -64,7 +65,7 @@ module _
       sets ! (of-opd ! (copies ! 8 refl)) 4 refl (typed 𝓤 H A W word-type (j .number) number-is) $
       gathers ! $
       leaves ! (code.function .locals) tt bs (vint w64 (j .number)) refl (gathered 𝓤 H A W indexed-type L κ q s h′
-      (ends (j .number) h′ number-is (subst (λ (k : ℕ). Begins (s .now) h k h′) (sym zero) (begun (made .rows) h′ (made .reads) (made .made) (made .indexes)))))))
+      (ends (j .number) h′ number-is (subst (λ (k : ℕ). Begins (s .now) h k h′) (sym zero) (begun (made .rows) h′ (made .reads) (read-accepted (s .now) (made .rows) (made .reads)) (made .made) (made .indexes)))))))
       -- it is refused: nothing was stored
       (λ no-zero. skips ! $
       let refusal = said .refused (eqb-false (j .number) 0 (fails (eqb (j .number) 0) no-zero)) in

@@ -22,6 +22,7 @@ class Frames:
         self._reader, self._mapping, self._codes, self._identified = reader, mapping, codes, identified
         self._scale = Scale("s", reader.table.unit)
         self._known: dict[bytes, int] = {}
+        self._met: set[bytes] = set()
 
     def found(self, stamps: list[bytes], buses: list[bytes], identifiers: list[bytes], data: Sequence[bytes], place: int) -> Batch | Lines:
         """The frames of lines that follow each other; :class:`Irregular`, before anything is looked at, if they are not all data frames.
@@ -31,6 +32,9 @@ class Frames:
         names = {bus: bus.decode("ascii") for bus in set(buses)}
         digits = _hexadecimal(data)
         self._reader.buses.update(names.values())
+        for written in {*identifiers} - self._met:
+            self._met.add(written)
+            self._mapping.met.add(self._identified(written))
         several: dict[int, tuple[int, ...]] = {}
         at = events.find(_LOOK)
         found = bytearray(events)

@@ -24,6 +24,8 @@ def named_kinds(table: Table) -> dict[str, tuple[int, ...]]:
     """The signals of a table by what stands in the events' column."""
     kinds: dict[str, tuple[int, ...]] = {event.name: (event.kind,) for event in table.events}
     for event in table.events:
+        if is_coloured(event.kind) and not event.numbered:
+            kinds[event.name] = (signal(event.kind, 0),)
         for source in event.sources:
             if isinstance(source, CsvSource):
                 kinds[source.text] = (signal(event.kind, source.colour),)

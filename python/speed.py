@@ -1,8 +1,8 @@
 """How fast logs are checked, beside how fast Python's csv reads and splits the same lines: `python3 python/speed.py`.
 
 The drive is made here, the same each time: a million lines of 40 events, in pairs of a request and its answer, over 32 rows of which 20 are
-Delays and StrongDelays and 12 Repeats. All rows are kept, but for the line that says so: there one of them breaks at the end. Times are processor time, the best of nine runs,
-all kinds of logs taking turns.
+Delays and StrongDelays and 12 Repeats. All rows are kept, but for the line that says so: there one of them breaks at the end. Times are
+processor time, the best of nine runs, all kinds of logs taking turns. `speed.py LINES RUNS` takes other numbers.
 """
 from __future__ import annotations
 
@@ -19,7 +19,7 @@ sys.path.insert(0, str(Path(__file__).resolve().parent))
 from delkuthi import Table
 from delkuthi.check import check
 
-LINES, RUNS = 1_000_000, 9
+LINES, RUNS = [int(word) for word in sys.argv[1:3]] or [1_000_000, 9]
 BASE = """brake_pedal brake_light steering_request steering_reply wheel_speed camera_frame diagnostic belt_sensor belt_log indicator_front
 indicator_rear indicator_mirror door_open cabin_light tyre_pressure task_start task_stop task_preempt task_resume gateway_request""".split()
 NAMES = BASE + [f"{name}_2" for name in BASE]
@@ -37,7 +37,8 @@ def table(broken: bool) -> Table:
 
 def drive() -> list[tuple[int, int, int]]:
     """Times, events and data."""
-    rng, at, found = random.Random(1), 1000, []
+    rng, at = random.Random(1), 1000
+    found: list[tuple[int, int, int]] = []
     while len(found) < LINES:
         pair = rng.randrange(20)
         for number in (2 * pair, 2 * pair + 1):

@@ -3,6 +3,8 @@ import io
 import json
 import os
 import re
+import subprocess
+import sys
 import xml.etree.ElementTree as xml
 
 import can
@@ -88,7 +90,8 @@ def test_one_drive_in_several_files(command, tmp_path):
     status, printed, _ = command("check", "bus.txt", *names, "--as-one", "--json", cwd=BENCH)
     parts = json.loads(printed)["logs"][0]
     assert status == 1 and len(json.loads(printed)["logs"]) == 1
-    assert [(row["verdict"], row["step"], row["time"]) for row in parts["rows"]] == [(row["verdict"], row["step"], row["time"]) for row in whole["rows"]]
+    read = [[(row["verdict"], row["step"], row["time"]) for row in log["rows"]] for log in (parts, whole)]
+    assert read[0] == read[1]
     assert parts["lines"] == whole["lines"] and parts["events"] == whole["events"]
     assert parts["rows"][0]["where"] == f"{names[2]}:29" and parts["rows"][0]["place"] == 29
     assert f"(line 782 of {names[1]})" in parts["rows"][0]["message"]
@@ -147,10 +150,16 @@ def test_a_missing_package_is_one_line_that_names_it(command, tmp_path, module, 
     assert (status, printed, error.count("\n")) == (2, "", 1) and f"python3-{module}" in error
 
 
-def test_options_that_are_none(command):
-    for words, said in ((["--encoding", "klingon"], "expected an encoding such as cp1252, found klingon"), (["--encoding", "base64"], "expected an encoding")):
-        status, _, error = command("check", "bus.txt", "bus.log", *words, cwd=BENCH)
-        assert status == 2 and said in error
+@pytest.mark.parametrize("name", ["klingon", "base64", ""])
+def test_an_encoding_that_is_none(command, name):
+    status, _, error = command("check", "bus.txt", "bus.log", "--encoding", name, cwd=BENCH)
+    assert status == 2 and f"expected an encoding such as cp1252, found {name}" in error
+
+
+def test_the_speed_of_logs():
+    """The program that measures it runs, and finds the verdicts that its drive has."""
+    done = subprocess.run([sys.executable, ROOT / "python/speed.py", "2000", "1"], capture_output=True, text=True)
+    assert done.returncode == 0 and done.stdout.count("\n") == 8, done.stderr
 
 
 def test_what_one_monitor_cannot_take_says_so(command, tmp_path):

@@ -167,7 +167,7 @@ test-ports: lib portable
 	BUILD=$(BUILD) bash release/test-ports
 
 # The release finds its own parts wherever it is unpacked.
-dist: portable
+dist: portable wheel
 	rm -rf $(BUILD)/dist
 	$(MAKE) --no-print-directory install DESTDIR=$(BUILD)/dist PREFIX=/tree PC_PREFIX='$$$${pcfiledir}/../..'
 	python3 release/dist.py $(BUILD)

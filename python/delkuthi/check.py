@@ -164,7 +164,7 @@ def _run_chunks(table: Table, log: Log, close: bool) -> tuple[Run, Monitor | Mon
     """The same by chunks; :class:`Irregular` where they do not do."""
     codes, found, whole = Codes(table), Run(), table.whole
     tally = Tally(len(codes.numbers))
-    recorders = [Recorder(Monitor(table if whole else part.data), codes, None if whole else part) for part in table.parts]
+    recorders = [Recorder(Monitor(table if whole else part.data), codes, None if whole else part, len(table.parts)) for part in table.parts]
     try:
         for times, events, last in log.chunks(codes):
             for recorder in recorders:

@@ -119,8 +119,8 @@ def _located(table: Table, name: str) -> Located:
             return _database(path, Path(path).stat().st_mtime_ns).located(name)
         except DatabaseError as error:
             errors.append(error)
-        except OSError as error:
-            errors.append(DatabaseError(f"{path}: {error.strerror or error}"))
+        except (OSError, ValueError) as error:
+            errors.append(DatabaseError(f"{path}: {getattr(error, 'strerror', None) or error}"))
     raise errors[0]
 
 

@@ -163,7 +163,7 @@ event gear from column gear changes
 event reverse from column gear becomes "R"
 event low from column "brake [%]" falls below 5.5
 """)
-SHEET = "time [s];brake [%];lamp;gear;remark\n0,001;9;0;P;\n0,002;5,5;1;P;x\n0,003;5,6;1,0;R;\n-0,5;;;;\n0,004;1e1;0;R;\n0,005;-3;1;D;\n"
+SHEET = "time [s];brake [%];lamp;gear;remark\n0,001;9;0;P;\n0,002;5,5;1;P;x\n0,003;5,6;1,0;R;\n-0,5;NaN;;;\n0,004;1e1;0;R;\n0,005;-3;1;D;\n"
 
 
 def test_sampled_columns(tmp_path):

@@ -121,8 +121,8 @@ class Columns:
         return self.reader.time(found[0], found[1] or self.unit, number)
 
     def _sample(self, text: str, numeric: bool, place: int, number: int) -> Sample | None:
-        """A sampled value; ``None`` where the cell is empty."""
-        if not text:
+        """A sampled value; ``None`` where the cell is empty, or says that there is no number."""
+        if not text or text.lower() == "nan":
             return None
         decimal = text.replace(",", ".") if self.comma else text
         if _NUMBER.fullmatch(decimal):

@@ -26,7 +26,7 @@ DOCUMENTS := CHANGELOG.md LICENSE NOTICE docs/CONTRACT.md docs/DATASHEET.md docs
 MANUALS   := $(BUILD)/delkuthi.1 $(BUILD)/delkuthi.3
 EXAMPLES  := $(addprefix host/c/,bench_loop.c report.c file.c file.h) examples/table.bin examples/recording.bin
 
-.PHONY: all lib program install install-lib install-dev uninstall clean help test test-python test-ports run bench count worst portable trace dist always
+.PHONY: all lib program install install-lib install-dev uninstall clean help test test-python test-ports run bench count worst portable trace dist wheel always
 
 all: lib program
 lib: $(LIBRARY)
@@ -44,6 +44,7 @@ help:
 	@echo "make clean       takes away $(BUILD)/"
 	@echo "make run         proves and builds delkuthi_cli, and prints the report on the drive in examples/"
 	@echo "make test        the gate: proves everything from nothing, then runs the tests"
+	@echo "make wheel       a wheel of the package in python/ that carries the shared library, in $(BUILD)/ (needs python3)"
 	@echo "make test-python the tests of the package in python/ alone"
 	@echo "make test-ports  the portable crate on ARM, 64 and 32 bits, beside the proved library; says which packages are missing"
 	@echo "make bench       the speed beside plain Rust"
@@ -135,6 +136,10 @@ clean:
 test:
 	bash .ci/run
 
+# A wheel that carries the shared library: pip install needs nothing else.
+wheel: $(LIBRARY)
+	@python3 python/backend.py $(BUILD) $(BUILD)/$(SHARED)
+
 # Debian's modules are for Debian's own Python: make test-python PYTHON=python3 takes another one.
 PYTHON = /usr/bin/python3
 test-python: lib
@@ -162,7 +167,7 @@ test-ports: lib portable
 	BUILD=$(BUILD) bash release/test-ports
 
 # The release finds its own parts wherever it is unpacked.
-dist: portable
+dist: portable wheel
 	rm -rf $(BUILD)/dist
 	$(MAKE) --no-print-directory install DESTDIR=$(BUILD)/dist PREFIX=/tree PC_PREFIX='$$$${pcfiledir}/../..'
 	python3 release/dist.py $(BUILD)

@@ -1,10 +1,13 @@
 """Builds the wheel of this package with nothing but Python itself, so that ``pip install`` needs no network.
 
-It offers what pip asks of a build backend: ``build_wheel`` and ``build_sdist``.
+It offers what pip asks of a build backend: ``build_wheel`` and ``build_sdist``. As a program, ``backend.py FOLDER LIBRARY``, it writes a
+wheel that carries the shared library, for machines like this one.
 """
 import base64
 import hashlib
 import io
+import sys
+import sysconfig
 import tarfile
 import tomllib
 import zipfile
@@ -44,29 +47,42 @@ def _sources() -> list[Path]:
     return sorted(path for path in PACKAGE.rglob("*") if path.is_file() and "__pycache__" not in path.parts)
 
 
-def _files() -> Iterator[tuple[str, bytes]]:
+def _files(tag: str, library: Path | None) -> Iterator[tuple[str, bytes]]:
     """The files of the wheel, without its list of them."""
     info = f"delkuthi-{_version()}.dist-info"
     for path in _sources():
         yield f"delkuthi/{path.relative_to(PACKAGE)}", path.read_bytes()
+    if library is not None:
+        yield f"delkuthi/libdelkuthi.so.{_version().rsplit('.', 1)[0]}", library.read_bytes()
     scripts = "".join(f"{name} = {place}\n" for name, place in _project()["scripts"].items())
     yield f"{info}/METADATA", _metadata().encode()
-    yield f"{info}/WHEEL", b"Wheel-Version: 1.0\nGenerator: delkuthi\nRoot-Is-Purelib: true\nTag: py3-none-any\n"
+    pure = str(library is None).lower()
+    yield f"{info}/WHEEL", f"Wheel-Version: 1.0\nGenerator: delkuthi\nRoot-Is-Purelib: {pure}\nTag: {tag}\n".encode()
     yield f"{info}/entry_points.txt", f"[console_scripts]\n{scripts}".encode()
+
+
+def _wheel(folder: str, tag: str, library: Path | None = None) -> str:
+    """Writes a wheel, the same to the byte whenever it is made of the same files, and answers its name."""
+    name, record = f"delkuthi-{_version()}-{tag}.whl", ""
+    with zipfile.ZipFile(Path(folder) / name, "w", zipfile.ZIP_DEFLATED) as wheel:
+        for place, data in _files(tag, library):
+            wheel.writestr(zipfile.ZipInfo(place), data, zipfile.ZIP_DEFLATED)
+            digest = base64.urlsafe_b64encode(hashlib.sha256(data).digest()).rstrip(b"=").decode()
+            record += f"{place},sha256={digest},{len(data)}\n"
+        place = f"delkuthi-{_version()}.dist-info/RECORD"
+        wheel.writestr(zipfile.ZipInfo(place), f"{record}{place},,\n", zipfile.ZIP_DEFLATED)
+    return name
 
 
 def build_wheel(wheel_directory: str, config_settings: object = None, metadata_directory: object = None) -> str:
     """Writes the wheel and answers its name."""
-    name = f"delkuthi-{_version()}-py3-none-any.whl"
-    record = ""
-    with zipfile.ZipFile(Path(wheel_directory) / name, "w", zipfile.ZIP_DEFLATED) as wheel:
-        for place, data in _files():
-            wheel.writestr(place, data)
-            digest = base64.urlsafe_b64encode(hashlib.sha256(data).digest()).rstrip(b"=").decode()
-            record += f"{place},sha256={digest},{len(data)}\n"
-        place = f"delkuthi-{_version()}.dist-info/RECORD"
-        wheel.writestr(place, f"{record}{place},,\n")
-    return name
+    return _wheel(wheel_directory, "py3-none-any")
+
+
+def platform_wheel(folder: str, library: str) -> str:
+    """Writes the wheel that carries the shared library, and answers its name."""
+    machine = sysconfig.get_platform().replace("-", "_").replace(".", "_")
+    return _wheel(folder, f"py3-none-{machine}", Path(library))
 
 
 def build_sdist(sdist_directory: str, config_settings: object = None) -> str:
@@ -80,3 +96,7 @@ def build_sdist(sdist_directory: str, config_settings: object = None) -> str:
         entry.size = len(data)
         archive.addfile(entry, io.BytesIO(data))
     return f"{base}.tar.gz"
+
+
+if __name__ == "__main__":
+    print(Path(sys.argv[1]) / platform_wheel(*sys.argv[1:3]))

@@ -169,6 +169,9 @@ def main():
     shutil.copytree(build / "portable", folder / "portable", ignore=shutil.ignore_patterns("target"))
     put_sources(folder / "source")
     put_answers(folder, build)
+    (folder / "python").mkdir()
+    for wheel in build.glob(f"delkuthi-{version}-py3-none-linux_*.whl"):
+        shutil.copy(wheel, folder / "python")
     for name in ("LICENSE", "NOTICE"):
         shutil.copy(ROOT / name, folder / name)
     (folder / "README.md").write_text((ROOT / "release/README.md.in").read_text(encoding="utf-8").replace("@VERSION@", version), encoding="utf-8")

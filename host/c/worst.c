@@ -175,13 +175,15 @@ static void say_where(char *text, size_t room, struct call call, int type, const
 /* Measures a call, and keeps it if it is the slowest of its sort. */
 static void measure(enum sort sort, struct call first, struct call call, int type, const char *order, int fill)
 {
-    uint64_t cycles = cycles_of(first, call, 0);
+    uint64_t cycles = cycles_of(first, call, 0), again;
     struct slowest *found = &slowest[sort];
+    int i;
 
-    if (cycles <= found->cycles)
-        return;
-    /* once more, so that a time that was long by chance is not kept */
-    cycles = cycles_of(first, call, 0) < cycles ? cycles_of(first, call, 0) : cycles;
+    /* and again, so that a time that was long by chance is not kept */
+    for (i = 0; i < 10 && cycles > found->cycles; i++) {
+        again = cycles_of(first, call, 0);
+        cycles = again < cycles ? again : cycles;
+    }
     if (cycles <= found->cycles)
         return;
     found->cycles = cycles;

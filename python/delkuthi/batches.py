@@ -148,6 +148,37 @@ def rising(times: Sequence[int], clock: int) -> bool:
     return times[0] > clock and all(map(lt, times, islice(times, 1, None)))
 
 
+class Tally:
+    """How often each code has come. Eight codes together have a byte for each place, with a bit for each of them; the bits of a place are counted in
+    binary, the digits of one worth in one large number, so that a string of codes is added by a few operations on large numbers."""
+
+    def __init__(self, number: int):
+        """For the codes below a number."""
+        self._tables = [bytes(1 << code - first if first <= code < min(first + 8, number) else 0 for code in range(256))
+                        for first in range(0, number, 8)]
+        self._digits: list[list[int]] = [[] for _ in self._tables]
+
+    def add(self, codes: bytes) -> None:
+        """Counts some codes."""
+        for table, digits in zip(self._tables, self._digits):
+            carry, worth = int.from_bytes(codes.translate(table), "little"), 0
+            while carry:
+                if worth == len(digits):
+                    digits.append(0)
+                digits[worth], carry = digits[worth] ^ carry, digits[worth] & carry
+                worth += 1
+
+    def counts(self) -> dict[int, int]:
+        """The codes that have come, and how often."""
+        found: dict[int, int] = {}
+        for first, digits in zip(range(0, 256, 8), self._digits):
+            size = max((digit.bit_length() for digit in digits), default=0) // 8 + 1
+            for bit in range(8):
+                mask = int.from_bytes(bytes([1 << bit]) * size, "little")
+                found[first + bit] = sum((digit & mask).bit_count() << worth for worth, digit in enumerate(digits))
+        return {code: count for code, count in found.items() if count}
+
+
 def level(times: list[int], codes: bytes, clock: int, taken: set[int]) -> tuple[list[int], bytes]:
     """Lines of which some share a stamp, without those that are no event and do not move the clock. ``taken`` are the codes of the events
     at the clock. :class:`Irregular` where two events of one code share a stamp, or a stamp is before another."""

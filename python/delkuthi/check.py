@@ -8,7 +8,7 @@ from itertools import islice
 from operator import itemgetter
 from typing import Callable, Iterable, Iterator, Sequence
 
-from .batches import OTHER, Codes, Irregular
+from .batches import Codes, Irregular, Tally
 from .library import Refused
 from .logs import Counts, Log, LogError, Policy, Step
 from .measure import Measuring
@@ -162,19 +162,20 @@ def run_log(table: Table, log: Log, close: bool) -> tuple[Run, Monitor | Monitor
 
 def _run_chunks(table: Table, log: Log, close: bool) -> tuple[Run, Monitor | Monitors]:
     """The same by chunks; :class:`Irregular` where they do not do."""
-    codes, found, counts, whole = Codes(table), Run(), Counter[int](), table.whole
-    recorders = [Recorder(Monitor(table if whole else part.data), codes, None if whole else part) for part in table.parts]
+    codes, found, whole = Codes(table), Run(), table.whole
+    tally = Tally(len(codes.numbers))
+    recorders = [Recorder(Monitor(table if whole else part.data), codes, None if whole else part, len(table.parts)) for part in table.parts]
     try:
         for times, events, last in log.chunks(codes):
             for recorder in recorders:
                 recorder.take(times, events)
-            counts.update(events)
+            tally.add(events)
             found.steps, found.last = found.steps + len(events), last
     except LogError:
         _flush(log, recorders)
         raise
     _flush(log, recorders)
-    found.seen.update({None if code == OTHER else codes.numbers[code]: count for code, count in counts.items()})
+    found.seen.update({codes.numbers[code]: count for code, count in tally.counts().items()})
     for recorder in recorders if close else ():
         recorder.monitor.close()
     found.steps += close

@@ -107,14 +107,15 @@ FURTHER: dict[str, tuple[Any, list[Any]]] = {
 def candidates() -> Iterator[str]:
     """Where the shared library may be, the first that is there being taken.
 
-    The folder that ``DELKUTHI_LIB`` names, alone if it is set; else what the linker finds, the folder beside Python's
-    own, ``/usr/local/lib``, and the ``build`` folder of a checkout.
+    The folder that ``DELKUTHI_LIB`` names, alone if it is set; else what a wheel has brought along, what the linker finds, the
+    folder beside Python's own, ``/usr/local/lib``, and the ``build`` folder of a checkout.
     """
     name = f"libdelkuthi.so.{INTERFACE}"
     folder = os.environ.get("DELKUTHI_LIB")
     if folder:
         yield str(Path(folder) / name)
         return
+    yield str(Path(__file__).parent / name)
     yield name
     for place in (Path(sys.prefix) / "lib", Path("/usr/local/lib"), Path(__file__).resolve().parents[2] / "build"):
         yield str(place / name)

@@ -53,6 +53,8 @@ class Counts:
     #: Lines that say nothing, and stamps that were rounded.
     skipped: int = 0
     rounded: int = 0
+    #: Lines of a scheduler trace about something that no table can name; they move the clock.
+    passed: int = 0
 
 
 class Log:
@@ -133,7 +135,8 @@ class Log:
 
     def _done(self) -> None:
         """The log is at its end."""
-        self.counts.skipped, self.counts.rounded = self.reader.skipped, self.reader.rounded
+        counts, read = self.counts, self.reader
+        counts.skipped, counts.rounded, counts.passed = read.skipped, read.rounded, read.passed
 
     def _begun(self) -> Ordering:
         """The log from its beginning."""
@@ -153,7 +156,8 @@ class Log:
             for number, line in enumerate(lines, 1):
                 yield line
         finally:
-            counts.lines, counts.skipped, counts.rounded = before + number, self.reader.skipped, self.reader.rounded
+            counts.lines = before + number
+            self._done()
 
     def _sorted(self, lines: Iterable[Stamped]) -> list[Stamped]:
         found = list(lines)

@@ -22,7 +22,7 @@ class CanMapping:
 
     def __init__(self, table: Table):
         self._by_identifier: dict[tuple[int, bool], list[tuple[int, CanSource | None, _Test]]] = {}
-        #: The identifiers that were asked for, and whether they are extended: those that the log has.
+        #: The identifiers of the data frames that the log has, and whether they are extended.
         self.met: set[tuple[int, bool]] = set()
         for event in table.events:
             for source in event.sources:
@@ -52,7 +52,6 @@ class CanMapping:
     def known(self, identifier: int, extended: bool) -> tuple[int, ...] | None:
         """The signals of the data frames of an identifier, where these do not depend on bus and data; ``None`` where they do."""
         found: list[int] = []
-        self.met.add((identifier, extended))
         for number, source, _ in self._by_identifier.get((identifier, extended), ()):
             if source is None or source.bus is not None or source.data is not None or source.change:
                 return None
@@ -120,8 +119,8 @@ def _located(table: Table, name: str) -> Located:
             return _database(path, Path(path).stat().st_mtime_ns).located(name)
         except DatabaseError as error:
             errors.append(error)
-        except OSError as error:
-            errors.append(DatabaseError(f"{path}: {error.strerror or error}"))
+        except (OSError, ValueError) as error:
+            errors.append(DatabaseError(f"{path}: {getattr(error, 'strerror', None) or error}"))
     raise errors[0]
 
 

@@ -140,9 +140,9 @@ def monitor_of(table: Table) -> Monitor | Monitors:
 class Recorder:
     """Steps for a fresh monitor: kept as the records of a recording, and taken by it in one call."""
 
-    def __init__(self, monitor: Monitor, codes: Codes, part: Part | None):
-        """``part`` is what the monitor takes of a table that has several; else it takes every signal."""
-        self.monitor, self._part = monitor, part
+    def __init__(self, monitor: Monitor, codes: Codes, part: Part | None, share: int = 1):
+        """``part`` is what the monitor takes of a table that has several, of which each has its share of memory; else it takes every signal."""
+        self.monitor, self._part, self._most = monitor, part, KEPT // share
         self._numbers = [number if part is None else part.signal(number) for number in codes.numbers]
         self._records = Records(self._numbers)
         self._foreign = bytes([OTHER, *(code for code, number in enumerate(self._numbers) if number is None)])
@@ -165,7 +165,7 @@ class Recorder:
                 self.refused = self.steps + taken, refusal
         else:
             self._kept += self._records.of(times, codes)
-            if len(self._kept) > KEPT:
+            if len(self._kept) > self._most:
                 self.flush()
         self.steps += len(codes)
 

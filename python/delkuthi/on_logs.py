@@ -104,7 +104,7 @@ def shrink(given: argparse.Namespace) -> int:
     start = stretch_to(table, row, steps, end, why.about)
     if start is not None:
         _tell(log, row, steps, start, end, f"{name} broke at {log.at(step.place)}: {why.text}")
-    less = shortest(table, row, steps, end)
+    less = shortest(alone, 0, steps, end)
     if less is not None and (start is None or less[1].length < end - start + 1):
         first = less[0] + less[1].first
         _tell(log, row, steps, first, first + less[1].length - 1, f"{name} is broken by less, taken alone")
@@ -141,7 +141,8 @@ def late_stamps(given: argparse.Namespace) -> int:
     # A true time is not below 0: with room for the lateness the answer does not depend on where the stamps begin.
     room = late if not log.policy.as_stamped and steps and steps[-1].time + late <= LAST_TIME else 0
     try:
-        word = stamps(table, recording_bytes((kind, time + room) for kind, time, _ in steps), row, late)
+        recording = recording_bytes((kind, time + room) for kind, time, _ in steps)
+        word = stamps(table, recording, row, late) if table.whole else stamps(table.alone(row), recording, 0, late)
     except Refused as refusal:
         what = "LATE" if refusal.number == 10 else "ROW"
         raise LogError(what, "", f"{table.row_name(row)}: {Refused(refusal.number)}") from None

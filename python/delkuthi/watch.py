@@ -24,6 +24,7 @@ from .logs import LogError, Step
 from .mapping import CanMapping
 from .moments import Moments
 from .monitor import Monitor
+from .monitors import Monitors, monitor_of
 from .output import number_of
 from .recording import record_bytes, records
 from .rowtypes import judged
@@ -40,7 +41,7 @@ SILENT, SHOWN = 2.0, 0.25
 class _Before:
     """What is needed to go back before the last marker: the monitor right after it, and how things stood before it."""
 
-    marked: Monitor
+    marked: Monitor | Monitors
     place: int
     clock: int
     number: int
@@ -56,7 +57,7 @@ class Watch:
         if table.unit is None:
             raise LogError("watch", "", "the table needs a unit line")
         self.table, self.say, self.spool = table, say, spool
-        self.monitor = Monitor(table)
+        self.monitor: Monitor | Monitors = monitor_of(table)
         self.mapping = CanMapping(table)
         # The clock is ahead of the stamps by the largest jitter, as in a log.
         self.moments = Moments(table.unit, table.jitter, table.jitter)

@@ -1,14 +1,19 @@
 """The drive of ``examples/bench``: ten requirements over a DBC, a scheduler trace and sampled signals, by the commands of the manual."""
+import io
 import json
 import os
 import re
+import subprocess
+import sys
 import xml.etree.ElementTree as xml
 
+import can
 import openpyxl
 import pytest
 
 from delkuthi import Table
 from delkuthi.measured import HEADINGS
+from delkuthi.watch import Watch
 
 from bench_drive import FILES
 from conftest import EXAMPLES, ROOT
@@ -85,7 +90,8 @@ def test_one_drive_in_several_files(command, tmp_path):
     status, printed, _ = command("check", "bus.txt", *names, "--as-one", "--json", cwd=BENCH)
     parts = json.loads(printed)["logs"][0]
     assert status == 1 and len(json.loads(printed)["logs"]) == 1
-    assert [(row["verdict"], row["step"], row["time"]) for row in parts["rows"]] == [(row["verdict"], row["step"], row["time"]) for row in whole["rows"]]
+    read = [[(row["verdict"], row["step"], row["time"]) for row in log["rows"]] for log in (parts, whole)]
+    assert read[0] == read[1]
     assert parts["lines"] == whole["lines"] and parts["events"] == whole["events"]
     assert parts["rows"][0]["where"] == f"{names[2]}:29" and parts["rows"][0]["place"] == 29
     assert f"(line 782 of {names[1]})" in parts["rows"][0]["message"]
@@ -144,10 +150,16 @@ def test_a_missing_package_is_one_line_that_names_it(command, tmp_path, module, 
     assert (status, printed, error.count("\n")) == (2, "", 1) and f"python3-{module}" in error
 
 
-def test_options_that_are_none(command):
-    for words, said in ((["--encoding", "klingon"], "expected an encoding such as cp1252, found klingon"), (["--encoding", "base64"], "expected an encoding")):
-        status, _, error = command("check", "bus.txt", "bus.log", *words, cwd=BENCH)
-        assert status == 2 and said in error
+@pytest.mark.parametrize("name", ["klingon", "base64", ""])
+def test_an_encoding_that_is_none(command, name):
+    status, _, error = command("check", "bus.txt", "bus.log", "--encoding", name, cwd=BENCH)
+    assert status == 2 and f"expected an encoding such as cp1252, found {name}" in error
+
+
+def test_the_speed_of_logs():
+    """The program that measures it runs, and finds the verdicts that its drive has."""
+    done = subprocess.run([sys.executable, ROOT / "python/speed.py", "2000", "1"], capture_output=True, text=True)
+    assert done.returncode == 0 and done.stdout.count("\n") == 8, done.stderr
 
 
 def test_what_one_monitor_cannot_take_says_so(command, tmp_path):
@@ -161,3 +173,41 @@ def test_what_one_monitor_cannot_take_says_so(command, tmp_path):
     assert command("table", "many.txt", "-o", "many.bin") == (2, "", "many.txt: refused with 9: the kind is above 63\n")
     for words in (["record", "many.txt", "a.csv", "-o", "a.bin"], ["shrink", "many.txt", "a.csv", "3"], ["watch", "many.txt", "virtual:x"]):
         assert command(*words) == (2, "", "many.txt: a recording has at most 48 events, and 16 with colours\n")
+
+
+def test_more_rows_than_a_monitor_has_in_every_command(command, tmp_path):
+    """40 rows over three events: checked, shrunk, asked for late stamps; the page has all of them."""
+    rows = "".join(f'"row {number}" Repeat a span 1, {number} ms .. 60 ms\n' for number in range(40))
+    (tmp_path / "many.txt").write_text("unit ms\nevent a\nevent b\n" + rows)
+    book = openpyxl.Workbook()
+    for line in [["time", "event"], [10, "a"], [20, "b"], [40, "a"], [75, "a"]]:
+        book.active.append(line)
+    book.save(tmp_path / "a.xlsx")
+    (tmp_path / "a.csv").write_text("time,event\n10,a\n20,b\n40,a\n75,a\n")
+    status, printed, _ = command("check", "many.txt", "a.csv")
+    assert status == 1 and printed.endswith("a.csv: 40 rows, 31 kept, 9 broken; 4 events in 4 lines\n")
+    assert 'a.csv:4: "row 31" (Repeat) broken at 40 ms: the a at 40 ms (line 4) came 30 ms after' in printed
+    status, page, _ = command("check", "many.txt", "a.csv", "--page")
+    assert [line.split()[0] for line in page.splitlines() if not line.startswith("-")] == [str(number) for number in range(40)]
+    assert command("stamps", "many.txt", "a.csv", "row 30", "1 ms")[1] == 'a.csv: "row 30" is unsure with stamps late by up to 1 ms\n'
+    status, printed, _ = command("shrink", "many.txt", "a.xlsx", "row 31")
+    assert status == 1 and "2: 10; a\n" in printed and "4: 40; a\n" in printed
+    found = json.loads(command("check", "many.txt", "a.csv", "--json")[1])["logs"][0]["rows"]
+    assert [row["verdict"] for row in found] == ["kept"] * 31 + ["broken"] * 9 and found[35]["measured"]["margin"] == -5
+
+
+def test_signals_of_a_live_bus():
+    """A watch reads signals by name, and takes more rows than a monitor has; a marker is withdrawn in all of them."""
+    table = Table.from_text((BENCH / "bus.txt").read_text(encoding="utf-8").replace("unit us", "unit us\nevent mark from key m") + "".join(
+        f'"{number}" Order mark -> wheel\n' for number in range(40)), str(BENCH / "bus.txt"))
+    said = []
+    watch = Watch(table, said.append, io.BytesIO())
+    for seconds, pedal, lamp in ((0.1, 0, 0), (0.2, 900, 0), (0.21, 900, 1), (0.3, 0, 0), (0.4, 900, 0), (0.5, 900, 0)):
+        for identifier, data in ((0x1A0, pedal.to_bytes(2, "little") + bytes(2)), (0x2B4, bytes([lamp]))):
+            watch.frame(can.Message(arbitration_id=identifier, is_extended_id=False, data=data), seconds)
+    assert len(said) == 2 and said[0].startswith('"brake pressure" (StrongDelay)') and said[1].startswith('"brake light" (Delay) broken at 500 ms')
+    watch.marker(table.kind("mark"), watch.units(0.6))
+    watch.tick(watch.units(0.7))
+    assert watch.withdraw() and not watch.withdraw()
+    watch.close()
+    assert [row for row in range(44) if row in watch.broken] == [0, 1]

@@ -23,7 +23,7 @@ def test_types(tmp_path):
 
 
 def test_names():
-    clean("pyflakes3", "pyflakes3", "delkuthi", "tests", "backend.py")
+    clean("pyflakes3", "pyflakes3", "delkuthi", "tests", "backend.py", "speed.py")
 
 
 @pytest.mark.parametrize("path", sorted(PACKAGE.rglob("*.py")), ids=lambda path: path.name)

@@ -1,5 +1,6 @@
 """Signals by name: frames that canmatrix packs are read as it packed them."""
 import random
+import struct
 import sys
 from fractions import Fraction
 
@@ -68,6 +69,41 @@ def test_every_signal_is_read_as_canmatrix_packed_it(tmp_path, ending):
                 read += expected is not None
                 assert found.value(data[:0]) is None
     assert read > 1000
+
+
+EXTENDED = """VERSION ""
+
+BU_: A
+
+BO_ 256 Mux: 2 A
+ SG_ Sel M : 0|4@1+ (1,0) [0|15] "" A
+ SG_ Sub m2M : 4|4@1+ (1,0) [0|15] "" A
+ SG_ Plain m1 : 8|8@1+ (1,0) [0|255] "" A
+ SG_ Deep m3 : 8|8@1- (0.5,-1) [-65|62.5] "" A
+
+BO_ 257 Fl: 8 A
+ SG_ Little : 0|32@1- (1,0) [0|0] "" A
+ SG_ Big : 39|32@0- (1,0) [0|0] "" A
+
+SIG_VALTYPE_ 257 Little : 1;
+SIG_VALTYPE_ 257 Big : 1;
+SG_MUL_VAL_ 256 Sub Sel 2-2;
+SG_MUL_VAL_ 256 Plain Sel 1-1, 5-7;
+SG_MUL_VAL_ 256 Deep Sub 3-4, 9-9;
+"""
+
+
+def test_multiplexers_of_multiplexers_ranges_and_floating_point(tmp_path):
+    (tmp_path / "a.dbc").write_text(EXTENDED)
+    database = Database(str(tmp_path / "a.dbc"))
+    plain, deep = database.located("Plain"), database.located("Deep")
+    for selected in range(16):
+        assert plain.value(bytes([selected, 77])) == (77 if selected in (1, 5, 6, 7) else None)
+        assert deep.value(bytes([2 | selected << 4, 0xF0])) == (-9 if selected in (3, 4, 9) else None)
+        assert deep.value(bytes([1 | selected << 4, 0xF0])) is None
+    data = struct.pack("<f", 1.5) + struct.pack(">f", -2.25)
+    assert (database.located("Little").value(data), database.located("Big").value(data)) == (Fraction(3, 2), Fraction(-9, 4))
+    assert database.located("Little").value(struct.pack("<f", float("nan")) + bytes(4)) is None
 
 
 def test_what_a_database_does_not_have(tmp_path):

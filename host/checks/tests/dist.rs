@@ -66,6 +66,8 @@ fn the_checksums() {
     let check = || Command::new("sha256sum").args(["--check", "--quiet", "SHA256SUMS"]).current_dir(release).output();
     assert_eq!(ran(check()), Ran::new(0, ""));
     let sums = text_of(&release.join("SHA256SUMS"));
+    let wheel = format!("  python/delkuthi-{}-py3-none-linux_x86_64.whl", version());
+    assert!(sums.lines().any(|line| line.ends_with(&wheel)), "{wheel}");
     for name in [
         "MANIFEST.md",
         "lib/libdelkuthi.a",

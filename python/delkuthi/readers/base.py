@@ -95,8 +95,8 @@ class Reader:
         self.file = path if file is None else file
         #: What goes on from one file to the next where several are one log: the samples before, and who waits.
         self.state: dict[str, Any] = {}
-        #: Lines that say nothing, such as blank ones, and stamps that were rounded.
-        self.skipped = self.rounded = 0
+        #: Lines that say nothing, such as blank ones, stamps that were rounded, and lines about what no table can name.
+        self.skipped = self.rounded = self.passed = 0
         #: The buses of the frames that were read, as the log names them.
         self.buses: set[str] = set()
         #: What stands where an event of the table could, some of it.

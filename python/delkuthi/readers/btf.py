@@ -24,8 +24,6 @@ class BtfReader(Reader):
     endings = (".btf",)
 
     def lines(self) -> Iterator[Stamped]:
-        #: How many lines had an event that no table can name, by the letters of their target's type.
-        self.passed: dict[str, int] = {}
         sources, scale = task_sources(self), "ns"
         waiting: Waiting = self.state.setdefault("waiting", Waiting())
         for number, line in self.text_lines():
@@ -41,7 +39,7 @@ class BtfReader(Reader):
             target = TARGETS.get(cells[3].upper())
             kinds: tuple[int, ...] = ()
             if target is None or cells[6].lower() not in ACTIONS:
-                self.passed[cells[3]] = self.passed.get(cells[3], 0) + 1
+                self.passed += 1
             else:
                 action = waiting.action((cells[3], cells[4], cells[5]), cells[6].lower())
                 kinds = sources.get((target, cells[4], action), ())

@@ -22,15 +22,18 @@ class Frames:
         self._reader, self._mapping, self._codes, self._identified = reader, mapping, codes, identified
         self._scale = Scale("s", reader.table.unit)
         self._known: dict[bytes, int] = {}
+        self._met: set[bytes] = set()
 
     def found(self, stamps: list[bytes], buses: list[bytes], identifiers: list[bytes], data: Sequence[bytes], place: int) -> Batch | Lines:
         """The frames of lines that follow each other; :class:`Irregular`, before anything is looked at, if they are not all data frames.
         Where one of them is several events they are given as lines."""
-        times = self._scale.times(stamps)
+        times, digits = self._scale.times(stamps), _hexadecimal(data)
+        names = {bus: self._reader.decoded(bus, 2) for bus in set(buses)}
         events = self._events(identifiers)
-        names = {bus: bus.decode("ascii") for bus in set(buses)}
-        digits = _hexadecimal(data)
         self._reader.buses.update(names.values())
+        for written in {*identifiers} - self._met:
+            self._met.add(written)
+            self._mapping.met.add(self._identified(written))
         several: dict[int, tuple[int, ...]] = {}
         at = events.find(_LOOK)
         found = bytearray(events)
@@ -53,8 +56,9 @@ class Frames:
         try:
             return bytes(itemgetter(*identifiers, identifiers[0])(self._known))[:-1]
         except KeyError:
-            for written in {*identifiers} - self._known.keys():
-                kinds = self._mapping.known(*self._identified(written))
+            new = {written: self._identified(written) for written in {*identifiers} - self._known.keys()}
+            for written, (number, extended) in new.items():
+                kinds = self._mapping.known(number, extended)
                 self._known[written] = _LOOK if kinds is None or len(kinds) > 1 else self._codes.of[kinds[0]] if kinds else OTHER
             return bytes(map(self._known.__getitem__, identifiers))
 

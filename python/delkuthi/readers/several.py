@@ -48,9 +48,9 @@ class SeveralReader(Reader):
 
     def _each(self) -> Iterator[tuple[int, Reader]]:
         """The readers, one after the other, with what their places begin at; what they count is counted here."""
-        skipped = rounded = 0
+        before = (0, 0, 0)
         for number, one in enumerate(self._readers):
             one.progress, one.buses, one.others = self.progress, self.buses, self.others
             yield number << _BITS, one
-            skipped, rounded = skipped + one.skipped, rounded + one.rounded
-            self.skipped, self.rounded = skipped, rounded
+            before = before[0] + one.skipped, before[1] + one.rounded, before[2] + one.passed
+            self.skipped, self.rounded, self.passed = before

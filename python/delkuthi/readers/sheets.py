@@ -24,6 +24,8 @@ def named_kinds(table: Table) -> dict[str, tuple[int, ...]]:
     """The signals of a table by what stands in the events' column."""
     kinds: dict[str, tuple[int, ...]] = {event.name: (event.kind,) for event in table.events}
     for event in table.events:
+        if is_coloured(event.kind) and not event.numbered:
+            kinds[event.name] = (signal(event.kind, 0),)
         for source in event.sources:
             if isinstance(source, CsvSource):
                 kinds[source.text] = (signal(event.kind, source.colour),)
@@ -119,8 +121,8 @@ class Columns:
         return self.reader.time(found[0], found[1] or self.unit, number)
 
     def _sample(self, text: str, numeric: bool, place: int, number: int) -> Sample | None:
-        """A sampled value; ``None`` where the cell is empty."""
-        if not text:
+        """A sampled value; ``None`` where the cell is empty, or says that there is no number."""
+        if not text or text.lower() == "nan":
             return None
         decimal = text.replace(",", ".") if self.comma else text
         if _NUMBER.fullmatch(decimal):

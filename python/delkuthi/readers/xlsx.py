@@ -19,6 +19,10 @@ class XlsxReader(SheetReader):
             texts = [_text(cell) for cell in cells]
             yield number, texts if any(texts) else []
 
+    def text_lines(self) -> Iterator[tuple[int, str]]:
+        """The lines as text, for a person."""
+        return ((number, "; ".join(cells)) for number, cells in self.rows())
+
     def _values(self) -> Iterator[tuple[Any, ...]]:
         try:
             import openpyxl

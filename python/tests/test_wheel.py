@@ -1,0 +1,38 @@
+"""The wheel that carries the shared library: installed by pip alone, it is all that a test leader needs."""
+import os
+import subprocess
+import sys
+import zipfile
+
+from delkuthi import __version__
+
+from conftest import EXAMPLES, ROOT
+
+
+def made(folder, environment):
+    """The wheel that `make wheel` writes."""
+    done = subprocess.run(["make", "--silent", "wheel", f"BUILD={folder}", f"DELKUTHI_LIB={os.environ['DELKUTHI_LIB']}"], cwd=ROOT,
+                          env=environment, capture_output=True, text=True)
+    assert done.returncode == 0, done.stderr
+    return done.stdout.strip().splitlines()[-1]
+
+
+def test_a_wheel_is_all_that_is_needed(tmp_path):
+    clean = {name: value for name, value in os.environ.items() if name not in ("PYTHONPATH", "DELKUTHI_LIB", "LD_LIBRARY_PATH")}
+    clean.update(PIP_INDEX_URL="http://127.0.0.1:9/simple", PIP_RETRIES="0", PIP_DISABLE_PIP_VERSION_CHECK="1", HOME=str(tmp_path))
+    wheel = made(tmp_path / "one", clean)
+    again = made(tmp_path / "two", clean)
+    with open(ROOT / wheel, "rb") as one, open(ROOT / again, "rb") as other:
+        assert one.read() == other.read(), "the same to the byte"
+    assert f"delkuthi-{__version__}-py3-none-linux_" in wheel
+    with zipfile.ZipFile(ROOT / wheel) as found:
+        assert any(name.startswith("delkuthi/libdelkuthi.so.") for name in found.namelist())
+        assert "delkuthi/readers/btf.py" in found.namelist() and not any("__pycache__" in name for name in found.namelist())
+    subprocess.run([sys.executable, "-m", "venv", tmp_path / "home"], check=True)
+    bin_folder = tmp_path / "home/bin"
+    subprocess.run([bin_folder / "pip", "install", "--quiet", ROOT / wheel], check=True, env=clean)
+    done = subprocess.run([bin_folder / "delkuthi", "check", "drive.txt", "drive.csv"], cwd=EXAMPLES, env=clean, capture_output=True, text=True)
+    assert (done.returncode, done.stdout) == (1, (EXAMPLES / "messages.txt").read_text(encoding="utf-8"))
+    where = "from delkuthi import library as l; print(l.library()._name)"
+    done = subprocess.run([bin_folder / "python", "-c", where], env=clean, capture_output=True, text=True)
+    assert done.stdout.startswith(str(tmp_path / "home")), done.stdout

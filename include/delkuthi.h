@@ -222,8 +222,8 @@
  *
  * It has a monitor, gives it each step when it comes, sleeps until the deadline
  * where none comes, and says each row that breaks at the moment at which it
- * breaks. next_step is the bench's own; host/c/bench_loop.c has one that reads
- * a recording.
+ * breaks. next_step is the bench's own; bench_loop.c, among the examples, has
+ * one that reads a recording.
 
 #include "delkuthi.h"
 #include <inttypes.h>

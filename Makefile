@@ -54,7 +54,7 @@ help:
 
 # The archive: proved and built, or taken from where DELKUTHI_LIB says, to the byte. It is put together of parts that are compiled by
 # themselves: the search for a stretch uses what a step uses, and the compiler would treat the steps otherwise if both were one.
-PARTS := delkuthi stretch_host
+PARTS := delkuthi stretch_host status
 ifdef DELKUTHI_LIB
 ARCHIVES := $(DELKUTHI_LIB)/libdelkuthi.a
 put_together = cp $(ARCHIVES) $@.new

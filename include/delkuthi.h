@@ -220,37 +220,50 @@
  *
  * A BENCH LOOP
  *
- * It has a monitor, gives it each step when it comes, and stops at the first
- * broken row. next_step is the bench's own; examples/bench_loop.c has one that
- * reads a recording.
+ * It has a monitor, gives it each step when it comes, sleeps until the deadline
+ * where none comes, and says each row that breaks at the moment at which it
+ * breaks. next_step is the bench's own; bench_loop.c, among the examples, has
+ * one that reads a recording.
 
 #include "delkuthi.h"
 #include <inttypes.h>
 #include <stdio.h>
 
-// What comes next: 'e' an event, 'c' one with a colour, 't' a tick, 0 the end.
-extern int next_step(uint8_t *kind, uint8_t *colour, uint64_t *time);
+// What comes next: 'e' an event, 'c' one with a colour, 0 the end; or 't', a
+// tick, once the bench's clock reads `until` and nothing has come.
+extern int next_step(uint64_t until, uint8_t *kind, uint8_t *colour,
+                     uint64_t *time);
 
 static delkuthi_monitor monitor;
 
-// The first broken row, or -1.
-static int first_broken(void)
+// When a row breaks if nothing comes: one past the deadline.
+static uint64_t breaks(void)
 {
-    uint64_t row;
+    uint64_t deadline = delkuthi_deadline(&monitor);
 
-    for (row = 0; row < delkuthi_rows(&monitor); row++)
-        if (delkuthi_row_verdict(&monitor, row) == DELKUTHI_BROKEN)
-            return (int)row;
-    return -1;
+    return deadline == DELKUTHI_NO_LIMIT ? deadline : deadline + 1;
 }
 
-// Says what has stopped the bench. 0: every row kept. 1: a row is broken.
-// 2: the table or a step was refused. 3: the library is not this header's.
+// Says each row that is broken now and was not; all that are broken now.
+static uint32_t say(uint32_t before)
+{
+    uint32_t now = delkuthi_broken_rows(&monitor), row;
+
+    for (row = 0; row < DELKUTHI_ROW_LIMIT; row++)
+        if ((now & ~before) >> row & 1)
+            printf("%" PRIu64 ": row %" PRIu32 " broken\n",
+                   delkuthi_clock(&monitor), row);
+    return now;
+}
+
+// 0: every row kept. 1: a row is broken. 2: the table or a step was refused.
+// 3: the library is not this header's.
 static int bench(const uint8_t *table, size_t table_length)
 {
     uint64_t time, answer;
-    uint8_t kind, colour, refused = 0;
-    int row = -1, what = 'e';
+    uint32_t broken = 0;
+    uint8_t kind, colour, refused = DELKUTHI_TAKEN;
+    int what = 't';
 
     if (!DELKUTHI_MATCHES()) {
         printf("the library is not this header's\n");
@@ -262,8 +275,8 @@ static int bench(const uint8_t *table, size_t table_length)
                DELKUTHI_NUMBER(answer), DELKUTHI_PLACE(answer));
         return 2;
     }
-    while (row < 0 && !refused && what) {
-        what = next_step(&kind, &colour, &time);
+    while (what && !refused) {
+        what = next_step(breaks(), &kind, &colour, &time);
         if (what == 'e')
             refused = delkuthi_event(&monitor, kind, time);
         else if (what == 'c')
@@ -272,16 +285,13 @@ static int bench(const uint8_t *table, size_t table_length)
             refused = delkuthi_tick(&monitor, time);
         else
             refused = delkuthi_close(&monitor);
-        row = first_broken();
+        broken = say(broken);
     }
-    if (row >= 0)
-        printf("row %d broken at step %" PRIu64 "\n", row,
-               delkuthi_row_step(&monitor, (uint64_t)row));
-    else if (refused)
+    if (refused)
         printf("step refused with %d\n", refused);
-    else
+    else if (!broken)
         printf("every row kept\n");
-    return row >= 0 ? 1 : refused ? 2 : 0;
+    return refused ? 2 : broken ? 1 : 0;
 }
 
  */
@@ -293,6 +303,26 @@ static int bench(const uint8_t *table, size_t table_length)
 
 #ifdef __cplusplus
 extern "C" {
+#endif
+
+/*
+ * The compiler warns where an answer that may be a refusal is not looked at,
+ * and where a pointer is NULL. A host that wants neither defines both as
+ * nothing before it includes this header.
+ */
+#if defined(__GNUC__) || defined(__clang__)
+#ifndef DELKUTHI_CHECKED
+#define DELKUTHI_CHECKED __attribute__((warn_unused_result))
+#endif
+#ifndef DELKUTHI_NONNULL
+#define DELKUTHI_NONNULL __attribute__((nonnull))
+#endif
+#endif
+#ifndef DELKUTHI_CHECKED
+#define DELKUTHI_CHECKED
+#endif
+#ifndef DELKUTHI_NONNULL
+#define DELKUTHI_NONNULL
 #endif
 
 /* The version of this header, 0.4.0: major * 1000000 + minor * 1000 + patch. */
@@ -337,16 +367,33 @@ uint32_t delkuthi_version(void);
 uint64_t delkuthi_monitor_size(void);
 
 /*
- * Is the library that was linked the one of this header? Ask it once, before
- * the first call: another one may answer other numbers, or write past the end
- * of a monitor.
+ * Has the library that was linked the interface of this header? It has where
+ * the first two numbers of the version are the same, and so is the size of a
+ * monitor. Ask it once, before the first call: another library may answer other
+ * numbers, or write past the end of a monitor.
  */
 #define DELKUTHI_MATCHES() \
-    (delkuthi_version() == DELKUTHI_VERSION && \
+    (delkuthi_version() / 1000 == DELKUTHI_VERSION / 1000 && \
      delkuthi_monitor_size() == sizeof(delkuthi_monitor))
 
 /* The answer of a call that was taken. */
 #define DELKUTHI_TAKEN 0
+
+/*
+ * Every answer of 64 bits that may be a refusal is taken apart in one way: its
+ * number is DELKUTHI_TAKEN or that of a refusal, and the rest is what the call
+ * says, a place, a row or a length. An answer of 8 bits is the number alone.
+ */
+#ifdef __cplusplus
+#define DELKUTHI_LOW(answer, bits) (static_cast<uint8_t>((answer) & (bits)))
+#else
+#define DELKUTHI_LOW(answer, bits) ((uint8_t)((answer) & (bits)))
+#endif
+#define DELKUTHI_NUMBER(answer) DELKUTHI_LOW(answer, 127)
+#define DELKUTHI_PLACE(answer)  ((answer) >> 8)
+#define DELKUTHI_ROW(answer)    ((answer) >> 8)
+#define DELKUTHI_LENGTH(answer) ((answer) >> 8)
+#define DELKUTHI_WORD(answer)   ((answer) >> 8)
 
 /*
  * The refusals, with what to do about each. The first question answered "no"
@@ -491,16 +538,9 @@ static inline const char *delkuthi_refusal_text(uint8_t number)
  * concerned, counted in bytes (0 for the version byte). On a refusal the
  * memory stays as it was: a monitor that it held can go on.
  */
+DELKUTHI_CHECKED DELKUTHI_NONNULL
 uint64_t delkuthi_fresh(delkuthi_monitor *monitor,
                         const uint8_t *table, size_t table_length);
-
-/* The number and the place in a refusal of delkuthi_fresh. */
-#ifdef __cplusplus
-#define DELKUTHI_NUMBER(answer) (static_cast<uint8_t>((answer) & 255))
-#else
-#define DELKUTHI_NUMBER(answer) ((uint8_t)((answer) & 255))
-#endif
-#define DELKUTHI_PLACE(answer) ((answer) >> 8)
 
 /*
  * A row for delkuthi_make_table. Make it with the function of its type, which
@@ -529,7 +569,7 @@ static inline delkuthi_row delkuthi_row_time(delkuthi_row row, size_t place,
     size_t i;
 
     for (i = 8; i-- > 0; time >>= 8)
-        row.body[place + i] = DELKUTHI_NUMBER(time);
+        row.body[place + i] = DELKUTHI_LOW(time, 255);
     return row;
 }
 
@@ -629,6 +669,7 @@ static inline delkuthi_row delkuthi_repetition(uint8_t event, uint8_t span,
 }
 
 /* The table writer; rows_size is in bytes. delkuthi_make_table calls it. */
+DELKUTHI_CHECKED DELKUTHI_NONNULL
 uint64_t delkuthi_table(const delkuthi_row *rows, size_t rows_size,
                         uint8_t *table, size_t table_length);
 
@@ -638,19 +679,20 @@ uint64_t delkuthi_table(const delkuthi_row *rows, size_t rows_size,
  * as they were.
  *
  * DELKUTHI_NUMBER of the answer is DELKUTHI_TAKEN, and DELKUTHI_LENGTH then the
- * length of the table; or a refusal, of number 3 to 7, 18 or
- * DELKUTHI_TABLE_ROOM, and the buffer stays as it was. It puts 3 to 7 and 18 to
- * each row before the next.
+ * length of the table; or a refusal, and the buffer stays as it was: of number
+ * 3 to 7 or 18, with DELKUTHI_ROW the row that is refused, or
+ * DELKUTHI_TABLE_ROOM. It puts 3 to 7 and 18 to each row before the next, so
+ * that rows behind the 33rd change no answer, and none of them is read.
  */
+DELKUTHI_CHECKED DELKUTHI_NONNULL
 static inline uint64_t delkuthi_make_table(const delkuthi_row *rows,
                                            size_t count, uint8_t *table,
                                            size_t table_length)
 {
+    if (count > DELKUTHI_ROW_LIMIT)
+        count = DELKUTHI_ROW_LIMIT + 1;
     return delkuthi_table(rows, count * sizeof *rows, table, table_length);
 }
-
-/* The length of the table in an answer of delkuthi_make_table. */
-#define DELKUTHI_LENGTH(answer) ((answer) >> 8)
 
 /*
  * Takes an event of a plain kind, 0 to 47. Its time may be the clock's or later,
@@ -661,6 +703,7 @@ static inline uint64_t delkuthi_make_table(const delkuthi_row *rows,
  * DELKUTHI_COUNT_FULL, DELKUTHI_KIND, DELKUTHI_FORM, DELKUTHI_TIME_RANGE,
  * DELKUTHI_TIME_ORDER and DELKUTHI_CROWDED, and leaves the monitor as it was.
  */
+DELKUTHI_CHECKED DELKUTHI_NONNULL
 uint8_t delkuthi_event(delkuthi_monitor *monitor, uint8_t kind, uint64_t time);
 
 /*
@@ -670,6 +713,7 @@ uint8_t delkuthi_event(delkuthi_monitor *monitor, uint8_t kind, uint64_t time);
  *
  * Returns what delkuthi_event returns.
  */
+DELKUTHI_CHECKED DELKUTHI_NONNULL
 uint8_t delkuthi_coloured_event(delkuthi_monitor *monitor, uint8_t kind,
                                 uint8_t colour, uint64_t time);
 
@@ -681,6 +725,7 @@ uint8_t delkuthi_coloured_event(delkuthi_monitor *monitor, uint8_t kind,
  * DELKUTHI_COUNT_FULL, DELKUTHI_TIME_RANGE and DELKUTHI_TIME_ORDER, and leaves
  * the monitor as it was.
  */
+DELKUTHI_CHECKED DELKUTHI_NONNULL
 uint8_t delkuthi_tick(delkuthi_monitor *monitor, uint64_t time);
 
 /*
@@ -689,6 +734,7 @@ uint8_t delkuthi_tick(delkuthi_monitor *monitor, uint64_t time);
  * Returns DELKUTHI_TAKEN; or DELKUTHI_CLOSED if it is closed already, or
  * DELKUTHI_COUNT_FULL, which leave the monitor as it was.
  */
+DELKUTHI_CHECKED DELKUTHI_NONNULL
 uint8_t delkuthi_close(delkuthi_monitor *monitor);
 
 /*
@@ -701,6 +747,7 @@ uint8_t delkuthi_close(delkuthi_monitor *monitor);
  * Returns DELKUTHI_TAKEN, or DELKUTHI_NOTHING_TO_WITHDRAW, which leaves the
  * monitor as it was.
  */
+DELKUTHI_CHECKED DELKUTHI_NONNULL
 uint8_t delkuthi_withdraw(delkuthi_monitor *monitor);
 
 /*
@@ -714,6 +761,7 @@ uint8_t delkuthi_withdraw(delkuthi_monitor *monitor);
  *                    which step
  *   DELKUTHI_NO_ROW  the table has no row of that number
  */
+DELKUTHI_NONNULL
 uint8_t delkuthi_row_verdict(const delkuthi_monitor *monitor, uint64_t row);
 
 #define DELKUTHI_OPEN   0
@@ -724,13 +772,64 @@ uint8_t delkuthi_row_verdict(const delkuthi_monitor *monitor, uint64_t row);
  * Returns the number of the step that broke a row, the first step being 1; or
  * 0 if the row is not broken, or there is no row of that number.
  */
+DELKUTHI_NONNULL
 uint64_t delkuthi_row_step(const delkuthi_monitor *monitor, uint64_t row);
 
 /*
  * Returns the number of rows of the monitor's table: 0 to 32, on memory in which
  * delkuthi_fresh made a monitor.
  */
+DELKUTHI_NONNULL
 uint64_t delkuthi_rows(const delkuthi_monitor *monitor);
+
+/*
+ * WHAT A HOST ASKS WHILE IT RUNS
+ *
+ * These calls only read, and can be made at any time. Two threads may read one
+ * monitor at once, as long as none takes a step. After any calls and
+ * withdrawals each answers what the definitions say of the steps that are left.
+ */
+
+/* Returns the clock: the time of the last event or tick; 0 before any. */
+DELKUTHI_NONNULL
+uint64_t delkuthi_clock(const delkuthi_monitor *monitor);
+
+/* Returns how many steps were taken, the close included. */
+DELKUTHI_NONNULL
+uint64_t delkuthi_steps(const delkuthi_monitor *monitor);
+
+/* Returns 1 once the recording is closed, else 0. */
+DELKUTHI_NONNULL
+uint8_t delkuthi_closed(const delkuthi_monitor *monitor);
+
+/* Returns a bit for each row: bit i is 1 where row i reads broken. */
+DELKUTHI_NONNULL
+uint32_t delkuthi_broken_rows(const delkuthi_monitor *monitor);
+
+/*
+ * Returns how many wait in a row that reads open: sources or groups, as said
+ * above. 0 for any other row, and where there is no row of that number.
+ */
+DELKUTHI_NONNULL
+uint64_t delkuthi_row_waiting(const delkuthi_monitor *monitor, uint64_t row);
+
+/*
+ * Returns the deadline of a row that reads open: a tick to a time that is not
+ * after it leaves the row open, and a tick to any later time breaks the row. So
+ * if none of the row's events comes, it breaks one past its deadline.
+ *
+ * Returns DELKUTHI_NO_LIMIT where no tick can break the row, for a row that is
+ * broken, after the close, and where there is no row of that number.
+ */
+DELKUTHI_NONNULL
+uint64_t delkuthi_row_deadline(const delkuthi_monitor *monitor, uint64_t row);
+
+/*
+ * Returns the least deadline of all rows: until then a host may sleep if no
+ * event comes. DELKUTHI_NO_LIMIT where no row has one.
+ */
+DELKUTHI_NONNULL
+uint64_t delkuthi_deadline(const delkuthi_monitor *monitor);
 
 /*
  * Writes a page to be printed: what each row of a monitor, closed or not, reads
@@ -750,6 +849,7 @@ uint64_t delkuthi_rows(const delkuthi_monitor *monitor);
  * stays as it was. Bytes behind the page stay as they were; no byte 0 is put
  * there.
  */
+DELKUTHI_CHECKED DELKUTHI_NONNULL
 size_t delkuthi_page(const delkuthi_monitor *monitor,
                      uint8_t *page, size_t page_length);
 
@@ -778,6 +878,7 @@ size_t delkuthi_page(const delkuthi_monitor *monitor,
  * report is longer than report_length it returns 0, and the memory stays as it
  * was. Bytes behind the report stay as they were; no byte 0 is put there.
  */
+DELKUTHI_CHECKED DELKUTHI_NONNULL
 size_t delkuthi_report(const uint8_t *table, size_t table_length,
                        const uint8_t *recording, size_t recording_length,
                        uint8_t *report, size_t report_length);
@@ -792,6 +893,7 @@ size_t delkuthi_report(const uint8_t *table, size_t table_length,
  *
  * Returns what delkuthi_report returns, and writes what it writes.
  */
+DELKUTHI_CHECKED DELKUTHI_NONNULL
 size_t delkuthi_report_on(delkuthi_monitor *monitor,
                           const uint8_t *table, size_t table_length,
                           const uint8_t *recording, size_t recording_length,
@@ -809,19 +911,17 @@ size_t delkuthi_report_on(delkuthi_monitor *monitor,
  * the place 0, DELKUTHI_NO_ROW, DELKUTHI_NOT_REPEAT, and DELKUTHI_TIME_RANGE if
  * `late` is above DELKUTHI_LAST_TIME. A place above 2^56 - 1 is given as that.
  */
+DELKUTHI_CHECKED DELKUTHI_NONNULL
 uint64_t delkuthi_stamps(const uint8_t *table, size_t table_length,
                          const uint8_t *recording, size_t recording_length,
                          uint64_t row, uint64_t late);
 
 /*
- * The word in an answer of delkuthi_stamps that is no refusal: kept if each
- * choice of true times meets the row, broken if none does, unsure if one does
- * and another does not.
+ * DELKUTHI_WORD of an answer of delkuthi_stamps that is no refusal is
+ * DELKUTHI_KEPT if each choice of true times meets the row, DELKUTHI_BROKEN if
+ * none does, and DELKUTHI_UNSURE if one does and another does not.
  */
-#define DELKUTHI_STAMPS_WORD(answer) ((answer) >> 8)
-#define DELKUTHI_STAMPS_KEPT   0
-#define DELKUTHI_STAMPS_BROKEN 1
-#define DELKUTHI_STAMPS_UNSURE 2
+#define DELKUTHI_UNSURE 3
 
 /*
  * Joins two recordings that have no kind in common, and writes the joined one
@@ -832,7 +932,7 @@ uint64_t delkuthi_stamps(const uint8_t *table, size_t table_length,
  * the joined recording stay as they were.
  *
  * Returns the number of bytes, DELKUTHI_LENGTH of the answer; or, if
- * DELKUTHI_JOIN_NUMBER of it is not DELKUTHI_TAKEN, a refusal with that number and
+ * DELKUTHI_NUMBER of it is not DELKUTHI_TAKEN, a refusal with that number and
  * DELKUTHI_PLACE: of a record of the first recording or its step (9 to 11, 13, 14
  * and 19), then of the second; then DELKUTHI_COMMON_KIND, with
  * the place of the second's first record of such a kind; then
@@ -840,17 +940,12 @@ uint64_t delkuthi_stamps(const uint8_t *table, size_t table_length,
  * is the second recording that is refused. A place or a length above 2^56 - 1
  * is given as that. On a refusal the buffer stays as it was.
  */
+DELKUTHI_CHECKED DELKUTHI_NONNULL
 uint64_t delkuthi_join(const uint8_t *first, size_t first_length,
                        const uint8_t *second, size_t second_length,
                        uint8_t *joined, size_t joined_length);
 
-/* The number in an answer of delkuthi_join, and whether the second recording
-   is refused: 1, or 0. */
-#ifdef __cplusplus
-#define DELKUTHI_JOIN_NUMBER(answer) (static_cast<uint8_t>((answer) & 127))
-#else
-#define DELKUTHI_JOIN_NUMBER(answer) ((uint8_t)((answer) & 127))
-#endif
+/* Whether it is the second recording that delkuthi_join refuses: 1, or 0. */
 #define DELKUTHI_JOIN_SECOND(answer) (((answer) >> 7) & 1)
 
 /*
@@ -867,6 +962,7 @@ uint64_t delkuthi_join(const uint8_t *first, size_t first_length,
  * DELKUTHI_NO_STRETCH if no stretch breaks the row. A place above 2^56 - 1 is
  * given as that.
  */
+DELKUTHI_CHECKED DELKUTHI_NONNULL
 uint64_t delkuthi_shortest_stretch(const uint8_t *table, size_t table_length,
                                    const uint8_t *recording,
                                    size_t recording_length, uint64_t row);

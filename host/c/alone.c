@@ -2,6 +2,7 @@
  * The library without a C library: it links with these four functions alone,
  * which every compiler takes for granted. This is linked, and not run.
  */
+#define DELKUTHI_CHECKED // what is answered does not matter here
 #include "delkuthi.h"
 
 void *memcpy(void *to, const void *from, size_t length);

@@ -1,36 +1,49 @@
 /*
  * A bench loop over a recorded drive: bench_loop TABLE RECORDING
  *
- * It gives the monitor each record as it comes and stops at the first broken
- * row. The loop is the one in the manual, delkuthi.h.
+ * It gives the monitor each record as it comes, and a tick where the clock of
+ * the drive passes a deadline before the next record. The loop is the one in
+ * the manual, delkuthi.h.
  */
 #include "delkuthi.h"
 #include <inttypes.h>
 #include <stdio.h>
 
-// What comes next: 'e' an event, 'c' one with a colour, 't' a tick, 0 the end.
-extern int next_step(uint8_t *kind, uint8_t *colour, uint64_t *time);
+// What comes next: 'e' an event, 'c' one with a colour, 0 the end; or 't', a
+// tick, once the bench's clock reads `until` and nothing has come.
+extern int next_step(uint64_t until, uint8_t *kind, uint8_t *colour,
+                     uint64_t *time);
 
 static delkuthi_monitor monitor;
 
-// The first broken row, or -1.
-static int first_broken(void)
+// When a row breaks if nothing comes: one past the deadline.
+static uint64_t breaks(void)
 {
-    uint64_t row;
+    uint64_t deadline = delkuthi_deadline(&monitor);
 
-    for (row = 0; row < delkuthi_rows(&monitor); row++)
-        if (delkuthi_row_verdict(&monitor, row) == DELKUTHI_BROKEN)
-            return (int)row;
-    return -1;
+    return deadline == DELKUTHI_NO_LIMIT ? deadline : deadline + 1;
 }
 
-// Says what has stopped the bench. 0: every row kept. 1: a row is broken.
-// 2: the table or a step was refused. 3: the library is not this header's.
+// Says each row that is broken now and was not; all that are broken now.
+static uint32_t say(uint32_t before)
+{
+    uint32_t now = delkuthi_broken_rows(&monitor), row;
+
+    for (row = 0; row < DELKUTHI_ROW_LIMIT; row++)
+        if ((now & ~before) >> row & 1)
+            printf("%" PRIu64 ": row %" PRIu32 " broken\n",
+                   delkuthi_clock(&monitor), row);
+    return now;
+}
+
+// 0: every row kept. 1: a row is broken. 2: the table or a step was refused.
+// 3: the library is not this header's.
 static int bench(const uint8_t *table, size_t table_length)
 {
     uint64_t time, answer;
-    uint8_t kind, colour, refused = 0;
-    int row = -1, what = 'e';
+    uint32_t broken = 0;
+    uint8_t kind, colour, refused = DELKUTHI_TAKEN;
+    int what = 't';
 
     if (!DELKUTHI_MATCHES()) {
         printf("the library is not this header's\n");
@@ -42,8 +55,8 @@ static int bench(const uint8_t *table, size_t table_length)
                DELKUTHI_NUMBER(answer), DELKUTHI_PLACE(answer));
         return 2;
     }
-    while (row < 0 && !refused && what) {
-        what = next_step(&kind, &colour, &time);
+    while (what && !refused) {
+        what = next_step(breaks(), &kind, &colour, &time);
         if (what == 'e')
             refused = delkuthi_event(&monitor, kind, time);
         else if (what == 'c')
@@ -52,27 +65,21 @@ static int bench(const uint8_t *table, size_t table_length)
             refused = delkuthi_tick(&monitor, time);
         else
             refused = delkuthi_close(&monitor);
-        row = first_broken();
+        broken = say(broken);
     }
-    if (row >= 0)
-        printf("row %d broken at step %" PRIu64 "\n", row,
-               delkuthi_row_step(&monitor, (uint64_t)row));
-    else if (refused)
+    if (refused)
         printf("step refused with %d\n", refused);
-    else
+    else if (!broken)
         printf("every row kept\n");
-    return row >= 0 ? 1 : refused ? 2 : 0;
+    return refused ? 2 : broken ? 1 : 0;
 }
-
-// ---- A bench that plays a recording.
 
 #include "file.h"
 #include <stdlib.h>
 
 static struct file recording;
-static size_t place = 1;
+static size_t place = 1; // behind the version byte
 
-// Makes a time of eight bytes, the highest first.
 static uint64_t time_of(const uint8_t *bytes)
 {
     uint64_t time = 0;
@@ -85,33 +92,27 @@ static uint64_t time_of(const uint8_t *bytes)
 
 // The next record: its length of two bytes is 9 for an event, 10 for one with
 // a colour, 8 for a tick. In version 1 there are no colours: 255 is none.
-int next_step(uint8_t *kind, uint8_t *colour, uint64_t *time)
+int next_step(uint64_t until, uint8_t *kind, uint8_t *colour, uint64_t *time)
 {
     const uint8_t *record = recording.bytes + place;
-    size_t left = recording.length - place;
+    size_t left = recording.length - place, size;
 
     if (left == 0)
         return 0;
-    if (left >= 11 && record[0] == 0 && record[1] == 9) {
-        *kind = record[2];
-        *time = time_of(record + 3);
-        place += 11;
-        return 'e';
+    size = left >= 10 && record[0] == 0 ? record[1] : 0;
+    if (size < 8 || size > 10 || left < 2 + size) {
+        fprintf(stderr, "no record at byte %lu\n", (unsigned long)place);
+        exit(4);
     }
-    if (left >= 12 && record[0] == 0 && record[1] == 10) {
-        *kind = record[2];
-        *colour = recording.bytes[0] == 1 ? 255 : record[3];
-        *time = time_of(record + 4);
-        place += 12;
-        return 'c';
-    }
-    if (left >= 10 && record[0] == 0 && record[1] == 8) {
-        *time = time_of(record + 2);
-        place += 10;
+    *time = time_of(record + size - 6);
+    if (*time > until) {
+        *time = until;
         return 't';
     }
-    fprintf(stderr, "no record at byte %lu\n", (unsigned long)place);
-    exit(4);
+    *kind = record[2];
+    *colour = recording.bytes[0] == 1 ? 255 : record[3];
+    place += 2 + size;
+    return size == 8 ? 't' : size == 9 ? 'e' : 'c';
 }
 
 int main(int argc, char **argv)

@@ -10,6 +10,7 @@
  * status is 1. Prints how many calls it made.
  */
 #define _XOPEN_SOURCE 600
+#define DELKUTHI_CHECKED // what is answered does not matter here
 #include "delkuthi.h"
 #include "file.h"
 #include <signal.h>
@@ -96,7 +97,15 @@ static void every_call(const delkuthi_monitor *forged)
         (void)delkuthi_row_verdict(forged, rows[i]);
         begins("delkuthi_row_step");
         (void)delkuthi_row_step(forged, rows[i]);
+        begins("delkuthi_row_deadline");
+        (void)delkuthi_row_deadline(forged, rows[i]);
+        begins("delkuthi_row_waiting");
+        (void)delkuthi_row_waiting(forged, rows[i]);
     }
+    begins("delkuthi_deadline");
+    (void)delkuthi_deadline(forged);
+    begins("delkuthi_broken_rows");
+    (void)delkuthi_broken_rows(forged);
     begins("delkuthi_page");
     (void)delkuthi_page(forged, page, sizeof page);
     begins("delkuthi_rows");

@@ -5,6 +5,7 @@
  * monitors in static memory, on the stack, in a struct and on the heap, filled
  * with any bytes. They need only return, and leave the memory around alone.
  */
+#define DELKUTHI_CHECKED // what is answered does not matter here
 #include "delkuthi.h"
 #include "file.h"
 #include <stdio.h>
@@ -64,6 +65,11 @@ static void calls(delkuthi_monitor *monitor)
         (void)delkuthi_row_step(monitor, number() % 40);
         (void)delkuthi_row_step(monitor, number());
         (void)delkuthi_rows(monitor);
+        (void)delkuthi_deadline(monitor);
+        (void)delkuthi_row_deadline(monitor, number() % 40);
+        (void)delkuthi_row_waiting(monitor, number());
+        (void)delkuthi_broken_rows(monitor);
+        (void)(delkuthi_clock(monitor) + delkuthi_steps(monitor) + delkuthi_closed(monitor));
         (void)delkuthi_page(monitor, page, number() % (sizeof page + 1));
         if (i % 8 == 7)
             (void)delkuthi_close(monitor);

@@ -6,6 +6,7 @@
  * The exit status is 1 where a call uses more than the header says.
  */
 #define _XOPEN_SOURCE 600
+#define DELKUTHI_CHECKED // what is answered does not matter here
 #include "delkuthi.h"
 #include "file.h"
 #include <pthread.h>
@@ -63,6 +64,8 @@ static void *verdict(void *unused)
 {
     (void)delkuthi_row_verdict(&monitor, delkuthi_rows(&monitor) - 1);
     (void)delkuthi_row_step(&monitor, delkuthi_rows(&monitor) - 1);
+    (void)delkuthi_deadline(&monitor);
+    (void)delkuthi_broken_rows(&monitor);
     return unused;
 }
 

@@ -13,26 +13,26 @@ use std::process::{Command, Stdio, exit};
 /// repository's root is removed. Where there is no archive the build ends, with a line that says what to do.
 pub fn link(name: &str) -> PathBuf {
     let file = format!("lib{name}.a");
-    println!("cargo::rerun-if-env-changed=DELKUTHI_LIB");
+    println!("cargo:rerun-if-env-changed=DELKUTHI_LIB");
     let folder = PathBuf::from(env::var_os("OUT_DIR").expect("cargo sets OUT_DIR"));
     match env::var_os("DELKUTHI_LIB") {
         Some(given) => copy(&changing(&Path::new(&given).join(&file)), &folder.join(&file)),
         None => put_together(&parts(name), &folder.join(&file)),
     }
-    println!("cargo::rustc-link-search=native={}", folder.display());
-    println!("cargo::rustc-link-lib=static={name}");
+    println!("cargo:rustc-link-search=native={}", folder.display());
+    println!("cargo:rustc-link-lib=static={name}");
     folder
 }
 
 /// The proved libraries that an archive is put together of: those of the `Makefile`.
 fn parts(name: &str) -> Vec<&str> {
-    if name == "delkuthi" { vec!["delkuthi", "stretch_host"] } else { vec![name] }
+    if name == "delkuthi" { vec!["delkuthi", "stretch_host", "status"] } else { vec![name] }
 }
 
 /// Copies an archive that is there.
 fn copy(archive: &Path, to: &Path) {
     if let Err(error) = fs::copy(archive, to) {
-        let (archive, file) = (archive.display(), to.file_name().unwrap_or_default().display());
+        let (archive, file) = (archive.display(), to.file_name().unwrap_or_default().to_string_lossy());
         give_up(&format!("there is no {archive} ({error}): DELKUTHI_LIB has to name the folder of {file}"));
     }
 }
@@ -46,7 +46,7 @@ fn put_together(parts: &[&str], archive: &Path) {
         ar.stdin.take().expect("ar reads").write_all(script.as_bytes())?;
         ar.wait()
     });
-    if !written.is_ok_and(|status| status.success()) {
+    if !matches!(written, Ok(status) if status.success()) {
         give_up("ar, of binutils, did not put the archive together");
     }
 }
@@ -68,12 +68,12 @@ fn built(name: &str) -> PathBuf {
 
 /// Ends the build with a line for whoever started it.
 fn give_up(text: &str) -> ! {
-    println!("cargo::error={text}");
+    eprintln!("error: {text}");
     exit(1)
 }
 
 /// The path, with which cargo runs the build script again if something changes there.
 fn changing(path: &Path) -> PathBuf {
-    println!("cargo::rerun-if-changed={}", path.display());
+    println!("cargo:rerun-if-changed={}", path.display());
     path.to_path_buf()
 }

@@ -3,5 +3,5 @@
 mod archive;
 
 fn main() {
-    println!("cargo::metadata=folder={}", archive::link("delkuthi").display());
+    println!("cargo:folder={}", archive::link("delkuthi").display());
 }

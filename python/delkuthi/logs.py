@@ -241,8 +241,8 @@ class Ordering:
         first, events, place = batch.times[0], batch.codes, batch.place + len(batch.codes) - 1
         add = self._start(first) if self.add is None else self.add
         times = [time + add for time in batch.times] if add else batch.times
-        # Where each line is an event, the library itself asks whether they are in order.
-        if OTHER in events and not rising(times, self.clock):
+        # Where each line is an event that the one monitor takes, the library itself asks whether they are in order.
+        if (OTHER in events or not self.log.table.whole) and not rising(times, self.clock):
             if times[0] < self.stamp or times[0] < self.clock:
                 raise Irregular
             place = batch.place + last_kept(times, events)

@@ -317,14 +317,14 @@ class _Burst(_Spans):
                 side = margin_of(value, self.values["length"], None)
                 sides += [] if side is None else [side]
                 self.measure.add(value, time, place, min(sides, default=None))
-            elif sides:
-                self._gap(gap, time, place, sides[0])
+            else:
+                self._gap(gap, time, place, min(sides, default=None))
         self.last.append((time, place))
 
-    def _gap(self, gap: int, time: int, place: int, margin: int) -> None:
+    def _gap(self, gap: int, time: int, place: int, margin: int | None) -> None:
         """An event before the first whole span is judged by its gap alone; what it measures is no distance over the span."""
         self.measure.judged += 1
-        if margin < 0:
+        if margin is not None and margin < 0:
             self.measure.outside += 1
             if self.measure.worst is None or self.measure.worst.margin is None or margin < self.measure.worst.margin:
                 self.measure.worst = Instance(gap, time, place, margin)

@@ -121,6 +121,31 @@ class Monitor:
         """Does the library have the call that says the next deadline?"""
         return hasattr(self._library, "delkuthi_deadline")
 
+    def row_deadline(self, row: int) -> int | None:
+        """The last time to which a tick leaves a row open; ``None`` if no tick breaks it."""
+        time = int(self._library.delkuthi_row_deadline(self._memory, _row(row)))
+        return None if time == lib.NO_LIMIT else time
+
+    def row_waiting(self, row: int) -> int:
+        """How many wait in a row that reads open; 0 in any other."""
+        return int(self._library.delkuthi_row_waiting(self._memory, _row(row)))
+
+    def clock(self) -> int:
+        """The time of the last event or tick; 0 before any."""
+        return int(self._library.delkuthi_clock(self._memory))
+
+    def steps(self) -> int:
+        """How many steps were taken, the close included."""
+        return int(self._library.delkuthi_steps(self._memory))
+
+    def closed(self) -> bool:
+        """Whether the recording is closed."""
+        return bool(self._library.delkuthi_closed(self._memory))
+
+    def broken_rows(self) -> int:
+        """A bit for each row: bit i is 1 where row i reads broken."""
+        return int(self._library.delkuthi_broken_rows(self._memory))
+
     def page(self) -> str:
         """The printed page: for each row a line of 72 characters with its number, type, verdict and step."""
         buffer = ctypes.create_string_buffer(lib.PAGE_LIMIT)
@@ -173,7 +198,7 @@ def stamps(table: Table | bytes, recording: bytes, row: int, late: int) -> str:
     """What a Repeat row of span 1 reads at the close where stamps may be late by up to ``late``: kept, broken or unsure."""
     data, given = _bytes(table), late if 0 <= late <= _LARGEST else _LARGEST
     answer = lib.library().delkuthi_stamps(data, len(data), recording, len(recording), _row(row), given)
-    return ("kept", "broken", "unsure")[_answer(answer)]
+    return ("kept", "broken", "unsure")[_answer(answer) - 1]
 
 
 class JoinRefused(Refused):

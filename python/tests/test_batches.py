@@ -141,20 +141,26 @@ def test_random_logs(tmp_path, ending):
 def test_more_rows_than_a_monitor_has(tmp_path):
     """A table of many rows reads, row by row, what each row reads alone; steps and pages are numbered over all."""
     rng = random.Random(11)
-    path, broken = tmp_path / "a.csv", 0
-    for number in range(25):
+    path, broken, unsorted = tmp_path / "a.csv", 0, 0
+    for number in range(40):
         rows = [random_row(rng, rng.choice(TYPES)) for _ in range(rng.randint(33, 90))]
-        names = {kind: f"e{kind}" for kind in range(5)} | {48: "c48", 49: "c49"}
-        events = [Event(name, kind) for kind, name in names.items()]
+        names = {kind: f"e{kind}" for kind in range(5)} | {48: "c48", 49: "c49", 99: "other"}
+        events = [Event(name, 40 if kind == 99 else kind) for kind, name in names.items()]
         table = Table(rows, events, "us")
         assert len(table.parts) == -(-len(rows) // 32)
-        path.write_text(as_csv(rng, random_lines(rng)))
+        lines = random_lines(rng)
+        if lines and rng.random() < 0.4:
+            at = rng.randrange(len(lines))
+            lines[at] = (max(lines[at][0] - 9, 0), *lines[at][1:])
+        path.write_text(as_csv(rng, lines))
         policy = Policy(equal="later", close=rng.random() < 0.8)
         with set_to(batches, "BLOCK", rng.choice([150, 1 << 16])):
             found = check(table, str(path), policy)
             for at in rng.sample(range(len(rows)), 8):
                 alone = check(Table([rows[at]], events, "us"), str(path), policy)
                 if found.error or alone.error:
+                    unsorted += "is before the one above it" in (alone.error or "")
+                    assert "is before the one above it" not in (alone.error or "") or found.error == alone.error
                     continue
                 one, other = found.rows[at], alone.rows[0]
                 assert (one.verdict, one.step, one.place, one.events) == (other.verdict, other.step, other.place, other.events)
@@ -165,7 +171,15 @@ def test_more_rows_than_a_monitor_has(tmp_path):
             lines = [line for line in found.page.splitlines() if not line.startswith("-")]
             assert [int(line[:3]) for line in lines] == list(range(len(rows)))
             assert [line[37:57].strip() for line in lines] == [str(row.step or "") for row in found.rows]
-    assert broken > 20
+    assert broken > 20 and unsorted > 5
+
+
+def test_lines_out_of_order_that_no_row_is_about(tmp_path):
+    """Each line is an event of the table, and the one that is out of order concerns none of its rows, in one monitor or in two."""
+    (tmp_path / "a.csv").write_text("time,event\n1,a\n2,b\n1,idle\n3,a\n4,b\n")
+    for number in (1, 40):
+        found = check(Table.from_text("event a\nevent b\nevent idle\n" + "Order a -> b\n" * number), str(tmp_path / "a.csv"))
+        assert "a.csv:4: the stamp 1 is before the one above it, 2" in (found.error or "")
 
 
 def test_more_events_than_a_monitor_has():

@@ -201,6 +201,13 @@ def test_measured_by_hand(row, steps, expected):
     assert (found.judged, found.outside, found.missing, found.least, found.greatest, found.margin, *worst) == expected
 
 
+def test_as_many_instances_as_the_check_counts():
+    """Of a log that is closed each source, group, run and event that the row's line of types counts is judged."""
+    assert only("Burst a maximum 5, length 10, minimum 0", "a0 a2 a11").judged == 2
+    assert only("StrongSynchronization a b, tolerance 5", "a0 b3 a9 b9").judged == 2
+    assert only("Delay a -> b, 0 .. 20", "a0 a1 b2 a50").judged == 3
+
+
 def test_what_a_row_has_not_measured():
     found = only("Delay a -> b, 0 .. 20", "t5")
     assert (found.judged, found.least, found.mean, found.greatest, found.margin, found.worst) == (0, None, None, None, None, None)

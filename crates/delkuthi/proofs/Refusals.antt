@@ -11,13 +11,13 @@ use Rattle.constraint.specs.declared.Answer.the-variants.{Taken, Refused}
 use Rattle.constraint.specs.declared.Constraint.{Constraint}
 use Rattle.constraint.proofs.Judged.{never, judged-parts}
 use Rattle.constraint.proofs.Accepted.{rows-then, rows-room}
-use Rattle.table.specs.Raw.{WritesRaw, all-read, stopped-at}
+use Rattle.table.specs.Raw.{FirstRefused, WritesRaw, all-read, stopped-at}
 use Rattle.table.specs.Writing.{Writes, answerIn}
 use Rattle.table.specs.declared.WriteAnswer.{WriteAnswer}
 use Rattle.table.proofs.Bodies.{row-length}
 use Rattle.table.proofs.Standing.{body-short}
 use Rattle.opening.proofs.Refusals.{AllAbove, number-above}
-use Rattle.delkuthi.specs.Tables.{MakesTable}
+use Rattle.delkuthi.specs.Tables.{tableNumber, MakesTable}
 
 rows-above : (i : ℕ) (rows : List Constraint) (later : List Question) → AllAbove later → AllAbove (rowsQuestions i rows later)
 unfolding rowsQuestions AllAbove
@@ -69,16 +69,20 @@ makes-written bytes before after r n e writes =
     record {
       answer = WriteAnswer.Written n;
       writes = subst (λ (w : WriteAnswer). WritesRaw bytes before w after) e writes;
+      row = 0;
+      of-row = λ m refused. never (cc);
       equals = refl;
       small = λ m refused. never (cc);
     }
 
-pub makes-refused : (bytes before after : List ℕ) (r : WriteAnswer) (n : ℕ) → n < 256 → r ≡ WriteAnswer.Refused n → WritesRaw bytes before r after
-    → MakesTable bytes before n after
-makes-refused bytes before after r n small e writes =
+pub makes-refused : (bytes before after : List ℕ) (r : WriteAnswer) (n row number : ℕ) → n < 256 → r ≡ WriteAnswer.Refused n
+    → WritesRaw bytes before r after → FirstRefused bytes row → number ≡ tableNumber (WriteAnswer.Refused n) row → MakesTable bytes before number after
+makes-refused bytes before after r n row number small e writes first is =
     record {
       answer = WriteAnswer.Refused n;
       writes = subst (λ (w : WriteAnswer). WritesRaw bytes before w after) e writes;
-      equals = refl;
+      row = row;
+      of-row = λ m refused. first;
+      equals = is;
       small = λ m refused. let same : n ≡ m = cc in (omega (arith, same, raw-number bytes before after r n e writes), omega (arith, same, small));
     }

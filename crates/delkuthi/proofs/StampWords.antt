@@ -1,5 +1,5 @@
 -- Where no stamp is late the number that answers for late stamps is that of the closed monitor's word: both read one list of steps.
-use Prim.Native.Nat.{ℕ, _-_, _*_}
+use Prim.Native.Nat.{ℕ, _*_}
 use native.Mathlib.Omega.{arith}
 use mathlib.Core.Path.{_≡_, refl, sym, ap, subst, _∙_}
 use mathlib.Core.List.{List, [], _∷_, _++_, map}
@@ -27,27 +27,27 @@ use Rattle.delkuthi.specs.Lent.{wordOf, WordOfVerdict}
 use Rattle.delkuthi.specs.Stamps.{stampedNumber, NumbersStamps}
 use Rattle.delkuthi.specs.Taking.{RecordingTakenAs}
 
--- 1 for kept and 2 for broken are 0 and 256
+-- 1 for kept and 2 for broken are 256 and 512
 numbers-agree : (c : Constraint) (steps : List Step) (v : Verdict) → Reads c (steps ++ (close ∷ [])) v
-    → stampedNumber (StampedAnswer.Reads (stampedOf v)) ≡ (wordOf (some v) - 1) * 256
+    → stampedNumber (StampedAnswer.Reads (stampedOf v)) ≡ wordOf (some v) * 256
 numbers-agree c steps Verdict.Open (reads-open e o) = both (sym (closed-close steps) ∙ e)
 numbers-agree c steps Verdict.Kept reading = omega arith
 numbers-agree c steps (Verdict.Broken n) reading = omega arith
 
 pub stamps-as-the-monitor : (table recording : List ℕ) (rows : List Constraint) (m : Monitor) (i k lower upper word number : ℕ)
     → ReadsTable table (table-of rows) → RecordingTakenAs rows recording ReadAnswer.Accepted m → RepeatRow rows i k lower upper
-    → WordOfVerdict m i word → NumbersStamps table recording i 0 number → number ≡ (word - 1) * 256
+    → WordOfVerdict m i word → NumbersStamps table recording i 0 number → number ≡ word * 256
 stamps-as-the-monitor table recording rows m i k lower upper word number read taken there verdict numbers =
     let steps = taken .0 in
     let took = taken .2 in
     let says = verdict .says .means rows (map asks (took .calls)) (took .accepted) (took .made) in
     of-row (says .2) (subst (λ (left : Left). ReadsRow rows (left .steps) i (says .2)) (run-once rows (says .1 .1) (took .all-taken .1) .1) (says .3)) (says .4)
   where
-    of-row : (o : Option Verdict) → ReadsRow rows (taken .0 ++ (close ∷ [])) i o → word ≡ wordOf o → number ≡ (word - 1) * 256
+    of-row : (o : Option Verdict) → ReadsRow rows (taken .0 ++ (close ∷ [])) i o → word ≡ wordOf o → number ≡ word * 256
     of-row o (row c v e r) w =
         let same : c ≡ Repeat k 1 lower upper = cc in
         let reading : Reads (Repeat k 1 lower upper) (taken .0 ++ (close ∷ [])) v = subst (λ (x : Constraint). Reads x (taken .0 ++ (close ∷ [])) v) same r in
         let closes = run-valid (taken .2 .all-taken .1) valid-none in
         let agrees = stamps-agree table recording rows (taken .0) i k lower upper v (numbers .answer) read (taken .1) closes there reading (numbers .answers) in
-        numbers .equals ∙ ap stampedNumber agrees ∙ numbers-agree (Repeat k 1 lower upper) (taken .0) v reading ∙ ap (λ (x : ℕ). (x - 1) * 256) (sym w)
+        numbers .equals ∙ ap stampedNumber agrees ∙ numbers-agree (Repeat k 1 lower upper) (taken .0) v reading ∙ ap (λ (x : ℕ). x * 256) (sym w)
     of-row o (no-row e) w = never (cc)

@@ -6,11 +6,11 @@ use Rattle.constraint.specs.Stamps.{AnswersStamps}
 use Rattle.constraint.specs.declared.StampedAnswer.{StampedAnswer}
 use Rattle.constraint.specs.declared.StampedVerdict.{StampedVerdict}
 
--- §12.6: 256 times the number of the word
+-- §12.6: 256 times the number of the word: kept and broken have those of a row's verdict (§11.5)
 abbrev pub verdictNumber : StampedVerdict → ℕ
-verdictNumber StampedVerdict.Kept = 0
-verdictNumber StampedVerdict.Broken = 256
-verdictNumber StampedVerdict.Unsure = 512
+verdictNumber StampedVerdict.Kept = 256
+verdictNumber StampedVerdict.Broken = 512
+verdictNumber StampedVerdict.Unsure = 768
 
 -- 256 times the place; a place past 2 ^ 56 - 1 counts as that
 abbrev pub placeNumber : ℕ → ℕ

@@ -4,3 +4,4 @@ pub mod Waiting
 pub mod Marks
 pub mod Crowded
 pub mod Theorem
+pub mod Words

@@ -44,7 +44,7 @@ pub data RowWaiting (rows : List Constraint) (steps : List Step) (i : ℕ) : ℕ
 abbrev pub Crowds : List Step → Call → Constraint → Type 0
 Crowds steps call c = Open c (steps ++ (stepFor call ∷ [])) × (waitingLimit < waiting c (steps ++ (stepFor call ∷ [])))
 
--- §15.10: the first row that a call would crowd, where it is refused with 12; 32 where it is not
+-- §8.12: the first row that a call would crowd, where it is refused with 12; 32 where it is not
 pub data CrowdedRow (rows : List Constraint) (steps : List Step) (call : Call) : ℕ → Type 0 where
   crowded : (i : ℕ) (c : Constraint) → Judged (questions rows steps call) (Refused 12) → getElem? rows i ≡ some c → Crowds steps call c
       → ((j : ℕ) (d : Constraint) → j < i → getElem? rows j ≡ some d → ¬ Crowds steps call d) → CrowdedRow rows steps call i

@@ -1,4 +1,6 @@
 // What a host asks of a monitor while it runs, by the numbers that the monitor keeps.
+pub mod host;
+
 use constraint::LAST_TIME;
 use constraint::NO_LIMIT;
 ghost use mathlib.Core.Path.{_≡_};

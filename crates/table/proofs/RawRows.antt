@@ -27,7 +27,7 @@ use Rattle.constraint.proofs.Judged.{yes-of, judged-first, judged-later, judged
 use Rattle.constraint.proofs.Accepted.{rows-then}
 use Rattle.constraint.proofs.Records.{record-count, record-more, record-rows}
 use Rattle.table.specs.Rows.{constraintOf}
-use Rattle.table.specs.Raw.{rawSize, rawBody, RawRows, TypeKnown, KnownAt, RawTable, WritesRaw, all-read, stopped-at}
+use Rattle.table.specs.Raw.{rawSize, rawBody, RawRows, TypeKnown, KnownAt, RowTaken, RawTable, WritesRaw, all-read, stopped-at}
 use Rattle.table.specs.Writing.{Writes}
 use Rattle.table.specs.declared.WriteAnswer.{WriteAnswer}
 use Rattle.table.proofs.Bodies.{bytes-part}
@@ -46,6 +46,11 @@ known-test bytes i start t n b there first second d =
 pub known-more : (bytes : List ℕ) (i : ℕ) → ((j : ℕ) → j < i → KnownAt bytes j) → KnownAt bytes i → (j : ℕ) → j < i + 1 → KnownAt bytes j
 known-more bytes i to here =
     λ j below. split (eqb j i) (λ _. KnownAt bytes j) (λ e. rw (eqb-true j i e) here) (λ e. to j (omega (arith, eqb-false j i e)))
+
+-- one more row that is taken
+pub taken-more : (bytes : List ℕ) (i : ℕ) → ((j : ℕ) → j < i → RowTaken bytes j) → RowTaken bytes i → (j : ℕ) → j < i + 1 → RowTaken bytes j
+taken-more bytes i to here j below =
+    split (eqb j i) (λ _. RowTaken bytes j) (λ e. rw (eqb-true j i e) here) (λ e. to j (omega (arith, eqb-false j i e)))
 
 -- The body of a row of a known type
 

@@ -8,12 +8,13 @@ use Rattle.constraint.specs.Steps.{at}
 use Rattle.constraint.specs.Bytes.{bytesAt}
 use Rattle.constraint.specs.Questions.{Judged}
 use Rattle.constraint.specs.Types.{lengths, lengthOf}
-use Rattle.constraint.specs.Accepted.{rowsQuestions}
+use Rattle.constraint.specs.Accepted.{rowQuestions, rowsQuestions}
 use Rattle.constraint.specs.Records.{filler, tableOf}
 use Rattle.constraint.specs.Table.{StandsFor}
-use Rattle.constraint.specs.declared.Answer.the-variants.{Refused}
+use Rattle.constraint.specs.declared.Answer.the-variants.{Taken, Refused}
 use Rattle.constraint.specs.declared.Constraint.{Constraint}
 use Rattle.constraint.specs.declared.Table.{Table}
+use Rattle.table.specs.Rows.{constraintOf}
 use Rattle.table.specs.Writing.{Writes}
 use Rattle.table.specs.declared.WriteAnswer.{WriteAnswer}
 
@@ -44,6 +45,16 @@ pub record Known (bytes : List ℕ) (n : ℕ) : Type 0 where
   pub whole : n * rawSize ≤ length bytes
   pub known : (i : ℕ) → i < n → KnownAt bytes i
   pub last : n < rowLimit → (n + 1) * rawSize ≤ length bytes → ¬ KnownAt bytes n
+
+-- row i is taken: 4, and then 5, 18, 6 and 7 of the row that its body stands for (`raw-stands`)
+abbrev pub RowTaken : List ℕ → ℕ → Type 0
+RowTaken bytes i = KnownAt bytes i × Judged (rowQuestions (constraintOf (rawBody bytes i))) Taken
+
+-- the number of the first row that is refused, or of the first that is not whole or has no entry
+pub record FirstRefused (bytes : List ℕ) (row : ℕ) : Type 0 where
+  pub room : row ≤ rowLimit
+  pub taken : (i : ℕ) → i < row → RowTaken bytes i
+  pub refused : row < rowLimit → (row + 1) * rawSize ≤ length bytes → ¬ RowTaken bytes row
 
 -- the record of the first n rows
 pub record RawTable (bytes : List ℕ) (n : ℕ) (table : Table) : Type 0 where

@@ -5,8 +5,10 @@ use super::body::row_of;
 use constraint::Answer;
 use constraint::Table;
 ghost use mathlib.Core.Path.{_≡_};
+ghost use Prim.Native.Nat.{_+_, _*_, _≤_};
+ghost use lib.ListN.{length};
 ghost use Rattle.constraint.specs.Records.{Decides};
-ghost use Rattle.table.specs.Raw.{TypeKnown, Known, RawTable, WritesRaw};
+ghost use Rattle.table.specs.Raw.{rawSize, TypeKnown, Known, RowTaken, FirstRefused, RawTable, WritesRaw};
 
 // How many bytes each row is given, which the longest type needs.
 const RAW_SIZE: usize = 34;
@@ -70,6 +72,45 @@ fn first_rows(bytes: &[u8], count: usize) -> Table
         i += 1;
     }
     table
+}
+
+// Whether the row of a number is taken: questions 4 to 7 and 18.
+fn row_taken(bytes: &[u8], i: usize) -> bool
+    requires { ⌜ (i + 1) * rawSize ≤ length (now bytes) ⌝ }
+    ensures { λ r. ⌜ Decides (RowTaken (now (bytes .entry)) i) r ⌝ }
+{
+    let start = i * RAW_SIZE;
+    let form = number::byte_at(bytes, start);
+    let next = start + 1;
+    let n = number::byte_at(bytes, next);
+    if !type_known(form, n) {
+        return false;
+    }
+    let end = start + length_of(form, n);
+    let row = row_of(&bytes[start..end]);
+    match row.judge() {
+        Answer::Refused(_) => false,
+        Answer::Taken => true,
+    }
+}
+
+// The number of the first row that is refused, or how many rows there are where none is: at most as many as a table has entries.
+pub fn refused_row(bytes: &[u8]) -> usize
+    ensures { λ r. ⌜ FirstRefused (now (bytes .entry)) r ⌝ }
+{
+    let mut start = 0;
+    let mut i = 0;
+    while i < constraint::ROW_LIMIT {
+        if bytes.len() - start < RAW_SIZE {
+            return i;
+        }
+        if !row_taken(bytes, i) {
+            return i;
+        }
+        start += RAW_SIZE;
+        i += 1;
+    }
+    i
 }
 
 // Writes the table of rows given as raw bytes to a lent buffer. A refusal leaves the buffer as it was, and bytes after those written stay.

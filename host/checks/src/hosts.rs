@@ -71,6 +71,14 @@ pub fn cpp_host(file: &str) -> Host {
     compile(&mut cpp_compiler(), &[file])
 }
 
+/// Compiles a C++17 host of `host/c`, with every warning an error.
+///
+/// # Panics
+/// With what the compiler says, if it does not compile.
+pub fn cpp17_host(file: &str) -> Host {
+    compile(cpp_compiler().args(["-std=c++17", "-Wold-style-cast", "-Wconversion", "-Wshadow"]), &[file])
+}
+
 /// The C++ compiler, for C++11.
 #[must_use]
 pub fn cpp_compiler() -> Command {
@@ -106,6 +114,11 @@ pub fn compile_with(compiler: &mut Command, files: &[&str], include: &Path, link
 }
 
 impl Host {
+    /// A host that is compiled already.
+    pub fn at(program: &str) -> Host {
+        Host { program: PathBuf::from(program), _folder: Folder::new() }
+    }
+
     /// Runs the host.
     pub fn run<A: AsRef<OsStr>>(&self, arguments: &[A]) -> Ran {
         ran(Command::new(&self.program).args(arguments).output())

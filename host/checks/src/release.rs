@@ -145,9 +145,9 @@ impl RustHost {
         let folder = Folder::new();
         let package =
             "[package]\nname = \"buyer\"\nversion = \"0.0.0\"\nedition = \"2021\"\n\n[workspace]\n\n[dependencies]";
-        let crate_path = root().join("host/delkuthi");
-        let manifest = format!("{package}\ndelkuthi = {{ path = {:?} }}\n", crate_path.display().to_string());
-        folder.write("Cargo.toml", manifest.as_bytes());
+        let copied = Command::new("cp").arg("-r").arg(root().join("host/delkuthi")).arg(folder.path()).status();
+        assert!(copied.expect("cp can be run").success());
+        folder.write("Cargo.toml", format!("{package}\ndelkuthi = {{ path = \"delkuthi\" }}\n").as_bytes());
         fs::create_dir(folder.path().join("src")).expect("a folder");
         folder.write("src/main.rs", RUST_HOST.as_bytes());
         RustHost { folder }

@@ -36,6 +36,12 @@ pub fn write(rows: &[Constraint], buffer: &mut [u8]) -> Result<usize, u8> {
     delkuthi::write_table(&rows, buffer).map_err(|refusal| refusal.number())
 }
 
+/// The row that the Rust crate's writer names in its refusal.
+pub fn refused_row(rows: &[Constraint]) -> Option<usize> {
+    let rows: Vec<Row> = rows.iter().map(row_of).collect();
+    delkuthi::write_table(&rows, &mut [0; delkuthi::TABLE_LIMIT]).err().and_then(|refusal| refusal.row())
+}
+
 /// The row as `host/c/make_table.c` reads it: its type, five bytes and four times.
 pub fn numbers_of(row: &Constraint) -> String {
     let (form, bytes, times) = match *row {

@@ -118,10 +118,11 @@ impl Header {
     }
 }
 
-/// The name and number of a line `#define DELKUTHI_NAME number`; none for a macro with arguments and for the guard.
+/// The name and number of a line `#define DELKUTHI_NAME number`; none for a macro with arguments, an attribute and the guard.
 fn defined(line: &str) -> Option<(String, u64)> {
     let (name, value) = line.strip_prefix("#define DELKUTHI_")?.split_once(' ')?;
-    (!name.contains('(')).then(|| (name.to_string(), number(value.trim())))
+    let other = name.contains('(') || value.contains("__attribute__");
+    (!other).then(|| (name.to_string(), number(value.trim())))
 }
 
 /// The name and number of a line `DELKUTHI_NAME = number` of an enum.

@@ -1,7 +1,7 @@
 //! The header and the archive in C and C++: hosts compiled at -O0 and -O2, run, and run under valgrind.
 //! Clauses: §3.4, §3.5, §9.7, §9.8, §11.1 to §11.6.
 
-use checks::hosts::{Host, Ran, c_host, c_host_alone, c_host_with_header, compile_with, cpp_host, found};
+use checks::hosts::{Host, Ran, c_host, c_host_alone, c_host_with_header, compile_with, cpp_host, cpp17_host, found};
 use checks::places::{Folder, archive_folder, example, example_bytes, root};
 use checks::rows::numbers_of;
 use delkuthi::Monitor;
@@ -11,7 +11,11 @@ use model::random::Random;
 use model::random::recordings::{recording, refused_recording};
 use model::random::seen::Seen;
 use model::random::tables::{any_table, damaged_rows, damaged_table, table};
-use model::{Constraint, Step, Verdict, page_text, read_table, recording_bytes, report_text, table_bytes, write_table};
+use model::{
+    Constraint, Step, Verdict, page_text, read_table, recording_bytes, refused_row, report_text, table_bytes,
+    write_table,
+};
+use std::collections::BTreeSet;
 use std::fs;
 use std::path::PathBuf;
 use std::process::Command;
@@ -32,20 +36,36 @@ impl Files {
     }
 }
 
-/// What the bench loop is to do with the steps of a recording, by the model: it stops at the first break or refusal.
+/// What the bench loop is to do with the steps of a recording, by the model: where the next comes more than one past the
+/// deadline a tick comes first, and each row is said when it breaks.
 fn bench(rows: &[Constraint], steps: &[Step]) -> Ran {
     let mut monitor = model::Monitor::fresh(rows).expect("an accepted table");
+    let (mut printed, mut broken) = (String::new(), 0);
     for step in steps.iter().chain([&Step::Close]) {
+        let (Step::Event { time, .. } | Step::Coloured { time, .. } | Step::Tick { time }) = *step else {
+            monitor.close().expect("a recording not yet closed");
+            say(&monitor, &mut broken, &mut printed);
+            break;
+        };
+        while monitor.deadline() != NO_LIMIT && monitor.deadline() + 1 < time {
+            monitor.tick(monitor.deadline() + 1).expect("a tick after the clock");
+            say(&monitor, &mut broken, &mut printed);
+        }
         if let Err(number) = monitor.step(*step) {
-            return Ran::new(2, &format!("step refused with {number}\n"));
+            return Ran::new(2, &format!("{printed}step refused with {number}\n"));
         }
-        for (row, verdict) in monitor.verdicts().into_iter().enumerate() {
-            if let Verdict::Broken(step) = verdict {
-                return Ran::new(1, &format!("row {row} broken at step {step}\n"));
-            }
-        }
+        say(&monitor, &mut broken, &mut printed);
     }
-    Ran::new(0, "every row kept\n")
+    if broken == 0 { Ran::new(0, &format!("{printed}every row kept\n")) } else { Ran::new(1, &printed) }
+}
+
+/// The lines for the rows that are broken now and were not.
+fn say(monitor: &model::Monitor, broken: &mut u32, printed: &mut String) {
+    let now = monitor.broken_rows();
+    for row in (0..32).filter(|row| (now & !*broken) >> row & 1 == 1) {
+        *printed += &format!("{}: row {row} broken\n", monitor.clock());
+    }
+    *broken = now;
 }
 
 /// The steps in a recording's bytes, all of whose records are whole.
@@ -68,8 +88,8 @@ fn play(examples: impl IntoIterator<Item = Example>, run: impl Fn(&[PathBuf; 2])
         let rows = std::slice::from_ref(&example.row);
         let ran = run(&Files::new(&table_bytes(rows), &recording_bytes(&steps)).paths);
         assert_eq!(ran, bench(rows, &steps), "example {}", example.number);
-        if let Verdict::Broken(step) = example.end() {
-            assert_eq!(ran, Ran::new(1, &format!("row 0 broken at step {step}\n")), "example {}", example.number);
+        if let Verdict::Broken(_) = example.end() {
+            assert_eq!(ran.status, Some(1), "example {}", example.number);
         }
     }
 }
@@ -100,14 +120,19 @@ fn the_report_host() {
     }
 }
 
+/// In C, in C++ and in Rust.
 #[test]
-fn the_bench_loop_stops_at_the_very_step() {
+fn the_bench_loop_says_each_row_as_it_breaks() {
     let drive = [example("table.bin"), example("recording.bin")];
+    let rows = read_table(&example_bytes("table.bin")).expect("a table");
+    let expected = bench(&rows, &steps_of(&example_bytes("recording.bin")));
+    assert!(expected.status == Some(1) && expected.printed.lines().count() == 3, "{expected:?}");
     let mut random = Random::new(401);
-    for level in LEVELS {
-        let host = c_host("bench_loop", level);
-        assert_eq!(host.run(&drive), Ran::new(1, "row 1 broken at step 38\n"));
-        assert_eq!(host.run_in_valgrind(&drive), Ran::new(1, "row 1 broken at step 38\n"));
+    let cpp = cpp17_host("bench_loop.cpp");
+    let rust = Host::at(env!("CARGO_BIN_EXE_bench_loop"));
+    for host in [c_host("bench_loop", "-O0"), c_host("bench_loop", "-O2"), cpp, rust] {
+        assert_eq!(host.run(&drive), expected);
+        assert_eq!(host.run_in_valgrind(&drive), expected);
         play(examples(), |files| host.run(files));
         for _ in 0..150 {
             let number = random.place(12);
@@ -207,7 +232,7 @@ fn made(rows: &[Constraint], length: usize, seen: &mut Seen) -> (String, String)
     let answer = write_table(rows, &mut buffer);
     let told = match answer {
         Ok(written) => format!("0 {written} "),
-        Err(number) => format!("{number} 0 "),
+        Err(number) => format!("{number} {} ", refused_row(rows).unwrap_or(0)),
     };
     let _ = seen.answer(answer);
     let given: String = rows.iter().map(numbers_of).collect();
@@ -300,8 +325,10 @@ fn the_archive_and_the_header_match() {
         assert_eq!(header.matches(one).count(), 1, "{one}");
         c_host_with_header("version", &header.replace(one, another)).run::<&str>(&[])
     };
-    let newer = other(&format!("UINT32_C({version})"), &format!("UINT32_C({})", version + 1));
-    assert_eq!(newer, Ran::new(1, &of_header(version + 1, size)));
+    for (newer, status) in [(version + 1, 0), (version + 1_000, 1)] {
+        let told = other(&format!("UINT32_C({version})"), &format!("UINT32_C({newer})"));
+        assert_eq!(told, Ran::new(status, &of_header(newer, size)));
+    }
     let words = size / 8;
     let longer = other(&format!("words[{words}]"), &format!("words[{}]", words + 1));
     assert_eq!(longer, Ran::new(1, &of_header(version, size + 8)));
@@ -349,13 +376,15 @@ fn loop_and_report_agree() {
         let rows = any_table(&mut random);
         let files = Files::new(&table_bytes(&rows), &recording(&mut random, &rows, 60));
         let (reported, looped) = (report.run(&files.paths), bench_loop.run(&files.paths));
-        let breaks: Vec<&str> = reported.printed.lines().filter(|line| line.contains("broken")).collect();
-        let steps = breaks.iter().map(|line| line.rsplit(' ').next().expect("a step").parse::<u64>().expect("a step"));
-        match (steps.min(), reported.printed.starts_with("refused")) {
-            (_, true) => {}
-            (None, _) => assert_eq!(looped, Ran::new(0, "every row kept\n")),
-            (Some(step), _) => assert!(looped.printed.ends_with(&format!(" broken at step {step}\n"))),
+        if reported.printed.starts_with("refused") {
+            continue;
         }
+        let rows_in = |text: &str, place: usize| -> BTreeSet<String> {
+            let broken = text.lines().filter(|line| line.contains("broken"));
+            broken.map(|line| line.split(' ').nth(place).expect("a row").to_string()).collect()
+        };
+        assert_eq!(rows_in(&looped.printed, 2), rows_in(&reported.printed, 0));
+        assert_eq!(looped.printed == "every row kept\n", rows_in(&reported.printed, 0).is_empty());
     }
 }
 

@@ -51,9 +51,7 @@ fn by_definitions() -> BTreeMap<String, u64> {
         ("TAKEN", definition("crates/inplace/specs/Store.antt", "numberOf Taken")),
         ("REPORT_LIMIT", definition("crates/text/proofs/Reports.antt", "reportLimit")),
         ("PAGE_LIMIT", page_limit()),
-        ("STAMPS_KEPT", stamps_word("Kept")),
-        ("STAMPS_BROKEN", stamps_word("Broken")),
-        ("STAMPS_UNSURE", stamps_word("Unsure")),
+        ("UNSURE", stamps_word("Unsure")),
     ])
 }
 

@@ -130,7 +130,7 @@ fn a_host_in_python() {
     }
 }
 
-/// A host in Rust takes the archive of the copy; neither it nor the wrapper needs the Rattle kit then.
+/// A host in Rust that has the wrapper's folder as a copy takes the archive; neither needs the Rattle kit then.
 #[test]
 fn a_host_in_rust() {
     let copy = Installed::in_prefix();
@@ -151,8 +151,30 @@ fn a_host_in_rust_without_an_archive() {
         let output = host.run(archive, &drive_files());
         let told = String::from_utf8(output.stderr).expect("text");
         let line = told.lines().find(|line| line.contains(expected));
-        assert!(!output.status.success() && line.is_some_and(|line| line.starts_with("error: ")), "{told}");
+        assert!(
+            !output.status.success() && line.is_some_and(|line| line.trim_start().starts_with("error: ")),
+            "{told}"
+        );
         assert!(!told.contains("panicked"), "{told}");
+    }
+}
+
+/// Debian's Rust, which in Debian 12 is the oldest that the wrapper names, compiles it and its build script without a
+/// warning.
+#[test]
+fn the_oldest_rust() {
+    let folder = Folder::new();
+    for (file, kind, feature) in
+        [("src/lib.rs", "rlib", "std"), ("src/lib.rs", "rlib", "none"), ("build.rs", "bin", "none")]
+    {
+        let mut rustc = Command::new("/usr/bin/rustc");
+        rustc.args(["--edition=2021", "-Dwarnings", "--crate-name=delkuthi", "--crate-type", kind, "--cfg"]);
+        rustc.arg(format!("feature={feature:?}")).arg(root().join("host/delkuthi").join(file));
+        rustc.arg("--out-dir").arg(folder.path()).env("CARGO_MANIFEST_DIR", root().join("host/delkuthi"));
+        for (name, number) in ["MAJOR", "MINOR", "PATCH"].iter().zip(version().split('.')) {
+            rustc.env(format!("CARGO_PKG_VERSION_{name}"), number);
+        }
+        assert_eq!(ran(rustc.output()), Ran::new(0, ""), "{file} {feature}");
     }
 }
 

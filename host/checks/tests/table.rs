@@ -1,5 +1,5 @@
 //! The proved table reader and writer beside the model's; the writer is called as the Rust crate offers it.
-//! Clauses: §4.1 to §4.10, §5.9.6, §8.1 to §8.7, §8.16, §8.18, §9.3, §9.7, §9.8.
+//! Clauses: §4.1 to §4.10, §5.9.6, §8.1 to §8.7, §8.16, §8.18, §9.3, §9.7, §9.8, §11.5.
 
 use checks::rows::write;
 use checks::table_host::{read, rewrite};
@@ -8,7 +8,7 @@ use model::notation::order;
 use model::random::Random;
 use model::random::seen::Seen;
 use model::random::tables::{any_table, damaged_rows, damaged_table, table};
-use model::{Constraint, Refusal, read_table, table_bytes, write_table};
+use model::{Constraint, Refusal, read_table, refused_row, table_bytes, write_table};
 
 /// What a buffer is filled with, so that a byte written is noticed.
 const FILL: u8 = 0xA5;
@@ -37,6 +37,7 @@ fn compare_bytes(bytes: &[u8], length: usize, seen: &mut Seen) {
 fn compare_rows(rows: &[Constraint], length: usize, seen: &mut Seen) {
     let written = in_buffer(length, |buffer| write(rows, buffer));
     assert_eq!(written, in_buffer(length, |buffer| write_table(rows, buffer)), "{rows:?}");
+    assert_eq!(checks::rows::refused_row(rows), refused_row(rows), "{rows:?}");
     let _ = seen.answer(written.0);
 }
 

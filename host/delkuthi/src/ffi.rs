@@ -5,19 +5,50 @@
 
 use crate::monitor::Monitor;
 
-unsafe extern "C" {
-    pub safe fn delkuthi_version() -> u32;
-    pub safe fn delkuthi_monitor_size() -> u64;
+/// Functions that take numbers and references alone, so that no call of them is unsafe.
+macro_rules! safe {
+    ($(fn $name:ident($($argument:ident: $kind:ty),*) -> $answer:ty;)*) => {
+        mod symbols {
+            use super::Monitor;
+
+            extern "C" {
+                $(pub fn $name($($argument: $kind),*) -> $answer;)*
+            }
+        }
+
+        $(
+            #[inline]
+            pub fn $name($($argument: $kind),*) -> $answer {
+                // SAFETY: each pointer is a reference, and the function is proved to touch nothing else.
+                unsafe { symbols::$name($($argument),*) }
+            }
+        )*
+    };
+}
+
+safe! {
+    fn delkuthi_version() -> u32;
+    fn delkuthi_monitor_size() -> u64;
+    fn delkuthi_event(monitor: &mut Monitor, kind: u8, time: u64) -> u8;
+    fn delkuthi_coloured_event(monitor: &mut Monitor, kind: u8, colour: u8, time: u64) -> u8;
+    fn delkuthi_tick(monitor: &mut Monitor, time: u64) -> u8;
+    fn delkuthi_close(monitor: &mut Monitor) -> u8;
+    fn delkuthi_withdraw(monitor: &mut Monitor) -> u8;
+    fn delkuthi_row_verdict(monitor: &Monitor, row: u64) -> u8;
+    fn delkuthi_row_step(monitor: &Monitor, row: u64) -> u64;
+    fn delkuthi_rows(monitor: &Monitor) -> u64;
+    fn delkuthi_clock(monitor: &Monitor) -> u64;
+    fn delkuthi_steps(monitor: &Monitor) -> u64;
+    fn delkuthi_closed(monitor: &Monitor) -> u8;
+    fn delkuthi_broken_rows(monitor: &Monitor) -> u32;
+    fn delkuthi_row_waiting(monitor: &Monitor, row: u64) -> u64;
+    fn delkuthi_row_deadline(monitor: &Monitor, row: u64) -> u64;
+    fn delkuthi_deadline(monitor: &Monitor) -> u64;
+}
+
+extern "C" {
     pub fn delkuthi_fresh(monitor: &mut Monitor, table: *const u8, table_length: usize) -> u64;
     pub fn delkuthi_table(rows: *const u8, rows_size: usize, table: *mut u8, table_length: usize) -> u64;
-    pub safe fn delkuthi_event(monitor: &mut Monitor, kind: u8, time: u64) -> u8;
-    pub safe fn delkuthi_coloured_event(monitor: &mut Monitor, kind: u8, colour: u8, time: u64) -> u8;
-    pub safe fn delkuthi_tick(monitor: &mut Monitor, time: u64) -> u8;
-    pub safe fn delkuthi_close(monitor: &mut Monitor) -> u8;
-    pub safe fn delkuthi_withdraw(monitor: &mut Monitor) -> u8;
-    pub safe fn delkuthi_row_verdict(monitor: &Monitor, row: u64) -> u8;
-    pub safe fn delkuthi_row_step(monitor: &Monitor, row: u64) -> u64;
-    pub safe fn delkuthi_rows(monitor: &Monitor) -> u64;
     pub fn delkuthi_page(monitor: &Monitor, page: *mut u8, page_length: usize) -> usize;
     pub fn delkuthi_report(
         table: *const u8,

@@ -55,7 +55,8 @@ impl fmt::Display for JoinRefusal {
     }
 }
 
-impl core::error::Error for JoinRefusal {}
+#[cfg(feature = "std")]
+impl std::error::Error for JoinRefusal {}
 
 /// Joins two recordings that have no kind in common in the front of a buffer, and gives the number of bytes: records by
 /// time, at equal times those of the first before those of the second, without the ticks that are not later than the

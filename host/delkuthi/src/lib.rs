@@ -19,7 +19,8 @@
 //! # Ok::<(), delkuthi::Refusal>(())
 //! ```
 //!
-//! The wrapper needs no operating system, no heap and no other crate.
+//! The wrapper needs no heap and no other crate, and without its feature `std`, which gives the refusals
+//! `std::error::Error`, no operating system. It needs Rust 1.63 or newer.
 //!
 //! # The stack
 //!
@@ -39,6 +40,9 @@
 
 #![no_std]
 #![warn(missing_docs)]
+
+#[cfg(feature = "std")]
+extern crate std;
 
 mod ffi;
 mod join;

@@ -134,8 +134,64 @@ impl Monitor {
     }
 
     /// What each row reads, in the order of the table.
-    pub fn verdicts(&self) -> impl Iterator<Item = Verdict> {
+    pub fn verdicts(&self) -> impl Iterator<Item = Verdict> + '_ {
         (0..self.rows()).map_while(|row| self.verdict(row).ok())
+    }
+
+    /// The clock: the time of the last event or tick; 0 before any.
+    #[inline]
+    pub fn clock(&self) -> u64 {
+        ffi::delkuthi_clock(self)
+    }
+
+    /// How many steps were taken, the close included.
+    #[inline]
+    pub fn steps(&self) -> u64 {
+        ffi::delkuthi_steps(self)
+    }
+
+    /// Whether the recording is closed.
+    #[inline]
+    pub fn is_closed(&self) -> bool {
+        ffi::delkuthi_closed(self) != 0
+    }
+
+    /// A bit for each row: bit i is 1 where row i reads broken.
+    #[inline]
+    pub fn broken_rows(&self) -> u32 {
+        ffi::delkuthi_broken_rows(self)
+    }
+
+    /// How many wait in a row that reads open: 0 for any other row, and where there is no row of that number.
+    #[inline]
+    pub fn row_waiting(&self, row: usize) -> usize {
+        ffi::delkuthi_row_waiting(self, row as u64) as usize
+    }
+
+    /// The last time to which a tick leaves a row open that reads open: one to any later time breaks it. None where no
+    /// tick breaks the row, for a row that is broken, after the close, and where there is no row of that number.
+    #[inline]
+    pub fn row_deadline(&self, row: usize) -> Option<u64> {
+        limit(ffi::delkuthi_row_deadline(self, row as u64))
+    }
+
+    /// The least of the rows' deadlines: until then a host may sleep if no event comes.
+    ///
+    /// ```
+    /// # use delkuthi::{Monitor, Row, TABLE_LIMIT, write_table};
+    /// # let mut table = [0; TABLE_LIMIT];
+    /// # let length = write_table(&[Row::Delay { source: 0, target: 1, lower: 2, upper: 3 }], &mut table)?;
+    /// let mut monitor = Monitor::fresh(&table[..length])?;
+    /// assert_eq!(monitor.deadline(), None);
+    /// monitor.event(0, 10)?;
+    /// assert_eq!(monitor.deadline(), Some(13));
+    /// monitor.tick(14)?;
+    /// assert_eq!((monitor.deadline(), monitor.broken_rows()), (None, 1));
+    /// # Ok::<(), delkuthi::Refusal>(())
+    /// ```
+    #[inline]
+    pub fn deadline(&self) -> Option<u64> {
+        limit(ffi::delkuthi_deadline(self))
     }
 
     /// The monitor's memory, to be put aside.
@@ -152,6 +208,12 @@ impl Monitor {
         assert!(crate::matches(), "the archive libdelkuthi.a is not this crate's");
         Monitor { words }
     }
+}
+
+/// A deadline, if there is one.
+#[inline]
+fn limit(time: u64) -> Option<u64> {
+    if time == crate::NO_LIMIT { None } else { Some(time) }
 }
 
 impl fmt::Debug for Monitor {

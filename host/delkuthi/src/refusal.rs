@@ -6,27 +6,42 @@ use core::fmt;
 #[derive(Clone, Copy, Debug, PartialEq, Eq, Hash)]
 pub struct Refusal {
     number: u8,
-    place: Option<u64>,
+    at: Option<At>,
+}
+
+/// What a refusal is about, where it is about a part of what was given.
+#[derive(Clone, Copy, Debug, PartialEq, Eq, Hash)]
+enum At {
+    /// A byte of a table or a recording.
+    Byte(u64),
+    /// A row of a list of rows.
+    Row(usize),
 }
 
 impl Refusal {
-    pub(crate) const NO_ROW: Refusal = Refusal { number: 15, place: None };
+    pub(crate) const NO_ROW: Refusal = Refusal { number: 15, at: None };
 
     /// What the answer of a fresh monitor's call says: the place in the table, times 256, and the number.
     pub(crate) fn of_table(answer: u64) -> Result<(), Refusal> {
         let (number, place) = ((answer % 256) as u8, answer / 256);
-        if number == 0 { Ok(()) } else { Err(Refusal { number, place: Some(place) }) }
+        if number == 0 { Ok(()) } else { Err(Refusal { number, at: Some(At::Byte(place)) }) }
     }
 
-    /// What the answer of the table writer says: the number of bytes written, times 256, or the number.
+    /// What the answer of the table writer says: the number of bytes written, times 256; or the row, times 256, and the
+    /// number, where it is not the buffer that is too short.
     pub(crate) fn of_writer(answer: u64) -> Result<usize, Refusal> {
-        Refusal::of_step((answer % 256) as u8).map(|()| (answer / 256) as usize)
+        let (number, rest) = ((answer % 256) as u8, (answer / 256) as usize);
+        match number {
+            0 => Ok(rest),
+            16 => Err(Refusal { number, at: None }),
+            _ => Err(Refusal { number, at: Some(At::Row(rest)) }),
+        }
     }
 
     /// What the answer of a step says.
     #[inline]
     pub(crate) fn of_step(number: u8) -> Result<(), Refusal> {
-        if number == 0 { Ok(()) } else { Err(Refusal { number, place: None }) }
+        if number == 0 { Ok(()) } else { Err(Refusal { number, at: None }) }
     }
 
     /// The refusal's number, as `include/delkuthi.h` lists them.
@@ -37,7 +52,18 @@ impl Refusal {
 
     /// For a table's refusal the place of the length field concerned, in bytes: 0 for the version byte.
     pub fn place(&self) -> Option<u64> {
-        self.place
+        match self.at {
+            Some(At::Byte(place)) => Some(place),
+            _ => None,
+        }
+    }
+
+    /// For a refusal of [`write_table`](crate::write_table) the number of the row that is refused, from 0.
+    pub fn row(&self) -> Option<usize> {
+        match self.at {
+            Some(At::Row(row)) => Some(row),
+            _ => None,
+        }
     }
 
     /// What the number means, in a line.
@@ -82,11 +108,13 @@ pub const fn refusal_text(number: u8) -> &'static str {
 impl fmt::Display for Refusal {
     fn fmt(&self, f: &mut fmt::Formatter) -> fmt::Result {
         write!(f, "refused with {}: {}", self.number, self.text())?;
-        match self.place {
-            Some(place) => write!(f, " (at byte {place})"),
+        match self.at {
+            Some(At::Byte(place)) => write!(f, " (at byte {place})"),
+            Some(At::Row(row)) => write!(f, " (row {row})"),
             None => Ok(()),
         }
     }
 }
 
-impl core::error::Error for Refusal {}
+#[cfg(feature = "std")]
+impl std::error::Error for Refusal {}

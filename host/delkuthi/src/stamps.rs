@@ -37,8 +37,8 @@ pub fn stamped(table: &[u8], recording: &[u8], row: u64, late: u64) -> Result<St
         unsafe { ffi::delkuthi_stamps(table.as_ptr(), table.len(), recording.as_ptr(), recording.len(), row, late) };
     Refusal::of_table(answer)?;
     Ok(match answer / 256 {
-        0 => Stamped::Kept,
-        1 => Stamped::Broken,
+        1 => Stamped::Kept,
+        2 => Stamped::Broken,
         _ => Stamped::Unsure,
     })
 }

@@ -43,13 +43,13 @@ pub enum Row<'a> {
 /// refusal all do.
 ///
 /// # Errors
-/// 3 to 7 and 18, of the first row concerned; 16 a buffer too short. They have no place.
+/// 3 to 7 and 18, with the first row concerned ([`Refusal::row`]); 16 a buffer too short.
 pub fn write_table(rows: &[Row], table: &mut [u8]) -> Result<usize, Refusal> {
-    let mut bodies = [[0; ROW_SIZE]; ASKED];
-    for (body, row) in bodies.iter_mut().zip(rows) {
-        *body = row.body();
+    let mut bodies = [0; ROW_SIZE * ASKED];
+    for (body, row) in bodies.chunks_exact_mut(ROW_SIZE).zip(rows) {
+        body.copy_from_slice(&row.body());
     }
-    let bytes = &bodies.as_flattened()[..rows.len().min(ASKED) * ROW_SIZE];
+    let bytes = &bodies[..rows.len().min(ASKED) * ROW_SIZE];
     // SAFETY: the pointers and lengths are slices', and the table's memory is not that of the rows.
     Refusal::of_writer(unsafe { ffi::delkuthi_table(bytes.as_ptr(), bytes.len(), table.as_mut_ptr(), table.len()) })
 }

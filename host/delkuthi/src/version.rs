@@ -2,6 +2,7 @@
 
 use crate::ffi;
 use crate::monitor::Monitor;
+use core::mem::size_of;
 
 /// The version of this crate, of its header and of its archive: major × 1,000,000 + minor × 1,000 + patch.
 pub const VERSION: u32 = number(env!("CARGO_PKG_VERSION_MAJOR")) * 1_000_000
@@ -24,8 +25,8 @@ pub fn library_version() -> u32 {
     ffi::delkuthi_version()
 }
 
-/// Is the archive that was linked the one of this crate, by its version and by the size of a monitor? A [`Monitor`] is
-/// made only where it is.
+/// Has the archive that was linked the interface of this crate: the first two numbers of its version, and the size of a
+/// monitor? A [`Monitor`] is made only where it has.
 pub fn matches() -> bool {
-    ffi::delkuthi_version() == VERSION && ffi::delkuthi_monitor_size() == size_of::<Monitor>() as u64
+    ffi::delkuthi_version() / 1_000 == VERSION / 1_000 && ffi::delkuthi_monitor_size() == size_of::<Monitor>() as u64
 }

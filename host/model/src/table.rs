@@ -89,6 +89,11 @@ pub fn write_table(rows: &[Constraint], buffer: &mut [u8]) -> Result<usize, u8> 
     Ok(bytes.len())
 }
 
+/// The number of the first row that is refused, as the writer puts its questions row by row (§11.5).
+pub fn refused_row(rows: &[Constraint]) -> Option<usize> {
+    (0..rows.len()).find(|row| rows_questions(&rows[..=*row]).is_err())
+}
+
 /// Reads a table: question 1 first, then row by row (§9.3).
 pub fn read_table(bytes: &[u8]) -> Result<Vec<Constraint>, Refusal> {
     ask(1, bytes.first() == Some(&1)).map_err(|number| Refusal { number, place: 0 })?;

@@ -7,12 +7,12 @@ from typing import Iterator
 
 from ..conditions import Edge, Sample
 from ..signals import is_coloured, colours, parts, signal
-from ..sources import ColumnSource, TaskSource
+from ..sources import ColumnSource
 from ..table import CsvSource, Table
 from ..timestamps import Stamps
 from ..units import UNITS
 from .base import Reader, Stamped
-from .btf import Waiting
+from .btf import Waiting, task_sources
 
 _UNIT = re.compile(r"(?:^|[ _(\[])(%s)[)\]]?$" % "|".join(UNITS))
 _TIME = re.compile(r"(?:time(?:stamp)?|date|uhrzeit|zeit)(?:$|[ _(\[])")
@@ -91,12 +91,10 @@ class Columns:
                     yield place, edge, number, source.condition.word in ("rises above", "falls below")
 
     def _tasks(self) -> dict[tuple[str, str], tuple[int, ...]]:
+        """The signals by the name and the action, whatever it is that has the name."""
         found: dict[tuple[str, str], tuple[int, ...]] = {}
-        for event in self.reader.table.events:
-            for source in event.sources:
-                if isinstance(source, TaskSource):
-                    key = source.name, source.action
-                    found[key] = (*found.get(key, ()), signal(event.kind, source.colour))
+        for (_, name, action), kinds in task_sources(self.reader).items():
+            found[name, action] = (*found.get((name, action), ()), *kinds)
         return found
 
     def line(self, cells: list[str], number: int) -> Stamped:

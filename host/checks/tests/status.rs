@@ -1,0 +1,98 @@
+//! What a host asks while it runs, after random lists of calls and withdrawals, beside the model, which finds the first
+//! tick that breaks a row by search.
+//! Clauses: §15.1 to §15.9.
+
+use checks::beside::{fresh, take};
+use delkuthi::{Monitor, NO_LIMIT};
+use model::Constraint;
+use model::random::Random;
+use model::random::calls::calls;
+use model::random::tables::{any_table, table};
+
+/// All that is asked of each is the same.
+fn compare(monitor: &Monitor, model: &model::Monitor, what: &str) {
+    assert_eq!((monitor.clock(), monitor.steps()), (model.clock(), model.count()), "{what}");
+    assert_eq!((monitor.is_closed(), monitor.broken_rows()), (model.closed(), model.broken_rows()), "{what}");
+    for row in 0..model.rows().len() {
+        assert_eq!(monitor.row_waiting(row), model.row_waiting(row), "row {row} after {what}");
+        assert_eq!(monitor.row_deadline(row), limit(model.row_deadline(row)), "row {row} after {what}");
+    }
+    let none = model.rows().len();
+    assert_eq!((monitor.row_waiting(none), monitor.row_deadline(none)), (0, None), "{what}");
+    assert_eq!((monitor.row_waiting(usize::MAX), monitor.row_deadline(usize::MAX)), (0, None), "{what}");
+    assert_eq!(monitor.deadline(), limit(model.deadline()), "{what}");
+}
+
+fn limit(deadline: u64) -> Option<u64> {
+    (deadline != NO_LIMIT).then_some(deadline)
+}
+
+/// Plays calls, a quarter of them withdrawals, and asks after each.
+fn play(random: &mut Random, rows: &[Constraint], number: usize) -> usize {
+    let mut monitor = fresh(rows);
+    let mut model = model::Monitor::fresh(rows).expect("an accepted table");
+    let mut deadlines = 0;
+    for call in calls(random, rows, number) {
+        let what = if random.below(4) == 0 {
+            assert_eq!(monitor.withdraw().map_err(|refusal| refusal.number()), model.withdraw());
+            "withdraw".to_string()
+        } else {
+            assert_eq!(take(&mut monitor, call), model.step(call));
+            call.to_string()
+        };
+        compare(&monitor, &model, &format!("{what} after {:?}", model.steps()));
+        deadlines += usize::from(monitor.deadline().is_some());
+    }
+    deadlines
+}
+
+#[test]
+fn thousands_of_lists() {
+    let mut random = Random::new(152);
+    let mut deadlines = 0;
+    for _ in 0..800 {
+        let rows = any_table(&mut random);
+        let number = 20 + random.place(20);
+        deadlines += play(&mut random, &rows, number);
+    }
+    assert!(deadlines > 1_000, "{deadlines}");
+}
+
+#[test]
+fn long_lists() {
+    let mut random = Random::new(153);
+    for _ in 0..4 {
+        let number = 1 + random.place(4);
+        let rows = table(&mut random, number);
+        play(&mut random, &rows, 250);
+    }
+}
+
+/// A tick to the deadline leaves every row as it was, and one past it breaks a row.
+#[test]
+fn a_tick_to_the_deadline_and_one_past_it() {
+    let mut random = Random::new(154);
+    let mut tried = 0;
+    for _ in 0..600 {
+        let rows = any_table(&mut random);
+        let mut monitor = fresh(&rows);
+        for call in calls(&mut random, &rows, 30) {
+            let _ = take(&mut monitor, call);
+            let Some(deadline) = monitor.deadline() else { continue };
+            let broken = monitor.broken_rows();
+            let mut until = monitor.clone();
+            if monitor.clock() < deadline {
+                until.tick(deadline).expect("a tick after the clock");
+                assert_eq!(until.broken_rows(), broken);
+            }
+            until.tick(deadline + 1).expect("a tick after the deadline");
+            let new = until.broken_rows() & !broken;
+            assert_ne!(new, 0);
+            for row in 0..rows.len() {
+                assert_eq!(new >> row & 1 == 1, monitor.row_deadline(row) == Some(deadline));
+            }
+            tried += 1;
+        }
+    }
+    assert!(tried > 1_000, "{tried}");
+}

@@ -15,9 +15,9 @@ use Rattle.monitor.specs.declared.Monitor.{Monitor}
 
 -- ---- the library
 
--- 0.4.0: major * 1,000,000 + minor * 1,000 + patch
+-- 0.5.0: major * 1,000,000 + minor * 1,000 + patch
 abbrev pub version : ℕ
-version = 0 * 1000000 + 4 * 1000 + 0
+version = 0 * 1000000 + 5 * 1000 + 0
 
 -- the bytes of a monitor with its index (`monitor-size`: of its type on the machine)
 abbrev pub monitorSize : ℕ

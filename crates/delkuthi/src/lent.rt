@@ -15,8 +15,8 @@ ghost use Rattle.inplace.specs.Index.{Takes};
 ghost use Rattle.opening.specs.Begins.{Begins};
 ghost use Rattle.delkuthi.specs.Lent.{wordOf, WordOfVerdict, StepOfVerdict, NumberOfRows, version, monitorSize};
 
-// The version of the library: 0.4.0 as major * 1,000,000 + minor * 1,000 + patch.
-pub const VERSION: u32 = 4000;
+// The version of the library: 0.5.0 as major * 1,000,000 + minor * 1,000 + patch.
+pub const VERSION: u32 = 5000;
 // The bytes of a monitor with its index.
 pub const MONITOR_SIZE: u64 = 28768;
 

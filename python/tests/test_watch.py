@@ -63,7 +63,9 @@ class ScriptedBus:
 
 
 def test_the_steps_of_a_watch(monkeypatch):
-    """Frames at their stamps, ticks behind the clock, a frame that is late at the clock; unknown frames move it."""
+    """Frames at their stamps, ticks behind the clock where the library has no deadlines, a frame that is late at the clock; unknown
+    frames move it."""
+    monkeypatch.setattr("delkuthi.monitor.Monitor.knows_deadlines", lambda monitor: False)
     script = [(0.01, frame(0x1A0)), (0.02, None), (0.03, frame(0x2B4, b"\x01")), (0.05, frame(0x999 & 0x7FF)), (0.2, None),
               (0.15, frame(0x1A0)), (0.3, None), (0.4, None)]
     bus, said, spool = ScriptedBus(script), [], io.BytesIO()

@@ -3,6 +3,8 @@
 
 It gives the monitor each record as it comes, and a tick where the clock of the drive passes a deadline before the next record; and it
 says each row that breaks at the moment at which it breaks."""
+from __future__ import annotations
+
 import sys
 from pathlib import Path
 from typing import Iterator

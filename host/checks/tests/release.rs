@@ -130,6 +130,18 @@ fn a_host_in_python() {
     }
 }
 
+/// The bench loop in Python says what the one in C says.
+#[test]
+fn a_bench_loop_in_python() {
+    let copy = Installed::in_prefix();
+    let mut python = Command::new("/usr/bin/python3");
+    python.arg(root().join("host/python/bench_loop.py")).args(drive_files());
+    python.env("PYTHONPATH", root().join("python")).env("DELKUTHI_LIB", copy.lib());
+    let said = ran(python.output());
+    assert!(said.status == Some(1) && said.printed.lines().count() == 3, "{said:?}");
+    assert_eq!(said, checks::hosts::c_host("bench_loop", "-O2").run(&drive_files()));
+}
+
 /// A host in Rust that has the wrapper's folder as a copy takes the archive; neither needs the Rattle kit then.
 #[test]
 fn a_host_in_rust() {

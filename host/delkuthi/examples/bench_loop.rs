@@ -21,7 +21,7 @@ fn record(version: u8, bytes: &[u8]) -> Option<(Record, usize)> {
     let body = bytes.get(2..2 + size).filter(|_| bytes[0] == 0 && (8..=10).contains(&size))?;
     let time = body[size - 8..].iter().fold(0, |time, byte| time << 8 | u64::from(*byte));
     let colour = if version == 1 { 255 } else { body[1] };
-    let record = Record { kind: (size > 8).then(|| body[0]), colour: (size > 9).then(|| colour), time };
+    let record = Record { kind: (size > 8).then_some(body[0]), colour: (size > 9).then_some(colour), time };
     Some((record, 2 + size))
 }
 

@@ -3,7 +3,8 @@
  *
  * Of two libraries that are played the same script, on machines alike or not,
  * the texts are the same exactly when all answers are. Behind a call on the
- * monitor stands what each row reads: o open, k kept, b and a step broken. A
+ * monitor stands what each row reads: o open, k kept, b and a step broken; how
+ * many wait in it and its deadline; and then the numbers of the monitor. A
  * buffer that a call writes is printed whole. With `words`, for machines with
  * sizes of 64 bits, a sum of the monitor's bytes stands there too. A call that
  * is refused and yet changed the monitor or a buffer is an exit status of 1.
@@ -99,6 +100,23 @@ static uint64_t sum(void)
     return result;
 }
 
+/* Prints what waits in each row and its deadline, where there is one, and the numbers of the monitor. */
+static void numbers(uint64_t count)
+{
+    uint64_t row, waiting, deadline;
+
+    for (row = 0; row < count; row++) {
+        waiting = delkuthi_row_waiting(&monitor, row);
+        deadline = delkuthi_row_deadline(&monitor, row);
+        if (waiting > 0)
+            printf(" %" PRIu64 ":%" PRIu64, row, waiting);
+        if (deadline != DELKUTHI_NO_LIMIT)
+            printf(" %" PRIu64 "<=%" PRIu64, row, deadline);
+    }
+    printf(" clock %" PRIu64 " steps %" PRIu64 " closed %d broken %" PRIx32 " deadline %" PRIu64, delkuthi_clock(&monitor),
+           delkuthi_steps(&monitor), delkuthi_closed(&monitor), delkuthi_broken_rows(&monitor), delkuthi_deadline(&monitor));
+}
+
 /* Prints what the rows read, and some that are not there. */
 static void rows(void)
 {
@@ -115,7 +133,9 @@ static void rows(void)
             printf("%" PRIu64, delkuthi_row_step(&monitor, row));
     }
     for (i = 0; i < sizeof behind / sizeof *behind; i++)
-        well &= delkuthi_row_verdict(&monitor, behind[i]) == DELKUTHI_NO_ROW && delkuthi_row_step(&monitor, behind[i]) == 0;
+        well &= delkuthi_row_verdict(&monitor, behind[i]) == DELKUTHI_NO_ROW && delkuthi_row_step(&monitor, behind[i]) == 0 &&
+                delkuthi_row_waiting(&monitor, behind[i]) == 0 && delkuthi_row_deadline(&monitor, behind[i]) == DELKUTHI_NO_LIMIT;
+    numbers(count);
     if (with_words)
         printf(" %016" PRIx64, sum());
 }

@@ -8,7 +8,6 @@ use lib.ListN.{length, getD, take, drop}
 use lib.Dec.{ltb}
 use Rattle.constraint.specs.Limits.{rowLimit, streamCount, waitingLimit}
 use Rattle.row.specs.Undo.{noBefore}
-use Rattle.row.specs.Machine.{concerns}
 use Rattle.row.specs.Stored as Stored
 use Rattle.row.specs.declared.Before.{Before}
 use Rattle.row.specs.declared.Row.{Row}
@@ -73,19 +72,6 @@ startOf h (suc kind) = endOf h kind
 abbrev pub rowNamed : Lent → ℕ → ℕ
 rowNamed h place = getD (h .entries) place 0 % 32
 
--- the rows that n entries name, from one on
-abbrev pub named : List ℕ → ℕ → ℕ → List ℕ
-named entries first zero = []
-named entries first (suc n) = named entries first n ++ (getD entries (first + n) 0 % 32 ∷ [])
-
-abbrev pub rowsOf : Lent → ℕ → List ℕ
-rowsOf h kind = named (h .entries) (startOf h kind) (endOf h kind - startOf h kind)
-
--- the numbers below n that pass a test, in their order
-abbrev pub numbers : (ℕ → Bool) → ℕ → List ℕ
-numbers test zero = []
-numbers test (suc n) = numbers test n ++ cond (test n) (n ∷ []) []
-
 -- how many rows a monitor has, whatever its record says
 abbrev pub heldRows : Monitor → ℕ
 heldRows m = min (m .len) rowLimit
@@ -96,19 +82,6 @@ rowAt m i = getD (m .rows) i noRow
 abbrev pub keptAt : Monitor → ℕ → Before
 keptAt m i = getD (m .before) i noBefore
 
--- a kind concerns row i of a monitor
-abbrev pub isIn : Monitor → ℕ → ℕ → Bool
-isIn m kind i = concerns (rowAt m i .rule) kind
-
 -- the due time of row i
 abbrev pub dueAt : Monitor → ℕ → ℕ
 dueAt m i = rowAt m i .now .due
-
--- ---- the lists and the time are the monitor's
-
-pub record Indexed (h : Lent) : Type 0 where
-  pub shaped : Shaped h
-  pub listed : (kind : ℕ) → kind < 64 → rowsOf h kind ≡ numbers (isIn (h .monitor) kind) (heldRows (h .monitor))
-  pub no-sooner : (i : ℕ) → i < heldRows (h .monitor) → h .soonest ≤ dueAt (h .monitor) i
-  pub few : (i : ℕ) → i < heldRows (h .monitor) → rowAt (h .monitor) i .now .len ≤ waitingLimit
-  pub then-few : (i : ℕ) → i < heldRows (h .monitor) → keptAt (h .monitor) i .state .len ≤ waitingLimit

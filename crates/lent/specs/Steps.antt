@@ -6,8 +6,6 @@ use mathlib.Core.List.{List}
 use lib.ListN.{getD, set}
 use lib.Dec.{ltb}
 use Rattle.constraint.specs.Limits.{noLimit}
-use Rattle.constraint.specs.declared.Answer.{Answer}
-use Rattle.constraint.specs.declared.Answer.the-variants.{Taken, Refused}
 use Rattle.constraint.specs.Streams.{stream}
 use Rattle.constraint.specs.declared.Call.{Call}
 use Rattle.constraint.specs.Run.{Request, asks, withdraws}
@@ -21,10 +19,8 @@ use Rattle.row.specs.declared.Row.{Row}
 use Rattle.row.specs.Machine.{eventAt, tickAt, closeAt}
 use Rattle.monitor.specs.Machine.{noRow, noUndo, placeIn, refusalBy, nextFor}
 use Rattle.monitor.specs.Parts.{withRows}
-use Rattle.monitor.specs.Contract.{Steps}
 use Rattle.monitor.specs.declared.Monitor.{Monitor}
-use Rattle.monitor.specs.declared.Stepped.{Stepped}
-use Rattle.lent.specs.Layout.{Lent, Words, wordsOf, Shaped, Indexed, rowNamed, startOf, endOf, heldRows, rowAt, keptAt, dueAt}
+use Rattle.lent.specs.Layout.{Lent, Words, wordsOf, Shaped, rowNamed, startOf, endOf, heldRows, rowAt, keptAt, dueAt}
 
 -- ---- parts of the record
 
@@ -234,20 +230,3 @@ leaves h withdraws = cond (ltb 0 (h .monitor .undo .may)) (withdrawnLent h) h
 pub record Stores (entry : Words) (r : Request) (number : ℕ) (exit : Words) : Type 0 where
   pub untouched : ¬ (number ≡ 0) → exit ≡ entry
   pub stores : (h : Lent) → entry ≡ wordsOf h → Shaped h → (number ≡ numberOf h r) × (exit ≡ wordsOf (leaves h r))
-
--- ---- what a call answers and leaves
-
--- 0: taken; any other number: refused with it
-abbrev pub answerFrom : ℕ → Answer
-answerFrom zero = Taken
-answerFrom (suc n) = Refused (suc n)
-
--- what a call gives, from its number and the monitor that it leaves
-abbrev pub steppedFrom : ℕ → Monitor → Stepped
-steppedFrom number m = record { answer = answerFrom number; monitor = m }
-
--- a refusal changes no word, whatever was lent; words of a monitor with its lists become those of the monitor after the request, with its lists
-pub record Takes (entry : Words) (r : Request) (number : ℕ) (exit : Words) : Type 0 where
-  pub untouched : ¬ (number ≡ 0) → exit ≡ entry
-  pub steps : (h : Lent) → entry ≡ wordsOf h → Indexed h
-      → (after : Lent) × (exit ≡ wordsOf after) × Indexed after × Steps (h .monitor) r (steppedFrom number (after .monitor))

@@ -14,10 +14,12 @@ use Rattle.row.specs.declared.Row.{Row}
 use Rattle.monitor.specs.Machine.{noRow}
 use Rattle.monitor.specs.declared.Monitor.{Monitor}
 
--- a monitor, a time before which no row is due, and for each kind where its rows end among the entries
+-- a monitor, a time before which no row is due, how many events may come before a row can be crowded, and for each kind where its rows end among
+-- the entries
 pub record Lent : Type 0 where
   pub monitor : Monitor
   pub soonest : ℕ
+  pub room : ℕ
   pub ends : List ℕ
   pub entries : List ℕ
 
@@ -33,16 +35,16 @@ rowBlocks (r ∷ rows) (b ∷ kept) = Stored.wordsOf r b ∷ rowBlocks rows kept
 
 -- the numbers beside the rows, and the first free times of the plain kinds behind them; the word for "open" is 0 once the recording is closed, so that
 -- memory of zeros reads as closed
-abbrev pub numberArray : Monitor → ℕ → List ℕ → List ℕ
-numberArray m soonest plain =
+abbrev pub numberArray : Monitor → ℕ → ℕ → List ℕ → List ℕ
+numberArray m soonest room plain =
     m .clock ∷ m .count ∷ (1 - m .closed) ∷ m .len ∷ soonest ∷ m .undo .may ∷ m .undo .place ∷ m .undo .next ∷ m .undo .clock ∷ m .undo .count
-    ∷ m .undo .closed ∷ 0 ∷ 0 ∷ 0 ∷ 0 ∷ 0 ∷ plain
+    ∷ m .undo .closed ∷ room ∷ 0 ∷ 0 ∷ 0 ∷ 0 ∷ plain
 
 abbrev pub halves : List ℕ → List (List ℕ)
 halves l = take 64 l ∷ drop 64 l ∷ []
 
 abbrev pub numberBlock : Lent → List (List ℕ)
-numberBlock h = numberArray (h .monitor) (h .soonest) (take 48 (h .monitor .next)) ∷ h .ends ∷ []
+numberBlock h = numberArray (h .monitor) (h .soonest) (h .room) (take 48 (h .monitor .next)) ∷ h .ends ∷ []
 
 abbrev pub lastBlocks : Lent → Words
 lastBlocks h = numberBlock h ∷ halves (h .entries) ∷ halves (drop 48 (h .monitor .next)) ∷ []

@@ -1,18 +1,18 @@
 -- What a call and a withdrawal make of a lent monitor, part by part.
-use Prim.Native.Nat.{ℕ, zero, suc, _+_, _-_, min}
+use Prim.Native.Nat.{ℕ, zero, suc, _+_, _-_, _%_, min}
 use mathlib.Core.Path.{_≡_}
 use mathlib.Core.Bool.{Bool, true, false, cond, _||_}
 use mathlib.Core.List.{List}
 use lib.ListN.{getD, set}
-use lib.Dec.{ltb}
-use Rattle.constraint.specs.Limits.{noLimit}
+use lib.Dec.{ltb, eqb}
+use Rattle.constraint.specs.Limits.{noLimit, waitingLimit}
 use Rattle.constraint.specs.Streams.{stream}
 use Rattle.constraint.specs.declared.Call.{Call}
 use Rattle.constraint.specs.Run.{Request, asks, withdraws}
 use Rattle.machine.specs.Parts.{plus}
 use Rattle.row.specs.Apart.{crowdedBy}
 use Rattle.row.specs.Undo.{rowWithout, keptWithout}
-use Rattle.row.specs.Stored.{eventRow, eventSaves, endedRow, endedSaves}
+use Rattle.row.specs.Stored.{eventRow, eventSaves, endedRow, endedSaves, larger, filledIn}
 use Rattle.row.specs.declared.Before.{Before}
 use Rattle.row.specs.declared.Occurrence.{Occurrence}
 use Rattle.row.specs.declared.Row.{Row}
@@ -25,10 +25,13 @@ use Rattle.lent.specs.Layout.{Lent, Words, wordsOf, Shaped, rowNamed, st
 -- ---- parts of the record
 
 abbrev pub withMonitor : Lent → Monitor → Lent
-withMonitor h m = record { monitor = m; soonest = h .soonest; ends = h .ends; entries = h .entries }
+withMonitor h m = record { monitor = m; soonest = h .soonest; room = h .room; ends = h .ends; entries = h .entries }
 
 abbrev pub withSoonest : Lent → ℕ → Lent
-withSoonest h time = record { monitor = h .monitor; soonest = time; ends = h .ends; entries = h .entries }
+withSoonest h time = record { monitor = h .monitor; soonest = time; room = h .room; ends = h .ends; entries = h .entries }
+
+abbrev pub withRoom : Lent → ℕ → Lent
+withRoom h room = record { monitor = h .monitor; soonest = h .soonest; room = room; ends = h .ends; entries = h .entries }
 
 abbrev pub withRow : Lent → ℕ → Row → Before → Lent
 withRow h i r b = withMonitor h (withRows (h .monitor) (set (h .monitor .rows) i r) (set (h .monitor .before) i b))
@@ -80,6 +83,20 @@ crowdedAt h i o = crowdedBy (rowAt (h .monitor) i .rule) (rowAt (h .monitor) i .
 abbrev pub crowded : Lent → ℕ → ℕ → Occurrence → Bool
 crowded h first zero o = false
 crowded h first (suc n) o = crowded h first n o || crowdedAt h (rowNamed h (first + n)) o
+
+-- ---- how many events may come before a row can be crowded
+
+-- how many places are taken in the fullest of the first n rows, now or before its last step
+abbrev pub fullest : Monitor → ℕ → ℕ
+fullest m zero = 0
+fullest m (suc n) = larger (fullest m n) (filledIn (rowAt m n) (keptAt m n))
+
+-- it is counted down, and where it is 0 found anew at every 32nd step
+abbrev pub roomFor : Lent → ℕ
+roomFor h = cond (ltb 0 (h .room)) (h .room) (cond (eqb (h .monitor .count % 32) 0) (waitingLimit - fullest (h .monitor) (heldRows (h .monitor))) 0)
+
+abbrev pub roomed : Lent → Lent
+roomed h = withRoom h (roomFor h - 1)
 
 -- ---- the numbers beside the rows after a step
 
@@ -151,11 +168,11 @@ abbrev pub begun : Lent → Occurrence → Lent
 begun h o = cond (ltb (h .soonest) (o .time)) (passed h o) h
 
 abbrev pub crowdedOn : Lent → ℕ → ℕ → ℕ → Bool
-crowdedOn h kind stream time = crowded h (startOf h kind) (rowCount h kind) (eventAt stream time)
+crowdedOn h kind stream time = cond (ltb 0 (h .room)) false (crowded h (startOf h kind) (rowCount h kind) (eventAt stream time))
 
 abbrev pub leftOn : Lent → ℕ → ℕ → ℕ → Lent
 leftOn h kind stream time =
-    visited (begun (countedOn h stream time) (eventAt stream time)) (startOf h kind) (rowCount h kind) (eventAt stream time) (nextNumber h)
+    visited (begun (countedOn (roomed h) stream time) (eventAt stream time)) (startOf h kind) (rowCount h kind) (eventAt stream time) (nextNumber h)
 
 -- what the function on words promises of it
 pub record OnStream (entry : Words) (kind stream time number : ℕ) (exit : Words) : Type 0 where

@@ -5,6 +5,7 @@ use crate::FREE;
 use crate::MAY;
 use crate::NUMBERS;
 use crate::PLACE;
+use crate::ROOM;
 use crate::SOONEST;
 use crate::Words;
 use crate::held;
@@ -13,6 +14,7 @@ use crate::numbers::count_tick;
 use crate::numbers::first_refusal;
 use crate::numbers::free_at;
 use crate::numbers::put_free;
+use crate::numbers::put_room;
 use crate::numbers::put_soonest;
 use crate::numbers::shut;
 use crate::numbers::uncount;
@@ -25,15 +27,18 @@ use machine::parts::kind_of;
 use monitor::calls::place_in;
 use monitor::calls::time_refusal;
 use queue::left;
+use queue::minus;
 use row::Occurrence;
-ghost use Prim.Native.Nat.{_<_, _≤_};
+ghost use Prim.Native.Nat.{_+_, _<_, _≤_};
 ghost use mathlib.Core.Path.{_≡_};
+ghost use mathlib.Core.Bool.{false, cond};
+ghost use lib.Dec.{ltb};
 ghost use Rattle.constraint.specs.declared.Call.{Call};
 ghost use Rattle.constraint.specs.Run.{asks, withdraws};
 ghost use Rattle.row.specs.Machine.{eventAt};
 ghost use Rattle.lent.specs.Layout.{Lent, wordsOf, Shaped};
 ghost use Rattle.constraint.specs.Streams.{stream};
-ghost use Rattle.lent.specs.Steps.{passed, begun, OnStream, refusalOf, Stores};
+ghost use Rattle.lent.specs.Steps.{crowded, roomFor, passed, begun, OnStream, refusalOf, Stores};
 
 const NO_EVENT: u64 = 65;
 
@@ -76,6 +81,31 @@ fn begin(m: &mut Words, o: Occurrence)
     }
 }
 
+// Whether an event crowds one of the rows that n entries name, from one on: not looked at while there is room.
+fn crowds_on(m: &Words, first: usize, n: usize, o: Occurrence) -> bool
+    requires { ⌜ first + n ≤ 128 ⌝ }
+    ensures { λ r. ⌜ ((h : Lent) → now (m .entry) ≡ wordsOf h → Shaped h → r ≡ cond (ltb 0 (h .room)) false (crowded h first n o)) ⌝ }
+{
+    if 0 < m[NUMBERS][0][ROOM] {
+        return false;
+    }
+    rows::crowds(m, first, n, o)
+}
+
+// How many events may come before a row can be crowded: where it is 0 that is found anew at every 32nd step.
+fn room_for(m: &Words) -> u64
+    ensures { λ r. ⌜ ((h : Lent) → now (m .entry) ≡ wordsOf h → Shaped h → r ≡ roomFor h) ⌝ }
+{
+    let room = m[NUMBERS][0][ROOM];
+    if 0 < room {
+        return room;
+    }
+    if m[NUMBERS][0][COUNT] % 32 == 0 {
+        return minus(64, rows::fullest(m, held(m)));
+    }
+    0
+}
+
 // An event of a stream that is answered with no number but 12.
 fn event_on(m: &mut Words, kind: usize, stream: usize, time: u64) -> u8
     requires { ⌜ (kind < 64) × (stream < 176) ⌝ }
@@ -84,9 +114,10 @@ fn event_on(m: &mut Words, kind: usize, stream: usize, time: u64) -> u8
     let first = rows::start_of(m, kind);
     let n = left(rows::end_of(m, kind), first);
     let o = event_of(stream, time);
-    if rows::crowds(m, first, n, o) {
+    if crowds_on(m, first, n, o) {
         return 12;
     }
+    put_room(m, minus(room_for(m), 1));
     count_event(m, stream, time);
     begin(m, o);
     let number = m[NUMBERS][0][COUNT];

@@ -1,7 +1,9 @@
 // A monitor lent by its owner: 35 blocks of two arrays of 64 words, stepped where they lie.
-ghost use Prim.Native.Nat.{_≤_};
+ghost use Prim.Native.Nat.{_-_, _≤_};
 ghost use mathlib.Core.Path.{_≡_};
 ghost use Rattle.lent.specs.Layout.{Lent, wordsOf, Shaped, heldRows};
+
+use queue::minus;
 
 pub mod calls;
 mod numbers;
@@ -34,6 +36,8 @@ pub const THEN: usize = 8;
 pub const COUNTED: usize = 9;
 
 pub const CLOSED: usize = 10;
+
+pub const ROOM: usize = 11;
 // The first free times of the plain kinds stand behind them.
 pub const PLAIN: usize = 16;
 // The entries of the lists, and the first free times of the coloured streams.
@@ -47,4 +51,11 @@ pub fn held(m: &Words) -> usize
 {
     let n = m[NUMBERS][0][ROWS];
     if n < 32 { n as usize } else { 32 }
+}
+
+// 1 once the recording is closed, else 0.
+pub fn closed(m: &Words) -> u64
+    ensures { λ r. ⌜ ((h : Lent) → now (m .entry) ≡ wordsOf h → Shaped h → r ≡ 1 - (1 - h .monitor .closed)) ⌝ }
+{
+    minus(1, m[NUMBERS][0][OPEN])
 }

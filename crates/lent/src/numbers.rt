@@ -10,6 +10,7 @@ use crate::NUMBERS;
 use crate::OPEN;
 use crate::PLACE;
 use crate::PLAIN;
+use crate::ROOM;
 use crate::SOONEST;
 use crate::THEN;
 use crate::Words;
@@ -25,7 +26,7 @@ ghost use lib.Dec.{ltb, leb};
 ghost use Rattle.constraint.specs.Limits.{lastCount};
 ghost use Rattle.monitor.specs.declared.Monitor.{Monitor};
 ghost use Rattle.lent.specs.Layout.{Lent, wordsOf, Shaped, numberArray};
-ghost use Rattle.lent.specs.Steps.{withSoonest, withNext, withClosed, countedMonitor, countedOn, countedTo, uncountedMonitor};
+ghost use Rattle.lent.specs.Steps.{withSoonest, withRoom, withNext, withClosed, countedMonitor, countedOn, countedTo, uncountedMonitor};
 
 // The first free time of a stream.
 pub fn free_at(m: &Words, stream: usize) -> u64
@@ -72,9 +73,16 @@ pub fn put_soonest(m: &mut Words, time: u64)
     m[NUMBERS][0][SOONEST] = time;
 }
 
+// Another number of events that may come before a row can be crowded.
+pub fn put_room(m: &mut Words, room: u64)
+    ensures { λ _. ⌜ ((h : Lent) → now (m .entry) ≡ wordsOf h → Shaped h → now (m .exit) ≡ wordsOf (withRoom h room)) ⌝ }
+{
+    m[NUMBERS][0][ROOM] = room;
+}
+
 // One step more, to a time, with a stream and its first free time as they were.
 fn count(n: &mut [[u64; 64]; 2], stream: u64, free: u64, time: u64)
-    ensures { λ _. ⌜ ((m : Monitor) (soonest : ℕ) (plain ends : List ℕ) → now (n .entry) ≡ numberArray m soonest plain ∷ ends ∷ [] → m .closed ≡ 0 → now (n .exit) ≡ numberArray (countedMonitor m stream free time 0) soonest plain ∷ ends ∷ []) ⌝ }
+    ensures { λ _. ⌜ ((m : Monitor) (soonest room : ℕ) (plain ends : List ℕ) → now (n .entry) ≡ numberArray m soonest room plain ∷ ends ∷ [] → m .closed ≡ 0 → now (n .exit) ≡ numberArray (countedMonitor m stream free time 0) soonest room plain ∷ ends ∷ []) ⌝ }
 {
     let clock = n[0][CLOCK];
     let count = n[0][COUNT];
@@ -115,7 +123,7 @@ pub fn shut(m: &mut Words)
 
 // The numbers as they were before the last step; nothing may be withdrawn then, and every row is to be looked at.
 pub fn uncount(n: &mut [[u64; 64]; 2])
-    ensures { λ _. ⌜ ((m : Monitor) (soonest : ℕ) (plain ends : List ℕ) → now (n .entry) ≡ numberArray m soonest plain ∷ ends ∷ [] → now (n .exit) ≡ numberArray (uncountedMonitor m) 0 plain ∷ ends ∷ []) ⌝ }
+    ensures { λ _. ⌜ ((m : Monitor) (soonest room : ℕ) (plain ends : List ℕ) → now (n .entry) ≡ numberArray m soonest room plain ∷ ends ∷ [] → now (n .exit) ≡ numberArray (uncountedMonitor m) 0 room plain ∷ ends ∷ []) ⌝ }
 {
     let clock = n[0][THEN];
     let count = n[0][COUNTED];

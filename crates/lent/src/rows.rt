@@ -9,19 +9,22 @@ use machine::words::DUE;
 use machine::words::LEN;
 use row::Occurrence;
 use row::stored;
-ghost use Prim.Native.Nat.{_+_, _<_, _≤_, min};
+use row::stored::larger;
+ghost use Prim.Native.Nat.{_+_, _<_, _≤_};
 ghost use mathlib.Core.Path.{_≡_};
-ghost use mathlib.Core.Bool.{_||_};
 ghost use Rattle.row.specs.Machine.{eventAt};
-ghost use Rattle.lent.specs.Layout.{Lent, wordsOf, Shaped, dueAt, rowNamed, startOf, endOf};
-ghost use Rattle.lent.specs.Steps.{withSoonest, visitAt, visited, ended, soonestOf, crowdedAt, crowded, backed};
+ghost use Rattle.lent.specs.Layout.{Lent, wordsOf, Shaped, rowNamed, startOf, endOf};
+ghost use Rattle.lent.specs.Steps.{visited, ended, soonestOf, crowdedAt, crowded, fullest, backed};
 
 // The row that an entry names, whatever the word is.
 fn named(m: &Words, place: usize) -> usize
     requires { ⌜ place < 128 ⌝ }
     ensures { λ r. ⌜ ((r < 32) × ((h : Lent) → now (m .entry) ≡ wordsOf h → Shaped h → r ≡ rowNamed h place)) ⌝ }
 {
-    m[ENTRIES][place / 64][place % 64] as usize % 32
+    if place < 64 {
+        return m[ENTRIES][0][place] as usize % 32;
+    }
+    m[ENTRIES][1][place - 64] as usize % 32
 }
 
 // Where the rows of a kind end among the entries.
@@ -44,34 +47,20 @@ pub fn start_of(m: &Words, kind: usize) -> usize
     end_of(m, kind - 1)
 }
 
-// The soonest due time is not after row i's.
-fn sooner(m: &mut Words, i: usize)
-    requires { ⌜ i < 32 ⌝ }
-    ensures { λ _. ⌜ ((h : Lent) → now (m .entry) ≡ wordsOf h → Shaped h → now (m .exit) ≡ wordsOf (withSoonest h (min (h .soonest) (dueAt (h .monitor) i)))) ⌝ }
-{
-    m[NUMBERS][0][SOONEST] = smaller(m[NUMBERS][0][SOONEST], m[i][1][DUE]);
-}
-
-// Row i after an event that concerns it, which is the step of that number.
-fn visit(m: &mut Words, i: usize, stream: u64, t: u64, number: u64)
-    requires { ⌜ i < 32 ⌝ }
-    ensures { λ _. ⌜ ((h : Lent) → now (m .entry) ≡ wordsOf h → Shaped h → now (m .exit) ≡ wordsOf (visitAt h i (eventAt stream t) number)) ⌝ }
-{
-    stored::event(&mut m[i], stream, t, number);
-    sooner(m, i);
-}
-
-// The rows that n entries name, from one on, after an event that concerns them.
+// The rows that n entries name, from one on, after an event that concerns them, which is the step of that number.
 pub fn visits(m: &mut Words, first: usize, n: usize, stream: u64, t: u64, number: u64)
     requires { ⌜ first + n ≤ 128 ⌝ }
     ensures { λ _. ⌜ ((h : Lent) → now (m .entry) ≡ wordsOf h → Shaped h → now (m .exit) ≡ wordsOf (visited h first n (eventAt stream t) number)) ⌝ }
 {
+    let mut soonest = m[NUMBERS][0][SOONEST];
     let mut j = 0;
     while j < n {
         let i = named(m, first + j);
-        visit(m, i, stream, t, number);
+        stored::event(&mut m[i], stream, t, number);
+        soonest = smaller(soonest, m[i][1][DUE]);
         j += 1;
     }
+    m[NUMBERS][0][SOONEST] = soonest;
 }
 
 // Whether what occurs crowds row i, in which at most 64 wait: one in which fewer than 63 wait is not looked at further.
@@ -90,21 +79,29 @@ pub fn crowds(m: &Words, first: usize, n: usize, o: Occurrence) -> bool
     requires { ⌜ first + n ≤ 128 ⌝ }
     ensures { λ r. ⌜ ((h : Lent) → now (m .entry) ≡ wordsOf h → Shaped h → r ≡ crowded h first n o) ⌝ }
 {
-    let mut any = false;
     let mut j = 0;
     while j < n {
         let i = named(m, first + j);
-        any = either(any, crowds_at(m, i, o));
+        if crowds_at(m, i, o) {
+            return true;
+        }
         j += 1;
     }
-    any
+    false
 }
 
-// One or the other.
-fn either(a: bool, b: bool) -> bool
-    ensures { λ r. ⌜ r ≡ (a || b) ⌝ }
+// How many places are taken in the fullest of the first n rows.
+pub fn fullest(m: &Words, n: usize) -> u64
+    requires { ⌜ n ≤ 32 ⌝ }
+    ensures { λ r. ⌜ ((h : Lent) → now (m .entry) ≡ wordsOf h → Shaped h → r ≡ fullest (h .monitor) n) ⌝ }
 {
-    if a { true } else { b }
+    let mut most = 0;
+    let mut i = 0;
+    while i < n {
+        most = larger(most, stored::filled(&m[i]));
+        i += 1;
+    }
+    most
 }
 
 // The soonest due time of the first n rows.

@@ -4,7 +4,7 @@ use mathlib.Core.Path.{_≡_}
 use mathlib.Core.Bool.{cond}
 use mathlib.Core.List.{List}
 use lib.ListN.{getD}
-use lib.Dec.{eqb}
+use lib.Dec.{eqb, ltb}
 use Rattle.machine.specs.declared.State.{State}
 use Rattle.machine.specs.Words.{Past, rowWords, marksAt}
 use Rattle.row.specs.declared.Before.{Before}
@@ -45,6 +45,31 @@ endedRow o number r = cond (endsBy (r .rule) (r .now) o) (rowFrom (r .rule) (r .
 
 abbrev pub endedSaves : Occurrence → ℕ → Row → Before → Before
 endedSaves o number r b = cond (endsBy (r .rule) (r .now) o) (savedAt r 0 number) b
+
+-- ---- how full it is
+
+-- how many of its 64 places are taken in a row of a type and a span that keeps so many times: none where no event can let too many wait; all where
+-- two may come at once
+abbrev pub beyond : ℕ → ℕ → ℕ → ℕ
+beyond limit span taken = cond (ltb limit span) taken 0
+
+abbrev pub filledBy : ℕ → ℕ → ℕ → ℕ
+filledBy form span len =
+    cond (eqb form 3) (beyond 64 span len)
+    (cond (eqb form 5) (beyond 64 span len)
+    (cond (eqb form 10) (beyond 31 span 64)
+    (cond (eqb form 4) 0
+    (cond (eqb form 6) 0
+    (cond (eqb form 8) 0
+    (cond (eqb form 9) 0
+    len))))))
+
+-- now, or before its last step: the larger number
+abbrev pub larger : ℕ → ℕ → ℕ
+larger a b = cond (ltb a b) b a
+
+abbrev pub filledIn : Row → Before → ℕ
+filledIn r b = larger (filledBy (r .rule .form) (r .rule .span) (r .now .len)) (filledBy (r .rule .form) (r .rule .span) (b .state .len))
 
 -- ---- what a function on a row's words promises, whatever row they are
 

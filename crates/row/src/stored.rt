@@ -31,7 +31,7 @@ ghost use Rattle.row.specs.Apart.{crowdedBy};
 ghost use Rattle.row.specs.Machine.{decide, eventAt, freshState, rowOf};
 ghost use Rattle.row.specs.declared.Before.{Before};
 ghost use Rattle.row.specs.declared.Row.{Row};
-ghost use Rattle.row.specs.Stored.{wordsOf, eventRow, eventSaves, endedRow, endedSaves, Becomes, stateAt, nothing};
+ghost use Rattle.row.specs.Stored.{wordsOf, eventRow, eventSaves, endedRow, endedSaves, larger, beyond, filledBy, filledIn, Becomes, stateAt, nothing};
 
 // What the row keeps.
 fn state_at(w: &[u64; SIZE]) -> State
@@ -196,4 +196,58 @@ pub fn begin(row: &mut [[u64; SIZE]; 2], c: Constraint)
     let rule = rule_of(c);
     *row = [[0u64; SIZE]; 2];
     start(&mut row[1], rule);
+}
+
+// The larger of two numbers.
+pub fn larger(a: u64, b: u64) -> u64
+    ensures { λ r. ⌜ r ≡ larger a b ⌝ }
+{
+    if a < b { b } else { a }
+}
+
+// A number where the span is beyond a limit, else 0.
+fn beyond(limit: u64, span: u64, taken: u64) -> u64
+    ensures { λ r. ⌜ r ≡ beyond limit span taken ⌝ }
+{
+    if limit < span { taken } else { 0 }
+}
+
+// How many places are taken in a row of a type and a span that keeps so many times.
+fn filled_by(form: u64, span: u64, len: u64) -> u64
+    ensures { λ r. ⌜ r ≡ filledBy form span len ⌝ }
+{
+    if form == 3 {
+        return beyond(64, span, len);
+    }
+    if form == 5 {
+        return beyond(64, span, len);
+    }
+    if form == 10 {
+        return beyond(31, span, 64);
+    }
+    if form == 4 {
+        return 0;
+    }
+    if form == 6 {
+        return 0;
+    }
+    if form == 8 {
+        return 0;
+    }
+    if form == 9 {
+        return 0;
+    }
+    len
+}
+
+// How many places are taken in the row, now or before its last step.
+pub fn filled(row: &[[u64; SIZE]; 2]) -> u64
+    ensures { λ r. ⌜ ((w : Row) (b : Before) → now (row .entry) ≡ wordsOf w b → r ≡ filledIn w b) ⌝ }
+{
+    let form = row[1][words::FORM];
+    let span = row[1][words::SPAN];
+    larger(
+        filled_by(form, span, row[1][words::LEN]),
+        filled_by(form, span, row[1][words::PAST + 6]),
+    )
 }

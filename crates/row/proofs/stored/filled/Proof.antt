@@ -1,0 +1,15 @@
+-- The numbers stand at their places among the row's words.
+use mathlib.Core.Path.{_≡_, refl, ap, ap₂, _∙_}
+use Rattle.machine.specs.Words.{rowWords, numberWords}
+use Rattle.row.specs.Stored.{wordsOf, filledBy, larger}
+use borrow.Author.Needs.{needs}
+use Rattle.row.proofs.stored.filled.Statement.{statement}
+use Rattle.row.proofs.stored.filled.Tie as tie
+
+returns : tie.Need-returns
+unfolding wordsOf rowWords numberWords
+returns c w b e = rw (c .larger .ensures, c .before .filled-by2 .ensures, c .before .before .before .filled-by .ensures, e) refl
+
+pub filled-spec : {M : Type 1} → statement M
+filled-spec =
+    tie.close (tie.spec (λ c. search needs) (λ c. search needs) (λ c. search needs) (λ c. search needs) (λ c. search needs) (λ c. search needs) (λ c κs. search needs) (λ c. search needs) (λ c. search needs) (λ c. search needs) (λ c. search needs) (λ c κs. search needs) (λ c κs. search needs) returns)

@@ -8,7 +8,7 @@ use Rattle.constraint.specs.Run.{Request}
 use Rattle.constraint.specs.declared.Answer.{Answer}
 use Rattle.constraint.specs.declared.Answer.the-variants.{Taken, Refused}
 use Rattle.machine.specs.declared.Rule.{Rule}
-use Rattle.row.specs.Machine.{concerns}
+use Rattle.row.specs.Machine.{concerns, noEvent}
 use Rattle.row.specs.Stored.{filledBy}
 use Rattle.monitor.specs.Contract.{Steps}
 use Rattle.monitor.specs.declared.Monitor.{Monitor}
@@ -60,10 +60,12 @@ pub record Roomy (h : Lent) : Type 0 where
   pub then-room : (i : ℕ) → i < heldRows (h .monitor)
       → takenIn (rowAt (h .monitor) i .rule) (keptAt (h .monitor) i .state .len) + h .room ≤ waitingLimit
 
--- each part has its size, the entries of a kind name the rows that it concerns, and no row is due before the soonest time
+-- each part has its size, the entries of a kind name the rows that it concerns, a tick and the close concern none, and no row is due before the
+-- soonest time
 pub record Indexes (h : Lent) : Type 0 where
   pub shaped : Shaped h
   pub listed : (kind : ℕ) → kind < 64 → rowsOf h kind ≡ numbers (isOf (h .monitor) kind) (heldRows (h .monitor))
+  pub no-ticks : (i : ℕ) → i < heldRows (h .monitor) → isOf (h .monitor) noEvent i ≡ false
   pub no-sooner : (i : ℕ) → i < heldRows (h .monitor) → h .soonest ≤ dueAt (h .monitor) i
   pub roomy : Roomy h
 

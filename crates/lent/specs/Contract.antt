@@ -1,7 +1,7 @@
 -- What the words of a lent monitor say of the monitor that they are, and what a call and a withdrawal on them promise.
 use Prim.Native.Nat.{ℕ, zero, suc, _+_, _<_, _≤_}
 use mathlib.Core.Path.{_≡_}
-use mathlib.Core.Bool.{Bool, cond}
+use mathlib.Core.Bool.{Bool, false, cond}
 use mathlib.Core.List.{List, [], _∷_, _++_}
 use Rattle.constraint.specs.Limits.{waitingLimit}
 use Rattle.constraint.specs.Run.{Request}

@@ -16,7 +16,7 @@ use Rattle.queue.specs.declared.Edit.the-variants.{Drop, Push, PushTwo, Store}
 use Rattle.machine.specs.declared.Change.{Change}
 use Rattle.machine.specs.declared.State.{State}
 use Rattle.row.specs.Machine.{decide, concerns, rowFrom, itemsOf, brokenState, brokenRow, applied, stays, crowding, changedRow, rowStep}
-use Rattle.row.specs.Undo.{movesBy, stepPlace, savedAt, savedRow, savedBy, backRow, rowWithout, keptWithout, noBefore}
+use Rattle.row.specs.Undo.{movesBy, stepPlace, savedAt, savedRow, savedBy, backRow, rowWithout, keptWithout, noBefore, noState}
 use Rattle.row.specs.Apart.{endsBy, endedState, changeBy, withChange, heardRow, heardBefore}
 use Rattle.row.specs.declared.Before.{Before}
 use Rattle.row.specs.declared.Occurrence.{Occurrence}
@@ -90,6 +90,21 @@ module _ (r : Row) (o : Occurrence) (number : ℕ) where
       by-saves (ltb 0 (r .now .broken)) (ltb (r .now .due) (o .time)) (o .closes) (concerns (r .rule) (o .kind))
       (editPlace (changeBy r o .edit) (ringOf (r .times) (r .now .head) (r .now .len))) b e
 
+-- ---- what is kept of a row is what it was, now or before; and so is what it keeps without a step
+
+module _ (P : State → Type 0) where
+  pub saved-state : (r : Row) (o : Occurrence) (number : ℕ) (b : Before) → P (r .now) → P (b .state) → P (savedBy o number r b .state)
+  unfolding savedBy
+  saved-state r o number b now then = split (movesBy (r .rule) (r .now) o) (λ x. P (cond x (savedRow r o number) b .state)) (λ _. now) (λ _. then)
+
+  pub without-state : (number : ℕ) (r : Row) (b : Before) → P (r .now) → P (b .state) → P (rowWithout number r b .now)
+  unfolding rowWithout backRow
+  without-state number r b now then = split (eqb (b .stamp) number) (λ x. P (cond x (backRow r b) r .now)) (λ _. then) (λ _. now)
+
+  pub kept-state : (number : ℕ) (b : Before) → P (b .state) → P noState → P (keptWithout number b .state)
+  unfolding keptWithout
+  kept-state number b then none = split (eqb (b .stamp) number) (λ x. P (cond x noBefore b .state)) (λ _. none) (λ _. then)
+
 -- ---- at most 64 wait
 
 abbrev pub Roomy : State → Type 0
@@ -133,13 +148,10 @@ step-few r o number few =
     (few-by (o .closes && eqb (r .now .kept) 0) (stays (brokenRow r number)) (stays r) (omega arith) few)))
 
 pub saved-few : (r : Row) (o : Occurrence) (number : ℕ) (b : Before) → Roomy (r .now) → Roomy (b .state) → Roomy (savedBy o number r b .state)
-unfolding savedBy
-saved-few r o number b few kept = split (movesBy (r .rule) (r .now) o) (λ x. Roomy (cond x (savedRow r o number) b .state)) (λ _. few) (λ _. kept)
+saved-few r o number b few kept = saved-state Roomy r o number b few kept
 
 pub without-few : (number : ℕ) (r : Row) (b : Before) → Roomy (r .now) → Roomy (b .state) → Roomy (rowWithout number r b .now)
-unfolding rowWithout backRow
-without-few number r b few kept = split (eqb (b .stamp) number) (λ x. Roomy (cond x (backRow r b) r .now)) (λ _. kept) (λ _. few)
+without-few number r b few kept = without-state Roomy number r b few kept
 
 pub kept-few : (number : ℕ) (b : Before) → Roomy (b .state) → Roomy (keptWithout number b .state)
-unfolding keptWithout
-kept-few number b kept = split (eqb (b .stamp) number) (λ x. Roomy (cond x noBefore b .state)) (λ _. omega arith) (λ _. kept)
+kept-few number b kept = kept-state Roomy number b kept (omega arith)

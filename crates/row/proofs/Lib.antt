@@ -7,5 +7,6 @@ pub mod Independent
 pub mod Undo
 pub mod Crowding
 pub mod Apart
+pub mod Filling
 mod Dispatch
 pub mod Laid

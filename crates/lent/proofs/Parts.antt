@@ -3,7 +3,7 @@ use Prim.Native.Nat.{ℕ, zero, suc, _+_, _-_, _<_, _≤_, _/_, _%_, min}
 use native.Mathlib.Omega.{arith}
 use native.Mathlib.Nat.{suc-add, zero-add}
 use mathlib.Core.Path.{_≡_, refl, sym, ap, ap₂, subst, _∙_}
-use mathlib.Core.Bool.{true, false, cond}
+use mathlib.Core.Bool.{Bool, true, false, cond, _||_}
 use mathlib.Core.List.{List, [], _∷_, _++_}
 use lib.ListN.{length, getD, set, take, drop, length-set}
 use lib.Seq.{getD-take, getD-drop, getD-append-add, take-set-lt, take-set-le, drop-set-lt, drop-set-add}
@@ -16,7 +16,7 @@ use Rattle.row.specs.declared.Row.{Row}
 use Rattle.machine.specs.Parts.{plus}
 use Rattle.monitor.specs.declared.Monitor.{Monitor}
 use Rattle.lent.specs.Layout.{Lent, Words, halves, numberArray, numberBlock, lastBlocks, wordsOf, rowBlocks, Shaped, rowNamed, heldRows}
-use Rattle.lent.specs.Steps.{withRow, withSoonest, withNext, countedOn, countedTo, visited, ended, backed, soonestAll, passed, begun}
+use Rattle.lent.specs.Steps.{withRow, withSoonest, withRoom, withNext, countedOn, countedTo, visited, ended, backed, soonestAll, passed, begun, crowdedAt, crowded}
 use Rattle.lent.proofs.Blocks.{last-read, last-written}
 
 -- ---- two halves
@@ -58,12 +58,12 @@ written-behind (x ∷ front) rest zero i v e = absurd (omega (arith, e))
 written-behind (x ∷ front) rest (suc n) i v e =
     ap (λ (k : ℕ). set (x ∷ (front ++ rest)) k v) (suc-add n i) ∙ ap {B = List ℕ} (λ l. x ∷ l) (written-behind front rest n i v (omega (arith, e)))
 
-module _ (m : Monitor) (soonest : ℕ) (plain : List ℕ) where
-  pub behind-numbers : (i : ℕ) → getD (numberArray m soonest plain) (16 + i) 0 ≡ getD plain i 0
-  behind-numbers i = getD-append-add (numberArray m soonest []) plain i 0
+module _ (m : Monitor) (soonest room : ℕ) (plain : List ℕ) where
+  pub behind-numbers : (i : ℕ) → getD (numberArray m soonest room plain) (16 + i) 0 ≡ getD plain i 0
+  behind-numbers i = getD-append-add (numberArray m soonest room []) plain i 0
 
-  pub numbers-behind : (i v : ℕ) → set (numberArray m soonest plain) (16 + i) v ≡ numberArray m soonest (set plain i v)
-  numbers-behind i v = written-behind (numberArray m soonest []) plain 16 i v refl
+  pub numbers-behind : (i v : ℕ) → set (numberArray m soonest room plain) (16 + i) v ≡ numberArray m soonest room (set plain i v)
+  numbers-behind i v = written-behind (numberArray m soonest room []) plain 16 i v refl
 
 -- ---- what stands in the last blocks
 
@@ -79,7 +79,7 @@ module _ (h : Lent) (s : Shaped h) where
 
   -- a number of words that are the monitor's
   pub number-at : (m : Words) → m ≡ wordsOf h → (k : ℕ)
-      → getD (getD (getD m 32 []) 0 []) k 0 ≡ getD (numberArray (h .monitor) (h .soonest) (take 48 (h .monitor .next))) k 0
+      → getD (getD (getD m 32 []) 0 []) k 0 ≡ getD (numberArray (h .monitor) (h .soonest) (h .room) (take 48 (h .monitor .next))) k 0
   number-at m is k = ap (λ (w : Words). getD (getD (getD w 32 []) 0 []) k 0) is ∙ ap (λ (b : List (List ℕ)). getD (getD b 0 []) k 0) numbers-read
 
   -- a store of the soonest time
@@ -90,11 +90,19 @@ module _ (h : Lent) (s : Shaped h) where
       ap (λ (b : List (List ℕ)). set (wordsOf h) 32 (set b 0 (set (getD b 0 []) 4 time))) numbers-read
       ∙ last-written h s 0 (set (numberBlock h) 0 (set (getD (numberBlock h) 0 []) 4 time))
 
+  -- and of the number of events that may come
+  pub room-written : (room : ℕ)
+      → set (wordsOf h) 32 (set (getD (wordsOf h) 32 []) 0 (set (getD (getD (wordsOf h) 32 []) 0 []) 11 room)) ≡ wordsOf (withRoom h room)
+  unfolding wordsOf
+  room-written room =
+      ap (λ (b : List (List ℕ)). set (wordsOf h) 32 (set b 0 (set (getD b 0 []) 11 room))) numbers-read
+      ∙ last-written h s 0 (set (numberBlock h) 0 (set (getD (numberBlock h) 0 []) 11 room))
+
   -- the first free time of a stream
   pub plain-free : (i : ℕ) → i < 48 → getD (getD (getD (wordsOf h) 32 []) 0 []) (16 + i) 0 ≡ getD (h .monitor .next) i 0
   plain-free i l =
       ap (λ (b : List (List ℕ)). getD (getD b 0 []) (16 + i) 0) numbers-read
-      ∙ behind-numbers (h .monitor) (h .soonest) (take 48 (h .monitor .next)) i ∙ getD-take 48 (h .monitor .next) i 0 l
+      ∙ behind-numbers (h .monitor) (h .soonest) (h .room) (take 48 (h .monitor .next)) i ∙ getD-take 48 (h .monitor .next) i 0 l
 
   pub coloured-free : (i : ℕ) → i < 128 → getD (getD (getD (wordsOf h) 34 []) (i / 64) []) (i % 64) 0 ≡ getD (h .monitor .next) (48 + i) 0
   coloured-free i l =
@@ -109,8 +117,8 @@ module _ (h : Lent) (s : Shaped h) where
       ap (λ (b : List (List ℕ)). set (wordsOf h) 32 (set b 0 (set (getD b 0 []) (16 + i) v))) numbers-read
       ∙ last-written h s 0 (set (numberBlock h) 0 (set (getD (numberBlock h) 0 []) (16 + i) v))
       ∙ ap₂ (λ (x c : List ℕ). rowBlocks (h .monitor .rows) (h .monitor .before) ++ ((x ∷ h .ends ∷ []) ∷ halves (h .entries) ∷ halves c ∷ []))
-      (numbers-behind (h .monitor) (h .soonest) (take 48 (h .monitor .next)) i v
-      ∙ ap (numberArray (h .monitor) (h .soonest)) (sym (take-set-lt 48 (h .monitor .next) i v l)))
+      (numbers-behind (h .monitor) (h .soonest) (h .room) (take 48 (h .monitor .next)) i v
+      ∙ ap (numberArray (h .monitor) (h .soonest) (h .room)) (sym (take-set-lt 48 (h .monitor .next) i v l)))
       (sym (drop-set-lt 48 (h .monitor .next) i v l))
 
   pub coloured-written : (i v : ℕ) → i < 128
@@ -121,7 +129,7 @@ module _ (h : Lent) (s : Shaped h) where
       ap (λ (b : List (List ℕ)). set (wordsOf h) 34 (set b (i / 64) (set (getD b (i / 64) []) (i % 64) v))) coloured-read
       ∙ last-written h s 2 (set (halves (drop 48 (h .monitor .next))) (i / 64) (set (getD (halves (drop 48 (h .monitor .next))) (i / 64) []) (i % 64) v))
       ∙ ap₂ (λ (x : List ℕ) (c : List (List ℕ)). rowBlocks (h .monitor .rows) (h .monitor .before)
-      ++ ((numberArray (h .monitor) (h .soonest) x ∷ h .ends ∷ []) ∷ halves (h .entries) ∷ c ∷ []))
+      ++ ((numberArray (h .monitor) (h .soonest) (h .room) x ∷ h .ends ∷ []) ∷ halves (h .entries) ∷ c ∷ []))
       (sym (take-set-le 48 (h .monitor .next) (48 + i) v (omega arith)))
       (half-written (drop 48 (h .monitor .next)) i v l ∙ ap halves (sym (drop-set-add 48 (h .monitor .next) i v)))
 
@@ -132,6 +140,22 @@ module _ (h : Lent) (s : Shaped h) where
   block-written x rows entries next =
       last-written h s 0 (numberBlock x)
       ∙ sym (λ k. rows k ++ (numberBlock x ∷ halves (entries k) ∷ halves (drop 48 (next k)) ∷ []))
+
+-- ---- the question for 64
+
+or-true : (b : Bool) → (b || true) ≡ true
+or-true true = refl
+or-true false = refl
+
+-- one of the rows is crowded where the row of an entry is
+pub crowded-there : (h : Lent) (first j : ℕ) (o : Occurrence) → crowdedAt h (rowNamed h (first + j)) o ≡ true → (n : ℕ) → j < n → crowded h first n o ≡ true
+crowded-there h first j o there zero small = absurd (omega (arith, small))
+crowded-there h first j o there (suc n) small =
+    split (ltb j n) (λ _. (crowded h first n o || crowdedAt h (rowNamed h (first + n)) o) ≡ true)
+    (λ e. ap (λ (b : Bool). b || crowdedAt h (rowNamed h (first + n)) o) (crowded-there h first j o there n (ltb-true j n e)))
+    (λ e.
+    let last : n ≡ j = omega (arith, ltb-false j n e, small) in
+    ap (λ (b : Bool). crowded h first n o || b) (ap (λ (k : ℕ). crowdedAt h (rowNamed h (first + k)) o) last ∙ there) ∙ or-true (crowded h first n o))
 
 -- ---- each part keeps its size
 
@@ -147,6 +171,10 @@ shaped-next h i v s =
 
 pub shaped-soonest : (h : Lent) (time : ℕ) → Shaped h → Shaped (withSoonest h time)
 shaped-soonest h time s =
+    record { rows-there = s .rows-there; kept-there = s .kept-there; next-there = s .next-there; ends-there = s .ends-there; entries-there = s .entries-there }
+
+pub shaped-room : (h : Lent) (room : ℕ) → Shaped h → Shaped (withRoom h room)
+shaped-room h room s =
     record { rows-there = s .rows-there; kept-there = s .kept-there; next-there = s .next-there; ends-there = s .ends-there; entries-there = s .entries-there }
 
 pub shaped-row : (h : Lent) (i : ℕ) (r : Row) (b : Before) → Shaped h → Shaped (withRow h i r b)

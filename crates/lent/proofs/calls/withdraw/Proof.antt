@@ -67,7 +67,7 @@ returns-2 c =
           let stored = p .put-free .ensures x back wide ∙ ap₂ (λ (k v : ℕ). wordsOf (withNext x (set (x .monitor .next) k v))) place free in
           let wide-too = shaped-next x (placeIn (x .monitor .undo .place)) (x .monitor .undo .next) wide in
           let block = ap (λ (m : Words). getD m 32 []) stored ∙ numbers-read y wide-too in
-          let numbers = c .uncount .ensures (y .monitor) (y .soonest) (take 48 (y .monitor .next)) (y .ends) block in (
+          let numbers = c .uncount .ensures (y .monitor) (y .soonest) (y .room) (take 48 (y .monitor .next)) (y .ends) block in (
             rw some refl,
             rw some
                 (ap₂ (λ (m : Words) (v : List (List ℕ)). set m 32 v) stored numbers

@@ -5,7 +5,7 @@ use Rattle.lent.proofs.numbers.count.Statement.{statement}
 use Rattle.lent.proofs.numbers.count.Tie as tie
 
 returns : tie.Need-returns
-returns c m soonest plain ends e going = rw (c .plus .ensures, e, going) refl
+returns c m soonest room plain ends e going = rw (c .plus .ensures, e, going) refl
 
 pub count-spec : {M : Type 1} → statement M
 count-spec =

@@ -5,7 +5,7 @@ use Rattle.lent.proofs.numbers.uncount.Statement.{statement}
 use Rattle.lent.proofs.numbers.uncount.Tie as tie
 
 returns : tie.Need-returns
-returns c m soonest plain ends e = rw (c .minus .ensures, e) refl
+returns c m soonest room plain ends e = rw (c .minus .ensures, e) refl
 
 pub uncount-spec : {M : Type 1} → statement M
 uncount-spec =

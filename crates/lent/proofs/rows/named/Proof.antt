@@ -1,25 +1,39 @@
 -- An entry stands in one of two arrays.
-use Prim.Native.Nat.{ℕ, _<_, _/_, _%_}
+use Prim.Native.Nat.{ℕ, _+_, _-_, _<_, _%_}
 use mathlib.Core.Path.{_≡_, refl, sym, ap, _∙_}
 use mathlib.Core.List.{List, []}
 use lib.ListN.{getD}
+use lib.Seq.{getD-take, getD-drop}
 use native.Mathlib.Omega.{arith}
-use Rattle.lent.proofs.Parts.{entries-read, half-read}
+use Rattle.lent.proofs.Parts.{entries-read}
 use borrow.Author.Needs.{needs}
 use Rattle.lent.proofs.rows.named.Statement.{statement}
 use Rattle.lent.proofs.rows.named.Tie as tie
 
 returns : tie.Need-returns
 returns c =
-    let a = c .before in
+    let a = c .before .before in
     let p = a .args .place in (
       omega arith,
       λ h e s.
           ap (λ (w : ℕ). w % 32)
-          (ap (λ m. getD (getD (getD m 33 []) (p / 64) []) (p % 64) 0) e ∙ ap (λ (b : List (List ℕ)). getD (getD b (p / 64) []) (p % 64) 0) (entries-read h s)
-          ∙ half-read (h .entries) p (a .pre)),
+          (ap (λ m. getD (getD (getD m 33 []) 0 []) p 0) e ∙ ap (λ (b : List (List ℕ)). getD (getD b 0 []) p 0) (entries-read h s)
+          ∙ getD-take 64 (h .entries) p 0 (c .before .if1 .taken)),
+    )
+
+returns-2 : tie.Need-returns-2
+returns-2 c =
+    let a = c .before .before in
+    let p = a .args .place in (
+      omega arith,
+      λ h e s.
+          let place : 64 + (p - 64) ≡ p = omega (arith, c .before .if1 .left) in
+          ap (λ (w : ℕ). w % 32)
+          (ap (λ m. getD (getD (getD m 33 []) 1 []) (p - 64) 0) e ∙ ap (λ (b : List (List ℕ)). getD (getD b 1 []) (p - 64) 0) (entries-read h s)
+          ∙ getD-drop 64 (h .entries) (p - 64) 0 ∙ ap (λ (k : ℕ). getD (h .entries) k 0) place),
     )
 
 pub named-spec : {M : Type 1} → statement M
 named-spec =
-    tie.close (tie.spec (λ c. search needs) (λ c. search needs) (λ c. search needs) (λ c. search needs) (λ c. search needs) returns)
+    tie.close (tie.spec (λ c. search needs) (λ c. search needs) (λ c. search needs) (λ c. search needs) returns (λ c. search needs) (λ c. search needs)
+    (λ c. search needs) (λ c. search needs) returns-2)

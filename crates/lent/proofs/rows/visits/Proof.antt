@@ -1,24 +1,36 @@
--- Entry after entry: before the turn of number j the rows of the first j have taken the event.
-use Prim.Native.Nat.{ℕ, _+_, _-_, _≤_, _<_}
-use mathlib.Core.Path.{_≡_, refl, sym, ap, _∙_}
+-- Entry after entry: before the turn of number j the rows of the first j have taken the event; the soonest time is kept beside, and stored at the end.
+use Prim.Native.Nat.{ℕ, _+_, _-_, _≤_, _<_, min}
+use mathlib.Core.Path.{_≡_, refl, sym, ap, ap₂, _∙_}
 use native.Mathlib.Omega.{arith}
 use native.Mathlib.Numerals.{add-one}
+use mathlib.Core.List.{List, []}
+use lib.ListN.{getD, set}
+use denote.Ref.{now}
+use Rattle.machine.specs.Words.{rowWords, numberWords}
 use Rattle.row.specs.Machine.{eventAt}
-use Rattle.lent.specs.Layout.{Lent, wordsOf, Shaped, rowNamed}
-use Rattle.lent.specs.Steps.{visitAt, visited}
-use Rattle.lent.proofs.Parts.{shaped-visited, visited-named}
+use Rattle.row.specs.Stored as Stored
+use Rattle.lent.specs.Layout.{Lent, Words, wordsOf, Shaped, rowNamed, rowAt, keptAt}
+use Rattle.lent.specs.Steps.{withSoonest, visitAt, visited}
+use Rattle.lent.proofs.Blocks.{row-lies, row-stored}
+use Rattle.lent.proofs.Parts.{shaped-visited, shaped-soonest, shaped-row, visited-named, number-at, soonest-written}
 use borrow.Author.Needs.{needs}
 use Rattle.lent.proofs.rows.visits.Statement.{statement}
 use Rattle.lent.proofs.rows.visits.Tie as tie
 
+-- the rows of the first j entries have taken the event, and the soonest time is not stored yet
+abbrev unstored : Lent → ℕ → ℕ → ℕ → ℕ → ℕ → Lent
+unstored h first j stream t number = withSoonest (visited h first j (eventAt stream t) number) (h .soonest)
+
 abbrev Inv-loop : tie.InvT-loop
-Inv-loop m₀ first n stream t number j₀ m j = (j ≤ n) × ((h : Lent) → m₀ ≡ wordsOf h → Shaped h → m ≡ wordsOf (visited h first j (eventAt stream t) number))
+Inv-loop m₀ first n stream t number soonest₀ j₀ m soonest j =
+    (j ≤ n) × ((h : Lent) → m₀ ≡ wordsOf h → Shaped h
+    → (m ≡ wordsOf (unstored h first j stream t number)) × (soonest ≡ visited h first j (eventAt stream t) number .soonest))
 
 abbrev μ-loop : tie.MeasureT-loop
-μ-loop m₀ first n stream t number j₀ m j = n - j
+μ-loop m₀ first n stream t number soonest₀ j₀ m soonest j = n - j
 
 loop-holds : tie.Need-loop-holds Inv-loop μ-loop
-loop-holds c = (omega arith, λ h e s. e)
+loop-holds c = (omega arith, λ h e s. (e, number-at h s (now (c .before .args .m)) e 4))
 
 add-named : tie.Need-add-named Inv-loop μ-loop
 add-named c = omega arith
@@ -26,8 +38,29 @@ add-named c = omega arith
 named-requires : tie.Need-named-requires Inv-loop μ-loop
 named-requires c κs = omega arith
 
-visit-requires : tie.Need-visit-requires Inv-loop μ-loop
-visit-requires c κs = c .before .named .ensures .0
+mul-event : tie.Need-mul-event Inv-loop μ-loop
+mul-event c = omega (arith, c .named .ensures .0)
+
+index-1-event : tie.Need-index-1-event Inv-loop μ-loop
+index-1-event c = omega (arith, c .named .ensures .0)
+
+event-requires : tie.Need-event-requires Inv-loop μ-loop
+event-requires c κs = tt
+
+mul-smaller : tie.Need-mul-smaller Inv-loop μ-loop
+mul-smaller c = omega (arith, c .before .before .named .ensures .0)
+
+index-1-smaller : tie.Need-index-1-smaller Inv-loop μ-loop
+index-1-smaller c = omega (arith, c .before .before .named .ensures .0)
+
+index-2-smaller : tie.Need-index-2-smaller Inv-loop μ-loop
+index-2-smaller c = search needs
+
+index-3-smaller : tie.Need-index-3-smaller Inv-loop μ-loop
+index-3-smaller c = search needs
+
+smaller-requires : tie.Need-smaller-requires Inv-loop μ-loop
+smaller-requires c κs = tt
 
 add-j : tie.Need-add-j Inv-loop μ-loop
 add-j c = omega arith
@@ -36,29 +69,51 @@ loop-less : tie.Need-loop-less Inv-loop μ-loop
 loop-less c = omega arith
 
 loop-again : tie.Need-loop-again Inv-loop μ-loop
+unfolding Stored.wordsOf rowWords numberWords
 loop-again c =
-    let d = c .before .before in
+    let v = c .before .before in
+    let d = v .before .before in
     let l = d .before .before in
-    let a = l .before .before .args in
+    let a = l .before .before .before .args in
     let j = l .before .loop .j in
-    let o = eventAt (a .stream) (a .t) in (
+    let o = eventAt (a .stream) (a .t) in
+    let i = d .named .result in (
       omega arith,
       λ h e s.
           let so-far = l .before .loop .inv .1 h e s in
-          let h′ = visited h (a .first) j o (a .number) in
-          let wide = shaped-visited h (a .first) j o (a .number) s in
-          let row : d .named .result ≡ rowNamed h (a .first + j) = d .named .ensures .1 h′ so-far wide ∙ visited-named h (a .first) j o (a .number) (a .first + j) in
-          c .visit .ensures h′ so-far wide ∙ ap (λ (i : ℕ). wordsOf (visitAt h′ i o (a .number))) row
-          ∙ ap (λ (k : ℕ). wordsOf (visited h (a .first) k o (a .number))) (sym (add-one j)),
+          let h′ = unstored h (a .first) j (a .stream) (a .t) (a .number) in
+          let wide = shaped-soonest (visited h (a .first) j o (a .number)) (h .soonest) (shaped-visited h (a .first) j o (a .number) s) in
+          let row : i ≡ rowNamed h (a .first + j) = d .named .ensures .1 h′ (so-far .0) wide ∙ visited-named h (a .first) j o (a .number) (a .first + j) in
+          let there : i < 32 = d .named .ensures .0 in
+          let r = rowAt (h′ .monitor) i in
+          let b = keptAt (h′ .monitor) i in
+          let row′ = Stored.eventRow o (a .number) r in
+          let kept′ = Stored.eventSaves o (a .number) r b in
+          let taken = v .event .ensures r b (row-lies h′ wide _ (so-far .0) i there) in
+          let stored = row-stored h′ wide _ (so-far .0) i there (v .event .last .0) row′ kept′ taken in
+          let x = visitAt (visited h (a .first) j o (a .number)) i o (a .number) in
+          let due = ap (λ (w : List (List ℕ)). getD (getD w 1 []) 17 0) (row-lies (withSoonest x (h .soonest)) (shaped-row h′ i row′ kept′ wide) _ stored i there) in
+          let next : visitAt (visited h (a .first) j o (a .number)) i o (a .number) ≡ visited h (a .first) (j + 1) o (a .number) =
+          ap (λ (k : ℕ). visitAt (visited h (a .first) j o (a .number)) k o (a .number)) row
+          ∙ ap (λ (k : ℕ). visited h (a .first) k o (a .number)) (sym (add-one j)) in (
+            stored ∙ ap (λ (y : Lent). wordsOf (withSoonest y (h .soonest))) next,
+            c .smaller .ensures ∙ ap₂ min (so-far .1) due ∙ ap (λ (y : Lent). y .soonest) next,
+          ),
     )
 
 returns : tie.Need-returns Inv-loop μ-loop
 returns c h e s =
     let l = c .before .loop in
-    let a = c .before .before .args in
+    let a = c .before .before .before .args in
+    let o = eventAt (a .stream) (a .t) in
     let at-end : l .j ≡ a .n = omega arith in
-    l .inv .1 h e s ∙ ap (λ (k : ℕ). wordsOf (visited h (a .first) k (eventAt (a .stream) (a .t)) (a .number))) at-end
+    let so-far = l .inv .1 h e s in
+    let wide = shaped-soonest (visited h (a .first) (l .j) o (a .number)) (h .soonest) (shaped-visited h (a .first) (l .j) o (a .number) s) in
+    ap₂ (λ (m : Words) (t : ℕ). set m 32 (set (getD m 32 []) 0 (set (getD (getD m 32 []) 0 []) 4 t))) (so-far .0) (so-far .1)
+    ∙ soonest-written (unstored h (a .first) (l .j) (a .stream) (a .t) (a .number)) wide (visited h (a .first) (l .j) o (a .number) .soonest)
+    ∙ ap (λ (k : ℕ). wordsOf (visited h (a .first) k o (a .number))) at-end
 
 pub visits-spec : {M : Type 1} → statement M
 visits-spec =
-    tie.close (tie.spec Inv-loop μ-loop loop-holds add-named named-requires visit-requires add-j loop-less loop-again returns)
+    tie.close (tie.spec Inv-loop μ-loop (λ c. search needs) (λ c. search needs) (λ c. search needs) loop-holds add-named named-requires mul-event index-1-event event-requires mul-smaller
+    index-1-smaller index-2-smaller index-3-smaller smaller-requires add-j loop-less loop-again (λ c. search needs) (λ c. search needs) (λ c. search needs) returns)

@@ -1,0 +1,48 @@
+-- The number stands at its place; where it is 0, at every 32nd step, it is what the fullest row leaves.
+use Prim.Native.Nat.{ℕ, _-_, _%_}
+use mathlib.Core.Path.{_≡_, refl, sym, ap, _∙_}
+use mathlib.Core.Bool.{true, false}
+use lib.Dec.{ltb, eqb}
+use denote.Ref.{now}
+use borrow.Author.Tests.{lt-ltb, le-ltb, eq-eqb, ne-eqb}
+use native.Mathlib.Omega.{arith}
+use Rattle.constraint.specs.Limits.{waitingLimit}
+use Rattle.lent.specs.Steps.{fullest}
+use Rattle.lent.proofs.Parts.{number-at}
+use borrow.Author.Needs.{needs}
+use Rattle.lent.proofs.calls.room_for.Statement.{statement}
+use Rattle.lent.proofs.calls.room_for.Tie as tie
+
+returns : tie.Need-returns
+returns c h e s =
+    let a = c .before .before .args in
+    let room = number-at h s (now (a .m)) e 11 in
+    let some : ltb 0 (h .room) ≡ true = ap (ltb 0) (sym room) ∙ lt-ltb _ _ (c .if1 .taken) in
+    rw some room
+
+returns-2 : tie.Need-returns-2
+returns-2 c h e s =
+    let f = c .before in
+    let d = f .before in
+    let t = d .before in
+    let i = t .before .before in
+    let a = i .before .before .args in
+    let none : ltb 0 (h .room) ≡ false = ap (ltb 0) (sym (number-at h s (now (a .m)) e 11)) ∙ le-ltb _ _ (i .if1 .left) in
+    let due : eqb (h .monitor .count % 32) 0 ≡ true =
+    ap (λ (n : ℕ). eqb (n % 32) 0) (sym (number-at h s (now (a .m)) e 1)) ∙ eq-eqb _ _ (t .if2 .taken) in
+    rw (none, due)
+    (c .minus .ensures ∙ ap (λ (n : ℕ). waitingLimit - n) (f .fullest .ensures h e s ∙ ap (fullest (h .monitor)) (d .held .ensures .1 h e s)))
+
+returns-3 : tie.Need-returns-3
+returns-3 c h e s =
+    let i = c .before .before in
+    let a = i .before .before .args in
+    let none : ltb 0 (h .room) ≡ false = ap (ltb 0) (sym (number-at h s (now (a .m)) e 11)) ∙ le-ltb _ _ (i .if1 .left) in
+    let not-due : eqb (h .monitor .count % 32) 0 ≡ false =
+    ap (λ (n : ℕ). eqb (n % 32) 0) (sym (number-at h s (now (a .m)) e 1)) ∙ ne-eqb _ _ (c .if2 .left) in
+    rw (none, not-due) refl
+
+pub room-for-spec : {M : Type 1} → statement M
+room-for-spec =
+    tie.close (tie.spec (λ c. search needs) (λ c. search needs) (λ c. search needs) returns (λ c. search needs) (λ c. search needs) (λ c. search needs)
+    (λ c κs. search needs) (λ c κs. c .held .ensures .0) (λ c κs. search needs) returns-2 returns-3)

@@ -1,0 +1,14 @@
+-- The word for "open" stands at its place.
+use mathlib.Core.Path.{_≡_, ap, _∙_}
+use Prim.Native.Nat.{ℕ, _-_}
+use denote.Ref.{now}
+use Rattle.lent.proofs.Parts.{number-at}
+use borrow.Author.Needs.{needs}
+use Rattle.lent.proofs.closed.Statement.{statement}
+use Rattle.lent.proofs.closed.Tie as tie
+
+returns : tie.Need-returns
+returns c h e s = c .minus .ensures ∙ ap (λ (n : ℕ). 1 - n) (number-at h s (now (c .before .before .args .m)) e 2)
+
+pub closed-spec : {M : Type 1} → statement M
+closed-spec = tie.close (tie.spec (λ c. search needs) (λ c. search needs) (λ c. search needs) (λ c κs. search needs) returns)

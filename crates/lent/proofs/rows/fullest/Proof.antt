@@ -1,0 +1,64 @@
+-- Row after row: before the turn of number i it is the number of the fullest of the first i.
+use Prim.Native.Nat.{ℕ, _+_, _-_, _≤_, _<_}
+use mathlib.Core.Path.{_≡_, refl, sym, ap, ap₂, _∙_}
+use native.Mathlib.Omega.{arith}
+use native.Mathlib.Numerals.{add-one}
+use denote.Ref.{now}
+use Rattle.row.specs.Stored.{larger}
+use Rattle.lent.specs.Layout.{Lent, wordsOf, Shaped, rowAt, keptAt}
+use Rattle.lent.specs.Steps.{fullest}
+use Rattle.lent.proofs.Blocks.{row-lies}
+use borrow.Author.Needs.{needs}
+use Rattle.lent.proofs.rows.fullest.Statement.{statement}
+use Rattle.lent.proofs.rows.fullest.Tie as tie
+
+abbrev Inv-loop : tie.InvT-loop
+Inv-loop m n most₀ i₀ most i = (i ≤ n) × ((h : Lent) → m ≡ wordsOf h → Shaped h → most ≡ fullest (h .monitor) i)
+
+abbrev μ-loop : tie.MeasureT-loop
+μ-loop m n most₀ i₀ most i = n - i
+
+loop-holds : tie.Need-loop-holds Inv-loop μ-loop
+loop-holds c = (omega arith, λ h e s. refl)
+
+mul-filled : tie.Need-mul-filled Inv-loop μ-loop
+mul-filled c = omega arith
+
+index-1-filled : tie.Need-index-1-filled Inv-loop μ-loop
+index-1-filled c = omega arith
+
+filled-requires : tie.Need-filled-requires Inv-loop μ-loop
+filled-requires c κs = tt
+
+larger-requires : tie.Need-larger-requires Inv-loop μ-loop
+larger-requires c κs = tt
+
+add-i : tie.Need-add-i Inv-loop μ-loop
+add-i c = omega arith
+
+loop-less : tie.Need-loop-less Inv-loop μ-loop
+loop-less c = omega arith
+
+loop-again : tie.Need-loop-again Inv-loop μ-loop
+loop-again c =
+    let f = c .before in
+    let l = f .before .before in
+    let a = l .before .before .args in
+    let i = l .before .loop .i in (
+      omega arith,
+      λ h e s.
+          let there : i < 32 = omega arith in
+          let row = f .filled .ensures (rowAt (h .monitor) i) (keptAt (h .monitor) i) (row-lies h s (now (a .m)) e i there) in
+          c .larger .ensures ∙ ap₂ larger (l .before .loop .inv .1 h e s) row ∙ ap (fullest (h .monitor)) (sym (add-one i)),
+    )
+
+returns : tie.Need-returns Inv-loop μ-loop
+returns c h e s =
+    let l = c .before .loop in
+    let a = c .before .before .args in
+    let at-end : l .i ≡ a .n = omega arith in
+    l .inv .1 h e s ∙ ap (fullest (h .monitor)) at-end
+
+pub fullest-spec : {M : Type 1} → statement M
+fullest-spec =
+    tie.close (tie.spec Inv-loop μ-loop loop-holds mul-filled index-1-filled filled-requires larger-requires add-i loop-less loop-again returns)

@@ -3,7 +3,7 @@ use Prim.Native.Nat.{ℕ, zero, suc, _+_, _<_, _≤_}
 use mathlib.Core.Path.{_≡_}
 use mathlib.Core.Bool.{Bool, false, cond}
 use mathlib.Core.List.{List, [], _∷_, _++_}
-use Rattle.constraint.specs.Limits.{waitingLimit}
+use Rattle.constraint.specs.Limits.{rowLimit, waitingLimit}
 use Rattle.constraint.specs.Run.{Request}
 use Rattle.constraint.specs.declared.Answer.{Answer}
 use Rattle.constraint.specs.declared.Answer.the-variants.{Taken, Refused}
@@ -60,10 +60,17 @@ pub record Roomy (h : Lent) : Type 0 where
   pub then-room : (i : ℕ) → i < heldRows (h .monitor)
       → takenIn (rowAt (h .monitor) i .rule) (keptAt (h .monitor) i .state .len) + h .room ≤ waitingLimit
 
+-- the numbers of a monitor are those of one: at most 32 rows, and 1 for closed
+pub record Sound (m : Monitor) : Type 0 where
+  pub rows-few : m .len ≤ rowLimit
+  pub closed-mark : m .closed ≤ 1
+  pub closed-then : m .undo .closed ≤ 1
+
 -- each part has its size, the entries of a kind name the rows that it concerns, a tick and the close concern none, and no row is due before the
 -- soonest time
 pub record Indexes (h : Lent) : Type 0 where
   pub shaped : Shaped h
+  pub sound : Sound (h .monitor)
   pub listed : (kind : ℕ) → kind < 64 → rowsOf h kind ≡ numbers (isOf (h .monitor) kind) (heldRows (h .monitor))
   pub no-ticks : (i : ℕ) → i < heldRows (h .monitor) → isOf (h .monitor) noEvent i ≡ false
   pub no-sooner : (i : ℕ) → i < heldRows (h .monitor) → h .soonest ≤ dueAt (h .monitor) i
@@ -78,8 +85,17 @@ pub record Takes (entry : Words) (r : Request) (number : ℕ) (exit : Words) : T
   pub stores : (h : Lent) → entry ≡ wordsOf h → Shaped h → (number ≡ numberOf h r) × (exit ≡ wordsOf (leaves h r))
   pub steps : (h : Lent) → entry ≡ wordsOf h → Indexes h → Steps (h .monitor) r (steppedFrom number (leaves h r .monitor)) × Indexes (leaves h r)
 
+-- ---- what lies in the words
+
+-- the words are those of a monitor, and say what is so of it
+pub record Holds (words : Words) (m : Monitor) : Type 0 where
+  pub lent : Lent
+  pub words-are : words ≡ wordsOf lent
+  pub indexes : Indexes lent
+  pub monitor-is : lent .monitor ≡ m
+
 -- ---- a call that only reads
 
--- whatever monitor the words are, the answer keeps the contract
+-- whatever monitor lies in the words, the answer keeps the contract
 abbrev pub ReadOff : Words → (Monitor → ℕ → Type 0) → ℕ → Type 0
-ReadOff entry Asks answer = (h : Lent) → entry ≡ wordsOf h → Shaped h → Asks (h .monitor) answer
+ReadOff entry Asks answer = (m : Monitor) → Holds entry m → Asks m answer

@@ -15,8 +15,8 @@ use Rattle.row.specs.declared.Occurrence.{Occurrence}
 use Rattle.row.specs.declared.Row.{Row}
 use Rattle.machine.specs.Parts.{plus}
 use Rattle.monitor.specs.declared.Monitor.{Monitor}
-use Rattle.lent.specs.Layout.{Lent, Words, halves, numberArray, numberBlock, lastBlocks, wordsOf, rowBlocks, Shaped, rowNamed, heldRows}
-use Rattle.lent.specs.Steps.{withRow, withSoonest, withRoom, withNext, countedOn, countedTo, visited, ended, backed, soonestAll, passed, begun, crowdedAt, crowded}
+use Rattle.lent.specs.Layout.{Lent, Words, halves, numberArray, numberBlock, lastBlocks, wordsOf, rowBlocks, Shaped, rowNamed, startOf, heldRows}
+use Rattle.lent.specs.Steps.{withRow, withSoonest, withRoom, withNext, countedOn, countedTo, visited, ended, backed, soonestAll, passed, begun, crowdedAt, crowded, rowCount}
 use Rattle.lent.proofs.Blocks.{last-read, last-written}
 
 -- ---- two halves
@@ -224,6 +224,18 @@ pub ended-count : (h : Lent) (n : ℕ) (o : Occurrence) (number : ℕ) → ended
 ended-count h zero o number = refl
 ended-count h (suc n) o number = ended-count h n o number
 
+ended-ends : (h : Lent) (n : ℕ) (o : Occurrence) (number : ℕ) → ended h n o number .ends ≡ h .ends
+ended-ends h zero o number = refl
+ended-ends h (suc n) o number = ended-ends h n o number
+
+-- where the rows of a kind begin, and how many they are, hangs on the ends alone
+pub same-rows : (x h : Lent) → x .ends ≡ h .ends → (kind : ℕ) → (startOf x kind ≡ startOf h kind) × (rowCount x kind ≡ rowCount h kind)
+same-rows x h e zero = (refl, ap (λ (l : List ℕ). min (getD l 0 0) 128 - 0) e)
+same-rows x h e (suc kind) = (
+  ap (λ (l : List ℕ). min (getD l kind 0) 128) e,
+  ap (λ (l : List ℕ). min (getD l (suc kind) 0) 128 - min (getD l kind 0) 128) e,
+)
+
 module _ (h : Lent) (o : Occurrence) where
   -- what holds of each outcome holds of what begins
   by-outcome : (P : Lent → Type 0) → P (withSoonest (ended h (heldRows (h .monitor)) o (h .monitor .count)) 0) → P (withSoonest h (soonestAll h)) → P h → P (begun h o)
@@ -234,6 +246,9 @@ module _ (h : Lent) (o : Occurrence) where
 
   pub begun-count : begun h o .monitor .count ≡ h .monitor .count
   begun-count = by-outcome (λ (x : Lent). x .monitor .count ≡ h .monitor .count) (ended-count h (heldRows (h .monitor)) o (h .monitor .count)) refl refl
+
+  pub begun-ends : begun h o .ends ≡ h .ends
+  begun-ends = by-outcome (λ (x : Lent). x .ends ≡ h .ends) (ended-ends h (heldRows (h .monitor)) o (h .monitor .count)) refl refl
 
   pub shaped-begun : Shaped h → Shaped (begun h o)
   shaped-begun s =

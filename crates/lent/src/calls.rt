@@ -26,19 +26,16 @@ use constraint::LAST_TIME;
 use machine::parts::kind_of;
 use monitor::calls::place_in;
 use monitor::calls::time_refusal;
-use queue::left;
 use queue::minus;
 use row::Occurrence;
-ghost use Prim.Native.Nat.{_+_, _<_, _≤_};
+ghost use Prim.Native.Nat.{_<_, _≤_};
 ghost use mathlib.Core.Path.{_≡_};
-ghost use mathlib.Core.Bool.{false, cond};
-ghost use lib.Dec.{ltb};
 ghost use Rattle.constraint.specs.declared.Call.{Call};
 ghost use Rattle.constraint.specs.Run.{asks, withdraws};
 ghost use Rattle.row.specs.Machine.{eventAt};
 ghost use Rattle.lent.specs.Layout.{Lent, wordsOf, Shaped};
 ghost use Rattle.constraint.specs.Streams.{stream};
-ghost use Rattle.lent.specs.Steps.{crowded, roomFor, passed, begun, OnStream, refusalOf, Stores};
+ghost use Rattle.lent.specs.Steps.{crowdedOn, roomFor, passed, begun, OnStream, refusalOf, Stores};
 
 const NO_EVENT: u64 = 65;
 
@@ -81,15 +78,24 @@ fn begin(m: &mut Words, o: Occurrence)
     }
 }
 
-// Whether an event crowds one of the rows that n entries name, from one on: not looked at while there is room.
-fn crowds_on(m: &Words, first: usize, n: usize, o: Occurrence) -> bool
-    requires { ⌜ first + n ≤ 128 ⌝ }
-    ensures { λ r. ⌜ ((h : Lent) → now (m .entry) ≡ wordsOf h → Shaped h → r ≡ cond (ltb 0 (h .room)) false (crowded h first n o)) ⌝ }
+// The same before an event, of which the rows see nothing else yet.
+fn begin_event(m: &mut Words, stream: usize, time: u64)
+    ensures { λ _. ⌜ ((h : Lent) → now (m .entry) ≡ wordsOf h → Shaped h → now (m .exit) ≡ wordsOf (begun h (eventAt stream time))) ⌝ }
+{
+    if m[NUMBERS][0][SOONEST] < time {
+        pass(m, event_of(stream, time));
+    }
+}
+
+// Whether an event crowds a row of its kind: not looked at while there is room.
+fn crowds_on(m: &Words, kind: usize, stream: usize, time: u64) -> bool
+    requires { ⌜ kind < 64 ⌝ }
+    ensures { λ r. ⌜ ((h : Lent) → now (m .entry) ≡ wordsOf h → Shaped h → r ≡ crowdedOn h kind stream time) ⌝ }
 {
     if 0 < m[NUMBERS][0][ROOM] {
         return false;
     }
-    rows::crowds(m, first, n, o)
+    rows::crowds_of(m, kind, event_of(stream, time))
 }
 
 // How many events may come before a row can be crowded: where it is 0 that is found anew at every 32nd step.
@@ -111,17 +117,13 @@ fn event_on(m: &mut Words, kind: usize, stream: usize, time: u64) -> u8
     requires { ⌜ (kind < 64) × (stream < 176) ⌝ }
     ensures { λ r. ⌜ OnStream (now (m .entry)) kind stream time r (now (m .exit)) ⌝ }
 {
-    let first = rows::start_of(m, kind);
-    let n = left(rows::end_of(m, kind), first);
-    let o = event_of(stream, time);
-    if crowds_on(m, first, n, o) {
+    if crowds_on(m, kind, stream, time) {
         return 12;
     }
     put_room(m, minus(room_for(m), 1));
     count_event(m, stream, time);
-    begin(m, o);
-    let number = m[NUMBERS][0][COUNT];
-    rows::visits(m, first, n, stream as u64, time, number);
+    begin_event(m, stream, time);
+    rows::visits_of(m, kind, stream as u64, time);
     0
 }
 

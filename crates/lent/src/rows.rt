@@ -1,4 +1,5 @@
 // The rows of a lent monitor, one after the other: those of a kind after an event, all of them after the clock, the close and a withdrawal.
+use crate::COUNT;
 use crate::ENTRIES;
 use crate::NUMBERS;
 use crate::SOONEST;
@@ -7,6 +8,7 @@ use constraint::NO_LIMIT;
 use machine::parts::smaller;
 use machine::words::DUE;
 use machine::words::LEN;
+use queue::left;
 use row::Occurrence;
 use row::stored;
 use row::stored::larger;
@@ -14,7 +16,7 @@ ghost use Prim.Native.Nat.{_+_, _<_, _≤_};
 ghost use mathlib.Core.Path.{_≡_};
 ghost use Rattle.row.specs.Machine.{eventAt};
 ghost use Rattle.lent.specs.Layout.{Lent, wordsOf, Shaped, rowNamed, startOf, endOf};
-ghost use Rattle.lent.specs.Steps.{visited, ended, soonestOf, crowdedAt, crowded, fullest, backed};
+ghost use Rattle.lent.specs.Steps.{visited, ended, soonestOf, crowdedAt, crowded, fullest, backed, rowCount};
 
 // The row that an entry names, whatever the word is.
 fn named(m: &Words, place: usize) -> usize
@@ -28,7 +30,7 @@ fn named(m: &Words, place: usize) -> usize
 }
 
 // Where the rows of a kind end among the entries.
-pub fn end_of(m: &Words, kind: usize) -> usize
+fn end_of(m: &Words, kind: usize) -> usize
     requires { ⌜ kind < 64 ⌝ }
     ensures { λ r. ⌜ ((r ≤ 128) × ((h : Lent) → now (m .entry) ≡ wordsOf h → Shaped h → r ≡ endOf h kind)) ⌝ }
 {
@@ -37,7 +39,7 @@ pub fn end_of(m: &Words, kind: usize) -> usize
 }
 
 // Where they begin.
-pub fn start_of(m: &Words, kind: usize) -> usize
+fn start_of(m: &Words, kind: usize) -> usize
     requires { ⌜ kind < 64 ⌝ }
     ensures { λ r. ⌜ ((r ≤ 128) × ((h : Lent) → now (m .entry) ≡ wordsOf h → Shaped h → r ≡ startOf h kind)) ⌝ }
 {
@@ -48,7 +50,7 @@ pub fn start_of(m: &Words, kind: usize) -> usize
 }
 
 // The rows that n entries name, from one on, after an event that concerns them, which is the step of that number.
-pub fn visits(m: &mut Words, first: usize, n: usize, stream: u64, t: u64, number: u64)
+fn visits(m: &mut Words, first: usize, n: usize, stream: u64, t: u64, number: u64)
     requires { ⌜ first + n ≤ 128 ⌝ }
     ensures { λ _. ⌜ ((h : Lent) → now (m .entry) ≡ wordsOf h → Shaped h → now (m .exit) ≡ wordsOf (visited h first n (eventAt stream t) number)) ⌝ }
 {
@@ -63,6 +65,17 @@ pub fn visits(m: &mut Words, first: usize, n: usize, stream: u64, t: u64, number
     m[NUMBERS][0][SOONEST] = soonest;
 }
 
+// The rows of a kind after an event of it, which is the step that the count says.
+pub fn visits_of(m: &mut Words, kind: usize, stream: u64, t: u64)
+    requires { ⌜ kind < 64 ⌝ }
+    ensures { λ _. ⌜ ((h : Lent) → now (m .entry) ≡ wordsOf h → Shaped h → now (m .exit) ≡ wordsOf (visited h (startOf h kind) (rowCount h kind) (eventAt stream t) (h .monitor .count))) ⌝ }
+{
+    let first = start_of(m, kind);
+    let n = left(end_of(m, kind), first);
+    let number = m[NUMBERS][0][COUNT];
+    visits(m, first, n, stream, t, number);
+}
+
 // Whether what occurs crowds row i, in which at most 64 wait: one in which fewer than 63 wait is not looked at further.
 fn crowds_at(m: &Words, i: usize, o: Occurrence) -> bool
     requires { ⌜ i < 32 ⌝ }
@@ -75,7 +88,7 @@ fn crowds_at(m: &Words, i: usize, o: Occurrence) -> bool
 }
 
 // Whether what occurs crowds one of the rows that n entries name, from one on.
-pub fn crowds(m: &Words, first: usize, n: usize, o: Occurrence) -> bool
+fn crowds(m: &Words, first: usize, n: usize, o: Occurrence) -> bool
     requires { ⌜ first + n ≤ 128 ⌝ }
     ensures { λ r. ⌜ ((h : Lent) → now (m .entry) ≡ wordsOf h → Shaped h → r ≡ crowded h first n o) ⌝ }
 {
@@ -88,6 +101,16 @@ pub fn crowds(m: &Words, first: usize, n: usize, o: Occurrence) -> bool
         j += 1;
     }
     false
+}
+
+// Whether what occurs crowds a row of a kind.
+pub fn crowds_of(m: &Words, kind: usize, o: Occurrence) -> bool
+    requires { ⌜ kind < 64 ⌝ }
+    ensures { λ r. ⌜ ((h : Lent) → now (m .entry) ≡ wordsOf h → Shaped h → r ≡ crowded h (startOf h kind) (rowCount h kind) o) ⌝ }
+{
+    let first = start_of(m, kind);
+    let n = left(end_of(m, kind), first);
+    crowds(m, first, n, o)
 }
 
 // How many places are taken in the fullest of the first n rows.

@@ -5,7 +5,9 @@ use mathlib.Core.Bool.{true, false}
 use lib.Dec.{ltb}
 use denote.Ref.{now}
 use borrow.Author.Tests.{lt-ltb, le-ltb}
-use native.Mathlib.Omega.{arith}
+use Rattle.row.specs.declared.Occurrence.{Occurrence}
+use Rattle.lent.specs.Layout.{startOf}
+use Rattle.lent.specs.Steps.{crowded, rowCount}
 use Rattle.lent.proofs.Parts.{number-at}
 use borrow.Author.Needs.{needs}
 use Rattle.lent.proofs.calls.crowds_on.Statement.{statement}
@@ -19,11 +21,13 @@ returns c h e s =
 
 returns-2 : tie.Need-returns-2
 returns-2 c h e s =
-    let i = c .before in
+    let v = c .before in
+    let i = v .before in
     let a = i .before .before .args in
     let none : ltb 0 (h .room) ≡ false = ap (ltb 0) (sym (number-at h s (now (a .m)) e 11)) ∙ le-ltb _ _ (i .if1 .left) in
-    rw none (c .crowds .ensures h e s)
+    rw none
+    (c .crowds-of .ensures h e s ∙ ap (λ (o : Occurrence). crowded h (startOf h (a .kind)) (rowCount h (a .kind)) o) (v .event-of .ensures))
 
 pub crowds-on-spec : {M : Type 1} → statement M
 crowds-on-spec =
-    tie.close (tie.spec (λ c. search needs) (λ c. search needs) (λ c. search needs) returns (λ c κs. search needs) returns-2)
+    tie.close (tie.spec (λ c. search needs) (λ c. search needs) (λ c. search needs) returns (λ c κs. search needs) (λ c κs. search needs) returns-2)

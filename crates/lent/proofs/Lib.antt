@@ -2,3 +2,12 @@
 pub mod Blocks
 pub mod Parts
 pub mod Asked
+pub mod Following
+pub mod Hearing
+pub mod Listing
+pub mod Room
+pub mod Withdrawn
+pub mod Counted
+pub mod OfStream
+pub mod OfNone
+pub mod Laws

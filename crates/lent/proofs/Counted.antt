@@ -1,0 +1,83 @@
+-- The numbers of a call that is taken are stored before its rows take the step: the words say the same of the rows then, and with the rows after the step they are the monitor after the
+-- call.
+use Prim.Native.Nat.{ℕ, _-_}
+use native.Mathlib.Omega.{arith}
+use mathlib.Core.Path.{_≡_, refl, _∙_, ap₂}
+use mathlib.Core.List.{List}
+use lib.ListN.{length, getD}
+use Rattle.constraint.specs.Limits.{streamCount}
+use Rattle.constraint.specs.Streams.{stream}
+use Rattle.constraint.specs.declared.Call.{Call}
+use Rattle.row.specs.declared.Before.{Before}
+use Rattle.row.specs.declared.Occurrence.{Occurrence}
+use Rattle.row.specs.declared.Row.{Row}
+use Rattle.monitor.specs.Machine.{mapFirst, zipFirst, nextStep, steppedBy}
+use Rattle.monitor.specs.Parts.{withRows}
+use Rattle.monitor.specs.declared.calls.Undo.{Undo}
+use Rattle.monitor.specs.declared.Monitor.{Monitor}
+use Rattle.monitor.proofs.First.{map-all, zip-all}
+use Rattle.lent.specs.Layout.{Lent, heldRows}
+use Rattle.lent.specs.Steps.{withMonitor, withRoom}
+use Rattle.lent.specs.Contract.{steppedFrom, numbers, Roomy, Indexes}
+use Rattle.lent.proofs.Hearing.{moved, saves}
+use Rattle.lent.proofs.Listing.{same-rows}
+
+-- ---- the numbers stored
+
+-- other numbers beside the rows, and less room, change nothing of what the words say
+module _ (h : Lent) (ix : Indexes h) (room : ℕ) (few : Roomy (withRoom h room)) (next : List ℕ) (wide : length next ≡ streamCount) (clock count closed : ℕ) (undo : Undo) where
+  abbrev pub renumbered : Lent
+  renumbered =
+      withMonitor (withRoom h room) (record {
+        rows = h .monitor .rows;
+        next = next;
+        clock = clock;
+        count = count;
+        closed = closed;
+        len = h .monitor .len;
+        before = h .monitor .before;
+        undo = undo;
+      })
+
+  pub renumbered-indexes : Indexes renumbered
+  renumbered-indexes =
+      record {
+        shaped = record {
+          rows-there = ix .shaped .rows-there;
+          kept-there = ix .shaped .kept-there;
+          next-there = wide;
+          ends-there = ix .shaped .ends-there;
+          entries-there = ix .shaped .entries-there;
+        };
+        listed = λ kind small. same-rows h renumbered refl refl kind ∙ ix .listed kind small;
+        no-ticks = ix .no-ticks;
+        no-sooner = ix .no-sooner;
+        roomy = record { now-few = few .now-few; then-few = few .then-few; now-room = few .now-room; then-room = few .then-room };
+      }
+
+-- the monitor after a call that is taken, by what occurs, the place and the first free time of its stream, and the mark of the close
+abbrev pub takenFrom : Monitor → Occurrence → ℕ → List ℕ → ℕ → Monitor
+takenFrom m o place next closed =
+    record {
+      rows = mapFirst (m .len) (moved o (nextStep m)) (m .rows);
+      next = next;
+      clock = o .time;
+      count = nextStep m;
+      closed = closed;
+      len = m .len;
+      before = zipFirst (m .len) (saves o (nextStep m)) (m .rows) (m .before);
+      undo = record { may = 1; place = place; next = getD (m .next) place 0; clock = m .clock; count = m .count; closed = m .closed };
+    }
+
+-- the first rows of a monitor are all
+pub all-rows : (m : Monitor) (f : Row → Row) (s : Row → Before → Before) → length (m .rows) ≡ 32
+    → withRows m (mapFirst (heldRows m) f (m .rows)) (zipFirst (heldRows m) s (m .rows) (m .before))
+    ≡ withRows m (mapFirst (m .len) f (m .rows)) (zipFirst (m .len) s (m .rows) (m .before))
+all-rows m f s whole =
+    ap₂ (withRows m) (map-all f (m .rows) (heldRows m) (m .len) (omega (arith, whole))) (zip-all s (m .rows) (m .before) (heldRows m) (m .len) (omega (arith, whole)))
+
+-- ---- the answer
+
+-- the answer is the monitor's and what is left says what is so of the monitor after it
+abbrev pub Answered : Lent → Call → ℕ → Lent → Type 0
+Answered h call number x = (steppedFrom number (x .monitor) ≡ steppedBy (h .monitor) call 0) × Indexes x

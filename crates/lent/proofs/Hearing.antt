@@ -1,0 +1,226 @@
+-- A step of a row is what the clock and the close do to it, and then what an event does that concerns it: a row that is not concerned is changed by the first part alone, and one that
+-- is hears the event, as it has room and is broken or in time.
+use Prim.Native.Nat.{ℕ, _<_, _≤_}
+use native.Mathlib.Omega.{arith}
+use mathlib.Core.Path.{_≡_, refl, sym, _∙_, ap, subst}
+use mathlib.Core.Bool.{Bool, true, false, cond, _&&_}
+use mathlib.Core.Logic.{_⊎_, inl, inr, ⊎-elim}
+use lib.ListN.{length}
+use lib.Dec.{ltb, eqb}
+use borrow.Author.Tests.{lt-ltb, ltb-true, ltb-false, eq-eqb, ne-eqb}
+use Rattle.constraint.specs.Limits.{waitingLimit}
+use Rattle.constraint.proofs.Lists.{split, both}
+use Rattle.queue.specs.Ring.{changed}
+use Rattle.machine.specs.declared.Rule.{Rule}
+use Rattle.machine.specs.declared.Change.{Change}
+use Rattle.row.specs.Machine.{decide, concerns, rowFrom, itemsOf, brokenState, brokenRow, applied, stays, crowding, changedRow, rowStep}
+use Rattle.row.specs.Undo.{movesBy, savedAt, savedRow, savedBy}
+use Rattle.row.specs.Apart.{endsBy, endedState, heardRow, heardBefore}
+use Rattle.row.specs.Stored.{eventRow, eventSaves, endedRow, endedSaves}
+use Rattle.row.specs.declared.Before.{Before}
+use Rattle.row.specs.declared.Occurrence.{Occurrence}
+use Rattle.row.specs.declared.Row.{Row}
+use Rattle.row.specs.declared.RowStep.{RowStep}
+use Rattle.row.proofs.Undo.{still}
+use Rattle.row.proofs.Crowding.{crowds, step-crowds}
+use Rattle.row.proofs.Apart.{step-heard, saved-heard, step-ended, saved-ended}
+
+-- ---- what a step makes of a row
+
+same-rule : (R : Rule) (b : Bool) (x y : RowStep) → x .row .rule ≡ R → y .row .rule ≡ R → cond {A = RowStep} b x y .row .rule ≡ R
+same-rule R true x y e f = e
+same-rule R false x y e f = f
+
+changed-rule : (r : Row) (change : Change) (number : ℕ) → changedRow r change number .row .rule ≡ r .rule
+unfolding changedRow brokenRow applied
+changed-rule r change number =
+    same-rule (r .rule) (change .breaks) (stays (brokenRow r number)) (cond (ltb waitingLimit (length (changed (change .edit) (itemsOf r)))) (crowding r) (stays (applied r change))) refl
+    (same-rule (r .rule) (ltb waitingLimit (length (changed (change .edit) (itemsOf r)))) (crowding r) (stays (applied r change)) refl refl)
+
+pub rule-stays : (r : Row) (o : Occurrence) (number : ℕ) → rowStep r o number .row .rule ≡ r .rule
+unfolding rowStep brokenRow
+rule-stays r o number =
+    let change : Change = decide (r .rule) (r .now .marks) (itemsOf r) (o .stream) (o .time) in
+    let ends : RowStep = cond (o .closes && eqb (r .now .kept) 0) (stays (brokenRow r number)) (stays r) in
+    let own : RowStep = cond (concerns (r .rule) (o .kind)) (changedRow r change number) ends in
+    same-rule (r .rule) (ltb 0 (r .now .broken)) (stays r) (cond (ltb (r .now .due) (o .time)) (stays (brokenRow r number)) own) refl
+    (same-rule (r .rule) (ltb (r .now .due) (o .time)) (stays (brokenRow r number)) own refl
+    (same-rule (r .rule) (concerns (r .rule) (o .kind)) (changedRow r change number) ends (changed-rule r change number)
+    (same-rule (r .rule) (o .closes && eqb (r .now .kept) 0) (stays (brokenRow r number)) (stays r) refl refl)))
+
+-- a broken row is left as it is
+broken-stays : (r : Row) (o : Occurrence) (number : ℕ) → ltb 0 (r .now .broken) ≡ true → rowStep r o number .row ≡ r
+unfolding rowStep
+broken-stays r o number e = rw e
+
+broken-unsaved : (r : Row) (o : Occurrence) (number : ℕ) (b : Before) → ltb 0 (r .now .broken) ≡ true → savedBy o number r b ≡ b
+unfolding savedBy movesBy
+broken-unsaved r o number b e = rw e
+
+is-broken : (r : Row) (number : ℕ) → 0 < number → ltb 0 (brokenRow r number .now .broken) ≡ true
+unfolding brokenRow
+is-broken r number h = lt-ltb 0 number h
+
+-- one that is not concerned moves where the clock or the close goes to it
+same-tests : (broken late closes : Bool) → cond broken false (cond late true (cond closes true false)) ≡ cond broken false (cond late true (cond closes (cond false false true) false))
+same-tests true late closes = refl
+same-tests false true closes = refl
+same-tests false false true = refl
+same-tests false false false = refl
+
+pub unconcerned : (r : Row) (o : Occurrence) → concerns (r .rule) (o .kind) ≡ false → movesBy (r .rule) (r .now) o ≡ endsBy (r .rule) (r .now) o
+unfolding movesBy endsBy
+unconcerned r o e = rw e (same-tests (ltb 0 (r .now .broken)) (ltb (r .now .due) (o .time)) (o .closes))
+
+-- they go to none that is in time while the recording is open
+no-ends-by : (broken : Bool) → cond broken false false ≡ false
+no-ends-by true = refl
+no-ends-by false = refl
+
+pub no-ends : (r : Row) (o : Occurrence) → o .closes ≡ false → ltb (r .now .due) (o .time) ≡ false → endsBy (r .rule) (r .now) o ≡ false
+unfolding endsBy
+no-ends r o not-closed in-time = rw (in-time, not-closed) (no-ends-by (ltb 0 (r .now .broken)))
+
+-- one that is not broken is in time where they do not
+in-time-by : (broken late closes own : Bool) → broken ≡ false → cond broken false (cond late true (cond closes (cond own false true) false)) ≡ false → late ≡ false
+in-time-by true late closes own b e = both b
+in-time-by false true closes own b e = both e
+in-time-by false false closes own b e = refl
+
+open-in-time : (r : Row) (o : Occurrence) → ltb 0 (r .now .broken) ≡ false → endsBy (r .rule) (r .now) o ≡ false → ltb (r .now .due) (o .time) ≡ false
+unfolding endsBy
+open-in-time r o unbroken e = in-time-by (ltb 0 (r .now .broken)) (ltb (r .now .due) (o .time)) (o .closes) (concerns (r .rule) (o .kind)) unbroken e
+
+-- one that is concerned is overdue where they do
+overdue-by : (broken late closes own : Bool) → own ≡ true → cond broken false (cond late true (cond closes (cond own false true) false)) ≡ true → late ≡ true
+overdue-by true late closes own c e = both (sym e)
+overdue-by false true closes own c e = refl
+overdue-by false false true true c e = both (sym e)
+overdue-by false false true false c e = both (sym c)
+overdue-by false false false own c e = both (sym e)
+
+overdue : (r : Row) (o : Occurrence) → concerns (r .rule) (o .kind) ≡ true → endsBy (r .rule) (r .now) o ≡ true → ltb (r .now .due) (o .time) ≡ true
+unfolding endsBy
+overdue r o concerned e = overdue-by (ltb 0 (r .now .broken)) (ltb (r .now .due) (o .time)) (o .closes) (concerns (r .rule) (o .kind)) concerned e
+
+-- one that is not broken has no step that broke it
+not-zero : (n : ℕ) → ltb 0 n ≡ true → eqb n 0 ≡ false
+not-zero n e = ne-eqb n 0 (λ z. omega (arith, z, ltb-true 0 n e))
+
+is-zero : (n : ℕ) → ltb 0 n ≡ false → eqb n 0 ≡ true
+is-zero n e = eq-eqb n 0 (omega (arith, ltb-false 0 n e))
+
+-- ---- a step, and the part of it that the clock and the close do
+module _ (o : Occurrence) (number : ℕ) where
+  abbrev pub moved : Row → Row
+  moved r = rowStep r o number .row
+
+  abbrev pub ends : Row → Bool
+  ends r = endsBy (r .rule) (r .now) o
+
+  abbrev pub late : Row → Row
+  late r = cond (ends r) (moved r) r
+
+  abbrev pub saves : Row → Before → Before
+  saves r b = savedBy o number r b
+
+  abbrev pub late-saves : Row → Before → Before
+  late-saves r b = cond (ends r) (saves r b) b
+
+  -- that part, as it is done
+  pub ended-late : (r : Row) → endedRow o number r ≡ late r
+  ended-late r =
+      split (ends r) (λ b. ends r ≡ b → cond b (rowFrom (r .rule) (r .times) (endedState (r .now) o number)) r ≡ cond b (moved r) r)
+      (λ _ e. sym (step-ended r o number e)) (λ _ e. refl) refl
+
+  pub saved-late : (r : Row) (b : Before) → endedSaves o number r b ≡ late-saves r b
+  saved-late r b =
+      split (ends r) (λ z. ends r ≡ z → cond z (savedAt r 0 number) b ≡ cond z (saves r b) b) (λ _ e. sym (saved-ended r o number b e)) (λ _ e. refl) refl
+
+  -- the row is broken by it, or left as it is
+  by-state : (r : Row) (a b : Bool) → rowFrom (r .rule) (r .times) (cond a (brokenState number) (cond b (brokenState number) (r .now))) ≡ brokenRow r number ⊎ rowFrom (r .rule) (r .times) (cond a (brokenState number) (cond b (brokenState number) (r .now))) ≡ r
+  unfolding brokenRow
+  by-state r true b = inl refl
+  by-state r false true = inl refl
+  by-state r false false = inr refl
+
+  either-way : (r : Row) → ends r ≡ true → (moved r ≡ brokenRow r number) ⊎ (moved r ≡ r)
+  unfolding endedState
+  either-way r e =
+      ⊎-elim (λ broken. inl (step-ended r o number e ∙ broken)) (λ same. inr (step-ended r o number e ∙ same)) (by-state r (ltb (r .now .due) (o .time)) (eqb (r .now .kept) 0))
+
+  once : (r : Row) → 0 < number → ends r ≡ true → moved (moved r) ≡ moved r
+  once r h e =
+      ⊎-elim (λ broken. ap moved broken ∙ broken-stays (brokenRow r number) o number (is-broken r number h) ∙ sym broken) (λ same. ap moved same) (either-way r e)
+
+  saves-twice : (r : Row) (b : Before) → saves r (saves r b) ≡ saves r b
+  unfolding savedBy
+  saves-twice r b = split (movesBy (r .rule) (r .now) o) (λ z. cond z (savedRow r o number) (cond z (savedRow r o number) b) ≡ cond z (savedRow r o number) b) (λ _. refl) (λ _. refl)
+
+  saves-once : (r : Row) (b : Before) → 0 < number → ends r ≡ true → saves (moved r) (saves r b) ≡ saves r b
+  saves-once r b h e =
+      ⊎-elim (λ broken. ap (λ (x : Row). saves x (saves r b)) broken ∙ broken-unsaved (brokenRow r number) o number (saves r b) (is-broken r number h))
+      (λ same. ap (λ (x : Row). saves x (saves r b)) same ∙ saves-twice r b) (either-way r e)
+
+  -- to do that part beforehand makes no difference
+  pub late-first : 0 < number → (r : Row) → moved (late r) ≡ moved r
+  late-first h r = split (ends r) (λ b. ends r ≡ b → moved (cond b (moved r) r) ≡ moved r) (λ _ e. once r h e) (λ _ e. refl) refl
+
+  pub late-saves-first : 0 < number → (r : Row) (b : Before) → saves (late r) (late-saves r b) ≡ saves r b
+  late-saves-first h r b =
+      split (ends r) (λ z. ends r ≡ z → saves (cond z (moved r) r) (cond z (saves r b) b) ≡ saves r b) (λ _ e. saves-once r b h e) (λ _ e. refl) refl
+
+  -- then a row that is not concerned is left as it is
+  pub late-still : 0 < number → (r : Row) → concerns (r .rule) (o .kind) ≡ false → moved (late r) ≡ late r
+  late-still h r out =
+      split (ends r) (λ b. ends r ≡ b → moved (cond b (moved r) r) ≡ cond b (moved r) r) (λ _ e. once r h e) (λ _ e. still r o number (unconcerned r o out ∙ e)) refl
+
+  pub unsaved : (r : Row) (b : Before) → movesBy (r .rule) (r .now) o ≡ false → saves r b ≡ b
+  unfolding savedBy
+  unsaved r b e = rw e
+
+  pub late-unsaved : 0 < number → (r : Row) (b : Before) → concerns (r .rule) (o .kind) ≡ false → saves (late r) (late-saves r b) ≡ late-saves r b
+  late-unsaved h r b out =
+      split (ends r) (λ z. ends r ≡ z → saves (cond z (moved r) r) (cond z (saves r b) b) ≡ cond z (saves r b) b) (λ _ e. saves-once r b h e)
+      (λ _ e. unsaved r b (unconcerned r o out ∙ e)) refl
+
+  -- ---- a row that hears the event
+
+  -- what it hears is its step, where it is concerned and has room, and is broken or in time
+  pub heard-moved : (r : Row) → concerns (r .rule) (o .kind) ≡ true → (ltb 0 (r .now .broken) ≡ false → (ltb (r .now .due) (o .time) ≡ false) × (crowds o r ≡ false))
+      → (eventRow o number r ≡ moved r) × ((b : Before) → eventSaves o number r b ≡ saves r b)
+  heard-moved r concerned when-open =
+      split (ltb 0 (r .now .broken))
+      (λ z. ltb 0 (r .now .broken) ≡ z → (eventRow o number r ≡ moved r) × ((b : Before) → eventSaves o number r b ≡ saves r b))
+      (λ _ e. (
+        ap (λ (z : Bool). cond z (heardRow r o number) r) (not-zero (r .now .broken) e) ∙ sym (broken-stays r o number e),
+        λ b. ap (λ (z : Bool). cond z (heardBefore r o number) b) (not-zero (r .now .broken) e) ∙ sym (broken-unsaved r o number b e),
+      ))
+      (λ _ e.
+      let so = when-open e in (
+        ap (λ (z : Bool). cond z (heardRow r o number) r) (is-zero (r .now .broken) e) ∙ sym (step-heard r o number e (so .0) concerned (step-crowds r o number ∙ so .1)),
+        λ b. ap (λ (z : Bool). cond z (heardBefore r o number) b) (is-zero (r .now .broken) e) ∙ sym (saved-heard r o number e (so .0) concerned b),
+      )) refl
+
+  now-broken : (r : Row) → 0 < number → concerns (r .rule) (o .kind) ≡ true → ends r ≡ true → ltb 0 (moved r .now .broken) ≡ true
+  unfolding endedState brokenRow
+  now-broken r h concerned e =
+      subst (λ (x : Row). ltb 0 (x .now .broken) ≡ true) (sym (step-ended r o number e ∙ ap (λ (z : Bool). rowFrom (r .rule) (r .times) (cond z (brokenState number) (cond (eqb (r .now .kept) 0) (brokenState number) (r .now)))) (overdue r o concerned e)))
+      (lt-ltb 0 number h)
+
+  -- so too after that part
+  pub heard-late : 0 < number → (r : Row) → concerns (r .rule) (o .kind) ≡ true → crowds o r ≡ false
+      → (eventRow o number (late r) ≡ moved (late r)) × ((b : Before) → eventSaves o number (late r) b ≡ saves (late r) b)
+  heard-late h r concerned room =
+      split (ends r) (λ z. ends r ≡ z → (eventRow o number (cond z (moved r) r) ≡ moved (cond z (moved r) r)) × ((b : Before) → eventSaves o number (cond z (moved r) r) b ≡ saves (cond z (moved r) r) b))
+      (λ _ e. heard-moved (moved r) (ap (λ (rule : Rule). concerns rule (o .kind)) (rule-stays r o number) ∙ concerned) (λ unbroken. both (sym (now-broken r h concerned e) ∙ unbroken)))
+      (λ _ e. heard-moved r concerned (λ unbroken. (open-in-time r o unbroken e, room))) refl
+
+-- one that is not concerned is not crowded
+calm-by : (a b : Bool) → cond a false (cond b false false) ≡ false
+calm-by true b = refl
+calm-by false true = refl
+calm-by false false = refl
+
+pub calm : (r : Row) (o : Occurrence) → concerns (r .rule) (o .kind) ≡ false → crowds o r ≡ false
+calm r o e = rw e (calm-by (ltb 0 (r .now .broken)) (ltb (r .now .due) (o .time)))

@@ -1,0 +1,81 @@
+-- A tick and the close concern no row, so that they crowd none, and what the clock or the close does to each row is the whole step.
+use Prim.Native.Nat.{ℕ, zero, suc, _+_, _-_, _<_, _≤_}
+use native.Mathlib.Omega.{arith}
+use mathlib.Core.Path.{_≡_, refl, sym, _∙_, ap}
+use mathlib.Core.Bool.{Bool, false, cond}
+use mathlib.Core.List.{[], _∷_, _++_, append-nil}
+use lib.ListN.{getD}
+use Rattle.constraint.specs.declared.Call.{Call}
+use Rattle.row.specs.Machine.{noEvent, rowStep}
+use Rattle.row.specs.declared.Occurrence.{Occurrence}
+use Rattle.row.proofs.Crowding.{crowds}
+use Rattle.row.proofs.Filling.{quiet-taken}
+use Rattle.monitor.specs.Machine as Machine
+use Rattle.monitor.specs.Machine.{anyFirst, refuses, takes, nextStep, occurrenceBy, takenCall}
+use Rattle.monitor.specs.declared.Monitor.{Monitor}
+use Rattle.lent.specs.Layout.{Lent, heldRows, rowAt}
+use Rattle.lent.specs.Steps.{withSoonest, ended, begun, countedTo}
+use Rattle.lent.specs.Contract.{numbers, isOf, takenIn, Indexes}
+use Rattle.lent.proofs.Following.{anyIn, any-numbers}
+use Rattle.lent.proofs.Hearing.{moved, saves, calm}
+use Rattle.lent.proofs.Listing as Listing
+use Rattle.lent.proofs.Listing.{all-stepped, some-late, step-indexes}
+use Rattle.lent.proofs.Room.{step-crowd}
+use Rattle.lent.proofs.Counted.{takenFrom, all-rows, Answered, renumbered-indexes}
+
+none-pass : (test : ℕ → Bool) (n : ℕ) → ((i : ℕ) → i < n → test i ≡ false) → numbers test n ≡ []
+none-pass test zero out = refl
+none-pass test (suc n) out =
+    ap (λ (b : Bool). numbers test n ++ cond b (n ∷ []) []) (out n (omega arith)) ∙ append-nil (numbers test n) ∙ none-pass test n (λ i l. out i (omega (arith, l)))
+
+-- what is no event concerns no row and crowds none
+module _ (h : Lent) (ix : Indexes h) (call : Call) (o : Occurrence) (no-event : o .kind ≡ noEvent) (seen : occurrenceBy call (h .monitor .clock) ≡ o)
+    (closed : ℕ) (taken-is : takenCall (h .monitor) call ≡ takenFrom (h .monitor) o 0 (h .monitor .next) closed) where
+  abbrev m : Monitor
+  m = h .monitor
+
+  abbrev c : Lent
+  c = countedTo h (o .time) closed
+
+  quiet : (i : ℕ) → i < heldRows m → isOf m (o .kind) i ≡ false
+  quiet i l = ap (λ (k : ℕ). isOf m k i) no-event ∙ ix .no-ticks i l
+
+  none-listed : [] ≡ numbers (isOf m (o .kind)) (heldRows m)
+  none-listed = sym (none-pass (isOf m (o .kind)) (heldRows m) quiet)
+
+  none-crowds : Machine.crowds m call ≡ false
+  none-crowds =
+      ap (λ (p : Occurrence). anyFirst (m .len) (λ r. rowStep r p (nextStep m) .crowded) (m .rows)) seen
+      ∙ sym (step-crowd m o (nextStep m) (ix .shaped .rows-there))
+      ∙ sym (any-numbers (crowds o) (isOf m (o .kind)) (m .rows) (heldRows m) (omega (arith, ix .shaped .rows-there)) (λ i l out. calm (rowAt m i) o out))
+      ∙ ap (anyIn (λ i. crowds o (rowAt m i))) (sym none-listed)
+
+  counted : Indexes c
+  counted =
+      renumbered-indexes h ix (h .room) (ix .roomy) (m .next) (ix .shaped .next-there) (o .time) (nextStep m) closed
+      (record { may = 1; place = 0; next = getD (m .next) 0 0; clock = m .clock; count = m .count; closed = m .closed })
+
+  above : 0 < nextStep m
+  above = omega arith
+
+  fits : (i : ℕ) → i < heldRows m → takenIn (rowAt m i .rule) (moved o (nextStep m) (rowAt m i) .now .len) + h .room ≤ 64
+  fits i l = less _ _ (h .room) (quiet-taken (rowAt m i) o (nextStep m) (quiet i l)) (ix .roomy .now-room i l)
+    where
+      less : (a b room : ℕ) → a ≤ b → b + room ≤ 64 → a + room ≤ 64
+      less a b room p q = omega (arith, p, q)
+
+  on-none : (x : Lent) → Listing.Stepped c counted o above x → Answered h call 0 x
+  on-none x stepped = (
+    ap takes (stepped .monitor-is ∙ all-rows (c .monitor) (moved o (nextStep m)) (saves o (nextStep m)) (ix .shaped .rows-there) ∙ sym taken-is)
+    ∙ sym (ap (λ (b : Bool). cond b (refuses 12 m) (takes (takenCall m call))) none-crowds),
+    step-indexes c counted o above x stepped fits,
+  )
+
+  room : (i : ℕ) → i < heldRows m → crowds o (rowAt m i) ≡ false
+  room i l = calm (rowAt m i) o (quiet i l)
+
+  pub on-tick : o .closes ≡ false → Answered h call 0 (begun c o)
+  on-tick going = on-none (begun c o) (all-stepped c counted o above 0 0 none-listed room going)
+
+  pub on-close : Answered h call 0 (withSoonest (ended c (heldRows m) o (nextStep m)) 0)
+  on-close = on-none (withSoonest (ended c (heldRows m) o (nextStep m)) 0) (some-late c counted o above 0 0 none-listed room)

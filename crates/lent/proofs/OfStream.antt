@@ -1,0 +1,70 @@
+-- An event of a stream: the rows of its kind take the step, after those to which the clock goes, and that is the step of all rows; the question for 64 is answered as all rows would answer
+-- it.
+use Prim.Native.Nat.{ℕ, _-_, _<_}
+use native.Mathlib.Omega.{arith}
+use mathlib.Core.Path.{_≡_, refl, sym, _∙_, ap}
+use mathlib.Core.Bool.{Bool, false, cond}
+use lib.ListN.{getD, set, length-set}
+use Rattle.constraint.specs.Streams.{stream, kindOf}
+use Rattle.constraint.specs.declared.Call.{Call}
+use Rattle.constraint.proofs.Lists.{split}
+use Rattle.machine.specs.Parts.{plus}
+use Rattle.row.specs.Machine.{eventAt, rowStep}
+use Rattle.row.specs.declared.Occurrence.{Occurrence}
+use Rattle.monitor.specs.Machine as Machine
+use Rattle.monitor.specs.Machine.{anyFirst, refuses, takes, nextStep, occurrenceBy, takenCall}
+use Rattle.monitor.specs.declared.Monitor.{Monitor}
+use Rattle.lent.specs.Layout.{Lent, startOf, heldRows}
+use Rattle.lent.specs.Steps.{roomFor, roomed, countedOn, rowCount, crowdedOn, leftOn}
+use Rattle.lent.specs.Contract.{numbers, isOf, Indexes}
+use Rattle.lent.proofs.Hearing.{moved, saves}
+use Rattle.lent.proofs.Listing as Listing
+use Rattle.lent.proofs.Listing.{same-named, all-stepped, step-indexes}
+use Rattle.lent.proofs.Room.{roomed-roomy, event-fits, crowd-known, step-crowd, each-free}
+use Rattle.lent.proofs.Counted.{takenFrom, all-rows, Answered, renumbered-indexes}
+
+module _ (h : Lent) (ix : Indexes h) (call : Call) (kind stream time : ℕ) (small : kind < 64) (kind-is : kindOf stream ≡ kind)
+    (seen : occurrenceBy call (h .monitor .clock) ≡ eventAt stream time)
+    (taken-is : takenCall (h .monitor) call ≡ takenFrom (h .monitor) (eventAt stream time) stream (set (h .monitor .next) stream (plus time 1)) (h .monitor .closed)) where
+  abbrev m : Monitor
+  m = h .monitor
+
+  abbrev o : Occurrence
+  o = eventAt stream time
+
+  abbrev c : Lent
+  c = countedOn (roomed h) stream time
+
+  abbrev left : Lent
+  left = leftOn h kind stream time
+
+  crowd-is : crowdedOn h kind stream time ≡ Machine.crowds m call
+  crowd-is =
+      crowd-known h ix kind stream time small kind-is ∙ step-crowd m o (nextStep m) (ix .shaped .rows-there)
+      ∙ ap (λ (p : Occurrence). anyFirst (m .len) (λ r. rowStep r p (nextStep m) .crowded) (m .rows)) (sym seen)
+
+  counted : Indexes c
+  counted =
+      renumbered-indexes h ix (roomFor h - 1) (roomed-roomy h (ix .roomy)) (set (m .next) stream (plus time 1)) (length-set (m .next) stream (plus time 1) ∙ ix .shaped .next-there)
+      time (nextStep m) (m .closed) (record { may = 1; place = stream; next = getD (m .next) stream 0; clock = m .clock; count = m .count; closed = m .closed })
+
+  above : 0 < nextStep m
+  above = omega arith
+
+  stepped : crowdedOn h kind stream time ≡ false → Listing.Stepped c counted o above left
+  stepped none =
+      all-stepped c counted o above (startOf h kind) (rowCount h kind)
+      (same-named h c refl (startOf h kind) (rowCount h kind) ∙ ix .listed kind small ∙ ap (λ (k : ℕ). numbers (isOf m k) (heldRows m)) (sym kind-is))
+      (each-free m o (ix .shaped .rows-there) (sym (crowd-known h ix kind stream time small kind-is) ∙ none)) refl
+
+  taken-monitor : crowdedOn h kind stream time ≡ false → left .monitor ≡ takenCall m call
+  taken-monitor none = stepped none .monitor-is ∙ all-rows (c .monitor) (moved o (nextStep m)) (saves o (nextStep m)) (ix .shaped .rows-there) ∙ sym taken-is
+
+  pub on-stream : Answered h call (cond (crowdedOn h kind stream time) 12 0) (cond (crowdedOn h kind stream time) h left)
+  on-stream =
+      split (crowdedOn h kind stream time) (λ b. crowdedOn h kind stream time ≡ b → Answered h call (cond b 12 0) (cond b h left))
+      (λ _ e. (sym (ap (λ (b : Bool). cond b (refuses 12 m) (takes (takenCall m call))) (sym crowd-is ∙ e)), ix))
+      (λ _ e. (
+        ap takes (taken-monitor e) ∙ sym (ap (λ (b : Bool). cond b (refuses 12 m) (takes (takenCall m call))) (sym crowd-is ∙ e)),
+        step-indexes c counted o above left (stepped e) (event-fits h (ix .roomy) o (nextStep m)),
+      )) refl

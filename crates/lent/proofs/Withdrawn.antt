@@ -1,0 +1,179 @@
+-- A withdrawal puts each row back, and the numbers beside them. The rows keep their rules, so that the lists are theirs; what waits in one now waited in it before, or nothing is kept of
+-- it; and no row is due before time 0.
+use Prim.Native.Nat.{ℕ, zero, suc, _+_, _<_, _≤_, min}
+use native.Mathlib.Numerals.{add-one}
+use native.Mathlib.Omega.{arith}
+use mathlib.Core.Path.{_≡_, refl, sym, _∙_, ap, subst}
+use mathlib.Core.Bool.{Bool, true, false, cond}
+use mathlib.Core.List.{List, [], _∷_}
+use lib.ListN.{length, getD, set, length-set}
+use lib.Dec.{eqb}
+use Rattle.constraint.specs.Limits.{rowLimit}
+use Rattle.machine.specs.declared.Rule.{Rule}
+use Rattle.machine.specs.declared.State.{State}
+use Rattle.row.specs.Machine.{concerns, noEvent}
+use Rattle.row.specs.Undo.{noBefore, noState, backRow, rowWithout, keptWithout}
+use Rattle.row.specs.declared.Before.{Before}
+use Rattle.row.specs.declared.Row.{Row}
+use Rattle.row.proofs.Apart.{without-state, kept-state}
+use Rattle.row.proofs.Filling.{taken-rises}
+use Rattle.monitor.specs.Machine.{noRow, noUndo, zipFirst, placeIn, withdrawn}
+use Rattle.monitor.specs.Parts.{rowsWithout}
+use Rattle.monitor.specs.declared.Monitor.{Monitor}
+use Rattle.monitor.proofs.First.{zip-length, without-none, without-next, without-all}
+use Rattle.lent.specs.Layout.{Lent, heldRows, rowAt, keptAt}
+use Rattle.lent.specs.Steps.{withNext, backed, backRows, withFree, uncountedMonitor, withdrawnLent}
+use Rattle.lent.specs.Contract.{numbers, isOf, takenIn, Roomy, Indexes}
+use Rattle.lent.proofs.Following.{Beside, same-beside}
+use Rattle.lent.proofs.Listing.{same-rows, same-numbers}
+
+-- ---- the rows put back
+
+back-beside : (h : Lent) (n number : ℕ) → Beside h (backed h n number)
+back-beside h zero number = same-beside h
+back-beside h (suc n) number =
+    let so-far = back-beside h n number in record { room-is = so-far .room-is; ends-are = so-far .ends-are; entries-are = so-far .entries-are }
+
+module _ (h : Lent) (whole : length (h .monitor .rows) ≡ rowLimit) (wide : length (h .monitor .before) ≡ rowLimit) where
+  back-rows : (number n : ℕ) → n ≤ rowLimit → backed h n number .monitor ≡ rowsWithout (h .monitor) n number
+  back-rows number zero l = sym (without-none number (h .monitor) whole wide)
+  back-rows number (suc n) l =
+      without-next number (h .monitor) whole wide (backed h n number .monitor) n (back-rows number n (omega (arith, l))) (omega (arith, l)) noRow noBefore _ _ refl refl
+      ∙ ap (λ (k : ℕ). rowsWithout (h .monitor) k number) (add-one n)
+
+  pub withdrawn-is : withdrawnLent h .monitor ≡ withdrawn (h .monitor)
+  unfolding withdrawn
+  withdrawn-is =
+      ap (λ (m : Monitor). uncountedMonitor (withNext (record { monitor = m; soonest = h .soonest; room = h .room; ends = h .ends; entries = h .entries }) (set (m .next) (placeIn (m .undo .place)) (m .undo .next)) .monitor))
+      (back-rows (h .monitor .count) (heldRows (h .monitor)) (omega arith) ∙ without-all (h .monitor .count) (h .monitor) whole wide (heldRows (h .monitor)) refl)
+
+-- ---- a row without a step
+
+rule-by : (b : Bool) (x y : Row) → x .rule ≡ y .rule → cond {A = Row} b x y .rule ≡ y .rule
+rule-by true x y e = e
+rule-by false x y e = refl
+
+without-rule : (number : ℕ) (r : Row) (b : Before) → rowWithout number r b .rule ≡ r .rule
+unfolding rowWithout backRow
+without-rule number r b = rule-by (eqb (b .stamp) number) (backRow r b) r refl
+
+rows-rule : (number n : ℕ) (kept : List Before) (rows : List Row) (i : ℕ)
+    → getD (zipFirst n (λ b r. rowWithout number r b) kept rows) i noRow .rule ≡ getD rows i noRow .rule
+unfolding zipFirst
+rows-rule number zero kept rows i = refl
+rows-rule number (suc n) [] rows i = refl
+rows-rule number (suc n) (b ∷ kept) [] i = refl
+rows-rule number (suc n) (b ∷ kept) (r ∷ rows) zero = without-rule number r b
+rows-rule number (suc n) (b ∷ kept) (r ∷ rows) (suc i) = rows-rule number n kept rows i
+
+-- what holds of a row's state, now and before, holds of the one that is put back; what holds of the one before, and of none, of the one that is kept then
+module _ (P : State → Type 0) (number : ℕ) where
+  rows-now : (n : ℕ) (kept : List Before) (rows : List Row) (i : ℕ) → P (getD rows i noRow .now) → P (getD kept i noBefore .state)
+      → P (getD (zipFirst n (λ b r. rowWithout number r b) kept rows) i noRow .now)
+  unfolding zipFirst
+  rows-now zero kept rows i now then = now
+  rows-now (suc n) [] rows i now then = now
+  rows-now (suc n) (b ∷ kept) [] i now then = now
+  rows-now (suc n) (b ∷ kept) (r ∷ rows) zero now then = without-state P number r b now then
+  rows-now (suc n) (b ∷ kept) (r ∷ rows) (suc i) now then = rows-now n kept rows i now then
+
+  rows-then : (n : ℕ) (rows : List Row) (kept : List Before) (i : ℕ) → P (getD kept i noBefore .state) → P noState
+      → P (getD (zipFirst n (λ r b. keptWithout number b) rows kept) i noBefore .state)
+  unfolding zipFirst
+  rows-then zero rows kept i then none = then
+  rows-then (suc n) [] kept i then none = then
+  rows-then (suc n) (r ∷ rows) [] i then none = then
+  rows-then (suc n) (r ∷ rows) (b ∷ kept) zero then none = kept-state P number b then none
+  rows-then (suc n) (r ∷ rows) (b ∷ kept) (suc i) then none = rows-then n rows kept i then none
+
+-- ---- the words say what is so of the monitor after it
+
+module _ (m : Monitor) where
+  same-rules : (i : ℕ) → rowAt (withdrawn m) i .rule ≡ rowAt m i .rule
+  unfolding withdrawn
+  same-rules i = rows-rule (m .count) (m .len) (m .before) (m .rows) i
+
+  same-held : heldRows (withdrawn m) ≡ heldRows m
+  unfolding withdrawn
+  same-held = refl
+
+  back-now : (P : State → Type 0) (i : ℕ) → P (rowAt m i .now) → P (keptAt m i .state) → P (rowAt (withdrawn m) i .now)
+  unfolding withdrawn
+  back-now P i now then = rows-now P (m .count) (m .len) (m .before) (m .rows) i now then
+
+  back-then : (P : State → Type 0) (i : ℕ) → P (keptAt m i .state) → P noState → P (keptAt (withdrawn m) i .state)
+  unfolding withdrawn
+  back-then P i then none = rows-then P (m .count) (m .len) (m .rows) (m .before) i then none
+
+  rows-long : length (withdrawn m .rows) ≡ length (m .rows)
+  unfolding withdrawn
+  rows-long = zip-length (λ b r. rowWithout (m .count) r b) (m .before) (m .rows) (m .len)
+
+  kept-long : length (withdrawn m .before) ≡ length (m .before)
+  unfolding withdrawn
+  kept-long = zip-length (λ r b. keptWithout (m .count) b) (m .rows) (m .before) (m .len)
+
+  next-long : length (withdrawn m .next) ≡ length (m .next)
+  unfolding withdrawn
+  next-long = length-set (m .next) (placeIn (m .undo .place)) (m .undo .next)
+
+module _ (h : Lent) (ix : Indexes h) where
+  abbrev x : Lent
+  x = withdrawnLent h
+
+  abbrev m₀ : Monitor
+  m₀ = h .monitor
+
+  beside : Beside h (backRows h)
+  beside = back-beside h (heldRows m₀) (m₀ .count)
+
+  is : x .monitor ≡ withdrawn m₀
+  is = withdrawn-is h (ix .shaped .rows-there) (ix .shaped .kept-there)
+
+  -- what holds of each row of the monitor with the step withdrawn
+  each : (P : Monitor → ℕ → Type 0) → ((i : ℕ) → i < heldRows m₀ → P (withdrawn m₀) i) → (i : ℕ) → i < heldRows (x .monitor) → P (x .monitor) i
+  each P so i l = subst (λ (y : Monitor). P y i) (sym is) (so i (subst (λ (k : ℕ). i < k) (ap heldRows is ∙ same-held m₀) l))
+
+  abbrev taken : ℕ → State → ℕ
+  taken i s = takenIn (rowAt m₀ i .rule) (s .len)
+
+  -- what is taken in a row has room with it, by the rule that it has still
+  fits : (i : ℕ) (s : State) → taken i s + h .room ≤ 64 → takenIn (rowAt (withdrawn m₀) i .rule) (s .len) + x .room ≤ 64
+  fits i s l =
+      subst (λ (rule : Rule). takenIn rule (s .len) + x .room ≤ 64) (sym (same-rules m₀ i)) (subst (λ (room : ℕ). taken i s + room ≤ 64) (sym (beside .room-is)) l)
+
+  roomy-back : Roomy x
+  roomy-back =
+      record {
+        now-few = each (λ y i. rowAt y i .now .len ≤ 64) (λ i l. back-now m₀ (λ s. s .len ≤ 64) i (ix .roomy .now-few i l) (ix .roomy .then-few i l));
+        then-few = each (λ y i. keptAt y i .state .len ≤ 64) (λ i l. back-then m₀ (λ s. s .len ≤ 64) i (ix .roomy .then-few i l) (omega arith));
+        now-room = each (λ y i. takenIn (rowAt y i .rule) (rowAt y i .now .len) + x .room ≤ 64)
+            (λ i l. fits i (rowAt (withdrawn m₀) i .now) (back-now m₀ (λ s. taken i s + h .room ≤ 64) i (ix .roomy .now-room i l) (ix .roomy .then-room i l)));
+        then-room = each (λ y i. takenIn (rowAt y i .rule) (keptAt y i .state .len) + x .room ≤ 64)
+            (λ i l. fits i (keptAt (withdrawn m₀) i .state) (back-then m₀ (λ s. taken i s + h .room ≤ 64) i (ix .roomy .then-room i l)
+            (less (taken i noState) (taken i (keptAt m₀ i .state)) (h .room) (taken-rises (rowAt m₀ i .rule .form) (rowAt m₀ i .rule .span) 0 (keptAt m₀ i .state .len) (omega arith)) (ix .roomy .then-room i l))));
+      }
+    where
+      less : (a b c : ℕ) → a ≤ b → b + c ≤ 64 → a + c ≤ 64
+      less a b c p q = omega (arith, p, q)
+
+  same-kinds : (kind i : ℕ) → isOf m₀ kind i ≡ isOf (withdrawn m₀) kind i
+  same-kinds kind i = ap (λ (r : Rule). concerns r kind) (sym (same-rules m₀ i))
+
+  pub withdrawn-indexes : Indexes x
+  withdrawn-indexes =
+      record {
+        shaped = record {
+          rows-there = ap (λ (y : Monitor). length (y .rows)) is ∙ rows-long m₀ ∙ ix .shaped .rows-there;
+          kept-there = ap (λ (y : Monitor). length (y .before)) is ∙ kept-long m₀ ∙ ix .shaped .kept-there;
+          next-there = ap (λ (y : Monitor). length (y .next)) is ∙ next-long m₀ ∙ ix .shaped .next-there;
+          ends-there = ap length (beside .ends-are) ∙ ix .shaped .ends-there;
+          entries-there = ap length (beside .entries-are) ∙ ix .shaped .entries-there;
+        };
+        listed = λ kind small. same-rows h x (beside .ends-are) (beside .entries-are) kind ∙ ix .listed kind small
+            ∙ same-numbers (isOf m₀ kind) (isOf (withdrawn m₀) kind) (heldRows m₀) (λ i _. same-kinds kind i)
+            ∙ ap (numbers (isOf (withdrawn m₀) kind)) (sym (same-held m₀)) ∙ ap (λ (y : Monitor). numbers (isOf y kind) (heldRows y)) (sym is);
+        no-ticks = each (λ y i. isOf y noEvent i ≡ false) (λ i l. sym (same-kinds noEvent i) ∙ ix .no-ticks i l);
+        no-sooner = λ i _. omega arith;
+        roomy = roomy-back;
+      }

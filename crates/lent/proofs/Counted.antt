@@ -1,6 +1,6 @@
 -- The numbers of a call that is taken are stored before its rows take the step: the words say the same of the rows then, and with the rows after the step they are the monitor after the
 -- call.
-use Prim.Native.Nat.{ℕ, _-_}
+use Prim.Native.Nat.{ℕ, _≤_}
 use native.Mathlib.Omega.{arith}
 use mathlib.Core.Path.{_≡_, refl, _∙_, ap₂}
 use mathlib.Core.List.{List}
@@ -25,7 +25,8 @@ use Rattle.lent.proofs.Listing.{same-rows}
 -- ---- the numbers stored
 
 -- other numbers beside the rows, and less room, change nothing of what the words say
-module _ (h : Lent) (ix : Indexes h) (room : ℕ) (few : Roomy (withRoom h room)) (next : List ℕ) (wide : length next ≡ streamCount) (clock count closed : ℕ) (undo : Undo) where
+module _ (h : Lent) (ix : Indexes h) (room : ℕ) (few : Roomy (withRoom h room)) (next : List ℕ) (wide : length next ≡ streamCount) (clock count closed : ℕ) (undo : Undo)
+    (marked : closed ≤ 1) (then-marked : undo .closed ≤ 1) where
   abbrev pub renumbered : Lent
   renumbered =
       withMonitor (withRoom h room) (record {
@@ -49,6 +50,7 @@ module _ (h : Lent) (ix : Indexes h) (room : ℕ) (few : Roomy (withRoom h room)
           ends-there = ix .shaped .ends-there;
           entries-there = ix .shaped .entries-there;
         };
+        sound = record { rows-few = ix .sound .rows-few; closed-mark = marked; closed-then = then-marked };
         listed = λ kind small. same-rows h renumbered refl refl kind ∙ ix .listed kind small;
         no-ticks = ix .no-ticks;
         no-sooner = ix .no-sooner;

@@ -87,8 +87,8 @@ module _ (h : Lent) (ix : Indexes h) where
       let below = ltb-false lastKind kind (small .0) in
       on-stream h ix (Call.ColouredEvent kind colour time) kind (stream kind colour) time (omega (arith, below)) (stream-kind kind colour (ltb-false kind firstColoured (coloured .0)) few) refl
       (taken-coloured kind colour time (stream-below kind colour below few))
-  answered (Call.Tick time) e = on-tick h ix (Call.Tick time) (tickAt time) refl refl 0 (taken-tick time (going (Call.Tick time) e)) refl
-  answered Call.Close e = on-close h ix Call.Close (closeAt (m .clock)) refl refl 1 taken-close
+  answered (Call.Tick time) e = on-tick h ix (Call.Tick time) (tickAt time) refl refl 0 (omega arith) (taken-tick time (going (Call.Tick time) e)) refl
+  answered Call.Close e = on-close h ix Call.Close (closeAt (m .clock)) refl refl 1 (omega arith) taken-close
 
   -- refused or not
   by-refusal : (call : Call) (number : ℕ) → refusalOf h call ≡ number

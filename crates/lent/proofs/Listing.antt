@@ -27,7 +27,7 @@ use Rattle.monitor.proofs.First.{zip-length}
 use Rattle.monitor.specs.declared.Monitor.{Monitor}
 use Rattle.lent.specs.Layout.{Lent, Shaped, rowNamed, startOf, endOf, heldRows, rowAt, keptAt, dueAt}
 use Rattle.lent.specs.Steps.{withSoonest, visitAt, visited, ended, soonestOf, rowCount, soonestAll, passed, begun}
-use Rattle.lent.specs.Contract.{namedRows, rowsOf, numbers, isOf, takenIn, Roomy, Indexes}
+use Rattle.lent.specs.Contract.{namedRows, rowsOf, numbers, isOf, takenIn, Roomy, Sound, Indexes}
 use Rattle.lent.proofs.Following as Following
 use Rattle.lent.proofs.Following.{mapped, map-length, map-twice, zipped, zip-twice, row-none, row-more, visits, visits-last, visits-beside, visits-same, Visited, WithLists, Beside, same-beside}
 use Rattle.lent.proofs.Hearing.{rule-stays, unconcerned, no-ends, moved, late, saves, late-saves, ended-late, saved-late, late-first, late-saves-first, late-still, unsaved, late-unsaved, heard-moved, heard-late}
@@ -265,6 +265,11 @@ module _ (c : Lent) (ix : Indexes c) (o : Occurrence) (above : 0 < c .monitor .c
             ends-there = ap length (st .beside .ends-are) ∙ ix .shaped .ends-there;
             entries-there = ap length (st .beside .entries-are) ∙ ix .shaped .entries-there;
           };
+          sound = subst Sound (sym (st .monitor-is)) (record {
+            rows-few = ix .sound .rows-few;
+            closed-mark = ix .sound .closed-mark;
+            closed-then = ix .sound .closed-then;
+          });
           listed = λ kind small. same-rows c x (st .beside .ends-are) (st .beside .entries-are) kind ∙ ix .listed kind small
               ∙ same-numbers (isOf m kind) (isOf (x .monitor) kind) n (same-kinds kind) ∙ ap (numbers (isOf (x .monitor) kind)) (sym held-is);
           no-ticks = each (λ i. isOf (x .monitor) noEvent i ≡ false) (λ i k. sym (same-kinds noEvent i k) ∙ ix .no-ticks i k);

@@ -30,7 +30,7 @@ none-pass test (suc n) out =
 
 -- what is no event concerns no row and crowds none
 module _ (h : Lent) (ix : Indexes h) (call : Call) (o : Occurrence) (no-event : o .kind ≡ noEvent) (seen : occurrenceBy call (h .monitor .clock) ≡ o)
-    (closed : ℕ) (taken-is : takenCall (h .monitor) call ≡ takenFrom (h .monitor) o 0 (h .monitor .next) closed) where
+    (closed : ℕ) (marked : closed ≤ 1) (taken-is : takenCall (h .monitor) call ≡ takenFrom (h .monitor) o 0 (h .monitor .next) closed) where
   abbrev m : Monitor
   m = h .monitor
 
@@ -53,7 +53,7 @@ module _ (h : Lent) (ix : Indexes h) (call : Call) (o : Occurrence) (no-event : 
   counted : Indexes c
   counted =
       renumbered-indexes h ix (h .room) (ix .roomy) (m .next) (ix .shaped .next-there) (o .time) (nextStep m) closed
-      (record { may = 1; place = 0; next = getD (m .next) 0 0; clock = m .clock; count = m .count; closed = m .closed })
+      (record { may = 1; place = 0; next = getD (m .next) 0 0; clock = m .clock; count = m .count; closed = m .closed }) marked (ix .sound .closed-mark)
 
   above : 0 < nextStep m
   above = omega arith

@@ -47,6 +47,7 @@ module _ (h : Lent) (ix : Indexes h) (call : Call) (kind stream time : ℕ) (sma
   counted =
       renumbered-indexes h ix (roomFor h - 1) (roomed-roomy h (ix .roomy)) (set (m .next) stream (plus time 1)) (length-set (m .next) stream (plus time 1) ∙ ix .shaped .next-there)
       time (nextStep m) (m .closed) (record { may = 1; place = stream; next = getD (m .next) stream 0; clock = m .clock; count = m .count; closed = m .closed })
+      (ix .sound .closed-mark) (ix .sound .closed-mark)
 
   above : 0 < nextStep m
   above = omega arith

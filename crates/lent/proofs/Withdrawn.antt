@@ -23,7 +23,7 @@ use Rattle.monitor.specs.declared.Monitor.{Monitor}
 use Rattle.monitor.proofs.First.{zip-length, without-none, without-next, without-all}
 use Rattle.lent.specs.Layout.{Lent, heldRows, rowAt, keptAt}
 use Rattle.lent.specs.Steps.{withNext, backed, backRows, withFree, uncountedMonitor, withdrawnLent}
-use Rattle.lent.specs.Contract.{numbers, isOf, takenIn, Roomy, Indexes}
+use Rattle.lent.specs.Contract.{numbers, isOf, takenIn, Roomy, Sound, Indexes}
 use Rattle.lent.proofs.Following.{Beside, same-beside}
 use Rattle.lent.proofs.Listing.{same-rows, same-numbers}
 
@@ -117,6 +117,10 @@ module _ (m : Monitor) where
   unfolding withdrawn
   next-long = length-set (m .next) (placeIn (m .undo .place)) (m .undo .next)
 
+  back-sound : Sound m → Sound (withdrawn m)
+  unfolding withdrawn
+  back-sound s = record { rows-few = s .rows-few; closed-mark = s .closed-then; closed-then = omega arith }
+
 module _ (h : Lent) (ix : Indexes h) where
   abbrev x : Lent
   x = withdrawnLent h
@@ -170,6 +174,7 @@ module _ (h : Lent) (ix : Indexes h) where
           ends-there = ap length (beside .ends-are) ∙ ix .shaped .ends-there;
           entries-there = ap length (beside .entries-are) ∙ ix .shaped .entries-there;
         };
+        sound = subst Sound (sym is) (back-sound m₀ (ix .sound));
         listed = λ kind small. same-rows h x (beside .ends-are) (beside .entries-are) kind ∙ ix .listed kind small
             ∙ same-numbers (isOf m₀ kind) (isOf (withdrawn m₀) kind) (heldRows m₀) (λ i _. same-kinds kind i)
             ∙ ap (numbers (isOf (withdrawn m₀) kind)) (sym (same-held m₀)) ∙ ap (λ (y : Monitor). numbers (isOf y kind) (heldRows y)) (sym is);

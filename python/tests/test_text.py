@@ -1,0 +1,46 @@
+"""The text of all sources, by release/text-check.py: lines, blanks, imports that nothing uses."""
+import importlib.util
+import subprocess
+import sys
+
+from conftest import ROOT
+
+PROGRAM = ROOT / "release/text-check.py"
+
+
+def program():
+    """The program as a module."""
+    found = importlib.util.spec_from_file_location("text_check", PROGRAM)
+    module = importlib.util.module_from_spec(found)
+    found.loader.exec_module(module)
+    return module
+
+
+PROOF = """-- A name in a comment, as unseen, is not used.
+use Prim.Native.Nat.{ℕ, zero, _+_, _≤_, _<_}
+use mathlib.Core.List.{List, [], _∷_}
+use mathlib.Core.Logic.{¬_, if_then_else_, or-true as either-true, unseen}
+use Some.Call.{Call, Other}
+use Some.Tie as tie
+use Some.Words as Words
+pub use Some.Again.{handed-on}
+
+fact : (n : ℕ) → _≤_ {A = ℕ} n (n + 1) → ¬ (List ℕ)
+fact n h = tie.close (λ x. if x then [] else Call.Event) either-true
+"""
+
+
+def test_a_name_is_used_by_itself_by_its_parts_or_before_a_dot():
+    assert program().unused(PROOF) == {1: ["zero", "_<_"], 2: ["_∷_"], 3: ["unseen"], 4: ["Other"], 6: ["Words"]}
+
+
+def test_an_import_is_left_with_what_is_used():
+    found = program()
+    assert found.without("use A.{a, b as c, d}", ["a", "d"]) == ["use A.{b as c}"]
+    assert found.without("use A.{a}", ["a"]) == []
+    assert found.without("use A as M", ["M"]) == []
+
+
+def test_the_sources_are_within_what_is_allowed():
+    done = subprocess.run([sys.executable, PROGRAM], capture_output=True, text=True)
+    assert (done.returncode, done.stderr) == (0, ""), done.stdout

@@ -42,7 +42,7 @@ const NO_EVENT: u64 = 65;
 const NO_STREAM: u64 = 176;
 
 // What a row sees of an event of a stream.
-fn event_of(stream: usize, time: u64) -> Occurrence
+pub fn event_of(stream: usize, time: u64) -> Occurrence
     ensures { λ r. ⌜ r ≡ eventAt stream time ⌝ }
 {
     let stream = stream as u64;
@@ -128,7 +128,7 @@ fn event_on(m: &mut Words, kind: usize, stream: usize, time: u64) -> u8
 }
 
 // All questions but 12 of an event of a plain kind: the number of the first "no", or 0.
-fn event_refusal(m: &Words, kind: u8, time: u64) -> u8
+pub fn event_refusal(m: &Words, kind: u8, time: u64) -> u8
     ensures { λ r. ⌜ ((r ≡ 0 → kind < 48) × ((h : Lent) → now (m .entry) ≡ wordsOf h → Shaped h → r ≡ refusalOf h (Call.Event kind time))) ⌝ }
 {
     let first = first_refusal(m);

@@ -4,4 +4,6 @@ pub mod Waiting
 pub mod Marks
 pub mod Crowded
 pub mod Theorem
-pub mod Words
+pub mod Places
+pub mod There
+pub mod FirstCrowded

@@ -8,7 +8,8 @@ use lib.Dec.{ltb}
 use Rattle.constraint.specs.Limits.{rowLimit}
 use Rattle.row.specs.Machine.{mark}
 use Rattle.monitor.specs.declared.Monitor.{Monitor}
-use Rattle.status.specs.Numbers.{there, rowAt, brokenMark, brokenMarks}
+use Rattle.lent.specs.Layout.{rowAt}
+use Rattle.status.specs.Numbers.{there, brokenMark, brokenMarks}
 use Rattle.status.specs.Contract.{bit}
 
 mark-small : (b : Bool) → mark b ≤ 1

@@ -30,7 +30,8 @@ use Rattle.monitor.proofs.Demand.{has-row, has-none}
 use Rattle.monitor.proofs.FittingRows.{FitRows}
 use Rattle.monitor.proofs.Following.{Follows}
 use Rattle.monitor.proofs.Withdrawing.{after-follows}
-use Rattle.status.specs.Numbers.{there, rowAt, deadlineBy, deadlineOf, leastOf, waitingBy, waitingOf, brokenMark, brokenRowsOf, crowdedRowOf}
+use Rattle.lent.specs.Layout.{rowAt}
+use Rattle.status.specs.Numbers.{there, deadlineBy, deadlineOf, leastOf, waitingBy, waitingOf, brokenMark, brokenRowsOf, crowdedRowOf}
 use Rattle.status.specs.Contract as C
 use Rattle.status.specs.Contract.{bit, BrokenRows, RowWaiting, Asked, AsksClock, AsksSteps, AsksClosed, AsksBrokenRows, AsksWaiting, AsksRowDeadline, AsksDeadline, AsksCrowdedRow}
 use Rattle.status.proofs.Deadlines.{open-now, fits-deadline, row-deadline-once}

@@ -2,4 +2,3 @@
 pub mod Deadlines
 pub mod Numbers
 pub mod Contract
-pub mod Words

@@ -2,22 +2,19 @@
 use Prim.Native.Nat.{ℕ, zero, suc, _+_, _*_, _-_, min}
 use mathlib.Core.Bool.{Bool, cond, _&&_}
 use mathlib.Core.List.{List, [], _∷_}
-use lib.ListN.{getD}
 use lib.Dec.{ltb}
 use Rattle.constraint.specs.Limits.{lastTime, noLimit, rowLimit}
 use Rattle.constraint.specs.declared.Call.{Call}
 use Rattle.machine.specs.Rule.{waitsIn}
 use Rattle.row.specs.Machine.{mark, rowStep}
 use Rattle.row.specs.declared.Row.{Row}
-use Rattle.monitor.specs.Machine.{noRow, nextStep, nextFor, occurrenceOf, refusalBy}
+use Rattle.monitor.specs.Machine.{nextStep, nextFor, occurrenceOf, refusalBy}
 use Rattle.monitor.specs.declared.Monitor.{Monitor}
+use Rattle.lent.specs.Layout.{rowAt}
 
 -- a monitor of len rows has a row i
 abbrev pub there : ℕ → ℕ → Bool
 there i len = ltb i len && ltb i rowLimit
-
-abbrev pub rowAt : Monitor → ℕ → Row
-rowAt m i = getD (m .rows) i noRow
 
 -- ---- deadlines
 

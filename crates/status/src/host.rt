@@ -2,87 +2,67 @@
 use crate::deadline_by;
 use crate::waiting_by;
 use constraint::NO_LIMIT;
+use lent::CLOCK;
+use lent::COUNT;
+use lent::NUMBERS;
+use lent::Words;
+use lent::calls::event_of;
+use lent::calls::event_refusal;
+use lent::closed;
+use lent::held;
 use machine::parts::smaller;
-ghost use Prim.Native.Nat.{_+_, _*_, _<_, _≤_, min};
+use machine::words::BROKEN;
+use machine::words::DUE;
+use machine::words::FORM;
+use machine::words::LEN;
+use row::Occurrence;
+use row::stored::crowds;
+ghost use Prim.Native.Nat.{_<_, _≤_};
 ghost use mathlib.Core.Path.{_≡_};
 ghost use lib.Dec.{ltb};
-ghost use lib.ListN.{getD};
-ghost use Rattle.constraint.specs.Limits.{rowLimit};
+ghost use Rattle.constraint.specs.declared.Call.{Call};
+ghost use Rattle.row.specs.Apart.{crowdedBy};
 ghost use Rattle.row.specs.Machine.{mark};
-ghost use Rattle.status.specs.Numbers.{rowAt, deadlineBy};
-ghost use Rattle.status.specs.Contract.{AsksClock, AsksSteps, AsksClosed, AsksBrokenRows, AsksWaiting, AsksRowDeadline, AsksDeadline};
-ghost use Rattle.status.specs.Words.{ReadOff};
-
-// The words of a monitor.
-pub const SIZE: usize = 3596;
-// Where the numbers stand.
-const CLOCK: usize = 2864;
-
-const COUNT: usize = 2865;
-
-const CLOSED: usize = 2866;
-
-const ROWS: usize = 2867;
-// Where a row's numbers stand among its 84 words.
-const FORM: usize = 0;
-
-const LEN: usize = 80;
-
-const DUE: usize = 81;
-
-const BROKEN: usize = 83;
-
-// How many rows there are, whatever the words say.
-fn held(m: &[u64; SIZE]) -> usize
-    ensures { λ r. ⌜ ((r ≤ 32) × ReadOff (now (m .entry)) (λ monitor n. n ≡ min (monitor .len) rowLimit) r) ⌝ }
-{
-    let n = m[ROWS];
-    if n < 32 { n as usize } else { 32 }
-}
-
-// A word of a row.
-fn word(m: &[u64; SIZE], i: usize, place: usize) -> u64
-    requires { ⌜ (i < 32) × (place < 84) ⌝ }
-    ensures { λ r. ⌜ r ≡ getD (now (m .entry)) (i * 84 + place) 0 ⌝ }
-{
-    m[i * 84 + place]
-}
+ghost use Rattle.lent.specs.Layout.{Lent, wordsOf, Shaped, rowAt};
+ghost use Rattle.lent.specs.Contract.{ReadOff};
+ghost use Rattle.status.specs.Numbers.{deadlineBy, firstMarked};
+ghost use Rattle.status.specs.Contract.{AsksClock, AsksSteps, AsksClosed, AsksBrokenRows, AsksWaiting, AsksRowDeadline, AsksDeadline, AsksCrowdedRow, ReadOffIndexed};
 
 // The clock.
 #[no_mangle]
-pub extern "C" fn delkuthi_clock(m: &[u64; SIZE]) -> u64
+pub extern "C" fn delkuthi_clock(m: &Words) -> u64
     ensures { λ r. ⌜ ReadOff (now (m .entry)) AsksClock r ⌝ }
 {
-    m[CLOCK]
+    m[NUMBERS][0][CLOCK]
 }
 
 // How many steps were taken, the close included.
 #[no_mangle]
-pub extern "C" fn delkuthi_steps(m: &[u64; SIZE]) -> u64
+pub extern "C" fn delkuthi_steps(m: &Words) -> u64
     ensures { λ r. ⌜ ReadOff (now (m .entry)) AsksSteps r ⌝ }
 {
-    m[COUNT]
+    m[NUMBERS][0][COUNT]
 }
 
 // 1 once the recording is closed, else 0.
 #[no_mangle]
-pub extern "C" fn delkuthi_closed(m: &[u64; SIZE]) -> u8
+pub extern "C" fn delkuthi_closed(m: &Words) -> u8
     ensures { λ r. ⌜ ReadOff (now (m .entry)) AsksClosed r ⌝ }
 {
-    if 0 < m[CLOSED] { 1 } else { 0 }
+    if 0 < closed(m) { 1 } else { 0 }
 }
 
 // The deadline of a row that is there.
-fn deadline_at(m: &[u64; SIZE], i: usize) -> u64
+fn deadline_at(m: &Words, i: usize) -> u64
     requires { ⌜ i < 32 ⌝ }
     ensures { λ r. ⌜ ReadOff (now (m .entry)) (λ monitor n. n ≡ deadlineBy (monitor .closed) (rowAt monitor i .now .broken) (rowAt monitor i .now .due)) r ⌝ }
 {
-    deadline_by(m[CLOSED], word(m, i, BROKEN), word(m, i, DUE))
+    deadline_by(closed(m), m[i][1][BROKEN], m[i][1][DUE])
 }
 
 // The deadline of a row: the largest number where it has none.
 #[no_mangle]
-pub extern "C" fn delkuthi_row_deadline(m: &[u64; SIZE], row: u64) -> u64
+pub extern "C" fn delkuthi_row_deadline(m: &Words, row: u64) -> u64
     ensures { λ r. ⌜ ReadOff (now (m .entry)) (λ monitor. AsksRowDeadline monitor row) r ⌝ }
 {
     if held(m) as u64 <= row {
@@ -93,7 +73,7 @@ pub extern "C" fn delkuthi_row_deadline(m: &[u64; SIZE], row: u64) -> u64
 
 // The least of the rows' deadlines.
 #[no_mangle]
-pub extern "C" fn delkuthi_deadline(m: &[u64; SIZE]) -> u64
+pub extern "C" fn delkuthi_deadline(m: &Words) -> u64
     ensures { λ r. ⌜ ReadOff (now (m .entry)) AsksDeadline r ⌝ }
 {
     let rows = held(m);
@@ -108,32 +88,27 @@ pub extern "C" fn delkuthi_deadline(m: &[u64; SIZE]) -> u64
 
 // How many wait in a row that reads open.
 #[no_mangle]
-pub extern "C" fn delkuthi_row_waiting(m: &[u64; SIZE], row: u64) -> u64
+pub extern "C" fn delkuthi_row_waiting(m: &Words, row: u64) -> u64
     ensures { λ r. ⌜ ReadOff (now (m .entry)) (λ monitor. AsksWaiting monitor row) r ⌝ }
 {
     if held(m) as u64 <= row {
         return 0;
     }
     let i = row as usize;
-    waiting_by(
-        m[CLOSED],
-        word(m, i, BROKEN),
-        word(m, i, FORM),
-        word(m, i, LEN),
-    )
+    waiting_by(closed(m), m[i][1][BROKEN], m[i][1][FORM], m[i][1][LEN])
 }
 
 // 1 where a row is broken.
-fn broken_at(m: &[u64; SIZE], i: usize) -> u32
+fn broken_at(m: &Words, i: usize) -> u32
     requires { ⌜ i < 32 ⌝ }
     ensures { λ r. ⌜ ((r ≤ 1) × ReadOff (now (m .entry)) (λ monitor n. n ≡ mark (ltb 0 (rowAt monitor i .now .broken))) r) ⌝ }
 {
-    if 0 < word(m, i, BROKEN) { 1 } else { 0 }
+    if 0 < m[i][1][BROKEN] { 1 } else { 0 }
 }
 
 // A bit for each row: 1 where it is broken.
 #[no_mangle]
-pub extern "C" fn delkuthi_broken_rows(m: &[u64; SIZE]) -> u32
+pub extern "C" fn delkuthi_broken_rows(m: &Words) -> u32
     ensures { λ r. ⌜ ReadOff (now (m .entry)) AsksBrokenRows r ⌝ }
 {
     let mut mask: u32 = 0;
@@ -143,4 +118,30 @@ pub extern "C" fn delkuthi_broken_rows(m: &[u64; SIZE]) -> u32
         mask = mask * 2 + broken_at(m, i);
     }
     mask
+}
+
+// The first of n rows that what occurs crowds; 32 where it crowds none.
+fn first_crowded(m: &Words, n: usize, o: Occurrence) -> u8
+    requires { ⌜ n ≤ 32 ⌝ }
+    ensures { λ r. ⌜ ((h : Lent) → now (m .entry) ≡ wordsOf h → Shaped h → r ≡ firstMarked n (λ w. crowdedBy (w .rule) (w .now) o) 0 (h .monitor .rows)) ⌝ }
+{
+    let mut i = 0;
+    while i < n {
+        if crowds(&m[i], o) {
+            return i as u8;
+        }
+        i += 1;
+    }
+    32
+}
+
+// The first row that an event of a plain kind would crowd; 32 where it would not be refused with 12.
+#[no_mangle]
+pub extern "C" fn delkuthi_crowded_row(m: &Words, kind: u8, time: u64) -> u8
+    ensures { λ r. ⌜ ReadOffIndexed (now (m .entry)) (λ monitor. AsksCrowdedRow monitor (Call.Event kind time)) r ⌝ }
+{
+    if 0 < event_refusal(m, kind, time) {
+        return 32;
+    }
+    first_crowded(m, held(m), event_of(kind as usize, time))
 }

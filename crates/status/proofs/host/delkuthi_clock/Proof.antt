@@ -1,12 +1,12 @@
 -- The clock stands at its place.
 use borrow.Author.Needs.{needs}
+use Rattle.status.proofs.Places.{clock-lies}
 use Rattle.status.proofs.Theorem.{clock-asked}
-use Rattle.status.proofs.Words.{clock-lies}
 use Rattle.status.proofs.host.delkuthi_clock.Statement.{statement}
 use Rattle.status.proofs.host.delkuthi_clock.Tie as tie
 
 returns : tie.Need-returns
-returns c m l = clock-asked m (clock-lies _ m l)
+returns c h e s = clock-asked (h .monitor) (clock-lies h _ e s)
 
 pub delkuthi-clock-spec : {M : Type 1} → statement M
-delkuthi-clock-spec = tie.close (tie.spec (λ c. search needs) returns)
+delkuthi-clock-spec = tie.close (tie.spec (λ c. search needs) (λ c. search needs) (λ c. search needs) returns)

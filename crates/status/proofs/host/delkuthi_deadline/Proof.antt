@@ -3,22 +3,21 @@ use borrow.Author.Needs.{needs}
 use native.Mathlib.Omega.{arith}
 use mathlib.Core.Path.{_≡_, refl, sym, ap, ap₂, _∙_}
 use Prim.Native.Nat.{_-_, _≤_, min}
-use Rattle.monitor.specs.declared.Monitor.{Monitor}
+use Rattle.lent.specs.Layout.{Lent, wordsOf, Shaped}
 use Rattle.status.specs.Numbers.{leastOf}
-use Rattle.status.specs.Words.{Lies}
 use Rattle.status.proofs.Theorem.{deadline-asked}
-use Rattle.status.proofs.Words.{deadline-there, least-none, least-next, least-all}
+use Rattle.status.proofs.There.{deadline-there, least-none, least-next, least-all}
 use Rattle.status.proofs.host.delkuthi_deadline.Statement.{statement}
 use Rattle.status.proofs.host.delkuthi_deadline.Tie as tie
 
 abbrev Inv-loop : tie.InvT-loop
-Inv-loop words rows least₀ i₀ least i = (i ≤ rows) × ((m : Monitor) → Lies words m → least ≡ leastOf m i)
+Inv-loop m rows least₀ i₀ least i = (i ≤ rows) × ((h : Lent) → m ≡ wordsOf h → Shaped h → least ≡ leastOf (h .monitor) i)
 
 abbrev μ-loop : tie.MeasureT-loop
-μ-loop words rows least₀ i₀ least i = rows - i
+μ-loop m rows least₀ i₀ least i = rows - i
 
 loop-holds : tie.Need-loop-holds Inv-loop μ-loop
-loop-holds c = (omega arith, λ m l. sym (least-none m))
+loop-holds c = (omega arith, λ h e s. sym (least-none (h .monitor)))
 
 deadline-at-requires : tie.Need-deadline-at-requires Inv-loop μ-loop
 deadline-at-requires c κs = omega (arith, c .before .before .held .ensures .0)
@@ -28,15 +27,15 @@ loop-again c =
     let at-loop = c .before .before .before in
     let i = at-loop .loop .i in (
       omega arith,
-      λ m l.
-          c .smaller .ensures ∙ ap₂ min (at-loop .loop .inv .1 m l) (c .before .deadline-at .ensures m l ∙ sym (deadline-there m i (omega (arith, at-loop .before .held .ensures .1 m l))))
-          ∙ sym (least-next m i),
+      λ h e s.
+          c .smaller .ensures ∙ ap₂ min (at-loop .loop .inv .1 h e s) (c .before .deadline-at .ensures h e s ∙ sym (deadline-there (h .monitor) i (omega (arith, at-loop .before .held .ensures .1 h e s))))
+          ∙ sym (least-next (h .monitor) i),
     )
 
 returns : tie.Need-returns Inv-loop μ-loop
-returns c m l =
+returns c h e s =
     let at-loop = c .before in
-    deadline-asked m (at-loop .loop .inv .1 m l ∙ least-all m (at-loop .loop .i) (omega (arith, at-loop .before .held .ensures .1 m l)))
+    deadline-asked (h .monitor) (at-loop .loop .inv .1 h e s ∙ least-all (h .monitor) (at-loop .loop .i) (omega (arith, at-loop .before .held .ensures .1 h e s)))
 
 pub delkuthi-deadline-spec : {M : Type 1} → statement M
 delkuthi-deadline-spec =

@@ -21,8 +21,6 @@ use Rattle.constraint.specs.declared.Constraint.{Constraint}
 use Rattle.row.specs.Machine.{mark}
 use Rattle.monitor.specs.Contract.{after, Remains}
 use Rattle.monitor.specs.declared.Monitor.{Monitor}
-use Rattle.lent.specs.Layout.{Lent, Words, wordsOf}
-use Rattle.lent.specs.Contract.{Indexes}
 use Rattle.status.specs.Numbers.{deadlineOf, leastOf, waitingOf, brokenRowsOf, crowdedRowOf}
 
 -- bit i of a number
@@ -86,9 +84,3 @@ AsksDeadline m = Asked m (leastOf m rowLimit) LeastDeadline
 
 abbrev pub AsksCrowdedRow : Monitor → Call → ℕ → Type 0
 AsksCrowdedRow m call = Asked m (crowdedRowOf m call) (λ rows steps. CrowdedRow rows steps call)
-
--- ---- what is read off words in which at most 64 wait in each row
-
--- whatever monitor the words are, the answer keeps the contract
-abbrev pub ReadOffIndexed : Words → (Monitor → ℕ → Type 0) → ℕ → Type 0
-ReadOffIndexed entry Asks answer = (h : Lent) → entry ≡ wordsOf h → Indexes h → Asks (h .monitor) answer

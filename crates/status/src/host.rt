@@ -26,7 +26,7 @@ ghost use Rattle.row.specs.Machine.{mark};
 ghost use Rattle.lent.specs.Layout.{Lent, wordsOf, Shaped, rowAt};
 ghost use Rattle.lent.specs.Contract.{ReadOff};
 ghost use Rattle.status.specs.Numbers.{deadlineBy, firstMarked};
-ghost use Rattle.status.specs.Contract.{AsksClock, AsksSteps, AsksClosed, AsksBrokenRows, AsksWaiting, AsksRowDeadline, AsksDeadline, AsksCrowdedRow, ReadOffIndexed};
+ghost use Rattle.status.specs.Contract.{AsksClock, AsksSteps, AsksClosed, AsksBrokenRows, AsksWaiting, AsksRowDeadline, AsksDeadline, AsksCrowdedRow};
 
 // The clock.
 #[no_mangle]
@@ -55,7 +55,7 @@ pub extern "C" fn delkuthi_closed(m: &Words) -> u8
 // The deadline of a row that is there.
 fn deadline_at(m: &Words, i: usize) -> u64
     requires { ⌜ i < 32 ⌝ }
-    ensures { λ r. ⌜ ReadOff (now (m .entry)) (λ monitor n. n ≡ deadlineBy (monitor .closed) (rowAt monitor i .now .broken) (rowAt monitor i .now .due)) r ⌝ }
+    ensures { λ r. ⌜ ((h : Lent) → now (m .entry) ≡ wordsOf h → Shaped h → r ≡ deadlineBy (h .monitor .closed) (rowAt (h .monitor) i .now .broken) (rowAt (h .monitor) i .now .due)) ⌝ }
 {
     deadline_by(closed(m), m[i][1][BROKEN], m[i][1][DUE])
 }
@@ -101,7 +101,7 @@ pub extern "C" fn delkuthi_row_waiting(m: &Words, row: u64) -> u64
 // 1 where a row is broken.
 fn broken_at(m: &Words, i: usize) -> u32
     requires { ⌜ i < 32 ⌝ }
-    ensures { λ r. ⌜ ((r ≤ 1) × ReadOff (now (m .entry)) (λ monitor n. n ≡ mark (ltb 0 (rowAt monitor i .now .broken))) r) ⌝ }
+    ensures { λ r. ⌜ ((r ≤ 1) × ((h : Lent) → now (m .entry) ≡ wordsOf h → Shaped h → r ≡ mark (ltb 0 (rowAt (h .monitor) i .now .broken)))) ⌝ }
 {
     if 0 < m[i][1][BROKEN] { 1 } else { 0 }
 }
@@ -138,7 +138,7 @@ fn first_crowded(m: &Words, n: usize, o: Occurrence) -> u8
 // The first row that an event of a plain kind would crowd; 32 where it would not be refused with 12.
 #[no_mangle]
 pub extern "C" fn delkuthi_crowded_row(m: &Words, kind: u8, time: u64) -> u8
-    ensures { λ r. ⌜ ReadOffIndexed (now (m .entry)) (λ monitor. AsksCrowdedRow monitor (Call.Event kind time)) r ⌝ }
+    ensures { λ r. ⌜ ReadOff (now (m .entry)) (λ monitor. AsksCrowdedRow monitor (Call.Event kind time)) r ⌝ }
 {
     if 0 < event_refusal(m, kind, time) {
         return 32;

@@ -1,7 +1,6 @@
 -- The numbers of the row stand at their places.
 use borrow.Author.Needs.{needs}
-use native.Mathlib.Omega.{arith}
-use mathlib.Core.Path.{_≡_, sym, ap, _∙_}
+use mathlib.Core.Path.{_∙_}
 use denote.Ref.{now}
 use Rattle.status.proofs.Places.{broken-lies, due-lies, deadline-same}
 use Rattle.status.proofs.host.deadline_at.Statement.{statement}

@@ -1,11 +1,13 @@
 -- From the last row to the first, each adds its bit below those behind it.
 use borrow.Author.Needs.{needs}
 use native.Mathlib.Omega.{arith}
-use mathlib.Core.Path.{_≡_, refl, sym, ap, ap₂, _∙_}
-use Prim.Native.Nat.{ℕ, _-_, _^_, _≤_, _<_, min}
+use mathlib.Core.Path.{_≡_, sym, ap, _∙_}
+use Prim.Native.Nat.{ℕ, _-_, _^_, _≤_, _<_}
 use Rattle.constraint.specs.Limits.{rowLimit}
 use Rattle.lent.specs.Layout.{Lent, wordsOf, Shaped, heldRows}
 use Rattle.status.specs.Numbers.{brokenMarks}
+use Rattle.status.specs.Contract.{AsksBrokenRows}
+use Rattle.status.proofs.Places.{read-off}
 use Rattle.status.proofs.Theorem.{broken-rows-asked}
 use Rattle.status.proofs.There.{marks-none, marks-next, power-some, bits-next, bits-room}
 use Rattle.status.proofs.host.delkuthi_broken_rows.Statement.{statement}
@@ -45,10 +47,11 @@ loop-again c =
     )
 
 returns : tie.Need-returns Inv-loop μ-loop
-returns c h e s =
+returns c =
     let loop = c .before .loop in
     let none-left : loop .i ≡ 0 = omega arith in
-    broken-rows-asked (h .monitor) (loop .inv .2 h e s .1 ∙ ap (λ (i : ℕ). brokenMarks (h .monitor) i (rowLimit - i)) none-left)
+    read-off AsksBrokenRows (λ h e x.
+    broken-rows-asked (h .monitor) (loop .inv .2 h e (x .shaped) .1 ∙ ap (λ (i : ℕ). brokenMarks (h .monitor) i (rowLimit - i)) none-left))
 
 pub delkuthi-broken-rows-spec : {M : Type 1} → statement M
 delkuthi-broken-rows-spec =

@@ -1,10 +1,12 @@
 -- Row after row: before the turn of number i it is the least deadline of the first i.
 use borrow.Author.Needs.{needs}
 use native.Mathlib.Omega.{arith}
-use mathlib.Core.Path.{_≡_, refl, sym, ap, ap₂, _∙_}
+use mathlib.Core.Path.{_≡_, sym, ap₂, _∙_}
 use Prim.Native.Nat.{_-_, _≤_, min}
 use Rattle.lent.specs.Layout.{Lent, wordsOf, Shaped}
 use Rattle.status.specs.Numbers.{leastOf}
+use Rattle.status.specs.Contract.{AsksDeadline}
+use Rattle.status.proofs.Places.{read-off}
 use Rattle.status.proofs.Theorem.{deadline-asked}
 use Rattle.status.proofs.There.{deadline-there, least-none, least-next, least-all}
 use Rattle.status.proofs.host.delkuthi_deadline.Statement.{statement}
@@ -28,14 +30,16 @@ loop-again c =
     let i = at-loop .loop .i in (
       omega arith,
       λ h e s.
-          c .smaller .ensures ∙ ap₂ min (at-loop .loop .inv .1 h e s) (c .before .deadline-at .ensures h e s ∙ sym (deadline-there (h .monitor) i (omega (arith, at-loop .before .held .ensures .1 h e s))))
-          ∙ sym (least-next (h .monitor) i),
+          let row = c .before .deadline-at .ensures h e s ∙ sym (deadline-there (h .monitor) i (omega (arith, at-loop .before .held .ensures .1 h e s))) in
+          c .smaller .ensures ∙ ap₂ min (at-loop .loop .inv .1 h e s) row ∙ sym (least-next (h .monitor) i),
     )
 
 returns : tie.Need-returns Inv-loop μ-loop
-returns c h e s =
+returns c =
     let at-loop = c .before in
-    deadline-asked (h .monitor) (at-loop .loop .inv .1 h e s ∙ least-all (h .monitor) (at-loop .loop .i) (omega (arith, at-loop .before .held .ensures .1 h e s)))
+    read-off AsksDeadline (λ h e x.
+    let s = x .shaped in
+    deadline-asked (h .monitor) (at-loop .loop .inv .1 h e s ∙ least-all (h .monitor) (at-loop .loop .i) (omega (arith, at-loop .before .held .ensures .1 h e s))))
 
 pub delkuthi-deadline-spec : {M : Type 1} → statement M
 delkuthi-deadline-spec =

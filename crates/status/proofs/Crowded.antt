@@ -1,18 +1,17 @@
 -- The first row that the machine finds crowded is the first that the call would leave open with more than 64 waiting: so it is row by row.
-use Prim.Native.Nat.{ℕ, zero, suc, _+_, _≤_, _<_}
+use Prim.Native.Nat.{ℕ, zero, suc, _+_, _<_}
 use native.Mathlib.Omega.{arith}
-use mathlib.Core.Path.{_≡_, refl, sym, ap, _∙_, subst}
+use mathlib.Core.Path.{_≡_, refl, sym, _∙_, subst}
 use mathlib.Core.Bool.{Bool, true, false, cond, _||_}
 use mathlib.Core.List.{List, [], _∷_, _++_}
-use mathlib.Core.Logic.{_⊎_, inl, inr, ⊎-elim}
+use mathlib.Core.Logic.{inl, inr}
 use mathlib.Core.Option.{some}
 use lib.ListN.{length, getElem?}
 use lib.Dec.{leb, ltb}
-use borrow.Author.Tests.{ltb-true}
-use Rattle.constraint.specs.Limits.{lastKind, firstColoured, lastColour, lastTime, lastCount, rowLimit, waitingLimit}
+use Rattle.constraint.specs.Limits.{lastKind, firstColoured, lastColour, lastTime, lastCount, rowLimit}
 use Rattle.constraint.specs.Steps.{Step}
 use Rattle.constraint.specs.Questions.{Judged}
-use Rattle.constraint.specs.Run.{stepFor, Room, eventQuestions, questions}
+use Rattle.constraint.specs.Run.{stepFor, questions}
 use Rattle.constraint.specs.declared.Answer.{Answer}
 use Rattle.constraint.specs.declared.Answer.the-variants.{Taken, Refused}
 use Rattle.constraint.specs.declared.Call.{Call}

@@ -3,7 +3,7 @@ use Prim.Native.Nat.{ℕ, _+_, _≤_, _<_}
 use native.Mathlib.Decide.{decLt}
 use native.Mathlib.Omega.{arith}
 use mathlib.Core.Path.{_≡_, refl, sym, _∙_, subst}
-use mathlib.Core.Bool.{Bool, true, false, cond}
+use mathlib.Core.Bool.{Bool, false, cond}
 use mathlib.Core.List.{List, [], _∷_, _++_}
 use mathlib.Core.Logic.{inl, inr, ⊎-elim, by-cases}
 use lib.Dec.{ltb}
@@ -19,7 +19,7 @@ use Rattle.constraint.proofs.History.{own-tick, clock-tick, closed-tick, Valid,
 use Rattle.constraint.proofs.Verdicts.{broken-shut}
 use Rattle.machine.specs.declared.State.{State}
 use Rattle.row.specs.declared.Row.{Row}
-use Rattle.row.proofs.Exact.{Sound, Exact}
+use Rattle.row.proofs.Exact.{Exact}
 use Rattle.row.proofs.Steps.{Going, Broken, Fits}
 use Rattle.status.specs.Deadlines.{DeadlineWhileOpen, until, endless, Deadline, running, over, RowDeadline, row, no-row}
 use Rattle.status.specs.Numbers.{deadlineBy}

@@ -57,7 +57,8 @@ first-same f g (suc n) k (r ∷ rows) same =
 
 -- what is found by the types' own tests is the first row that the call crowds
 pub first-crowded-is : (h : Lent) (call : Call) → Indexes h
-    → firstMarked (heldRows (h .monitor)) (λ r. crowdedBy (r .rule) (r .now) (occurrenceOf (h .monitor) call)) 0 (h .monitor .rows) ≡ crowdedFirst (h .monitor) call
+    → firstMarked (heldRows (h .monitor)) (λ r. crowdedBy (r .rule) (r .now) (occurrenceOf (h .monitor) call)) 0 (h .monitor .rows)
+    ≡ crowdedFirst (h .monitor) call
 first-crowded-is h call x =
     let m = h .monitor in
     let o = occurrenceOf m call in

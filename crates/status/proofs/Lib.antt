@@ -7,3 +7,4 @@ pub mod Theorem
 pub mod Places
 pub mod There
 pub mod FirstCrowded
+pub mod Zeros

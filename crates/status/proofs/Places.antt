@@ -2,11 +2,10 @@
 use Prim.Native.Nat.{ℕ, zero, suc, _-_, _<_}
 use native.Mathlib.Omega.{arith}
 use mathlib.Core.Path.{_≡_, refl, sym, ap, _∙_, subst}
-use mathlib.Core.Bool.{Bool}
 use mathlib.Core.List.{List, []}
 use lib.ListN.{getD}
 use lib.Dec.{ltb}
-use borrow.Author.Tests.{lt-ltb, le-ltb}
+use borrow.Author.Tests.{lt-ltb}
 use Rattle.machine.specs.Words.{rowWords, numberWords}
 use Rattle.row.specs.Stored as Stored
 use Rattle.lent.specs.Layout.{Lent, Words, wordsOf, Shaped, rowAt}
@@ -17,7 +16,8 @@ use Rattle.monitor.specs.declared.Monitor.{Monitor}
 use Rattle.status.specs.Numbers.{deadlineBy, waitingBy}
 
 -- what is so of the monitor whose words they are is so of the one that lies in them
-pub read-off : (Asks : Monitor → ℕ → Type 0) {m : Words} {answer : ℕ} → ((h : Lent) → m ≡ wordsOf h → Indexes h → Asks (h .monitor) answer) → ReadOff m Asks answer
+pub read-off : (Asks : Monitor → ℕ → Type 0) {m : Words} {answer : ℕ}
+    → ((h : Lent) → m ≡ wordsOf h → Indexes h → Asks (h .monitor) answer) → ReadOff m Asks answer
 read-off Asks {m} {answer} so x l = subst (λ (y : Monitor). Asks y answer) (l .monitor-is) (so (l .lent) (l .words-are) (l .indexes))
 
 -- ---- words at their places

@@ -5,18 +5,18 @@ use native.Mathlib.Omega.{arith}
 use mathlib.Core.Path.{_≡_, refl, sym, ap, _∙_, subst}
 use mathlib.Core.Bool.{Bool, true, false, cond, _&&_}
 use mathlib.Core.List.{List, [], _∷_}
-use mathlib.Core.Logic.{_⊎_, inl, inr, ⊎-elim, by-cases}
+use mathlib.Core.Logic.{⊎-elim, by-cases}
 use mathlib.Core.Option.{none, some}
 use lib.ListN.{length, getD, getElem?}
 use lib.Dec.{ltb}
-use borrow.Author.Tests.{ltb-true, lt-ltb, le-ltb}
+use borrow.Author.Tests.{lt-ltb, le-ltb}
 use Rattle.constraint.specs.Limits.{noLimit, rowLimit}
 use Rattle.constraint.specs.Steps.{Step, closed}
 use Rattle.constraint.specs.Continuation.{Open}
 use Rattle.status.specs.Deadlines.{RowDeadline, row, no-row, LeastDeadline}
 use Rattle.constraint.specs.declared.Call.{Call}
 use Rattle.constraint.specs.declared.Constraint.{Constraint}
-use Rattle.constraint.proofs.Lists.{split, both}
+use Rattle.constraint.proofs.Lists.{split}
 use Rattle.constraint.proofs.Judged.{never}
 use Rattle.constraint.proofs.Verdicts.{broken-shut, open-of-meets}
 use Rattle.row.specs.Machine.{mark}
@@ -33,7 +33,7 @@ use Rattle.monitor.proofs.Withdrawing.{after-follows}
 use Rattle.lent.specs.Layout.{rowAt}
 use Rattle.status.specs.Numbers.{there, deadlineBy, deadlineOf, leastOf, waitingBy, waitingOf, brokenMark, brokenRowsOf, crowdedRowOf}
 use Rattle.status.specs.Contract as C
-use Rattle.status.specs.Contract.{bit, BrokenRows, RowWaiting, Asked, AsksClock, AsksSteps, AsksClosed, AsksBrokenRows, AsksWaiting, AsksRowDeadline, AsksDeadline, AsksCrowdedRow}
+use Rattle.status.specs.Contract.{BrokenRows, RowWaiting, Asked, AsksClock, AsksSteps, AsksClosed, AsksBrokenRows, AsksWaiting, AsksRowDeadline, AsksDeadline, AsksCrowdedRow}
 use Rattle.status.proofs.Deadlines.{open-now, fits-deadline, row-deadline-once}
 use Rattle.status.proofs.Waiting.{fits-waiting}
 use Rattle.status.proofs.Marks.{bit-is, marks-small}

@@ -2,3 +2,4 @@
 pub mod Deadlines
 pub mod Numbers
 pub mod Contract
+pub mod Zeros

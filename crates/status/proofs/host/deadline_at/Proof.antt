@@ -12,8 +12,11 @@ returns c h e s =
     let start = k .before in
     let m = now (start .args .m) in
     c .deadline-by .ensures
-    ∙ deadline-same _ _ _ _ _ _ (k .closed .ensures h e s) (broken-lies h m e s (start .args .i) (start .pre)) (due-lies h m e s (start .args .i) (start .pre))
+    ∙ deadline-same _ _ _ _ _ _ (k .closed .ensures h e s) (broken-lies h m e s (start .args .i) (start .pre))
+    (due-lies h m e s (start .args .i) (start .pre))
 
 pub deadline-at-spec : {M : Type 1} → statement M
 deadline-at-spec =
-    tie.close (tie.spec (λ c κs. search needs) (λ c. search needs) (λ c. search needs) (λ c. search needs) (λ c. search needs) (λ c. search needs) (λ c. search needs) (λ c. search needs) (λ c. search needs) (λ c κs. search needs) returns)
+    tie.close
+    (tie.spec (λ c κs. search needs) (λ c. search needs) (λ c. search needs) (λ c. search needs) (λ c. search needs)
+    (λ c. search needs) (λ c. search needs) (λ c. search needs) (λ c. search needs) (λ c κs. search needs) returns)

@@ -15,7 +15,8 @@ use Rattle.status.proofs.host.delkuthi_broken_rows.Tie as tie
 
 abbrev Inv-loop : tie.InvT-loop
 Inv-loop m mask₀ i₀ mask i =
-    (i ≤ 32) × (mask < 2 ^ (32 - i)) × ((h : Lent) → m ≡ wordsOf h → Shaped h → (i ≤ heldRows (h .monitor)) × (mask ≡ brokenMarks (h .monitor) i (rowLimit - i)))
+    (i ≤ 32) × (mask < 2 ^ (32 - i))
+    × ((h : Lent) → m ≡ wordsOf h → Shaped h → (i ≤ heldRows (h .monitor)) × (mask ≡ brokenMarks (h .monitor) i (rowLimit - i)))
 
 abbrev μ-loop : tie.MeasureT-loop
 μ-loop m mask₀ i₀ mask i = i
@@ -24,7 +25,9 @@ loop-holds : tie.Need-loop-holds Inv-loop μ-loop
 loop-holds c = (
   c .held .ensures .0,
   power-some (32 - c .held .result),
-  λ h e s. (omega (arith, c .held .ensures .1 h e s), sym (marks-none (h .monitor) (rowLimit - c .held .result) (c .held .result) (omega (arith, c .held .ensures .1 h e s)))),
+  λ h e s.
+      let all : c .held .result ≡ heldRows (h .monitor) = c .held .ensures .1 h e s in
+      (omega (arith, all), sym (marks-none (h .monitor) (rowLimit - c .held .result) (c .held .result) (omega (arith, all)))),
 )
 
 mul-mask : tie.Need-mul-mask Inv-loop μ-loop
@@ -42,7 +45,8 @@ loop-again c =
       bits-next (loop .i) (loop .mask) (c .broken-at .result) (omega arith) (loop .inv .0) (loop .inv .1) (c .broken-at .ensures .0),
       λ h e s. (
         omega (arith, loop .inv .2 h e s .0),
-        marks-next (h .monitor) (loop .i) (loop .mask) (c .broken-at .result) (omega arith) (loop .inv .2 h e s .0) (loop .inv .2 h e s .1) (c .broken-at .ensures .1 h e s),
+        marks-next (h .monitor) (loop .i) (loop .mask) (c .broken-at .result) (omega arith) (loop .inv .2 h e s .0) (loop .inv .2 h e s .1)
+            (c .broken-at .ensures .1 h e s),
       ),
     )
 
@@ -56,4 +60,5 @@ returns c =
 pub delkuthi-broken-rows-spec : {M : Type 1} → statement M
 delkuthi-broken-rows-spec =
     tie.close
-    (tie.spec Inv-loop μ-loop (λ c κs. search needs) loop-holds (λ c. omega arith) mul-mask (λ c κs. omega arith) add-mask (λ c. omega arith) loop-again returns)
+    (tie.spec Inv-loop μ-loop (λ c κs. search needs) loop-holds (λ c. omega arith) mul-mask (λ c κs. omega arith) add-mask
+    (λ c. omega arith) loop-again returns)

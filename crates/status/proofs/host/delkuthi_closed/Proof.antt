@@ -11,11 +11,15 @@ use Rattle.status.proofs.host.delkuthi_closed.Tie as tie
 
 returns : tie.Need-returns
 returns c =
-    read-off AsksClosed (λ h e x. closed-asked (h .monitor) (rw (lt-ltb 0 (h .monitor .closed) (omega (arith, c .if1 .taken, c .before .closed .ensures h e (x .shaped)))) refl))
+    read-off AsksClosed (λ h e x.
+    let is = c .before .closed .ensures h e (x .shaped) in
+    closed-asked (h .monitor) (rw (lt-ltb 0 (h .monitor .closed) (omega (arith, c .if1 .taken, is))) refl))
 
 returns-2 : tie.Need-returns-2
 returns-2 c =
-    read-off AsksClosed (λ h e x. closed-asked (h .monitor) (rw (le-ltb 0 (h .monitor .closed) (omega (arith, c .if1 .left, c .before .closed .ensures h e (x .shaped)))) refl))
+    read-off AsksClosed (λ h e x.
+    let is = c .before .closed .ensures h e (x .shaped) in
+    closed-asked (h .monitor) (rw (le-ltb 0 (h .monitor .closed) (omega (arith, c .if1 .left, is))) refl))
 
 pub delkuthi-closed-spec : {M : Type 1} → statement M
 delkuthi-closed-spec = tie.close (tie.spec (λ c κs. search needs) returns returns-2)

@@ -2,7 +2,7 @@
 use borrow.Author.Needs.{needs}
 use native.Mathlib.Omega.{arith}
 use Prim.Native.Nat.{ℕ}
-use mathlib.Core.Path.{_≡_, ap₂, _∙_}
+use mathlib.Core.Path.{ap₂, _∙_}
 use Rattle.constraint.specs.declared.Call.{Call}
 use Rattle.row.specs.Apart.{crowdedBy}
 use Rattle.row.specs.declared.Occurrence.{Occurrence}
@@ -19,7 +19,8 @@ returns c =
     let a = c .before .before .args in
     let call = Call.Event (a .kind) (a .time) in
     read-off (λ m. AsksCrowdedRow m call) (λ h e x.
-    crowded-row-asked (h .monitor) call (refused-crowds-none (h .monitor) call _ (c .before .event-refusal .ensures .1 h e (x .shaped)) (c .if1 .taken)))
+    let is = c .before .event-refusal .ensures .1 h e (x .shaped) in
+    crowded-row-asked (h .monitor) call (refused-crowds-none (h .monitor) call _ is (c .if1 .taken)))
 
 first-crowded-requires : tie.Need-first-crowded-requires
 first-crowded-requires c κs = c .before .held .ensures .0
@@ -34,7 +35,8 @@ returns-2 c =
     read-off (λ m. AsksCrowdedRow m call) (λ h e x.
     let s = x .shaped in
     crowded-row-asked (h .monitor) call (c .first-crowded .ensures h e s
-    ∙ ap₂ (λ (k : ℕ) (x : Occurrence). firstMarked k (λ w. crowdedBy (w .rule) (w .now) x) 0 (h .monitor .rows)) (n .held .ensures .1 h e s) (o .event-of .ensures)
+    ∙ ap₂ (λ (k : ℕ) (y : Occurrence). firstMarked k (λ w. crowdedBy (w .rule) (w .now) y) 0 (h .monitor .rows)) (n .held .ensures .1 h e s)
+    (o .event-of .ensures)
     ∙ first-crowded-is h call x ∙ else-first-crowded (h .monitor) call _ (t .before .event-refusal .ensures .1 h e s) (omega (arith, t .if1 .left))))
 
 pub delkuthi-crowded-row-spec : {M : Type 1} → statement M

@@ -30,7 +30,8 @@ loop-again c =
     let i = at-loop .loop .i in (
       omega arith,
       λ h e s.
-          let row = c .before .deadline-at .ensures h e s ∙ sym (deadline-there (h .monitor) i (omega (arith, at-loop .before .held .ensures .1 h e s))) in
+          let held = at-loop .before .held .ensures .1 h e s in
+          let row = c .before .deadline-at .ensures h e s ∙ sym (deadline-there (h .monitor) i (omega (arith, held))) in
           c .smaller .ensures ∙ ap₂ min (at-loop .loop .inv .1 h e s) row ∙ sym (least-next (h .monitor) i),
     )
 
@@ -39,9 +40,11 @@ returns c =
     let at-loop = c .before in
     read-off AsksDeadline (λ h e x.
     let s = x .shaped in
-    deadline-asked (h .monitor) (at-loop .loop .inv .1 h e s ∙ least-all (h .monitor) (at-loop .loop .i) (omega (arith, at-loop .before .held .ensures .1 h e s))))
+    let held = at-loop .before .held .ensures .1 h e s in
+    deadline-asked (h .monitor) (at-loop .loop .inv .1 h e s ∙ least-all (h .monitor) (at-loop .loop .i) (omega (arith, held))))
 
 pub delkuthi-deadline-spec : {M : Type 1} → statement M
 delkuthi-deadline-spec =
     tie.close
-    (tie.spec Inv-loop μ-loop (λ c κs. search needs) loop-holds deadline-at-requires (λ c κs. search needs) (λ c. omega arith) (λ c. omega arith) loop-again returns)
+    (tie.spec Inv-loop μ-loop (λ c κs. search needs) loop-holds deadline-at-requires (λ c κs. search needs) (λ c. omega arith) (λ c. omega arith)
+    loop-again returns)

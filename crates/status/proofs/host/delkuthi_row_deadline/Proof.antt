@@ -15,7 +15,8 @@ returns : tie.Need-returns
 returns c =
     let row = c .before .before .args .row in
     read-off (λ m. AsksRowDeadline m row) (λ h e x.
-    row-deadline-asked (h .monitor) row (sym (deadline-not-there (h .monitor) row (omega (arith, c .if1 .taken, c .before .held .ensures .1 h e (x .shaped))))))
+    let held = c .before .held .ensures .1 h e (x .shaped) in
+    row-deadline-asked (h .monitor) row (sym (deadline-not-there (h .monitor) row (omega (arith, c .if1 .taken, held)))))
 
 returns-2 : tie.Need-returns-2
 returns-2 c =

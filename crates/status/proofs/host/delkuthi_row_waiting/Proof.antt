@@ -15,7 +15,8 @@ returns : tie.Need-returns
 returns c =
     let row = c .before .before .args .row in
     read-off (λ m. AsksWaiting m row) (λ h e x.
-    waiting-asked (h .monitor) row (sym (waiting-not-there (h .monitor) row (omega (arith, c .if1 .taken, c .before .held .ensures .1 h e (x .shaped))))))
+    let held = c .before .held .ensures .1 h e (x .shaped) in
+    waiting-asked (h .monitor) row (sym (waiting-not-there (h .monitor) row (omega (arith, c .if1 .taken, held)))))
 
 returns-2 : tie.Need-returns-2
 returns-2 c =
@@ -28,7 +29,8 @@ returns-2 c =
     read-off (λ m. AsksWaiting m row) (λ h e x.
     let s = x .shaped in
     waiting-asked (h .monitor) row (c .waiting-by .ensures
-    ∙ waiting-same _ _ _ _ _ _ _ _ (k .closed .ensures h e s) (broken-lies h m e s row small) (form-lies h m e s row small) (kept-lies h m e s row small)
+    ∙ waiting-same _ _ _ _ _ _ _ _ (k .closed .ensures h e s) (broken-lies h m e s row small) (form-lies h m e s row small)
+    (kept-lies h m e s row small)
     ∙ sym (waiting-there (h .monitor) row (omega (arith, at-test .if1 .left, at-test .before .held .ensures .1 h e s)))))
 
 index-of : tie.Need-index-1-waiting-by
@@ -43,4 +45,6 @@ index-of-3 c = let at-test = c .before .before .before in omega (arith, at-test 
 pub delkuthi-row-waiting-spec : {M : Type 1} → statement M
 delkuthi-row-waiting-spec =
     tie.close
-    (tie.spec (λ c κs. search needs) returns (λ c κs. search needs) (λ c. search needs) index-of (λ c. search needs) (λ c. search needs) (λ c. search needs) index-of-2 (λ c. search needs) (λ c. search needs) (λ c. search needs) index-of-3 (λ c. search needs) (λ c. search needs) (λ c κs. search needs) returns-2)
+    (tie.spec (λ c κs. search needs) returns (λ c κs. search needs) (λ c. search needs) index-of (λ c. search needs) (λ c. search needs)
+    (λ c. search needs) index-of-2 (λ c. search needs) (λ c. search needs) (λ c. search needs) index-of-3 (λ c. search needs) (λ c. search needs)
+    (λ c κs. search needs) returns-2)

@@ -23,7 +23,8 @@ test o r = crowdedBy (r .rule) (r .now) o
 -- the first of all n is the first of those from row i on
 abbrev Inv-loop : tie.InvT-loop
 Inv-loop m n o i₀ i =
-    (i ≤ n) × ((h : Lent) → m ≡ wordsOf h → Shaped h → firstMarked n (test o) 0 (h .monitor .rows) ≡ firstMarked (n - i) (test o) i (drop i (h .monitor .rows)))
+    (i ≤ n)
+    × ((h : Lent) → m ≡ wordsOf h → Shaped h → firstMarked n (test o) 0 (h .monitor .rows) ≡ firstMarked (n - i) (test o) i (drop i (h .monitor .rows)))
 
 abbrev μ-loop : tie.MeasureT-loop
 μ-loop m n o i₀ i = n - i
@@ -72,4 +73,5 @@ returns-2 c h e s =
 pub first-crowded-spec : {M : Type 1} → statement M
 first-crowded-spec =
     tie.close
-    (tie.spec Inv-loop μ-loop loop-holds (λ c. omega arith) index-of (λ c κs. search needs) cast-result returns (λ c. omega arith) (λ c. omega arith) loop-again returns-2)
+    (tie.spec Inv-loop μ-loop loop-holds (λ c. omega arith) index-of (λ c κs. search needs) cast-result returns
+    (λ c. omega arith) (λ c. omega arith) loop-again returns-2)

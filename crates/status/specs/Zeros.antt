@@ -1,0 +1,34 @@
+-- Memory of zeros, and the monitor that lies in it: closed, and without rows (§15.13).
+use mathlib.Core.List.{List}
+use lib.ListN.{replicate}
+use Rattle.constraint.specs.Limits.{rowLimit, streamCount}
+use Rattle.machine.specs.declared.Rule.{Rule}
+use Rattle.row.specs.Machine.{rowFrom}
+use Rattle.row.specs.Undo.{noState, noBefore}
+use Rattle.row.specs.declared.Row.{Row}
+use Rattle.monitor.specs.Machine.{noUndo}
+use Rattle.monitor.specs.declared.Monitor.{Monitor}
+use Rattle.lent.specs.Layout.{Words}
+
+abbrev pub zeros : Words
+zeros = replicate 35 (replicate 2 (replicate 64 0))
+
+abbrev pub zeroRule : Rule
+zeroRule =
+    record { form = 0; first = 0; second = 0; third = 0; fourth = 0; span = 0; lower = 0; upper = 0; jitter = 0; minimum = 0 }
+
+abbrev pub zeroRow : Row
+zeroRow = rowFrom zeroRule (replicate 64 0) noState
+
+abbrev pub zeroMonitor : Monitor
+zeroMonitor =
+    record {
+      rows = replicate rowLimit zeroRow;
+      next = replicate streamCount 0;
+      clock = 0;
+      count = 0;
+      closed = 1;
+      len = 0;
+      before = replicate rowLimit noBefore;
+      undo = noUndo;
+    }

@@ -1,4 +1,4 @@
-//! What the documents say of one another: clauses that are cited, names that are linked, and where those are declared.
+//! What the documents say of one another: the files with text, and the clauses that are cited.
 
 use crate::contract::is_clause;
 use crate::places::root;
@@ -44,52 +44,4 @@ pub fn cited(text: &str) -> Vec<String> {
 fn number_at(text: &str) -> &str {
     let end = text.find(|letter: char| !letter.is_ascii_digit() && letter != '.').unwrap_or(text.len());
     text[..end].trim_end_matches('.')
-}
-
-/// A link of a document: a name, and the file that has it.
-#[derive(Clone, Debug, PartialEq, Eq)]
-pub struct Link {
-    pub name: String,
-    pub path: String,
-}
-
-/// The links at a document's end: "[`name`]: path".
-pub fn links(text: &str) -> Vec<Link> {
-    let link = |line: &str| {
-        let (name, path) = line.strip_prefix("[`")?.split_once("`]: ")?;
-        Some(Link { name: name.to_string(), path: path.to_string() })
-    };
-    text.lines().filter_map(link).collect()
-}
-
-/// The names in a document that are to be links: "[`name`]".
-pub fn linked(text: &str) -> Vec<String> {
-    let name = |part: &str| Some(part.split_once("`]")?.0.to_string());
-    let lines = text.lines().filter(|line| !line.starts_with("[`"));
-    lines.flat_map(|line| line.split("[`").skip(1).filter_map(name)).collect()
-}
-
-/// Does a source file declare the name? Of "Monitor::fresh" and "Promise.exact" the last part is looked for.
-pub fn declares(path: &Path, text: &str, name: &str) -> bool {
-    let name = name.rsplit("::").next().unwrap_or(name);
-    let name = name.rsplit('.').next().unwrap_or(name);
-    match path.extension().and_then(|ending| ending.to_str()) {
-        Some("antt") => text.lines().any(|line| declared_in_antt(line) == Some(name)),
-        _ => declared_in_code(text, name),
-    }
-}
-
-/// Does the text of a program declare the name: a function, a constant, a type?
-fn declared_in_code(text: &str, name: &str) -> bool {
-    const BEFORE: [&str; 5] = ["fn", "const", "struct", "enum", "int"];
-    let words: Vec<&str> = text.split(|letter: char| !letter.is_alphanumeric() && letter != '_').collect();
-    words.windows(2).any(|pair| BEFORE.contains(&pair[0]) && pair[1] == name)
-}
-
-/// The name that a line of the proof language declares.
-fn declared_in_antt(line: &str) -> Option<&str> {
-    const BEFORE: [&str; 7] = ["pub", "abbrev", "unfoldable", "opaque", "data", "record", "private"];
-    let mut words = line.split_whitespace().skip_while(|word| BEFORE.contains(word));
-    let (name, after) = (words.next()?, words.next()?);
-    (after == ":" || after.starts_with('(') || after.starts_with('{')).then_some(name)
 }

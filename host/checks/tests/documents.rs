@@ -1,14 +1,16 @@
 //! The documents hold together: clauses that are cited are there, promises are cited, names that are linked exist.
 
 use checks::contract::{clauses, text};
-use checks::documents::{cited, declares, files, linked, links, text_of};
-use checks::places::{example_bytes, root};
-use std::collections::{HashMap, HashSet};
-use std::path::PathBuf;
+use checks::documents::{cited, files, text_of};
+use checks::places::{Folder, example_bytes, root};
+use std::collections::HashSet;
+use std::path::{Path, PathBuf};
+use std::process::Command;
 
 /// Everything that may cite a clause.
 fn all_files() -> Vec<PathBuf> {
-    let mut all = vec![root().join("README.md"), root().join("CHANGELOG.md")];
+    let mut all: Vec<PathBuf> =
+        ["README.md", "CHANGELOG.md", "CONTRIBUTING.md"].iter().map(|name| root().join(name)).collect();
     for (folder, endings) in [
         ("docs", &[".md"][..]),
         ("examples", &[".md"]),
@@ -54,34 +56,72 @@ fn each_promise_is_cited() {
     assert!(forgotten.is_empty(), "promises that nothing cites: {forgotten:?}");
 }
 
-/// The names that the reading guide links are declared where it says.
-#[test]
-fn each_name_of_the_reading_guide_exists() {
-    let sources: Vec<(PathBuf, String)> =
-        files("crates", &[".antt", ".rt"]).into_iter().map(|file| (file.clone(), text_of(&file))).collect();
-    let mut stale = Vec::new();
-    for link in links(&reading()) {
-        let file = root().join("docs").join(&link.path);
-        if file.is_file() && declares(&file, &text_of(&file), &link.name) {
-            continue;
-        }
-        let found: Vec<&PathBuf> =
-            sources.iter().filter(|(file, text)| declares(file, text, &link.name)).map(|(file, _)| file).collect();
-        stale.push(format!("{} is not in {}, but in {found:?}", link.name, link.path));
-    }
-    assert!(stale.is_empty(), "{}", stale.join("\n"));
+/// What the program that makes the links says of the documents of a folder.
+fn said_of_links(program: &Path) -> (Option<i32>, String) {
+    let output = Command::new("python3").arg(program).output().expect("python3 can be run");
+    (output.status.code(), String::from_utf8(output.stdout).expect("text"))
 }
 
-/// Each name that stands in the reading guide as a link has one, and each link is used.
+/// Each name that a document links is declared in the file that the link leads to, and the list of links is the one that the names give.
 #[test]
-fn each_name_of_the_reading_guide_is_linked() {
-    let reading = reading();
-    let links: HashMap<String, String> = links(&reading).into_iter().map(|link| (link.name, link.path)).collect();
-    let linked: HashSet<String> = linked(&reading).into_iter().collect();
-    let without: Vec<&String> = linked.iter().filter(|name| !links.contains_key(*name)).collect();
-    let unused: Vec<&String> = links.keys().filter(|name| !linked.contains(*name)).collect();
-    assert!(without.is_empty() && unused.is_empty(), "without a link: {without:?}; not used: {unused:?}");
-    assert!(links.len() >= 100, "{} names", links.len());
+fn the_links_are_made_from_the_names() {
+    assert_eq!(said_of_links(&root().join("release/links.py")), (Some(0), String::new()));
+    assert!(reading().lines().filter(|line| line.starts_with("[`")).count() >= 100);
+}
+
+#[test]
+fn a_link_that_leads_elsewhere_is_named() {
+    let said = |reading: &str| {
+        let files = [
+            ("docs/READING.md", reading),
+            ("docs/ARCHITECTURE.md", "No names.\n\n"),
+            ("crates/a/specs/Things.antt", "pub Thing : Type 0\n"),
+            ("crates/b/specs/Things.antt", "pub Thing : Type 0\npub Other : Type 0\n"),
+        ];
+        let (_folder, program) = Folder::around("release/links.py", &files);
+        said_of_links(&program)
+    };
+    let other = "[`Other`]: ../crates/b/specs/Things.antt\n";
+    assert_eq!(said(&format!("[`Other`].\n\n{other}")), (Some(0), String::new()));
+    assert!(said("[`Other`].\n\n").1.contains("not up to date"));
+    assert!(said("[`Other`].\n\n[`Other`]: ../crates/a/specs/Things.antt\n").1.contains("not up to date"));
+    assert!(said("[`None`].\n\n").1.contains("None is declared nowhere"));
+    assert!(said("[`Thing`].\n\n").1.contains("Thing is declared in ../crates/a/specs/Things.antt, ../crates/b"));
+    let thing = "[`Thing`]: ../crates/a/specs/Things.antt\n";
+    assert_eq!(said(&format!("[`Thing`].\n\n{thing}")), (Some(0), String::new()));
+}
+
+const ENDINGS: [&str; 9] = [".rt", ".antt", ".rs", ".py", ".c", ".h", ".md", ".txt", ".edit"];
+
+/// The files that a document names: by links, and between backticks by a path with an ending.
+fn named_files(text: &str) -> Vec<&str> {
+    let linked = text.split("](").skip(1).filter_map(|part| part.split([')', '#']).next());
+    let linked = linked.filter(|path| !path.is_empty() && !path.contains("://") && !path.contains(' '));
+    let quoted = text.lines().flat_map(|line| line.split('`').skip(1).step_by(2));
+    let letters = |path: &str| path.chars().all(|one| one.is_ascii_alphanumeric() || "_-./".contains(one));
+    let stands_for_some = |path: &str| path.split(['/', '.']).any(|part| ["NAME", "FUNCTION", "CRATE"].contains(&part));
+    let whole = |path: &&str| path.contains('/') && letters(path) && !path.starts_with('/') && !stands_for_some(path);
+    linked.chain(quoted.filter(whole).filter(|path| ENDINGS.iter().any(|ending| path.ends_with(ending)))).collect()
+}
+
+/// A file that a document names is there: seen from the document, or as the end of a path in the repository.
+#[test]
+fn each_file_that_is_named_is_there() {
+    let every: Vec<PathBuf> = ["crates", "host", "python", "docs", "include", "program", "release", "examples"]
+        .iter()
+        .flat_map(|folder| files(folder, &ENDINGS))
+        .collect();
+    let mut missing = Vec::new();
+    let history = root().join("docs/history");
+    let documents = all_files().into_iter().filter(|file| file.extension().is_some_and(|ending| ending == "md"));
+    for file in documents.filter(|file| !file.starts_with(&history) && !file.ends_with("CHANGELOG.md")) {
+        let text = text_of(&file);
+        let folder = file.parent().expect("a folder");
+        let there = |path: &str| folder.join(path).exists() || every.iter().any(|one| one.ends_with(path));
+        let gone = named_files(&text).into_iter().filter(|path| !there(path)).map(str::to_string);
+        missing.extend(gone.map(|path| (file.clone(), path)));
+    }
+    assert!(missing.is_empty(), "{missing:?}");
 }
 
 /// The report in the README is the one on the drive.

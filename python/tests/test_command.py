@@ -177,7 +177,7 @@ def test_a_last_line_over_all(command, kept):
 
 
 def test_spread_by_gnu_parallel(tmp_path):
-    """The README's command, with two jobs on this machine for the others: a JUnit file for each log, and the worst status."""
+    """The manual's command, with two jobs on this machine for the others: a JUnit file for each log, and the worst status."""
     if shutil.which("parallel") is None:
         pytest.skip("GNU parallel is missing (Debian: parallel)")
     (tmp_path / "logs").mkdir()
@@ -189,9 +189,9 @@ def test_spread_by_gnu_parallel(tmp_path):
     (tmp_path / "machines").write_text("2/:\n")
     (tmp_path / "delkuthi").write_text(f'#!/bin/sh\nexec {sys.executable} -m delkuthi "$@"\n')
     (tmp_path / "delkuthi").chmod(0o755)
-    readme = (ROOT / "README.md").read_text(encoding="utf-8")
-    line = re.search(r"    (parallel --sshloginfile [^\n]*\\\n[^\n]*)\n", readme)[1]
-    line = line.replace("logs/*.blf", "logs/*.log").replace("parallel ", "parallel --will-cite --keep-order ", 1)
+    manual = (ROOT / "python/README.md").read_text(encoding="utf-8")
+    line = re.search(r"    (parallel --sshloginfile [^\n]*\\\n[^\n]*)\n", manual)[1]
+    line = line.replace("brake.txt", "drive.txt").replace("logs/*.blf", "logs/*.log").replace("parallel ", "parallel --will-cite --keep-order ", 1)
     known = {**os.environ, "HOME": str(tmp_path), "PATH": f"{tmp_path}:{os.environ['PATH']}"}
     done = subprocess.run(line, shell=True, cwd=tmp_path, capture_output=True, text=True, env=known)
     assert all(text.startswith("parallel: Warning: ") or ": the log has no " in text for text in done.stderr.splitlines())

@@ -83,8 +83,8 @@ def test_the_row_types():
         assert f"**{row.type}** " in manual and f"](pictures/{row.type}.svg)" in manual
 
 
-def test_the_messages_in_the_readme():
-    readme = (ROOT / "README.md").read_text(encoding="utf-8")
+def test_the_messages_beside_the_drive():
+    readme = (EXAMPLES / "README.md").read_text(encoding="utf-8")
     for line in (EXAMPLES / "messages.txt").read_text(encoding="utf-8").splitlines():
         assert f"    {line}\n" in readme
-    assert "examples/drive.svg" in readme
+    assert "examples/drive.svg" in (ROOT / "README.md").read_text(encoding="utf-8")

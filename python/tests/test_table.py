@@ -279,8 +279,8 @@ def test_the_refusals_are_the_headers():
         assert f'"{text}"' in header, number
     texts = set(re.findall(r'return "([^"]+)";', header.split("delkuthi_refusal_text(")[1].split("\n}")[0]))
     assert texts - set(delkuthi.library.REFUSALS.values()) == {"taken", "a refusal without a text"}
-    numbers = {int(number) for number in re.findall(r"^\| (\d+) \|", (ROOT / "README.md").read_text(encoding="utf-8"), re.M)}
-    assert set(delkuthi.library.REFUSALS) == numbers - {0}
+    numbers = {int(number) for number in re.findall(r"^\| (\d+) \|", (ROOT / "docs/CALLS.md").read_text(encoding="utf-8"), re.M)}
+    assert set(delkuthi.library.REFUSALS) == numbers
 
 
 def test_the_manuals_mistake():

@@ -2,7 +2,8 @@
 
 use checks::contract::{clauses, text};
 use checks::documents::{cited, files, text_of};
-use checks::places::{Folder, example_bytes, root};
+use checks::hosts::{Ran, c_compiler, compile_with};
+use checks::places::{Folder, archive_folder, example_bytes, root};
 use std::collections::HashSet;
 use std::path::{Path, PathBuf};
 use std::process::Command;
@@ -124,10 +125,35 @@ fn each_file_that_is_named_is_there() {
     assert!(missing.is_empty(), "{missing:?}");
 }
 
-/// The report in the README is the one on the drive.
+/// The report beside the drive is the one on it.
 #[test]
-fn the_report_in_the_readme() {
+fn the_report_beside_the_drive() {
     let report = String::from_utf8(example_bytes("report.txt")).expect("ASCII");
     let shown: String = report.lines().map(|line| format!("    {line}\n")).collect();
-    assert!(text_of(&root().join("README.md")).contains(&shown), "{shown}");
+    assert!(text_of(&root().join("examples/README.md")).contains(&shown), "{shown}");
+}
+
+/// The host in the README compiles without a warning, and prints what the README says.
+#[test]
+fn the_host_in_the_readme() {
+    let readme = text_of(&root().join("README.md"));
+    let (_, host) = readme.split_once("```c\n").expect("a host in C");
+    let (host, after) = host.split_once("```\n").expect("its end");
+    let said =
+        after.trim_start().strip_prefix("prints `").and_then(|rest| rest.split('`').next()).expect("what it prints");
+    let folder = Folder::new();
+    let file = folder.write("readme.c", host.as_bytes());
+    let archive = archive_folder().join("libdelkuthi.a");
+    let host = compile_with(&mut c_compiler(), &[], &root().join("include"), &[file.into(), archive.into()]);
+    assert_eq!(host.run::<&str>(&[]), Ran::new(0, &format!("{said}\n")));
+}
+
+/// The README is read in some minutes, and the data sheet is printed on two pages.
+#[test]
+fn documents_stay_short() {
+    for (name, most) in [("README.md", 100), ("docs/DATASHEET.md", 115), ("docs/ARCHITECTURE.md", 100)] {
+        let text = text_of(&root().join(name));
+        let lines = text.lines().filter(|line| !line.starts_with("[`")).count();
+        assert!(lines <= most, "{name} has {lines} lines");
+    }
 }

@@ -168,7 +168,7 @@ fn every_refusal_of_the_header_is_a_question_of_the_definitions() {
 }
 
 #[test]
-fn the_refusals_of_the_crate_and_of_the_readme_are_all_there() {
+fn the_refusals_of_the_crate_and_of_the_list_are_all_there() {
     let all: BTreeSet<u64> = refusals().into_values().chain([refusal_of_program()]).collect();
     let of_crate = text("host/delkuthi/src/refusal.rs");
     let texts = of_crate
@@ -176,9 +176,9 @@ fn the_refusals_of_the_crate_and_of_the_readme_are_all_there() {
         .filter_map(|line| line.trim().split_once(" => \"")?.0.parse().ok())
         .filter(|number| *number != 0);
     assert_eq!(texts.collect::<BTreeSet<u64>>(), all);
-    let readme = text("README.md");
-    let readme = readme.split("\n## ").find(|part| part.starts_with("The refusals")).expect("the refusals");
-    let rows = readme.lines().filter_map(|line| line.strip_prefix("| ")?.split_once(" |")?.0.parse().ok());
+    let calls = text("docs/CALLS.md");
+    let list = calls.split("\n## ").find(|part| part.starts_with("The refusals")).expect("the refusals");
+    let rows = list.lines().filter_map(|line| line.strip_prefix("| ")?.split_once(" |")?.0.parse().ok());
     assert_eq!(rows.collect::<BTreeSet<u64>>(), all);
     let no_row = number_between(&of_crate, "const NO_ROW: Refusal = Refusal { number: ", ",");
     assert_eq!(no_row, refusals()["NO_ROW"]);
@@ -252,10 +252,25 @@ fn the_size_of_a_monitor_is_the_same_everywhere() {
     let header = Header::read();
     assert_eq!(size, 8 * number_between(&header.text, "uint64_t words[", "]"));
     let written = format!("{},{:03} bytes", size / 1000, size % 1000);
-    for (name, file) in [("header", header.text), ("README", text("README.md"))] {
+    let documents = ["README.md", "docs/CALLS.md", "docs/DATASHEET.md", "docs/ARCHITECTURE.md"];
+    for (name, file) in documents.map(|name| (name, text(name))).into_iter().chain([("header", header.text)]) {
         assert!(file.contains(&written), "the {name} says {written}");
     }
     assert!(text("host/delkuthi/src/monitor.rs").contains(&written));
+}
+
+/// The data sheet has each limit on the stack as the header defines it.
+#[test]
+fn the_limits_on_the_stack_are_the_headers() {
+    let header = Header::read();
+    let sheet = text("docs/DATASHEET.md");
+    let limits: Vec<_> = header.defined.iter().filter(|(name, _)| name.ends_with("_STACK")).collect();
+    assert!(limits.len() >= 9, "{limits:?}");
+    for (name, bytes) in limits {
+        let said = sheet.split(&format!("`DELKUTHI_{name}` ")).nth(1).unwrap_or_default();
+        let said = said.trim_start_matches("(fresh) ").split(' ').next().unwrap_or_default();
+        assert_eq!(said, (bytes / 1024).to_string(), "{name}");
+    }
 }
 
 /// A row for the writer has as many bytes as the longest row, in the header, in the Rust crate and in the definitions.

@@ -2,3 +2,4 @@
 pub mod Layout
 pub mod Steps
 pub mod Contract
+pub mod Fresh

@@ -1,0 +1,26 @@
+-- The words are cleared, the two numbers are stored that are not 0, and then the rows.
+use Prim.Native.Nat.{ℕ}
+use mathlib.Core.Path.{_≡_, refl, ap, subst, _∙_}
+use mathlib.Core.List.{[]}
+use lib.ListN.{length, replicate}
+use Rattle.monitor.specs.Contract.{after}
+use Rattle.lent.specs.Layout.{Words}
+use Rattle.lent.specs.Fresh.{noWords, RowsPut}
+use Rattle.lent.proofs.Freshness.{numbered, begun-words}
+use borrow.Author.Needs.{needs}
+use Rattle.lent.proofs.fresh.begin.Statement.{statement}
+use Rattle.lent.proofs.fresh.begin.Tie as tie
+
+returns : tie.Need-returns
+returns c rows reads few n-is =
+    let d = c .before .before in
+    let words : Words = d .clear .last .0 in
+    let wide : length (d .before .before .before .args .m .now) ≡ 35 = d .before .clear-arg .given .0 .1 in
+    let cleared : words ≡ replicate 35 noWords = d .clear .ensures ∙ ap (λ (n : ℕ). replicate n noWords) wide in
+    let long : length (numbered words (d .before .before .before .args .n)) ≡ 35 = ap (λ (w : Words). length (numbered w (d .before .before .before .args .n))) cleared in
+    (refl, begun-words rows few words (c .put-rows .last .0) cleared
+    (subst (λ (n : ℕ). RowsPut (numbered words n) (after rows []) 32 (c .put-rows .last .0)) n-is (c .put-rows .ensures rows reads long)))
+
+pub begin-spec : {M : Type 1} → statement M
+begin-spec =
+    tie.close (tie.spec (λ c κs. search needs) (λ c. search needs) (λ c. search needs) (λ c. search needs) (λ c. search needs) (λ c. search needs) (λ c. search needs) (λ c κs. search needs) returns)

@@ -1,0 +1,16 @@
+-- The end is stored at the kind's place.
+use mathlib.Core.Path.{ap, _∙_}
+use mathlib.Core.List.{[]}
+use lib.ListN.{getD, set}
+use Rattle.lent.proofs.Lists.{end-written}
+use borrow.Author.Needs.{needs}
+use Rattle.lent.proofs.fresh.put_end.Statement.{statement}
+use Rattle.lent.proofs.fresh.put_end.Tie as tie
+
+returns : tie.Need-returns
+returns c h e s =
+    let a = c .args in
+    ap (λ m. set m 32 (set (getD m 32 []) 1 (set (getD (getD m 32 []) 1 []) (a .kind) (a .place)))) e ∙ end-written h s (a .kind) (a .place)
+
+pub put-end-spec : {M : Type 1} → statement M
+put-end-spec = tie.close (tie.spec (λ c. search needs) (λ c. search needs) (λ c. search needs) (λ c. search needs) returns)

@@ -1,0 +1,70 @@
+-- Row after row: before the turn of number i the first i are stored, and the others are read from the place on that the turn has.
+use Prim.Native.Nat.{ℕ, _-_, _≤_}
+use native.Mathlib.Omega.{arith}
+use mathlib.Core.Path.{_≡_, sym, ap, ap₂, subst, _∙_}
+use mathlib.Core.List.{List, []}
+use lib.ListN.{length, drop}
+use Rattle.constraint.specs.Table.{ReadsRows, ReadsTable, table-of}
+use Rattle.constraint.specs.declared.Constraint.{Constraint}
+use Rattle.table.proofs.Scanning.{scan-start}
+use Rattle.row.specs.Machine.{rowOf}
+use Rattle.row.specs.Undo.{noBefore}
+use Rattle.row.specs.Stored as Stored
+use Rattle.monitor.specs.Contract.{after}
+use Rattle.lent.specs.Fresh.{RowsPut}
+use Rattle.lent.proofs.Scanned.{scan-next, put-none, put-next}
+use Rattle.lent.proofs.Freshness.{row-is, kept-is}
+use Rattle.lent.proofs.fresh.put_rows.Statement.{statement}
+use Rattle.lent.proofs.fresh.put_rows.Tie as tie
+
+abbrev Inv-loop : tie.InvT-loop
+Inv-loop m₀ table place₀ i₀ m place i =
+    (i ≤ 32) × ((rows : List Constraint) → ReadsTable table (table-of rows) → length m₀ ≡ 35
+    → ReadsRows table i place (table-of (drop i rows)) × RowsPut m₀ (after rows []) i m)
+
+abbrev μ-loop : tie.MeasureT-loop
+μ-loop m₀ table place₀ i₀ m place i = 32 - i
+
+loop-holds : tie.Need-loop-holds Inv-loop μ-loop
+loop-holds c = (omega arith, λ rows reads long. (scan-start _ rows reads, put-none _ (after rows [])))
+
+row-at-requires : tie.Need-row-at-requires Inv-loop μ-loop
+row-at-requires c κs = tt
+
+mul-begin : tie.Need-mul-begin Inv-loop μ-loop
+mul-begin c = omega arith
+
+index-1-begin : tie.Need-index-1-begin Inv-loop μ-loop
+index-1-begin c = omega arith
+
+begin-requires : tie.Need-begin-requires Inv-loop μ-loop
+begin-requires c κs = tt
+
+add-i : tie.Need-add-i Inv-loop μ-loop
+add-i c = omega arith
+
+loop-less : tie.Need-loop-less Inv-loop μ-loop
+loop-less c = omega arith
+
+loop-again : tie.Need-loop-again Inv-loop μ-loop
+loop-again c =
+    let d = c .before .before in
+    let l = d .before .before .loop in (
+      omega arith,
+      λ rows reads long.
+          let so-far = l .inv .1 rows reads long in
+          let next = scan-next _ rows (l .i) (l .place) (d .row-at .result) (so-far .0) (d .row-at .ensures) in
+          let row = c .begin .ensures ∙ ap (λ (x : Constraint). Stored.wordsOf (rowOf x) noBefore) (next .0)
+              ∙ ap₂ Stored.wordsOf (sym (row-is rows (l .i))) (sym (kept-is rows (l .i))) in
+          (next .1, put-next _ (after rows []) (l .i) (l .m) (c .begin .last .0) (omega arith) (so-far .1) row),
+    )
+
+returns : tie.Need-returns Inv-loop μ-loop
+returns c rows reads long =
+    let l = c .before .loop in
+    let at-end : l .i ≡ 32 = omega arith in
+    subst (λ (k : ℕ). RowsPut (c .before .before .before .args .m .now) (after rows []) k (l .m)) at-end (l .inv .1 rows reads long .1)
+
+pub put-rows-spec : {M : Type 1} → statement M
+put-rows-spec =
+    tie.close (tie.spec Inv-loop μ-loop loop-holds row-at-requires mul-begin index-1-begin begin-requires add-i loop-less loop-again returns)

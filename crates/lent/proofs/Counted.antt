@@ -1,12 +1,11 @@
--- The numbers of a call that is taken are stored before its rows take the step: the words say the same of the rows then, and with the rows after the step they are the monitor after the
--- call.
+-- The numbers of a call that is taken are stored before its rows take the step: the words say the same of the rows then, and with the rows after
+-- the step they are the monitor after the call.
 use Prim.Native.Nat.{ℕ, _≤_}
 use native.Mathlib.Omega.{arith}
 use mathlib.Core.Path.{_≡_, refl, _∙_, ap₂}
 use mathlib.Core.List.{List}
 use lib.ListN.{length, getD}
 use Rattle.constraint.specs.Limits.{streamCount}
-use Rattle.constraint.specs.Streams.{stream}
 use Rattle.constraint.specs.declared.Call.{Call}
 use Rattle.row.specs.declared.Before.{Before}
 use Rattle.row.specs.declared.Occurrence.{Occurrence}
@@ -18,14 +17,15 @@ use Rattle.monitor.specs.declared.Monitor.{Monitor}
 use Rattle.monitor.proofs.First.{map-all, zip-all}
 use Rattle.lent.specs.Layout.{Lent, heldRows}
 use Rattle.lent.specs.Steps.{withMonitor, withRoom}
-use Rattle.lent.specs.Contract.{steppedFrom, numbers, Roomy, Indexes}
+use Rattle.lent.specs.Contract.{steppedFrom, Roomy, Indexes}
 use Rattle.lent.proofs.Hearing.{moved, saves}
 use Rattle.lent.proofs.Listing.{same-rows}
 
 -- ---- the numbers stored
 
 -- other numbers beside the rows, and less room, change nothing of what the words say
-module _ (h : Lent) (ix : Indexes h) (room : ℕ) (few : Roomy (withRoom h room)) (next : List ℕ) (wide : length next ≡ streamCount) (clock count closed : ℕ) (undo : Undo)
+module _ (h : Lent) (ix : Indexes h) (room : ℕ) (few : Roomy (withRoom h room)) (next : List ℕ) (wide : length next ≡ streamCount)
+    (clock count closed : ℕ) (undo : Undo)
     (marked : closed ≤ 1) (then-marked : undo .closed ≤ 1) where
   abbrev pub renumbered : Lent
   renumbered =
@@ -76,7 +76,8 @@ pub all-rows : (m : Monitor) (f : Row → Row) (s : Row → Before → Before) �
     → withRows m (mapFirst (heldRows m) f (m .rows)) (zipFirst (heldRows m) s (m .rows) (m .before))
     ≡ withRows m (mapFirst (m .len) f (m .rows)) (zipFirst (m .len) s (m .rows) (m .before))
 all-rows m f s whole =
-    ap₂ (withRows m) (map-all f (m .rows) (heldRows m) (m .len) (omega (arith, whole))) (zip-all s (m .rows) (m .before) (heldRows m) (m .len) (omega (arith, whole)))
+    ap₂ (withRows m) (map-all f (m .rows) (heldRows m) (m .len) (omega (arith, whole)))
+    (zip-all s (m .rows) (m .before) (heldRows m) (m .len) (omega (arith, whole)))
 
 -- ---- the answer
 

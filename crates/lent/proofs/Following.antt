@@ -17,7 +17,7 @@ use Rattle.row.specs.declared.Row.{Row}
 use Rattle.monitor.specs.Machine.{noRow, mapFirst, zipFirst, anyFirst}
 use Rattle.monitor.specs.Parts.{withRows}
 use Rattle.monitor.specs.declared.Monitor.{Monitor}
-use Rattle.monitor.proofs.First.{map-behind, zip-none, zip-behind, zip-next, zip-length}
+use Rattle.monitor.proofs.First.{map-behind, zip-none, zip-behind, zip-next}
 use Rattle.lent.specs.Layout.{Lent, rowAt, keptAt, dueAt}
 use Rattle.lent.specs.Steps.{withSoonest, withRow}
 use Rattle.lent.specs.Contract.{numbers}
@@ -60,7 +60,8 @@ pub map-twice : (f g : Row → Row) → ((r : Row) → f (g r) ≡ f r) → (n :
 unfolding mapFirst
 map-twice f g same zero rows = refl
 map-twice f g same (suc n) [] = refl
-map-twice f g same (suc n) (r ∷ rows) = ap (λ (x : Row). x ∷ mapFirst n f (mapFirst n g rows)) (same r) ∙ ap {B = List Row} (λ l. f r ∷ l) (map-twice f g same n rows)
+map-twice f g same (suc n) (r ∷ rows) =
+    ap (λ (x : Row). x ∷ mapFirst n f (mapFirst n g rows)) (same r) ∙ ap {B = List Row} (λ l. f r ∷ l) (map-twice f g same n rows)
 
 -- ---- what is kept of them
 
@@ -70,11 +71,13 @@ module _ (save : Row → Before → Before) where
   zip-more rows kept i there too = zip-next save rows kept i noRow noBefore there too ∙ ap (λ (n : ℕ). zipFirst n save rows kept) (add-one i)
 
   -- one that is left as it is
-  zip-rests : (rows : List Row) (kept : List Before) (i : ℕ) → i < length rows → i < length kept → save (getD rows i noRow) (getD kept i noBefore) ≡ getD kept i noBefore
+  zip-rests : (rows : List Row) (kept : List Before) (i : ℕ) → i < length rows → i < length kept → save (getD rows i noRow) (getD kept i noBefore)
+      ≡ getD kept i noBefore
       → zipFirst i save rows kept ≡ zipFirst (suc i) save rows kept
   zip-rests rows kept i there too e =
       let behind = zip-behind save rows kept i noBefore in
-      let same : save (getD rows i noRow) (getD (zipFirst i save rows kept) i noBefore) ≡ getD (zipFirst i save rows kept) i noBefore = ap (save (getD rows i noRow)) behind ∙ e ∙ sym behind in
+      let same : save (getD rows i noRow) (getD (zipFirst i save rows kept) i noBefore) ≡ getD (zipFirst i save rows kept) i noBefore =
+      ap (save (getD rows i noRow)) behind ∙ e ∙ sym behind in
       sym (set-getD (zipFirst i save rows kept) i noBefore) ∙ ap (set (zipFirst i save rows kept) i) (sym same) ∙ zip-more rows kept i there too
 
   pub zipped : (n i : ℕ) (rows : List Row) (kept : List Before) → i < n → i < length rows → i < length kept
@@ -86,14 +89,16 @@ module _ (save : Row → Before → Before) where
   zipped (suc n) zero (r ∷ rows) (b ∷ kept) l there too = refl
   zipped (suc n) (suc i) (r ∷ rows) (b ∷ kept) l there too = zipped n i rows kept (omega arith) (omega arith) (omega arith)
 
-pub zip-twice : (save t : Row → Before → Before) (g : Row → Row) → ((r : Row) (b : Before) → save (g r) (t r b) ≡ save r b) → (n : ℕ) (rows : List Row) (kept : List Before)
+pub zip-twice : (save t : Row → Before → Before) (g : Row → Row) → ((r : Row) (b : Before) → save (g r) (t r b) ≡ save r b)
+    → (n : ℕ) (rows : List Row) (kept : List Before)
     → zipFirst n save (mapFirst n g rows) (zipFirst n t rows kept) ≡ zipFirst n save rows kept
 unfolding mapFirst zipFirst
 zip-twice save t g same zero rows kept = refl
 zip-twice save t g same (suc n) [] kept = refl
 zip-twice save t g same (suc n) (r ∷ rows) [] = refl
 zip-twice save t g same (suc n) (r ∷ rows) (b ∷ kept) =
-    ap (λ (x : Before). x ∷ zipFirst n save (mapFirst n g rows) (zipFirst n t rows kept)) (same r b) ∙ ap {B = List Before} (λ l. save r b ∷ l) (zip-twice save t g same n rows kept)
+    ap (λ (x : Before). x ∷ zipFirst n save (mapFirst n g rows) (zipFirst n t rows kept)) (same r b)
+    ∙ ap {B = List Before} (λ l. save r b ∷ l) (zip-twice save t g same n rows kept)
 
 -- ---- rows one after the other
 
@@ -126,7 +131,8 @@ module _ (f : Row → Row) (save : Row → Before → Before) where
   row-more m x i there wide e =
       let kept : List Before = zipFirst i save (m .rows) (m .before) in
       ap (λ (y : Monitor). withRows y (set (y .rows) i (f (rowAt y i))) (set (y .before) i (save (rowAt y i) (keptAt y i)))) e
-      ∙ ap (λ (l : List Row). withRows m l (set kept i (save (getD (mapFirst i f (m .rows)) i noRow) (getD kept i noBefore)))) (one-more f i (m .rows) noRow)
+      ∙ ap (λ (l : List Row). withRows m l (set kept i (save (getD (mapFirst i f (m .rows)) i noRow) (getD kept i noBefore))))
+      (one-more f i (m .rows) noRow)
       ∙ ap (λ (r : Row). withRows m (mapFirst (suc i) f (m .rows)) (set kept i (save r (getD kept i noBefore)))) (map-behind f (m .rows) i noRow)
       ∙ ap (withRows m (mapFirst (suc i) f (m .rows))) (zip-more save (m .rows) (m .before) i there (omega (arith, there, wide)))
 
@@ -171,13 +177,15 @@ module _ (f : Row → Row) (save : Row → Before → Before) where
         let first : x .monitor .rows ≡ mapFirst n f rows = ap (λ (m : Monitor). m .rows) (so-far .monitor-is) in
         let before : rowAt (x .monitor) n ≡ row n = ap (λ (l : List Row). getD l n noRow) first ∙ map-behind f rows n noRow in
         let wide : length (x .monitor .rows) ≡ length rows = ap length first ∙ map-length f n rows in
-        let after : rowAt (visit x n .monitor) n ≡ f (row n) = getD-set-same (x .monitor .rows) n (f (rowAt (x .monitor) n)) noRow (omega (arith, there, wide)) ∙ ap f before in
+        let after : rowAt (visit x n .monitor) n ≡ f (row n) =
+        getD-set-same (x .monitor .rows) n (f (rowAt (x .monitor) n)) noRow (omega (arith, there, wide)) ∙ ap f before in
         let due : visit x n .soonest ≤ f (row n) .now .due = subst (λ (r : Row). visit x n .soonest ≤ r .now .due) after (omega arith) in
         let less : visit x n .soonest ≤ x .soonest = omega arith in
         record {
           monitor-is = row-more (h .monitor) (x .monitor) n there kept-there (so-far .monitor-is);
           not-later = omega (arith, less, so-far .not-later);
-          heeds = λ i l. below i n l (λ k. omega (arith, less, so-far .heeds i k)) (λ e. subst (λ (j : ℕ). visit x n .soonest ≤ f (row j) .now .due) (sym e) due);
+          heeds = λ i l. below i n l (λ k. omega (arith, less, so-far .heeds i k))
+              (λ e. subst (λ (j : ℕ). visit x n .soonest ≤ f (row j) .now .due) (sym e) due);
         }
 
     -- one more does not, and is left as it is
@@ -187,10 +195,14 @@ module _ (f : Row → Row) (save : Row → Before → Before) where
     rests : (n : ℕ) (x : Lent) → n < length rows → Rests n → Visited n x → Visited (suc n) x
     rests n x there same so-far =
         record {
-          monitor-is = so-far .monitor-is ∙ ap (λ (l : List Row). withRows (h .monitor) l (zipFirst n save rows kept)) (none-more f n rows noRow (same .0))
-              ∙ ap (withRows (h .monitor) (mapFirst (suc n) f rows)) (zip-rests save rows kept n there (omega (arith, there, kept-there)) (same .1 .0));
+          monitor-is = so-far .monitor-is ∙ ap (λ (l : List Row). withRows (h .monitor) l (zipFirst n save rows kept))
+              (none-more f n rows noRow (same .0))
+              ∙ ap (withRows (h .monitor) (mapFirst (suc n) f rows))
+              (zip-rests save rows kept n there (omega (arith, there, kept-there)) (same .1 .0));
           not-later = so-far .not-later;
-          heeds = λ i l. below i n l (so-far .heeds i) (λ e. subst (λ (j : ℕ). x .soonest ≤ f (row j) .now .due) (sym e) (subst (λ (r : Row). x .soonest ≤ r .now .due) (sym (same .0)) (omega (arith, same .1 .1, so-far .not-later))));
+          heeds = λ i l. below i n l (so-far .heeds i)
+              (λ e. subst (λ (j : ℕ). x .soonest ≤ f (row j) .now .due) (sym e)
+              (subst (λ (r : Row). x .soonest ≤ r .now .due) (sym (same .0)) (omega (arith, same .1 .1, so-far .not-later))));
         }
 
     pub visited : (n : ℕ) → n ≤ length rows → ((i : ℕ) → i < n → test i ≡ false → Rests i) → Visited n (visits h (numbers test n))
@@ -204,7 +216,8 @@ module _ (f : Row → Row) (save : Row → Before → Before) where
         let so-far = visited n (omega (arith, there)) (λ i l. others i (omega (arith, l))) in
         split (test n) (λ b. Visited (suc n) (visits h (numbers test n ++ cond b (n ∷ []) [])))
         (λ e. subst (Visited (suc n)) (sym (visits-last (numbers test n) h n)) (goes n (visits h (numbers test n)) (omega (arith, there)) so-far))
-        (λ e. subst (λ (l : List ℕ). Visited (suc n) (visits h l)) (sym (append-nil (numbers test n))) (rests n (visits h (numbers test n)) (omega (arith, there)) (others n (omega arith) e) so-far))
+        (λ e. subst (λ (l : List ℕ). Visited (suc n) (visits h l)) (sym (append-nil (numbers test n)))
+        (rests n (visits h (numbers test n)) (omega (arith, there)) (others n (omega arith) e) so-far))
 
 -- ---- by other functions that do the same
 
@@ -221,8 +234,11 @@ module _ (f g : Row → Row) (save keep : Row → Before → Before) (test : ℕ
       (λ e.
       let x : Lent = visits f save h (numbers test n) in
       let last = visits-last f save (numbers test n) h n in (
-        ap (λ (y : Lent). rowAt (y .monitor) j) last ∙ getD-set-other (x .monitor .rows) n j (f (rowAt (x .monitor) n)) noRow (λ same. omega (arith, same, l)) ∙ so-far .0,
-        ap (λ (y : Lent). keptAt (y .monitor) j) last ∙ getD-set-other (x .monitor .before) n j (save (rowAt (x .monitor) n) (keptAt (x .monitor) n)) noBefore (λ same. omega (arith, same, l)) ∙ so-far .1,
+        ap (λ (y : Lent). rowAt (y .monitor) j) last
+        ∙ getD-set-other (x .monitor .rows) n j (f (rowAt (x .monitor) n)) noRow (λ same. omega (arith, same, l)) ∙ so-far .0,
+        ap (λ (y : Lent). keptAt (y .monitor) j) last
+        ∙ getD-set-other (x .monitor .before) n j (save (rowAt (x .monitor) n) (keptAt (x .monitor) n)) noBefore (λ same. omega (arith, same, l))
+        ∙ so-far .1,
       ))
       (λ e. (
         ap (λ (l′ : List ℕ). rowAt (visits f save h l′ .monitor) j) (append-nil (numbers test n)) ∙ so-far .0,
@@ -230,12 +246,14 @@ module _ (f g : Row → Row) (save keep : Row → Before → Before) (test : ℕ
       ))
 
   pub visits-same : (n : ℕ) → ((i : ℕ) → i < n → test i ≡ true
-      → (f (rowAt (h .monitor) i) ≡ g (rowAt (h .monitor) i)) × (save (rowAt (h .monitor) i) (keptAt (h .monitor) i) ≡ keep (rowAt (h .monitor) i) (keptAt (h .monitor) i)))
+      → (f (rowAt (h .monitor) i) ≡ g (rowAt (h .monitor) i))
+      × (save (rowAt (h .monitor) i) (keptAt (h .monitor) i) ≡ keep (rowAt (h .monitor) i) (keptAt (h .monitor) i)))
       → visits f save h (numbers test n) ≡ visits g keep h (numbers test n)
   visits-same zero same = refl
   visits-same (suc n) same =
       let so-far = visits-same n (λ i l. same i (omega (arith, l))) in
-      split (test n) (λ b. test n ≡ b → visits f save h (numbers test n ++ cond b (n ∷ []) []) ≡ visits g keep h (numbers test n ++ cond b (n ∷ []) []))
+      split (test n) (λ b. test n ≡ b → visits f save h (numbers test n ++ cond b (n ∷ []) [])
+      ≡ visits g keep h (numbers test n ++ cond b (n ∷ []) []))
       (λ _ e.
       let x : Lent = visits f save h (numbers test n) in
       let there = behind n n (omega arith) in
@@ -267,15 +285,18 @@ any-suc : (f : Row → Bool) (rows : List Row) (n : ℕ) (d : Row) → n < lengt
 unfolding anyFirst
 any-suc f [] n d l = absurd (not-suc-le-zero l)
 any-suc f (r ∷ rows) zero d l = or-none (f r)
-any-suc f (r ∷ rows) (suc n) d l = ap (λ (b : Bool). f r || b) (any-suc f rows n d (le-of-suc-le-suc l)) ∙ or-assoc (f r) (anyFirst n f rows) (f (getD rows n d))
+any-suc f (r ∷ rows) (suc n) d l =
+    ap (λ (b : Bool). f r || b) (any-suc f rows n d (le-of-suc-le-suc l)) ∙ or-assoc (f r) (anyFirst n f rows) (f (getD rows n d))
 
 -- where none has the mark, row i has it not
-pub any-none : (f : Row → Bool) (n i : ℕ) (rows : List Row) (d : Row) → anyFirst n f rows ≡ false → i < n → i < length rows → f (getD rows i d) ≡ false
+pub any-none : (f : Row → Bool) (n i : ℕ) (rows : List Row) (d : Row) → anyFirst n f rows ≡ false → i < n → i < length rows → f (getD rows i d)
+    ≡ false
 unfolding anyFirst
 any-none f zero i rows d e l there = absurd (omega (arith, l))
 any-none f (suc n) i [] d e l there = absurd (omega (arith, there))
 any-none f (suc n) zero (r ∷ rows) d e l there = or-false (f r) (anyFirst n f rows) e .0
-any-none f (suc n) (suc i) (r ∷ rows) d e l there = any-none f n i rows d (or-false (f r) (anyFirst n f rows) e .1) (omega (arith, l)) (omega (arith, there))
+any-none f (suc n) (suc i) (r ∷ rows) d e l there =
+    any-none f n i rows d (or-false (f r) (anyFirst n f rows) e .1) (omega (arith, l)) (omega (arith, there))
 
 module _ (q : ℕ → Bool) where
   abbrev pub anyIn : List ℕ → Bool
@@ -296,11 +317,14 @@ any-same p q test (suc n) same =
     (λ e. ap (anyIn p) (append-nil (numbers test n)) ∙ so-far ∙ ap (anyIn q) (sym (append-nil (numbers test n))))
 
 -- a mark that only rows have that pass the test
-pub any-numbers : (mark : Row → Bool) (test : ℕ → Bool) (rows : List Row) (n : ℕ) → n ≤ length rows → ((i : ℕ) → i < n → test i ≡ false → mark (getD rows i noRow) ≡ false)
+pub any-numbers : (mark : Row → Bool) (test : ℕ → Bool) (rows : List Row) (n : ℕ) → n ≤ length rows
+    → ((i : ℕ) → i < n → test i ≡ false → mark (getD rows i noRow) ≡ false)
     → anyIn (λ i. mark (getD rows i noRow)) (numbers test n) ≡ anyFirst n mark rows
 any-numbers mark test rows zero there others = sym (none-crowded mark rows)
 any-numbers mark test rows (suc n) there others =
     let so-far = any-numbers mark test rows n (omega (arith, there)) (λ i l. others i (omega (arith, l))) in
     split (test n) (λ b. anyIn (λ i. mark (getD rows i noRow)) (numbers test n ++ cond b (n ∷ []) []) ≡ anyFirst (suc n) mark rows)
-    (λ e. any-last (λ i. mark (getD rows i noRow)) (numbers test n) n ∙ ap (λ (b : Bool). b || mark (getD rows n noRow)) so-far ∙ sym (any-suc mark rows n noRow (omega (arith, there))))
-    (λ e. ap (anyIn (λ i. mark (getD rows i noRow))) (append-nil (numbers test n)) ∙ so-far ∙ sym (or-none (anyFirst n mark rows)) ∙ ap (λ (b : Bool). anyFirst n mark rows || b) (sym (others n (omega arith) e)) ∙ sym (any-suc mark rows n noRow (omega (arith, there))))
+    (λ e. any-last (λ i. mark (getD rows i noRow)) (numbers test n) n ∙ ap (λ (b : Bool). b || mark (getD rows n noRow)) so-far
+    ∙ sym (any-suc mark rows n noRow (omega (arith, there))))
+    (λ e. ap (anyIn (λ i. mark (getD rows i noRow))) (append-nil (numbers test n)) ∙ so-far ∙ sym (or-none (anyFirst n mark rows))
+    ∙ ap (λ (b : Bool). anyFirst n mark rows || b) (sym (others n (omega arith) e)) ∙ sym (any-suc mark rows n noRow (omega (arith, there))))

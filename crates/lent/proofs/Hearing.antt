@@ -1,6 +1,6 @@
--- A step of a row is what the clock and the close do to it, and then what an event does that concerns it: a row that is not concerned is changed by the first part alone, and one that
--- is hears the event, as it has room and is broken or in time.
-use Prim.Native.Nat.{ℕ, _<_, _≤_}
+-- A step of a row is what the clock and the close do to it, and then what an event does that concerns it: a row that is not concerned is changed
+-- by the first part alone, and one that is hears the event, as it has room and is broken or in time.
+use Prim.Native.Nat.{ℕ, _<_}
 use native.Mathlib.Omega.{arith}
 use mathlib.Core.Path.{_≡_, refl, sym, _∙_, ap, subst}
 use mathlib.Core.Bool.{Bool, true, false, cond, _&&_}
@@ -34,7 +34,8 @@ same-rule R false x y e f = f
 changed-rule : (r : Row) (change : Change) (number : ℕ) → changedRow r change number .row .rule ≡ r .rule
 unfolding changedRow brokenRow applied
 changed-rule r change number =
-    same-rule (r .rule) (change .breaks) (stays (brokenRow r number)) (cond (ltb waitingLimit (length (changed (change .edit) (itemsOf r)))) (crowding r) (stays (applied r change))) refl
+    same-rule (r .rule) (change .breaks) (stays (brokenRow r number))
+    (cond (ltb waitingLimit (length (changed (change .edit) (itemsOf r)))) (crowding r) (stays (applied r change))) refl
     (same-rule (r .rule) (ltb waitingLimit (length (changed (change .edit) (itemsOf r)))) (crowding r) (stays (applied r change)) refl refl)
 
 pub rule-stays : (r : Row) (o : Occurrence) (number : ℕ) → rowStep r o number .row .rule ≡ r .rule
@@ -62,7 +63,8 @@ unfolding brokenRow
 is-broken r number h = lt-ltb 0 number h
 
 -- one that is not concerned moves where the clock or the close goes to it
-same-tests : (broken late closes : Bool) → cond broken false (cond late true (cond closes true false)) ≡ cond broken false (cond late true (cond closes (cond false false true) false))
+same-tests : (broken late closes : Bool) → cond broken false (cond late true (cond closes true false))
+    ≡ cond broken false (cond late true (cond closes (cond false false true) false))
 same-tests true late closes = refl
 same-tests false true closes = refl
 same-tests false false true = refl
@@ -82,17 +84,20 @@ unfolding endsBy
 no-ends r o not-closed in-time = rw (in-time, not-closed) (no-ends-by (ltb 0 (r .now .broken)))
 
 -- one that is not broken is in time where they do not
-in-time-by : (broken late closes own : Bool) → broken ≡ false → cond broken false (cond late true (cond closes (cond own false true) false)) ≡ false → late ≡ false
+in-time-by : (broken late closes own : Bool) → broken ≡ false → cond broken false (cond late true (cond closes (cond own false true) false)) ≡ false
+    → late ≡ false
 in-time-by true late closes own b e = both b
 in-time-by false true closes own b e = both e
 in-time-by false false closes own b e = refl
 
-open-in-time : (r : Row) (o : Occurrence) → ltb 0 (r .now .broken) ≡ false → endsBy (r .rule) (r .now) o ≡ false → ltb (r .now .due) (o .time) ≡ false
+open-in-time : (r : Row) (o : Occurrence) → ltb 0 (r .now .broken) ≡ false → endsBy (r .rule) (r .now) o ≡ false → ltb (r .now .due) (o .time)
+    ≡ false
 unfolding endsBy
 open-in-time r o unbroken e = in-time-by (ltb 0 (r .now .broken)) (ltb (r .now .due) (o .time)) (o .closes) (concerns (r .rule) (o .kind)) unbroken e
 
 -- one that is concerned is overdue where they do
-overdue-by : (broken late closes own : Bool) → own ≡ true → cond broken false (cond late true (cond closes (cond own false true) false)) ≡ true → late ≡ true
+overdue-by : (broken late closes own : Bool) → own ≡ true → cond broken false (cond late true (cond closes (cond own false true) false)) ≡ true
+    → late ≡ true
 overdue-by true late closes own c e = both (sym e)
 overdue-by false true closes own c e = refl
 overdue-by false false true true c e = both (sym e)
@@ -135,10 +140,12 @@ module _ (o : Occurrence) (number : ℕ) where
 
   pub saved-late : (r : Row) (b : Before) → endedSaves o number r b ≡ late-saves r b
   saved-late r b =
-      split (ends r) (λ z. ends r ≡ z → cond z (savedAt r 0 number) b ≡ cond z (saves r b) b) (λ _ e. sym (saved-ended r o number b e)) (λ _ e. refl) refl
+      split (ends r) (λ z. ends r ≡ z → cond z (savedAt r 0 number) b ≡ cond z (saves r b) b) (λ _ e. sym (saved-ended r o number b e))
+      (λ _ e. refl) refl
 
   -- the row is broken by it, or left as it is
-  by-state : (r : Row) (a b : Bool) → rowFrom (r .rule) (r .times) (cond a (brokenState number) (cond b (brokenState number) (r .now))) ≡ brokenRow r number ⊎ rowFrom (r .rule) (r .times) (cond a (brokenState number) (cond b (brokenState number) (r .now))) ≡ r
+  by-state : (r : Row) (a b : Bool) → rowFrom (r .rule) (r .times) (cond a (brokenState number) (cond b (brokenState number) (r .now)))
+      ≡ brokenRow r number ⊎ rowFrom (r .rule) (r .times) (cond a (brokenState number) (cond b (brokenState number) (r .now))) ≡ r
   unfolding brokenRow
   by-state r true b = inl refl
   by-state r false true = inl refl
@@ -147,19 +154,24 @@ module _ (o : Occurrence) (number : ℕ) where
   either-way : (r : Row) → ends r ≡ true → (moved r ≡ brokenRow r number) ⊎ (moved r ≡ r)
   unfolding endedState
   either-way r e =
-      ⊎-elim (λ broken. inl (step-ended r o number e ∙ broken)) (λ same. inr (step-ended r o number e ∙ same)) (by-state r (ltb (r .now .due) (o .time)) (eqb (r .now .kept) 0))
+      ⊎-elim (λ broken. inl (step-ended r o number e ∙ broken)) (λ same. inr (step-ended r o number e ∙ same))
+      (by-state r (ltb (r .now .due) (o .time)) (eqb (r .now .kept) 0))
 
   once : (r : Row) → 0 < number → ends r ≡ true → moved (moved r) ≡ moved r
   once r h e =
-      ⊎-elim (λ broken. ap moved broken ∙ broken-stays (brokenRow r number) o number (is-broken r number h) ∙ sym broken) (λ same. ap moved same) (either-way r e)
+      ⊎-elim (λ broken. ap moved broken ∙ broken-stays (brokenRow r number) o number (is-broken r number h) ∙ sym broken) (λ same. ap moved same)
+      (either-way r e)
 
   saves-twice : (r : Row) (b : Before) → saves r (saves r b) ≡ saves r b
   unfolding savedBy
-  saves-twice r b = split (movesBy (r .rule) (r .now) o) (λ z. cond z (savedRow r o number) (cond z (savedRow r o number) b) ≡ cond z (savedRow r o number) b) (λ _. refl) (λ _. refl)
+  saves-twice r b =
+      split (movesBy (r .rule) (r .now) o) (λ z. cond z (savedRow r o number) (cond z (savedRow r o number) b) ≡ cond z (savedRow r o number) b)
+      (λ _. refl) (λ _. refl)
 
   saves-once : (r : Row) (b : Before) → 0 < number → ends r ≡ true → saves (moved r) (saves r b) ≡ saves r b
   saves-once r b h e =
-      ⊎-elim (λ broken. ap (λ (x : Row). saves x (saves r b)) broken ∙ broken-unsaved (brokenRow r number) o number (saves r b) (is-broken r number h))
+      ⊎-elim (λ broken. ap (λ (x : Row). saves x (saves r b)) broken
+      ∙ broken-unsaved (brokenRow r number) o number (saves r b) (is-broken r number h))
       (λ same. ap (λ (x : Row). saves x (saves r b)) same ∙ saves-twice r b) (either-way r e)
 
   -- to do that part beforehand makes no difference
@@ -173,7 +185,8 @@ module _ (o : Occurrence) (number : ℕ) where
   -- then a row that is not concerned is left as it is
   pub late-still : 0 < number → (r : Row) → concerns (r .rule) (o .kind) ≡ false → moved (late r) ≡ late r
   late-still h r out =
-      split (ends r) (λ b. ends r ≡ b → moved (cond b (moved r) r) ≡ cond b (moved r) r) (λ _ e. once r h e) (λ _ e. still r o number (unconcerned r o out ∙ e)) refl
+      split (ends r) (λ b. ends r ≡ b → moved (cond b (moved r) r) ≡ cond b (moved r) r) (λ _ e. once r h e)
+      (λ _ e. still r o number (unconcerned r o out ∙ e)) refl
 
   pub unsaved : (r : Row) (b : Before) → movesBy (r .rule) (r .now) o ≡ false → saves r b ≡ b
   unfolding savedBy
@@ -187,7 +200,8 @@ module _ (o : Occurrence) (number : ℕ) where
   -- ---- a row that hears the event
 
   -- what it hears is its step, where it is concerned and has room, and is broken or in time
-  pub heard-moved : (r : Row) → concerns (r .rule) (o .kind) ≡ true → (ltb 0 (r .now .broken) ≡ false → (ltb (r .now .due) (o .time) ≡ false) × (crowds o r ≡ false))
+  pub heard-moved : (r : Row) → concerns (r .rule) (o .kind) ≡ true
+      → (ltb 0 (r .now .broken) ≡ false → (ltb (r .now .due) (o .time) ≡ false) × (crowds o r ≡ false))
       → (eventRow o number r ≡ moved r) × ((b : Before) → eventSaves o number r b ≡ saves r b)
   heard-moved r concerned when-open =
       split (ltb 0 (r .now .broken))
@@ -198,22 +212,27 @@ module _ (o : Occurrence) (number : ℕ) where
       ))
       (λ _ e.
       let so = when-open e in (
-        ap (λ (z : Bool). cond z (heardRow r o number) r) (is-zero (r .now .broken) e) ∙ sym (step-heard r o number e (so .0) concerned (step-crowds r o number ∙ so .1)),
+        ap (λ (z : Bool). cond z (heardRow r o number) r) (is-zero (r .now .broken) e)
+        ∙ sym (step-heard r o number e (so .0) concerned (step-crowds r o number ∙ so .1)),
         λ b. ap (λ (z : Bool). cond z (heardBefore r o number) b) (is-zero (r .now .broken) e) ∙ sym (saved-heard r o number e (so .0) concerned b),
       )) refl
 
   now-broken : (r : Row) → 0 < number → concerns (r .rule) (o .kind) ≡ true → ends r ≡ true → ltb 0 (moved r .now .broken) ≡ true
   unfolding endedState brokenRow
   now-broken r h concerned e =
-      subst (λ (x : Row). ltb 0 (x .now .broken) ≡ true) (sym (step-ended r o number e ∙ ap (λ (z : Bool). rowFrom (r .rule) (r .times) (cond z (brokenState number) (cond (eqb (r .now .kept) 0) (brokenState number) (r .now)))) (overdue r o concerned e)))
+      subst (λ (x : Row). ltb 0 (x .now .broken) ≡ true)
+      (sym (step-ended r o number e ∙ ap (λ (z : Bool). rowFrom (r .rule) (r .times)
+      (cond z (brokenState number) (cond (eqb (r .now .kept) 0) (brokenState number) (r .now)))) (overdue r o concerned e)))
       (lt-ltb 0 number h)
 
   -- so too after that part
   pub heard-late : 0 < number → (r : Row) → concerns (r .rule) (o .kind) ≡ true → crowds o r ≡ false
       → (eventRow o number (late r) ≡ moved (late r)) × ((b : Before) → eventSaves o number (late r) b ≡ saves (late r) b)
   heard-late h r concerned room =
-      split (ends r) (λ z. ends r ≡ z → (eventRow o number (cond z (moved r) r) ≡ moved (cond z (moved r) r)) × ((b : Before) → eventSaves o number (cond z (moved r) r) b ≡ saves (cond z (moved r) r) b))
-      (λ _ e. heard-moved (moved r) (ap (λ (rule : Rule). concerns rule (o .kind)) (rule-stays r o number) ∙ concerned) (λ unbroken. both (sym (now-broken r h concerned e) ∙ unbroken)))
+      split (ends r) (λ z. ends r ≡ z → (eventRow o number (cond z (moved r) r) ≡ moved (cond z (moved r) r))
+      × ((b : Before) → eventSaves o number (cond z (moved r) r) b ≡ saves (cond z (moved r) r) b))
+      (λ _ e. heard-moved (moved r) (ap (λ (rule : Rule). concerns rule (o .kind)) (rule-stays r o number) ∙ concerned)
+      (λ unbroken. both (sym (now-broken r h concerned e) ∙ unbroken)))
       (λ _ e. heard-moved r concerned (λ unbroken. (open-in-time r o unbroken e, room))) refl
 
 -- one that is not concerned is not crowded

@@ -1,6 +1,6 @@
--- What a call and a withdrawal leave of the words of a monitor is what the monitor's step makes of it, and of that the words say what is so: by the kind of the call, where no question
--- refuses it.
-use Prim.Native.Nat.{ℕ, zero, suc, _-_, _<_}
+-- What a call and a withdrawal leave of the words of a monitor is what the monitor's step makes of it, and of that the words say what is so: by
+-- the kind of the call, where no question refuses it.
+use Prim.Native.Nat.{ℕ, zero, suc, _<_}
 use native.Mathlib.Omega.{arith}
 use mathlib.Core.Path.{_≡_, refl, sym, ap, ap₂, subst}
 use mathlib.Core.Bool.{Bool, true, false, cond}
@@ -52,7 +52,8 @@ module _ (h : Lent) (ix : Indexes h) where
   going call e = not-closed (m .closed) (leb lastCount (m .count)) (ownRefusal call (m .clock) (nextFor m call)) e
 
   at-place : (o : Occurrence) (s time : ℕ) → s < streamCount
-      → takenFrom m o (cond (ltb s streamCount) s 0) (set (m .next) (cond (ltb s streamCount) s 0) (plus time 1)) (m .closed) ≡ takenFrom m o s (set (m .next) s (plus time 1)) (m .closed)
+      → takenFrom m o (cond (ltb s streamCount) s 0) (set (m .next) (cond (ltb s streamCount) s 0) (plus time 1)) (m .closed)
+      ≡ takenFrom m o s (set (m .next) s (plus time 1)) (m .closed)
   at-place o s time l = ap (λ (b : Bool). takenFrom m o (cond b s 0) (set (m .next) (cond b s 0) (plus time 1)) (m .closed)) (lt-ltb s streamCount l)
 
   taken-event : (kind time : ℕ) → kind < streamCount
@@ -61,7 +62,8 @@ module _ (h : Lent) (ix : Indexes h) where
   taken-event kind time l = at-place (eventAt kind time) kind time l
 
   taken-coloured : (kind colour time : ℕ) → stream kind colour < streamCount
-      → takenCall m (Call.ColouredEvent kind colour time) ≡ takenFrom m (eventAt (stream kind colour) time) (stream kind colour) (set (m .next) (stream kind colour) (plus time 1)) (m .closed)
+      → takenCall m (Call.ColouredEvent kind colour time)
+      ≡ takenFrom m (eventAt (stream kind colour) time) (stream kind colour) (set (m .next) (stream kind colour) (plus time 1)) (m .closed)
   unfolding takenCall
   taken-coloured kind colour time l = at-place (eventAt (stream kind colour) time) (stream kind colour) time l
 
@@ -77,28 +79,35 @@ module _ (h : Lent) (ix : Indexes h) where
   answered (Call.Event kind time) e =
       let rest = cond (leb firstColoured kind) 19 (timeRefusal time (m .clock) (nextFor m (Call.Event kind time))) in
       let small = no-further (ltb lastKind kind) 9 rest (omega arith) (own (Call.Event kind time) e) in
-      let plain = leb-false firstColoured kind (no-further (leb firstColoured kind) 19 (timeRefusal time (m .clock) (nextFor m (Call.Event kind time))) (omega arith) (small .1) .0) in
-      on-stream h ix (Call.Event kind time) kind kind time (omega (arith, plain)) (plain-kind kind (omega (arith, plain))) refl (taken-event kind time (omega (arith, plain)))
+      let plain = leb-false firstColoured kind (no-further (leb firstColoured kind) 19
+      (timeRefusal time (m .clock) (nextFor m (Call.Event kind time))) (omega arith) (small .1) .0) in
+      on-stream h ix (Call.Event kind time) kind kind time (omega (arith, plain)) (plain-kind kind (omega (arith, plain))) refl
+      (taken-event kind time (omega (arith, plain)))
   answered (Call.ColouredEvent kind colour time) e =
       let last = timeRefusal time (m .clock) (nextFor m (Call.ColouredEvent kind colour time)) in
-      let small = no-further (ltb lastKind kind) 9 (cond (ltb kind firstColoured) 19 (cond (ltb lastColour colour) 19 last)) (omega arith) (own (Call.ColouredEvent kind colour time) e) in
+      let small = no-further (ltb lastKind kind) 9 (cond (ltb kind firstColoured) 19 (cond (ltb lastColour colour) 19 last)) (omega arith)
+      (own (Call.ColouredEvent kind colour time) e) in
       let coloured = no-further (ltb kind firstColoured) 19 (cond (ltb lastColour colour) 19 last) (omega arith) (small .1) in
       let few = ltb-false lastColour colour (no-further (ltb lastColour colour) 19 last (omega arith) (coloured .1) .0) in
       let below = ltb-false lastKind kind (small .0) in
-      on-stream h ix (Call.ColouredEvent kind colour time) kind (stream kind colour) time (omega (arith, below)) (stream-kind kind colour (ltb-false kind firstColoured (coloured .0)) few) refl
+      on-stream h ix (Call.ColouredEvent kind colour time) kind (stream kind colour) time (omega (arith, below))
+      (stream-kind kind colour (ltb-false kind firstColoured (coloured .0)) few) refl
       (taken-coloured kind colour time (stream-below kind colour below few))
-  answered (Call.Tick time) e = on-tick h ix (Call.Tick time) (tickAt time) refl refl 0 (omega arith) (taken-tick time (going (Call.Tick time) e)) refl
+  answered (Call.Tick time) e =
+      on-tick h ix (Call.Tick time) (tickAt time) refl refl 0 (omega arith) (taken-tick time (going (Call.Tick time) e)) refl
   answered Call.Close e = on-close h ix Call.Close (closeAt (m .clock)) refl refl 1 (omega arith) taken-close
 
   -- refused or not
   by-refusal : (call : Call) (number : ℕ) → refusalOf h call ≡ number
-      → (steppedFrom (cond (ltb 0 number) number (answerTo h call)) (cond (ltb 0 number) h (leftAfter h call) .monitor) ≡ steppedBy m call number) × Indexes (cond (ltb 0 number) h (leftAfter h call))
+      → (steppedFrom (cond (ltb 0 number) number (answerTo h call)) (cond (ltb 0 number) h (leftAfter h call) .monitor) ≡ steppedBy m call number)
+      × Indexes (cond (ltb 0 number) h (leftAfter h call))
   by-refusal call zero e = answered call e
   by-refusal call (suc number) e = rw (lt-ltb 0 (suc number) (omega arith)) (refl, ix)
 
   -- ---- a withdrawal
 
-  by-may : (b : Bool) → (steppedFrom (cond b 0 21) (cond b (withdrawnLent h) h .monitor) ≡ cond b (takes (withdrawn m)) (refuses 21 m)) × Indexes (cond b (withdrawnLent h) h)
+  by-may : (b : Bool) → (steppedFrom (cond b 0 21) (cond b (withdrawnLent h) h .monitor) ≡ cond b (takes (withdrawn m)) (refuses 21 m))
+      × Indexes (cond b (withdrawnLent h) h)
   by-may true = (ap takes (withdrawn-is h (ix .shaped .rows-there) (ix .shaped .kept-there)), withdrawn-indexes h ix)
   by-may false = (refl, ix)
 

@@ -1,5 +1,5 @@
--- A call goes to the rows of its kind, after the clock and the close have done their part. Where the lists are the monitor's that is the step of all rows: a row that is not listed is
--- not concerned, so that it is changed by that part alone; one that is hears the event, as it has room.
+-- A call goes to the rows of its kind, after the clock and the close have done their part. Where the lists are the monitor's that is the step of
+-- all rows: a row that is not listed is not concerned, so that it is changed by that part alone; one that is hears the event, as it has room.
 use Prim.Native.Nat.{ℕ, zero, suc, _+_, _-_, _%_, _<_, _≤_, min}
 use native.Mathlib.Omega.{arith}
 use mathlib.Core.Path.{_≡_, refl, sym, _∙_, ap, ap₂, subst}
@@ -9,11 +9,10 @@ use lib.ListN.{length, getD}
 use lib.Dec.{ltb}
 use borrow.Author.Tests.{le-ltb, ltb-true, ltb-false}
 use Rattle.constraint.specs.Limits.{waitingLimit}
-use Rattle.constraint.proofs.Lists.{split, both}
+use Rattle.constraint.proofs.Lists.{split}
 use Rattle.machine.specs.declared.Rule.{Rule}
 use Rattle.row.specs.Machine.{concerns, noEvent}
 use Rattle.row.specs.Undo.{noBefore, movesBy}
-use Rattle.row.specs.Apart.{endsBy}
 use Rattle.row.specs.Stored.{eventRow, eventSaves, endedRow, endedSaves}
 use Rattle.row.specs.declared.Before.{Before}
 use Rattle.row.specs.declared.Occurrence.{Occurrence}
@@ -25,12 +24,14 @@ use Rattle.monitor.specs.Machine.{noRow, mapFirst, zipFirst}
 use Rattle.monitor.specs.Parts.{withRows}
 use Rattle.monitor.proofs.First.{zip-length}
 use Rattle.monitor.specs.declared.Monitor.{Monitor}
-use Rattle.lent.specs.Layout.{Lent, Shaped, rowNamed, startOf, endOf, heldRows, rowAt, keptAt, dueAt}
+use Rattle.lent.specs.Layout.{Lent, rowNamed, startOf, heldRows, rowAt, keptAt, dueAt}
 use Rattle.lent.specs.Steps.{withSoonest, visitAt, visited, ended, soonestOf, rowCount, soonestAll, passed, begun}
 use Rattle.lent.specs.Contract.{namedRows, rowsOf, numbers, isOf, takenIn, Roomy, Sound, Indexes}
 use Rattle.lent.proofs.Following as Following
-use Rattle.lent.proofs.Following.{mapped, map-length, map-twice, zipped, zip-twice, row-none, row-more, visits, visits-last, visits-beside, visits-same, Visited, WithLists, Beside, same-beside}
-use Rattle.lent.proofs.Hearing.{rule-stays, unconcerned, no-ends, moved, late, saves, late-saves, ended-late, saved-late, late-first, late-saves-first, late-still, unsaved, late-unsaved, heard-moved, heard-late}
+use Rattle.lent.proofs.Following.{mapped, map-length, map-twice, zipped, zip-twice, row-none, row-more, visits, visits-last, visits-beside}
+use Rattle.lent.proofs.Following.{visits-same, Beside, same-beside}
+use Rattle.lent.proofs.Hearing.{rule-stays, unconcerned, no-ends, moved, late, saves, late-saves, ended-late, saved-late, late-first}
+use Rattle.lent.proofs.Hearing.{late-saves-first, late-still, unsaved, late-unsaved, heard-moved, heard-late}
 
 -- ---- the rows that are listed
 
@@ -70,23 +71,29 @@ ended-beside h (suc n) o number =
 
 module _ (h : Lent) (o : Occurrence) (number : ℕ) (wide : length (h .monitor .before) ≡ length (h .monitor .rows)) where
   ended-each : (n : ℕ) → n ≤ length (h .monitor .rows) → ended h n o number .monitor
-      ≡ withRows (h .monitor) (mapFirst n (endedRow o number) (h .monitor .rows)) (zipFirst n (endedSaves o number) (h .monitor .rows) (h .monitor .before))
+      ≡ withRows (h .monitor) (mapFirst n (endedRow o number) (h .monitor .rows))
+      (zipFirst n (endedSaves o number) (h .monitor .rows) (h .monitor .before))
   ended-each zero l = row-none (endedRow o number) (endedSaves o number) (h .monitor)
   ended-each (suc n) l =
-      row-more (endedRow o number) (endedSaves o number) (h .monitor) (ended h n o number .monitor) n (omega (arith, l)) wide (ended-each n (omega (arith, l)))
+      row-more (endedRow o number) (endedSaves o number) (h .monitor) (ended h n o number .monitor) n (omega (arith, l)) wide
+      (ended-each n (omega (arith, l)))
 
   ended-rows : (n : ℕ) → n ≤ length (h .monitor .rows) → ended h n o number .monitor
-      ≡ withRows (h .monitor) (mapFirst n (late o number) (h .monitor .rows)) (zipFirst n (late-saves o number) (h .monitor .rows) (h .monitor .before))
+      ≡ withRows (h .monitor) (mapFirst n (late o number) (h .monitor .rows))
+      (zipFirst n (late-saves o number) (h .monitor .rows) (h .monitor .before))
   ended-rows n l =
       ended-each n l
-      ∙ (λ j. withRows (h .monitor) (mapFirst n (λ r. ended-late o number r j) (h .monitor .rows)) (zipFirst n (λ r b. saved-late o number r b j) (h .monitor .rows) (h .monitor .before)))
+      ∙ (λ j. withRows (h .monitor) (mapFirst n (λ r. ended-late o number r j) (h .monitor .rows))
+      (zipFirst n (λ r b. saved-late o number r b j) (h .monitor .rows) (h .monitor .before)))
 
 -- no row is due before the soonest due time
 soonest-least : (rows : List Row) (n i : ℕ) → i < n → soonestOf rows n ≤ getD rows i noRow .now .due
 soonest-least rows zero i l = absurd (omega (arith, l))
 soonest-least rows (suc n) i l =
-    split (ltb i n) (λ b. ltb i n ≡ b → soonestOf rows (suc n) ≤ getD rows i noRow .now .due) (λ _ e. omega (arith, soonest-least rows n i (ltb-true i n e)))
-    (λ _ e. let same : n ≡ i = omega (arith, l, ltb-false i n e) in subst (λ (j : ℕ). soonestOf rows (suc n) ≤ getD rows j noRow .now .due) same (omega arith)) refl
+    split (ltb i n) (λ b. ltb i n ≡ b → soonestOf rows (suc n) ≤ getD rows i noRow .now .due)
+    (λ _ e. omega (arith, soonest-least rows n i (ltb-true i n e)))
+    (λ _ e. let same : n ≡ i = omega (arith, l, ltb-false i n e) in
+    subst (λ (j : ℕ). soonestOf rows (suc n) ≤ getD rows j noRow .now .due) same (omega arith)) refl
 
 zip-nothing : (n : ℕ) (rows : List Row) (kept : List Before) → zipFirst n (λ r b. b) rows kept ≡ kept
 unfolding zipFirst
@@ -151,30 +158,39 @@ module _ (c : Lent) (ix : Indexes c) (o : Occurrence) (above : 0 < c .monitor .c
         → x .monitor ≡ withRows m (mapFirst n g (m .rows)) (zipFirst n t (m .rows) (m .before))
         → ((r : Row) → step (g r) ≡ step r) → ((r : Row) (b : Before) → save (g r) (t r b) ≡ save r b)
         → ((i : ℕ) → i < n → test i ≡ false
-        → (step (g (rowAt m i)) ≡ g (rowAt m i)) × ((save (g (rowAt m i)) (t (rowAt m i) (keptAt m i)) ≡ t (rowAt m i) (keptAt m i)) × (x .soonest ≤ g (rowAt m i) .now .due)))
-        → ((i : ℕ) → i < n → test i ≡ true → (hear (g (rowAt m i)) ≡ step (g (rowAt m i))) × ((b : Before) → hear-save (g (rowAt m i)) b ≡ save (g (rowAt m i)) b))
+        → (step (g (rowAt m i)) ≡ g (rowAt m i)) × ((save (g (rowAt m i)) (t (rowAt m i) (keptAt m i)) ≡ t (rowAt m i) (keptAt m i))
+        × (x .soonest ≤ g (rowAt m i) .now .due)))
+        → ((i : ℕ) → i < n → test i ≡ true → (hear (g (rowAt m i)) ≡ step (g (rowAt m i)))
+        × ((b : Before) → hear-save (g (rowAt m i)) b ≡ save (g (rowAt m i)) b))
         → Stepped (list-heard x)
     list-steps x g t same made no-matter nor-kept others own =
         let rows-are : x .monitor .rows ≡ mapFirst n g (m .rows) = ap (λ (y : Monitor). y .rows) made in
         let kept-are : x .monitor .before ≡ zipFirst n t (m .rows) (m .before) = ap (λ (y : Monitor). y .before) made in
-        let at : (i : ℕ) → i < n → rowAt (x .monitor) i ≡ g (rowAt m i) = λ i k. ap (λ (rows : List Row). getD rows i noRow) rows-are ∙ mapped g n i (m .rows) noRow k (omega (arith, whole, k)) in
+        let at : (i : ℕ) → i < n → rowAt (x .monitor) i ≡ g (rowAt m i) = λ i k. ap (λ (rows : List Row). getD rows i noRow) rows-are
+        ∙ mapped g n i (m .rows) noRow k (omega (arith, whole, k)) in
         let too : (i : ℕ) → i < n → keptAt (x .monitor) i ≡ t (rowAt m i) (keptAt m i) =
-        λ i k. ap (λ (kept : List Before). getD kept i noBefore) kept-are ∙ zipped t n i (m .rows) (m .before) k (omega (arith, whole, k)) (omega (arith, kept-whole, k)) in
+        λ i k. ap (λ (kept : List Before). getD kept i noBefore) kept-are
+        ∙ zipped t n i (m .rows) (m .before) k (omega (arith, whole, k)) (omega (arith, kept-whole, k)) in
         let wide : length (x .monitor .rows) ≡ 32 = ap length rows-are ∙ map-length g n (m .rows) ∙ whole in
         let kept-wide : length (x .monitor .before) ≡ 32 = ap length kept-are ∙ zip-length t (m .rows) (m .before) n ∙ kept-whole in
         let there : n ≤ length (x .monitor .rows) = omega (arith, wide) in
         let v = Following.visited step save test x (kept-wide ∙ sym wide) n there (λ i k out.
         subst (λ (r : Row). (step r ≡ r) × ((save r (keptAt (x .monitor) i) ≡ keptAt (x .monitor) i) × (x .soonest ≤ r .now .due))) (sym (at i k))
-        (subst (λ (b : Before). (step (g (rowAt m i)) ≡ g (rowAt m i)) × ((save (g (rowAt m i)) b ≡ b) × (x .soonest ≤ g (rowAt m i) .now .due))) (sym (too i k)) (others i k out))) in
+        (subst (λ (b : Before). (step (g (rowAt m i)) ≡ g (rowAt m i)) × ((save (g (rowAt m i)) b ≡ b) × (x .soonest ≤ g (rowAt m i) .now .due)))
+        (sym (too i k)) (others i k out))) in
         let same-list = list-visited x same ∙ visits-same hear step hear-save save test x n (λ i k is-own.
-        subst (λ (r : Row). (hear r ≡ step r) × (hear-save r (keptAt (x .monitor) i) ≡ save r (keptAt (x .monitor) i))) (sym (at i k)) (own i k is-own .0, own i k is-own .1 (keptAt (x .monitor) i))) in
+        subst (λ (r : Row). (hear r ≡ step r) × (hear-save r (keptAt (x .monitor) i) ≡ save r (keptAt (x .monitor) i))) (sym (at i k))
+        (own i k is-own .0, own i k is-own .1 (keptAt (x .monitor) i))) in
         let beside-x = visits-beside step save (numbers test n) x in
         record {
-          monitor-is = ap (λ (y : Lent). y .monitor) same-list ∙ v .monitor-is ∙ ap (λ (y : Monitor). withRows y (mapFirst n step (y .rows)) (zipFirst n save (y .rows) (y .before))) made
-              ∙ ap (λ (rows : List Row). withRows m rows (zipFirst n save (mapFirst n g (m .rows)) (zipFirst n t (m .rows) (m .before)))) (map-twice step g no-matter n (m .rows))
+          monitor-is = ap (λ (y : Lent). y .monitor) same-list ∙ v .monitor-is
+              ∙ ap (λ (y : Monitor). withRows y (mapFirst n step (y .rows)) (zipFirst n save (y .rows) (y .before))) made
+              ∙ ap (λ (rows : List Row). withRows m rows (zipFirst n save (mapFirst n g (m .rows)) (zipFirst n t (m .rows) (m .before))))
+              (map-twice step g no-matter n (m .rows))
               ∙ ap (withRows m (mapFirst n step (m .rows))) (zip-twice save t g nor-kept n (m .rows) (m .before));
           heeds = λ i k. subst (λ (y : Lent). y .soonest ≤ step (rowAt m i) .now .due) (sym same-list)
-              (subst (λ (r : Row). visits step save x (numbers test n) .soonest ≤ r .now .due) (ap step (at i k) ∙ no-matter (rowAt m i)) (v .heeds i k));
+              (subst (λ (r : Row). visits step save x (numbers test n) .soonest ≤ r .now .due) (ap step (at i k) ∙ no-matter (rowAt m i))
+              (v .heeds i k));
           beside = subst (Beside c) (sym same-list) (record {
             room-is = beside-x .room-is ∙ same .room-is;
             ends-are = beside-x .ends-are ∙ same .ends-are;
@@ -183,13 +199,16 @@ module _ (c : Lent) (ix : Indexes c) (o : Occurrence) (above : 0 < c .monitor .c
         }
 
     -- the clock can go to no row, as none is due before a time
-    not-late : (s : ℕ) → o .closes ≡ false → ltb s (o .time) ≡ false → ((i : ℕ) → i < n → s ≤ rowAt m i .now .due) → Stepped (list-heard (withSoonest c s))
+    not-late : (s : ℕ) → o .closes ≡ false → ltb s (o .time) ≡ false → ((i : ℕ) → i < n → s ≤ rowAt m i .now .due)
+        → Stepped (list-heard (withSoonest c s))
     not-late s going e least =
         list-steps (withSoonest c s) (λ r. r) (λ r b. b) (record { room-is = refl; ends-are = refl; entries-are = refl })
-        (sym (ap (λ (rows : List Row). withRows m rows (zipFirst n (λ r b. b) (m .rows) (m .before))) (map-none n (m .rows)) ∙ ap (withRows m (m .rows)) (zip-nothing n (m .rows) (m .before))))
+        (sym (ap (λ (rows : List Row). withRows m rows (zipFirst n (λ r b. b) (m .rows) (m .before))) (map-none n (m .rows))
+        ∙ ap (withRows m (m .rows)) (zip-nothing n (m .rows) (m .before))))
         (λ r. refl) (λ r b. refl)
         (λ i k out.
-        let unmoved : movesBy (rowAt m i .rule) (rowAt m i .now) o ≡ false = unconcerned (rowAt m i) o out ∙ no-ends (rowAt m i) o going (in-time i k) in
+        let unmoved : movesBy (rowAt m i .rule) (rowAt m i .now) o ≡ false = unconcerned (rowAt m i) o out
+        ∙ no-ends (rowAt m i) o going (in-time i k) in
         (still (rowAt m i) o (m .count) unmoved, (unsaved o (m .count) (rowAt m i) (keptAt m i) unmoved, least i k)))
         (λ i k is-own. heard-moved o (m .count) (rowAt m i) is-own (λ _. (in-time i k, room i k)))
       where
@@ -202,7 +221,8 @@ module _ (c : Lent) (ix : Indexes c) (o : Occurrence) (above : 0 < c .monitor .c
         let b = ended-beside c n o (m .count) in
         list-steps (withSoonest (ended c n o (m .count)) 0) (late o (m .count)) (late-saves o (m .count))
         (record { room-is = b .room-is; ends-are = b .ends-are; entries-are = b .entries-are })
-        (ended-rows c o (m .count) (kept-whole ∙ sym whole) n (omega (arith, whole))) (late-first o (m .count) above) (late-saves-first o (m .count) above)
+        (ended-rows c o (m .count) (kept-whole ∙ sym whole) n (omega (arith, whole))) (late-first o (m .count) above)
+        (late-saves-first o (m .count) above)
         (λ i k out. (late-still o (m .count) above (rowAt m i) out, (late-unsaved o (m .count) above (rowAt m i) (keptAt m i) out, omega arith)))
         (λ i k is-own. heard-late o (m .count) above (rowAt m i) is-own (room i k))
 
@@ -210,12 +230,14 @@ module _ (c : Lent) (ix : Indexes c) (o : Occurrence) (above : 0 < c .monitor .c
     all-stepped going =
         split (ltb (c .soonest) (o .time)) (λ b. ltb (c .soonest) (o .time) ≡ b → Stepped (list-heard (cond b (passed c o) c)))
         (λ _ _. split (ltb (soonestAll c) (o .time))
-        (λ b. ltb (soonestAll c) (o .time) ≡ b → Stepped (list-heard (cond b (withSoonest (ended c n o (m .count)) 0) (withSoonest c (soonestAll c)))))
+        (λ b. ltb (soonestAll c) (o .time) ≡ b → Stepped
+        (list-heard (cond b (withSoonest (ended c n o (m .count)) 0) (withSoonest c (soonestAll c)))))
         (λ _ _. some-late) (λ _ e. not-late (soonestAll c) going e (soonest-least (m .rows) n)) refl)
         (λ _ e. not-late (c .soonest) going e (ix .no-sooner)) refl
 
   -- ---- the words say what is so of the monitor after the step
-  module _ (x : Lent) (st : Stepped x) (fits : (i : ℕ) → i < n → takenIn (rowAt m i .rule) (step (rowAt m i) .now .len) + c .room ≤ waitingLimit) where
+  module _ (x : Lent) (st : Stepped x) (fits : (i : ℕ) → i < n
+      → takenIn (rowAt m i .rule) (step (rowAt m i) .now .len) + c .room ≤ waitingLimit) where
     held-is : heldRows (x .monitor) ≡ n
     held-is = ap heldRows (st .monitor-is)
 
@@ -223,7 +245,9 @@ module _ (c : Lent) (ix : Indexes c) (o : Occurrence) (above : 0 < c .monitor .c
     row-is i k = ap (λ (y : Monitor). rowAt y i) (st .monitor-is) ∙ mapped step n i (m .rows) noRow k (omega (arith, whole, k))
 
     kept-is : (i : ℕ) → i < n → keptAt (x .monitor) i ≡ save (rowAt m i) (keptAt m i)
-    kept-is i k = ap (λ (y : Monitor). keptAt y i) (st .monitor-is) ∙ zipped save n i (m .rows) (m .before) k (omega (arith, whole, k)) (omega (arith, kept-whole, k))
+    kept-is i k =
+        ap (λ (y : Monitor). keptAt y i) (st .monitor-is)
+        ∙ zipped save n i (m .rows) (m .before) k (omega (arith, whole, k)) (omega (arith, kept-whole, k))
 
     rule-is : (i : ℕ) → i < n → rowAt (x .monitor) i .rule ≡ rowAt m i .rule
     rule-is i k = ap (λ (r : Row). r .rule) (row-is i k) ∙ rule-stays (rowAt m i) o (m .count)
@@ -241,14 +265,18 @@ module _ (c : Lent) (ix : Indexes c) (o : Occurrence) (above : 0 < c .monitor .c
           now-few = each (λ i. rowAt (x .monitor) i .now .len ≤ 64)
               (λ i k. subst (λ (r : Row). r .now .len ≤ 64) (sym (row-is i k)) (step-few (rowAt m i) o (m .count) (ix .roomy .now-few i k)));
           then-few = each (λ i. keptAt (x .monitor) i .state .len ≤ 64)
-              (λ i k. subst (λ (b : Before). b .state .len ≤ 64) (sym (kept-is i k)) (saved-few (rowAt m i) o (m .count) (keptAt m i) (ix .roomy .now-few i k) (ix .roomy .then-few i k)));
+              (λ i k. subst (λ (b : Before). b .state .len ≤ 64) (sym (kept-is i k))
+              (saved-few (rowAt m i) o (m .count) (keptAt m i) (ix .roomy .now-few i k) (ix .roomy .then-few i k)));
           now-room = each (λ i. takenIn (rowAt (x .monitor) i .rule) (rowAt (x .monitor) i .now .len) + x .room ≤ 64)
               (λ i k. subst (λ (rule : Rule). takenIn rule (rowAt (x .monitor) i .now .len) + x .room ≤ 64) (sym (rule-is i k))
-              (subst (λ (r : Row). takes i (r .now .len) + x .room ≤ 64) (sym (row-is i k)) (subst (λ (room : ℕ). takes i (step (rowAt m i) .now .len) + room ≤ 64) (sym (st .beside .room-is)) (fits i k))));
+              (subst (λ (r : Row). takes i (r .now .len) + x .room ≤ 64) (sym (row-is i k))
+              (subst (λ (room : ℕ). takes i (step (rowAt m i) .now .len) + room ≤ 64) (sym (st .beside .room-is)) (fits i k))));
           then-room = each (λ i. takenIn (rowAt (x .monitor) i .rule) (keptAt (x .monitor) i .state .len) + x .room ≤ 64)
               (λ i k. subst (λ (rule : Rule). takenIn rule (keptAt (x .monitor) i .state .len) + x .room ≤ 64) (sym (rule-is i k))
-              (subst (λ (b : Before). takes i (b .state .len) + x .room ≤ 64) (sym (kept-is i k)) (subst (λ (room : ℕ). takes i (save (rowAt m i) (keptAt m i) .state .len) + room ≤ 64) (sym (st .beside .room-is))
-              (saved-state (λ s. takes i (s .len) + c .room ≤ 64) (rowAt m i) o (m .count) (keptAt m i) (ix .roomy .now-room i k) (ix .roomy .then-room i k)))));
+              (subst (λ (b : Before). takes i (b .state .len) + x .room ≤ 64) (sym (kept-is i k))
+              (subst (λ (room : ℕ). takes i (save (rowAt m i) (keptAt m i) .state .len) + room ≤ 64) (sym (st .beside .room-is))
+              (saved-state (λ s. takes i (s .len) + c .room ≤ 64) (rowAt m i) o (m .count) (keptAt m i) (ix .roomy .now-room i k)
+              (ix .roomy .then-room i k)))));
         }
 
     -- each row has its kinds
@@ -273,6 +301,7 @@ module _ (c : Lent) (ix : Indexes c) (o : Occurrence) (above : 0 < c .monitor .c
           listed = λ kind small. same-rows c x (st .beside .ends-are) (st .beside .entries-are) kind ∙ ix .listed kind small
               ∙ same-numbers (isOf m kind) (isOf (x .monitor) kind) n (same-kinds kind) ∙ ap (numbers (isOf (x .monitor) kind)) (sym held-is);
           no-ticks = each (λ i. isOf (x .monitor) noEvent i ≡ false) (λ i k. sym (same-kinds noEvent i k) ∙ ix .no-ticks i k);
-          no-sooner = each (λ i. x .soonest ≤ dueAt (x .monitor) i) (λ i k. subst (λ (r : Row). x .soonest ≤ r .now .due) (sym (row-is i k)) (st .heeds i k));
+          no-sooner = each (λ i. x .soonest ≤ dueAt (x .monitor) i)
+              (λ i k. subst (λ (r : Row). x .soonest ≤ r .now .due) (sym (row-is i k)) (st .heeds i k));
           roomy = few;
         }

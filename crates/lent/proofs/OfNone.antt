@@ -1,5 +1,5 @@
 -- A tick and the close concern no row, so that they crowd none, and what the clock or the close does to each row is the whole step.
-use Prim.Native.Nat.{ℕ, zero, suc, _+_, _-_, _<_, _≤_}
+use Prim.Native.Nat.{ℕ, zero, suc, _+_, _<_, _≤_}
 use native.Mathlib.Omega.{arith}
 use mathlib.Core.Path.{_≡_, refl, sym, _∙_, ap}
 use mathlib.Core.Bool.{Bool, false, cond}
@@ -26,7 +26,8 @@ use Rattle.lent.proofs.Counted.{takenFrom, all-rows, Answered, renumber
 none-pass : (test : ℕ → Bool) (n : ℕ) → ((i : ℕ) → i < n → test i ≡ false) → numbers test n ≡ []
 none-pass test zero out = refl
 none-pass test (suc n) out =
-    ap (λ (b : Bool). numbers test n ++ cond b (n ∷ []) []) (out n (omega arith)) ∙ append-nil (numbers test n) ∙ none-pass test n (λ i l. out i (omega (arith, l)))
+    ap (λ (b : Bool). numbers test n ++ cond b (n ∷ []) []) (out n (omega arith)) ∙ append-nil (numbers test n)
+    ∙ none-pass test n (λ i l. out i (omega (arith, l)))
 
 -- what is no event concerns no row and crowds none
 module _ (h : Lent) (ix : Indexes h) (call : Call) (o : Occurrence) (no-event : o .kind ≡ noEvent) (seen : occurrenceBy call (h .monitor .clock) ≡ o)
@@ -47,13 +48,15 @@ module _ (h : Lent) (ix : Indexes h) (call : Call) (o : Occurrence) (no-event : 
   none-crowds =
       ap (λ (p : Occurrence). anyFirst (m .len) (λ r. rowStep r p (nextStep m) .crowded) (m .rows)) seen
       ∙ sym (step-crowd m o (nextStep m) (ix .shaped .rows-there))
-      ∙ sym (any-numbers (crowds o) (isOf m (o .kind)) (m .rows) (heldRows m) (omega (arith, ix .shaped .rows-there)) (λ i l out. calm (rowAt m i) o out))
+      ∙ sym (any-numbers (crowds o) (isOf m (o .kind)) (m .rows) (heldRows m) (omega (arith, ix .shaped .rows-there))
+      (λ i l out. calm (rowAt m i) o out))
       ∙ ap (anyIn (λ i. crowds o (rowAt m i))) (sym none-listed)
 
   counted : Indexes c
   counted =
       renumbered-indexes h ix (h .room) (ix .roomy) (m .next) (ix .shaped .next-there) (o .time) (nextStep m) closed
-      (record { may = 1; place = 0; next = getD (m .next) 0 0; clock = m .clock; count = m .count; closed = m .closed }) marked (ix .sound .closed-mark)
+      (record { may = 1; place = 0; next = getD (m .next) 0 0; clock = m .clock; count = m .count; closed = m .closed }) marked
+      (ix .sound .closed-mark)
 
   above : 0 < nextStep m
   above = omega arith

@@ -1,5 +1,5 @@
--- An event of a stream: the rows of its kind take the step, after those to which the clock goes, and that is the step of all rows; the question for 64 is answered as all rows would answer
--- it.
+-- An event of a stream: the rows of its kind take the step, after those to which the clock goes, and that is the step of all rows; the question
+-- for 64 is answered as all rows would answer it.
 use Prim.Native.Nat.{ℕ, _-_, _<_}
 use native.Mathlib.Omega.{arith}
 use mathlib.Core.Path.{_≡_, refl, sym, _∙_, ap}
@@ -25,7 +25,8 @@ use Rattle.lent.proofs.Counted.{takenFrom, all-rows, Answered, renumber
 
 module _ (h : Lent) (ix : Indexes h) (call : Call) (kind stream time : ℕ) (small : kind < 64) (kind-is : kindOf stream ≡ kind)
     (seen : occurrenceBy call (h .monitor .clock) ≡ eventAt stream time)
-    (taken-is : takenCall (h .monitor) call ≡ takenFrom (h .monitor) (eventAt stream time) stream (set (h .monitor .next) stream (plus time 1)) (h .monitor .closed)) where
+    (taken-is : takenCall (h .monitor) call ≡ takenFrom (h .monitor) (eventAt stream time) stream (set (h .monitor .next) stream (plus time 1))
+    (h .monitor .closed)) where
   abbrev m : Monitor
   m = h .monitor
 
@@ -45,8 +46,10 @@ module _ (h : Lent) (ix : Indexes h) (call : Call) (kind stream time : ℕ) (sma
 
   counted : Indexes c
   counted =
-      renumbered-indexes h ix (roomFor h - 1) (roomed-roomy h (ix .roomy)) (set (m .next) stream (plus time 1)) (length-set (m .next) stream (plus time 1) ∙ ix .shaped .next-there)
-      time (nextStep m) (m .closed) (record { may = 1; place = stream; next = getD (m .next) stream 0; clock = m .clock; count = m .count; closed = m .closed })
+      renumbered-indexes h ix (roomFor h - 1) (roomed-roomy h (ix .roomy)) (set (m .next) stream (plus time 1))
+      (length-set (m .next) stream (plus time 1) ∙ ix .shaped .next-there)
+      time (nextStep m) (m .closed) (record { may = 1; place = stream; next = getD (m .next) stream 0; clock = m .clock; count = m .count; closed =
+      m .closed })
       (ix .sound .closed-mark) (ix .sound .closed-mark)
 
   above : 0 < nextStep m
@@ -55,11 +58,13 @@ module _ (h : Lent) (ix : Indexes h) (call : Call) (kind stream time : ℕ) (sma
   stepped : crowdedOn h kind stream time ≡ false → Listing.Stepped c counted o above left
   stepped none =
       all-stepped c counted o above (startOf h kind) (rowCount h kind)
-      (same-named h c refl (startOf h kind) (rowCount h kind) ∙ ix .listed kind small ∙ ap (λ (k : ℕ). numbers (isOf m k) (heldRows m)) (sym kind-is))
+      (same-named h c refl (startOf h kind) (rowCount h kind) ∙ ix .listed kind small
+      ∙ ap (λ (k : ℕ). numbers (isOf m k) (heldRows m)) (sym kind-is))
       (each-free m o (ix .shaped .rows-there) (sym (crowd-known h ix kind stream time small kind-is) ∙ none)) refl
 
   taken-monitor : crowdedOn h kind stream time ≡ false → left .monitor ≡ takenCall m call
-  taken-monitor none = stepped none .monitor-is ∙ all-rows (c .monitor) (moved o (nextStep m)) (saves o (nextStep m)) (ix .shaped .rows-there) ∙ sym taken-is
+  taken-monitor none =
+      stepped none .monitor-is ∙ all-rows (c .monitor) (moved o (nextStep m)) (saves o (nextStep m)) (ix .shaped .rows-there) ∙ sym taken-is
 
   pub on-stream : Answered h call (cond (crowdedOn h kind stream time) 12 0) (cond (crowdedOn h kind stream time) h left)
   on-stream =

@@ -1,19 +1,18 @@
--- Whether an event crowds a row of its kind is whether it crowds any row; and where each row has room for the events that may come, it crowds none, so that the question need not be
--- asked. An event takes one place at most, so that there is room for one less after it.
+-- Whether an event crowds a row of its kind is whether it crowds any row; and where each row has room for the events that may come, it crowds
+-- none, so that the question need not be asked. An event takes one place at most, so that there is room for one less after it.
 use Prim.Native.Nat.{ℕ, zero, suc, _+_, _-_, _%_, _<_, _≤_}
+use native.Mathlib.Nat.{le-trans}
 use native.Mathlib.Omega.{arith}
 use mathlib.Core.Path.{_≡_, refl, sym, _∙_, ap, subst}
-use mathlib.Core.Bool.{Bool, true, false, cond, _||_}
+use mathlib.Core.Bool.{Bool, false, cond, _||_}
 use mathlib.Core.List.{List, [], _∷_}
-use lib.ListN.{length, getD}
+use lib.ListN.{length}
 use lib.Dec.{ltb, eqb}
 use borrow.Author.Tests.{ltb-true, ltb-false}
-use Rattle.constraint.specs.Limits.{waitingLimit}
 use Rattle.constraint.proofs.Lists.{split}
 use Rattle.row.specs.Machine.{rowStep, eventAt}
 use Rattle.row.specs.Stored.{larger, filledIn}
 use Rattle.row.specs.declared.Occurrence.{Occurrence}
-use Rattle.row.specs.declared.Row.{Row}
 use Rattle.row.proofs.Crowding.{crowds, step-crowds, crowded-known}
 use Rattle.row.proofs.Apart.{step-few}
 use Rattle.row.proofs.Filling.{room-free, taken-few, step-taken}
@@ -21,7 +20,7 @@ use Rattle.monitor.specs.Machine.{noRow, anyFirst}
 use Rattle.monitor.specs.declared.Monitor.{Monitor}
 use Rattle.monitor.proofs.First.{any-all}
 use Rattle.lent.specs.Layout.{Lent, rowNamed, startOf, heldRows, rowAt, keptAt}
-use Rattle.lent.specs.Steps.{withRoom, crowdedAt, crowded, fullest, roomFor, roomed, rowCount, crowdedOn}
+use Rattle.lent.specs.Steps.{crowdedAt, crowded, fullest, roomFor, roomed, rowCount, crowdedOn}
 use Rattle.lent.specs.Contract.{namedRows, numbers, isOf, takenIn, Roomy, Indexes}
 use Rattle.lent.proofs.Following.{anyIn, any-last, any-same, any-numbers, any-none}
 use Rattle.lent.proofs.Hearing.{calm}
@@ -39,11 +38,9 @@ fullest-most m zero i l = absurd (omega (arith, l))
 fullest-most m (suc n) i l =
     let last : ℕ → ℕ = λ j. filledIn (rowAt m j) (keptAt m j) in
     split (ltb i n) (λ b. ltb i n ≡ b → last i ≤ larger (fullest m n) (last n))
-    (λ _ e. below (last i) (fullest m n) (larger (fullest m n) (last n)) (fullest-most m n i (ltb-true i n e)) (larger-first (fullest m n) (last n)))
-    (λ _ e. let same : n ≡ i = omega (arith, l, ltb-false i n e) in subst (λ (j : ℕ). last j ≤ larger (fullest m n) (last n)) same (larger-second (fullest m n) (last n))) refl
-  where
-    below : (a b c : ℕ) → a ≤ b → b ≤ c → a ≤ c
-    below a b c p q = omega (arith, p, q)
+    (λ _ e. le-trans (fullest-most m n i (ltb-true i n e)) (larger-first (fullest m n) (last n)))
+    (λ _ e. let same : n ≡ i = omega (arith, l, ltb-false i n e) in
+    subst (λ (j : ℕ). last j ≤ larger (fullest m n) (last n)) same (larger-second (fullest m n) (last n))) refl
 
 -- ---- room for the events that may come
 
@@ -63,25 +60,24 @@ module _ (h : Lent) (few : Roomy h) where
   fits-by : (taken : ℕ) → taken ≤ 64 → taken + h .room ≤ 64 → taken ≤ fullest m n → taken + roomFor h ≤ 64
   fits-by taken small fits most =
       split (ltb 0 (h .room)) (λ b. taken + cond b (h .room) (cond (eqb (m .count % 32) 0) (64 - fullest m n) 0) ≤ 64) (λ _. fits)
-      (λ _. split (eqb (m .count % 32) 0) (λ b. taken + cond b (64 - fullest m n) 0 ≤ 64) (λ _. less taken (fullest m n) small most) (λ _. omega (arith, small)))
+      (λ _. split (eqb (m .count % 32) 0) (λ b. taken + cond b (64 - fullest m n) 0 ≤ 64) (λ _. less taken (fullest m n) small most)
+      (λ _. omega (arith, small)))
     where
       less : (a b : ℕ) → a ≤ 64 → a ≤ b → a + (64 - b) ≤ 64
       less a b p q = omega (arith, p, q)
 
   most : (i : ℕ) → i < n → (now-taken i ≤ fullest m n) × (then-taken i ≤ fullest m n)
   most i l =
-      let all = fullest-most m n i l in
-      (both-below (now-taken i) (larger (now-taken i) (then-taken i)) (fullest m n) (larger-first (now-taken i) (then-taken i)) all,
-      both-below (then-taken i) (larger (now-taken i) (then-taken i)) (fullest m n) (larger-second (now-taken i) (then-taken i)) all)
-    where
-      both-below : (a b c : ℕ) → a ≤ b → b ≤ c → a ≤ c
-      both-below a b c p q = omega (arith, p, q)
+      (le-trans (larger-first (now-taken i) (then-taken i)) (fullest-most m n i l), le-trans (larger-second (now-taken i) (then-taken i))
+      (fullest-most m n i l))
 
   now-fits : (i : ℕ) → i < n → now-taken i + roomFor h ≤ 64
-  now-fits i l = fits-by (now-taken i) (taken-few (rowAt m i .rule .form) (rowAt m i .rule .span) _ (few .now-few i l)) (few .now-room i l) (most i l .0)
+  now-fits i l =
+      fits-by (now-taken i) (taken-few (rowAt m i .rule .form) (rowAt m i .rule .span) _ (few .now-few i l)) (few .now-room i l) (most i l .0)
 
   then-fits : (i : ℕ) → i < n → then-taken i + roomFor h ≤ 64
-  then-fits i l = fits-by (then-taken i) (taken-few (rowAt m i .rule .form) (rowAt m i .rule .span) _ (few .then-few i l)) (few .then-room i l) (most i l .1)
+  then-fits i l =
+      fits-by (then-taken i) (taken-few (rowAt m i .rule .form) (rowAt m i .rule .span) _ (few .then-few i l)) (few .then-room i l) (most i l .1)
 
   one-less : (a b : ℕ) → a + b ≤ 64 → a + (b - 1) ≤ 64
   one-less a b l = omega (arith, l)
@@ -96,9 +92,11 @@ module _ (h : Lent) (few : Roomy h) where
       }
 
   -- also after an event
-  pub event-fits : (o : Occurrence) (number i : ℕ) → i < n → takenIn (rowAt m i .rule) (rowStep (rowAt m i) o number .row .now .len) + (roomFor h - 1) ≤ 64
+  pub event-fits : (o : Occurrence) (number i : ℕ) → i < n
+      → takenIn (rowAt m i .rule) (rowStep (rowAt m i) o number .row .now .len) + (roomFor h - 1) ≤ 64
   event-fits o number i l =
-      one-more (now-taken i) (takenIn (rowAt m i .rule) (rowStep (rowAt m i) o number .row .now .len)) (roomFor h) (now-fits i l) (step-taken (rowAt m i) o number)
+      one-more (now-taken i) (takenIn (rowAt m i .rule) (rowStep (rowAt m i) o number .row .now .len)) (roomFor h) (now-fits i l)
+      (step-taken (rowAt m i) o number)
       (taken-few (rowAt m i .rule .form) (rowAt m i .rule .span) _ (step-few (rowAt m i) o number (few .now-few i l)))
     where
       one-more : (a b c : ℕ) → a + c ≤ 64 → b ≤ a + 1 → b ≤ 64 → b + (c - 1) ≤ 64
@@ -132,7 +130,8 @@ module _ (h : Lent) (ix : Indexes h) (kind stream time : ℕ) (small : kind < 64
 
   all-crowd : anyIn (λ i. crowdedAt h i o) (numbers test held) ≡ anyFirst held (crowds o) (h .monitor .rows)
   all-crowd =
-      any-same (λ i. crowdedAt h i o) (λ i. crowds o (rowAt (h .monitor) i)) test held (λ i l. crowded-known (rowAt (h .monitor) i) o (ix .roomy .now-few i l))
+      any-same (λ i. crowdedAt h i o) (λ i. crowds o (rowAt (h .monitor) i)) test held
+      (λ i l. crowded-known (rowAt (h .monitor) i) o (ix .roomy .now-few i l))
       ∙ any-numbers (crowds o) test (h .monitor .rows) held (omega (arith, ix .shaped .rows-there))
       (λ i l out. calm (rowAt (h .monitor) i) o (subst (λ (k : ℕ). isOf (h .monitor) k i ≡ false) (sym kind-is) out))
 
@@ -140,7 +139,8 @@ module _ (h : Lent) (ix : Indexes h) (kind stream time : ℕ) (small : kind < 64
   free-crowd : 0 < h .room → anyIn (λ i. crowdedAt h i o) (numbers test held) ≡ false
   free-crowd some =
       any-same (λ i. crowdedAt h i o) (λ i. false) test held
-      (λ i l. room-free (rowAt (h .monitor) i .rule) (rowAt (h .monitor) i .now) o (less (takenIn (rowAt (h .monitor) i .rule) (rowAt (h .monitor) i .now .len)) (h .room) (ix .roomy .now-room i l) some))
+      (λ i l. room-free (rowAt (h .monitor) i .rule) (rowAt (h .monitor) i .now) o
+      (less (takenIn (rowAt (h .monitor) i .rule) (rowAt (h .monitor) i .now .len)) (h .room) (ix .roomy .now-room i l) some))
       ∙ none-in (numbers test held)
     where
       less : (a b : ℕ) → a + b ≤ 64 → 0 < b → a < 64
@@ -148,7 +148,8 @@ module _ (h : Lent) (ix : Indexes h) (kind stream time : ℕ) (small : kind < 64
 
   pub crowd-known : crowdedOn h kind stream time ≡ anyFirst held (crowds o) (h .monitor .rows)
   crowd-known =
-      split (ltb 0 (h .room)) (λ b. ltb 0 (h .room) ≡ b → cond b false (crowded h (startOf h kind) (rowCount h kind) o) ≡ anyFirst held (crowds o) (h .monitor .rows))
+      split (ltb 0 (h .room)) (λ b. ltb 0 (h .room) ≡ b → cond b false (crowded h (startOf h kind) (rowCount h kind) o)
+      ≡ anyFirst held (crowds o) (h .monitor .rows))
       (λ _ e. sym (free-crowd (ltb-true 0 (h .room) e)) ∙ all-crowd) (λ _ _. listed-crowd ∙ all-crowd) refl
 
 -- a step crowds one of the rows

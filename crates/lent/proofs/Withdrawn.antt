@@ -1,6 +1,6 @@
--- A withdrawal puts each row back, and the numbers beside them. The rows keep their rules, so that the lists are theirs; what waits in one now waited in it before, or nothing is kept of
--- it; and no row is due before time 0.
-use Prim.Native.Nat.{ℕ, zero, suc, _+_, _<_, _≤_, min}
+-- A withdrawal puts each row back, and the numbers beside them. The rows keep their rules, so that the lists are theirs; what waits in one now
+-- waited in it before, or nothing is kept of it; and no row is due before time 0.
+use Prim.Native.Nat.{ℕ, zero, suc, _+_, _<_, _≤_}
 use native.Mathlib.Numerals.{add-one}
 use native.Mathlib.Omega.{arith}
 use mathlib.Core.Path.{_≡_, refl, sym, _∙_, ap, subst}
@@ -17,12 +17,12 @@ use Rattle.row.specs.declared.Before.{Before}
 use Rattle.row.specs.declared.Row.{Row}
 use Rattle.row.proofs.Apart.{without-state, kept-state}
 use Rattle.row.proofs.Filling.{taken-rises}
-use Rattle.monitor.specs.Machine.{noRow, noUndo, zipFirst, placeIn, withdrawn}
+use Rattle.monitor.specs.Machine.{noRow, zipFirst, placeIn, withdrawn}
 use Rattle.monitor.specs.Parts.{rowsWithout}
 use Rattle.monitor.specs.declared.Monitor.{Monitor}
 use Rattle.monitor.proofs.First.{zip-length, without-none, without-next, without-all}
 use Rattle.lent.specs.Layout.{Lent, heldRows, rowAt, keptAt}
-use Rattle.lent.specs.Steps.{withNext, backed, backRows, withFree, uncountedMonitor, withdrawnLent}
+use Rattle.lent.specs.Steps.{withNext, backed, backRows, uncountedMonitor, withdrawnLent}
 use Rattle.lent.specs.Contract.{numbers, isOf, takenIn, Roomy, Sound, Indexes}
 use Rattle.lent.proofs.Following.{Beside, same-beside}
 use Rattle.lent.proofs.Listing.{same-rows, same-numbers}
@@ -38,14 +38,18 @@ module _ (h : Lent) (whole : length (h .monitor .rows) ≡ rowLimit) (wide : len
   back-rows : (number n : ℕ) → n ≤ rowLimit → backed h n number .monitor ≡ rowsWithout (h .monitor) n number
   back-rows number zero l = sym (without-none number (h .monitor) whole wide)
   back-rows number (suc n) l =
-      without-next number (h .monitor) whole wide (backed h n number .monitor) n (back-rows number n (omega (arith, l))) (omega (arith, l)) noRow noBefore _ _ refl refl
+      without-next number (h .monitor) whole wide (backed h n number .monitor) n (back-rows number n (omega (arith, l)))
+      (omega (arith, l)) noRow noBefore _ _ refl refl
       ∙ ap (λ (k : ℕ). rowsWithout (h .monitor) k number) (add-one n)
 
   pub withdrawn-is : withdrawnLent h .monitor ≡ withdrawn (h .monitor)
   unfolding withdrawn
   withdrawn-is =
-      ap (λ (m : Monitor). uncountedMonitor (withNext (record { monitor = m; soonest = h .soonest; room = h .room; ends = h .ends; entries = h .entries }) (set (m .next) (placeIn (m .undo .place)) (m .undo .next)) .monitor))
-      (back-rows (h .monitor .count) (heldRows (h .monitor)) (omega arith) ∙ without-all (h .monitor .count) (h .monitor) whole wide (heldRows (h .monitor)) refl)
+      ap (λ (m : Monitor). uncountedMonitor (withNext
+      (record { monitor = m; soonest = h .soonest; room = h .room; ends = h .ends; entries = h .entries })
+      (set (m .next) (placeIn (m .undo .place)) (m .undo .next)) .monitor))
+      (back-rows (h .monitor .count) (heldRows (h .monitor)) (omega arith)
+      ∙ without-all (h .monitor .count) (h .monitor) whole wide (heldRows (h .monitor)) refl)
 
 -- ---- a row without a step
 
@@ -66,7 +70,8 @@ rows-rule number (suc n) (b ∷ kept) [] i = refl
 rows-rule number (suc n) (b ∷ kept) (r ∷ rows) zero = without-rule number r b
 rows-rule number (suc n) (b ∷ kept) (r ∷ rows) (suc i) = rows-rule number n kept rows i
 
--- what holds of a row's state, now and before, holds of the one that is put back; what holds of the one before, and of none, of the one that is kept then
+-- what holds of a row's state, now and before, holds of the one that is put back; what holds of the one before, and of none, of the one that is
+-- kept then
 module _ (P : State → Type 0) (number : ℕ) where
   rows-now : (n : ℕ) (kept : List Before) (rows : List Row) (i : ℕ) → P (getD rows i noRow .now) → P (getD kept i noBefore .state)
       → P (getD (zipFirst n (λ b r. rowWithout number r b) kept rows) i noRow .now)
@@ -144,18 +149,22 @@ module _ (h : Lent) (ix : Indexes h) where
   -- what is taken in a row has room with it, by the rule that it has still
   fits : (i : ℕ) (s : State) → taken i s + h .room ≤ 64 → takenIn (rowAt (withdrawn m₀) i .rule) (s .len) + x .room ≤ 64
   fits i s l =
-      subst (λ (rule : Rule). takenIn rule (s .len) + x .room ≤ 64) (sym (same-rules m₀ i)) (subst (λ (room : ℕ). taken i s + room ≤ 64) (sym (beside .room-is)) l)
+      subst (λ (rule : Rule). takenIn rule (s .len) + x .room ≤ 64) (sym (same-rules m₀ i))
+      (subst (λ (room : ℕ). taken i s + room ≤ 64) (sym (beside .room-is)) l)
 
   roomy-back : Roomy x
   roomy-back =
       record {
-        now-few = each (λ y i. rowAt y i .now .len ≤ 64) (λ i l. back-now m₀ (λ s. s .len ≤ 64) i (ix .roomy .now-few i l) (ix .roomy .then-few i l));
+        now-few = each (λ y i. rowAt y i .now .len ≤ 64)
+            (λ i l. back-now m₀ (λ s. s .len ≤ 64) i (ix .roomy .now-few i l) (ix .roomy .then-few i l));
         then-few = each (λ y i. keptAt y i .state .len ≤ 64) (λ i l. back-then m₀ (λ s. s .len ≤ 64) i (ix .roomy .then-few i l) (omega arith));
         now-room = each (λ y i. takenIn (rowAt y i .rule) (rowAt y i .now .len) + x .room ≤ 64)
-            (λ i l. fits i (rowAt (withdrawn m₀) i .now) (back-now m₀ (λ s. taken i s + h .room ≤ 64) i (ix .roomy .now-room i l) (ix .roomy .then-room i l)));
+            (λ i l. fits i (rowAt (withdrawn m₀) i .now)
+            (back-now m₀ (λ s. taken i s + h .room ≤ 64) i (ix .roomy .now-room i l) (ix .roomy .then-room i l)));
         then-room = each (λ y i. takenIn (rowAt y i .rule) (keptAt y i .state .len) + x .room ≤ 64)
             (λ i l. fits i (keptAt (withdrawn m₀) i .state) (back-then m₀ (λ s. taken i s + h .room ≤ 64) i (ix .roomy .then-room i l)
-            (less (taken i noState) (taken i (keptAt m₀ i .state)) (h .room) (taken-rises (rowAt m₀ i .rule .form) (rowAt m₀ i .rule .span) 0 (keptAt m₀ i .state .len) (omega arith)) (ix .roomy .then-room i l))));
+            (less (taken i noState) (taken i (keptAt m₀ i .state)) (h .room)
+            (taken-rises (rowAt m₀ i .rule .form) (rowAt m₀ i .rule .span) 0 (keptAt m₀ i .state .len) (omega arith)) (ix .roomy .then-room i l))));
       }
     where
       less : (a b c : ℕ) → a ≤ b → b + c ≤ 64 → a + c ≤ 64

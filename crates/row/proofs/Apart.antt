@@ -1,10 +1,9 @@
 -- The step of a row is what its parts make of it: an open row that is overdue, or that the close finds, is ended; one that an event concerns hears it; and no step
 -- leaves more than 64 waiting, nor does a withdrawal.
-use Prim.Native.Nat.{ℕ, _+_, _-_, _≤_}
+use Prim.Native.Nat.{ℕ, _+_, _≤_}
 use native.Mathlib.Omega.{arith}
-use mathlib.Core.Path.{_≡_, refl, sym, _∙_, ap, subst}
+use mathlib.Core.Path.{_≡_, refl, sym, _∙_, ap}
 use mathlib.Core.Bool.{Bool, true, false, cond, _&&_}
-use mathlib.Core.List.{List}
 use lib.Dec.{ltb, eqb}
 use lib.ListN.{length, set}
 use borrow.Author.Tests.{ltb-true}
@@ -15,7 +14,7 @@ use Rattle.queue.specs.declared.Edit.{Edit}
 use Rattle.queue.specs.declared.Edit.the-variants.{Drop, Push, PushTwo, Store}
 use Rattle.machine.specs.declared.Change.{Change}
 use Rattle.machine.specs.declared.State.{State}
-use Rattle.row.specs.Machine.{decide, concerns, rowFrom, itemsOf, brokenState, brokenRow, applied, stays, crowding, changedRow, rowStep}
+use Rattle.row.specs.Machine.{concerns, rowFrom, itemsOf, brokenState, brokenRow, applied, stays, crowding, changedRow, rowStep}
 use Rattle.row.specs.Undo.{movesBy, stepPlace, savedAt, savedRow, savedBy, backRow, rowWithout, keptWithout, noBefore, noState}
 use Rattle.row.specs.Apart.{endsBy, endedState, changeBy, withChange, heardRow, heardBefore}
 use Rattle.row.specs.declared.Before.{Before}

@@ -2,8 +2,8 @@
 -- more, as the types in which two words may come at once are full from the start or never are.
 use Prim.Native.Nat.{ℕ, _+_, _-_, _/_, _<_, _≤_}
 use native.Mathlib.Omega.{arith}
-use mathlib.Core.Path.{_≡_, refl, sym, _∙_, ap, subst}
-use mathlib.Core.Bool.{Bool, true, false, cond, _&&_, _||_}
+use mathlib.Core.Path.{_≡_, refl, sym, ap, subst}
+use mathlib.Core.Bool.{Bool, true, false, cond, _&&_}
 use mathlib.Core.List.{List}
 use lib.Dec.{ltb, leb, eqb}
 use lib.ListN.{length, set}
@@ -11,7 +11,6 @@ use borrow.Author.Tests.{lt-ltb, le-ltb, ltb-false, eqb-true}
 use Rattle.constraint.specs.Limits.{waitingLimit}
 use Rattle.constraint.proofs.Lists.{split}
 use Rattle.queue.specs.Ring.{Ring, ringOf, ringPlace, pushRing, dropRing, changed, edited}
-use Rattle.queue.specs.declared.Edit.{Edit}
 use Rattle.queue.specs.declared.Edit.the-variants.{Drop, Push}
 use Rattle.machine.specs.Parts.{plus, farEnough, front, none-left, earlyOf, withLast, continuesWith, breaking, waits}
 use Rattle.machine.specs.declared.Rule.{Rule}
@@ -27,7 +26,7 @@ use Rattle.pairs.specs.Order.{decideOrder}
 use Rattle.phases.specs.ExecutionTime.{decideExecutionTime}
 use Rattle.chains.specs.Reaction.{decideReaction}
 use Rattle.repetition.specs.Repetition.{fillsRepetition, decideRepetition}
-use Rattle.row.specs.Machine.{decide, concerns, itemsOf, brokenRow, applied, stays, crowding, changedRow, rowStep}
+use Rattle.row.specs.Machine.{concerns, itemsOf, brokenRow, applied, stays, crowding, changedRow, rowStep}
 use Rattle.row.specs.Apart.{fills, fillsNever, crowdedBy, changeBy}
 use Rattle.row.specs.Stored.{beyond, filledBy}
 use Rattle.row.specs.declared.Occurrence.{Occurrence}
@@ -205,7 +204,8 @@ module _ (rule : Rule) (marks : Marks) (times : List ℕ) (s t : ℕ) (q : Ring)
   one-more form =
       by-form (λ k. filledBy k (rule .span) (edited (decideOf k marks times s t .edit) q .len) ≤ filledBy k (rule .span) (q .len) + 1) form
       one-delay one-strong-delay (beyond-more form (rule .span) 64 _ _ one-repeat) (omega arith) (beyond-more form (rule .span) 64 _ _ one-repeat)
-      (omega arith) (omega arith) (omega arith) (omega arith) (λ n1 n2 n3 n4 n5 n6 n8 n9 n10. rw (n1, n2, n3, n4, n5, n6, n8, n9, n10) one-synchronization)
+      (omega arith) (omega arith) (omega arith) (omega arith)
+      (λ n1 n2 n3 n4 n5 n6 n8 n9 n10. rw (n1, n2, n3, n4, n5, n6, n8, n9, n10) one-synchronization)
 
 -- ---- a step
 

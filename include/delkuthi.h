@@ -80,7 +80,10 @@
  *     call does not find the caller.
  *   - Every pattern of bits is safe: a call on memory that delkuthi_fresh
  *     never filled still ends, as soon as on any other, and still touches
- *     nothing else. But what it answers then means nothing.
+ *     nothing else. But what it answers then means nothing, unless the memory
+ *     is all zeros, as static memory is at first: that is a monitor which is
+ *     closed and has no rows. Every step on it is refused with 8, and a
+ *     withdrawal with 21.
  *
  *
  * LIMITS
@@ -352,12 +355,12 @@ extern "C" {
 #define DELKUTHI_NO_LIMIT UINT64_C(18446744073709551615)
 
 /*
- * A monitor: 28,768 bytes, aligned as a uint64_t is. Put it on the stack, in
+ * A monitor: 35,840 bytes, aligned as a uint64_t is. Put it on the stack, in
  * static memory, on a heap or in a struct of your own, and give it to
  * delkuthi_fresh first. What its words mean is the library's own business.
  */
 typedef struct delkuthi_monitor {
-    uint64_t words[3596];
+    uint64_t words[4480];
 } delkuthi_monitor;
 
 /* Returns the version of the library, which is that of its own header. */
@@ -776,8 +779,8 @@ DELKUTHI_NONNULL
 uint64_t delkuthi_row_step(const delkuthi_monitor *monitor, uint64_t row);
 
 /*
- * Returns the number of rows of the monitor's table: 0 to 32, on memory in which
- * delkuthi_fresh made a monitor.
+ * Returns the number of rows of the monitor's table: 0 to 32, whatever the
+ * memory holds.
  */
 DELKUTHI_NONNULL
 uint64_t delkuthi_rows(const delkuthi_monitor *monitor);

@@ -24,8 +24,9 @@
 #define WORDS (sizeof(delkuthi_monitor) / sizeof(uint64_t))
 #define COUNT(list) (sizeof(list) / sizeof (list)[0])
 
-/* The words at either end among which the first row and the monitor's own are. */
-#define END 128
+/* The words of the first row, and those behind all rows, which are the monitor's own. */
+#define FIRST 128
+#define OWN   384
 
 static const uint64_t worst[] = {0, 1, 63, 64, 65, UINT64_C(1) << 32, DELKUTHI_LAST_TIME, DELKUTHI_LAST_TIME + 1,
                                  UINT64_C(1) << 63, UINT64_MAX - 1, UINT64_MAX};
@@ -131,7 +132,7 @@ static void one_word(const delkuthi_monitor *good)
     size_t at, i;
 
     for (at = 0; at < WORDS; at++) {
-        for (i = at < END || at >= WORDS - END ? 0 : COUNT(worst) - 1; i < COUNT(worst); i++) {
+        for (i = at < FIRST || at >= WORDS - OWN ? 0 : COUNT(worst) - 1; i < COUNT(worst); i++) {
             forged.words[at] = worst[i];
             every_call(&forged);
         }
@@ -139,7 +140,7 @@ static void one_word(const delkuthi_monitor *good)
     }
 }
 
-/* Every word set to one of the worst numbers, and then each word near an end to a small number. */
+/* Every word set to one of the worst numbers, and then each word of the first row and of the monitor's own to a small number. */
 static void every_word(void)
 {
     static delkuthi_monitor forged;
@@ -150,7 +151,7 @@ static void every_word(void)
         for (at = 0; at < WORDS; at++)
             forged.words[at] = worst[i];
         every_call(&forged);
-        for (at = 0; at < WORDS; at = at + 1 == END ? WORDS - END : at + 1)
+        for (at = 0; at < WORDS; at = at + 1 == FIRST ? WORDS - OWN : at + 1)
             for (small = 0; small < 10; small++) {
                 forged.words[at] = small;
                 every_call(&forged);
@@ -168,9 +169,9 @@ static void some_words(const delkuthi_monitor *good, long rounds)
     while (rounds-- > 0) {
         forged = *good;
         for (number = 2 + below(20); number > 0; number--) {
-            uint64_t at = below(2 * END);
+            uint64_t at = below(FIRST + OWN);
 
-            forged.words[at < END ? at : WORDS - 2 * END + at] = below(2) ? below(10) : worst[below(COUNT(worst))];
+            forged.words[at < FIRST ? at : WORDS - FIRST - OWN + at] = below(2) ? below(10) : worst[below(COUNT(worst))];
         }
         every_call(&forged);
     }

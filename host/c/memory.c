@@ -3,7 +3,9 @@
  *
  * Prints the size and the alignment of delkuthi_monitor, then makes calls on
  * monitors in static memory, on the stack, in a struct and on the heap, filled
- * with any bytes. They need only return, and leave the memory around alone.
+ * with any bytes. They need only return, leave the memory around alone, and
+ * say no more than 32 rows. On static memory, which is all zeros, a monitor is
+ * closed and has no rows.
  */
 #define DELKUTHI_CHECKED // what is answered does not matter here
 #include "delkuthi.h"
@@ -64,7 +66,8 @@ static void calls(delkuthi_monitor *monitor)
         (void)delkuthi_row_verdict(monitor, number());
         (void)delkuthi_row_step(monitor, number() % 40);
         (void)delkuthi_row_step(monitor, number());
-        (void)delkuthi_rows(monitor);
+        if (delkuthi_rows(monitor) > DELKUTHI_ROW_LIMIT)
+            exit(1);
         (void)delkuthi_deadline(monitor);
         (void)delkuthi_row_deadline(monitor, number() % 40);
         (void)delkuthi_row_waiting(monitor, number());
@@ -74,7 +77,7 @@ static void calls(delkuthi_monitor *monitor)
         if (i % 8 == 7)
             (void)delkuthi_close(monitor);
         if (number() % 8 == 0)
-            monitor->words[number() % 3596] = number();
+            monitor->words[number() % (sizeof monitor->words / sizeof monitor->words[0])] = number();
     }
 }
 
@@ -86,6 +89,27 @@ static int fresh(delkuthi_monitor *monitor)
         && delkuthi_event(monitor, 0, 5) == DELKUTHI_TAKEN && delkuthi_close(monitor) == DELKUTHI_TAKEN
         && delkuthi_row_verdict(monitor, 0) == DELKUTHI_BROKEN && delkuthi_row_step(monitor, 0) == 2
         && delkuthi_row_step(monitor, 1) == 0 && delkuthi_close(monitor) == DELKUTHI_CLOSED;
+}
+
+/* Says whether memory of zeros is a monitor that is closed and has no rows, and stays as it is. */
+static int closed(delkuthi_monitor *zeros)
+{
+    uint8_t page[DELKUTHI_PAGE_LIMIT];
+    uint64_t row;
+    size_t i;
+    int well = delkuthi_closed(zeros) == 1 && delkuthi_rows(zeros) == 0 && delkuthi_clock(zeros) == 0
+        && delkuthi_steps(zeros) == 0 && delkuthi_broken_rows(zeros) == 0 && delkuthi_deadline(zeros) == DELKUTHI_NO_LIMIT
+        && delkuthi_page(zeros, page, sizeof page) == 73;
+
+    for (row = 0; row < 40; row++)
+        well = well && delkuthi_row_verdict(zeros, row) == DELKUTHI_NO_ROW && delkuthi_row_step(zeros, row) == 0
+            && delkuthi_row_waiting(zeros, row) == 0 && delkuthi_row_deadline(zeros, row) == DELKUTHI_NO_LIMIT;
+    well = well && delkuthi_event(zeros, 0, 1) == DELKUTHI_CLOSED && delkuthi_coloured_event(zeros, 48, 0, 1) == DELKUTHI_CLOSED
+        && delkuthi_tick(zeros, 1) == DELKUTHI_CLOSED && delkuthi_close(zeros) == DELKUTHI_CLOSED
+        && delkuthi_withdraw(zeros) == DELKUTHI_NOTHING_TO_WITHDRAW;
+    for (i = 0; i < sizeof zeros->words / sizeof zeros->words[0]; i++)
+        well = well && zeros->words[i] == 0;
+    return well;
 }
 
 /* Calls on a monitor with a fence on both sides, which must stand. */
@@ -123,6 +147,8 @@ int main(int argc, char **argv)
     int rounds = argc == 2 ? atoi(argv[1]) : 0;
 
     printf("%lu %lu\n", (unsigned long)sizeof(delkuthi_monitor), (unsigned long)offsetof(struct aligned, monitor));
+    if (!closed(&in_static))
+        return 1;
     calls(&in_static);
     if (!fresh(&in_static))
         return 1;

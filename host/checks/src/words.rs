@@ -1,15 +1,77 @@
-//! The words of a lent monitor: which of them say what may be withdrawn next. The tests know it here and nowhere else.
+//! The words of a lent monitor: which of them a withdrawal does not put back, and where some of the others stand. The tests know it
+//! here and nowhere else.
 
-use delkuthi::{Monitor, WORDS};
+use delkuthi::{Monitor, ROW_LIMIT, WORDS};
 use std::collections::BTreeSet;
+use std::ops::Range;
+
+/// The words of a row: 64 for its times, and 64 for its numbers.
+const BLOCK: usize = 128;
+/// Where the numbers beside the rows begin.
+const NUMBERS: usize = ROW_LIMIT * BLOCK;
+
+/// How many rows there are.
+pub const ROWS: usize = NUMBERS + 3;
+/// The time before which no row is due.
+pub const SOONEST: usize = NUMBERS + 4;
+/// Whether the last step may be withdrawn, and what it changed beside the rows.
+pub const LAST_STEP: Range<usize> = NUMBERS + 5..NUMBERS + 11;
+/// How many events may come before a row can be crowded.
+pub const ROOM: usize = NUMBERS + 11;
+
+/// What a row was before its last step, two times that this step overwrote, and its number.
+pub fn past(row: usize) -> Range<usize> {
+    let numbers = BLOCK * row + 64;
+    numbers + 20..numbers + 34
+}
+
+/// The number of the last step that changed a row, while that can be withdrawn.
+fn stamp(monitor: &Monitor, row: usize) -> u64 {
+    monitor.words()[past(row).end - 1]
+}
 
 /// What a word says of withdrawals, if it says anything of them. A withdrawal puts every other word back.
 pub fn of_withdrawals(place: usize) -> Option<&'static str> {
     match place {
-        2868..3316 => Some("what a row was before its last step, and two times that this step overwrote"),
-        3316..3322 => Some("whether the last step may be withdrawn, and what it changed beside the rows"),
-        3322 => Some("the time before which no row is due: 0 after a withdrawal, and found anew at the next step"),
+        SOONEST => Some("the time before which no row is due: 0 after a withdrawal, and found anew at the next step"),
+        ROOM => Some("how many events may come before a row can be crowded: an event that is withdrawn is counted too"),
+        _ if LAST_STEP.contains(&place) => {
+            Some("whether the last step may be withdrawn, and what it changed beside the rows")
+        }
+        _ if (0..ROW_LIMIT).any(|row| past(row).contains(&place)) => Some("what a row was before its last step"),
         _ => None,
+    }
+}
+
+/// The words after the withdrawal of a step, by those before the step and after it. Those before it are put back, but for: no row
+/// that the step changed has a past, no step may be withdrawn, every row is to be looked at, and the event is counted.
+pub fn withdrawn(before: &Monitor, stepped: &Monitor) -> Monitor {
+    let mut words = *before.words();
+    for row in (0..ROW_LIMIT).filter(|row| stamp(stepped, *row) == stepped.steps()) {
+        words[past(row)].fill(0);
+    }
+    words[LAST_STEP].fill(0);
+    words[SOONEST] = 0;
+    words[ROOM] = stepped.words()[ROOM];
+    Monitor::from_words(words)
+}
+
+/// How many events may come before a row can be crowded, after a step that is taken: as many as before it, or after an event one
+/// less. Where none could, an event after every 32 steps finds it anew, and then it is less than fit in the row in which most wait.
+///
+/// # Panics
+/// If it is another number.
+pub fn room_after(before: &Monitor, stepped: &Monitor, event: bool) {
+    let (room, then) = (stepped.words()[ROOM], before.words()[ROOM]);
+    if !event {
+        assert_eq!(room, then, "after no event");
+        return;
+    }
+    let waiting = (0..before.rows()).map(|row| before.row_waiting(row) as u64).max().unwrap_or(0);
+    if then == 0 && before.steps() % 32 == 0 {
+        assert!(room <= 63 - waiting.min(63), "room for {room} where {waiting} wait");
+    } else {
+        assert_eq!(room, then.saturating_sub(1), "where {waiting} wait");
     }
 }
 

@@ -270,7 +270,7 @@ fn tables_made_in_c() {
 #[test]
 fn the_monitors_memory() {
     let size = format!("{} {}\n", size_of::<Monitor>(), align_of::<Monitor>());
-    assert_eq!(size, "28768 8\n");
+    assert_eq!(size, "35840 8\n");
     for level in LEVELS {
         let host = c_host("memory", level);
         assert_eq!(host.run(&["300"]), Ran::new(0, &size));

@@ -2,7 +2,7 @@
 //! Clauses: §3.12 to §3.15, §8.21, §9.2.
 
 use checks::beside::{counting_from, fresh, take, take_all, verdict};
-use checks::words::{Differing, untouched};
+use checks::words::{Differing, differing, room_after, untouched, withdrawn};
 use delkuthi::Monitor;
 use model::random::Random;
 use model::random::calls::calls;
@@ -28,13 +28,15 @@ struct Beside<'a> {
     rows: &'a [Constraint],
     count: u64,
     monitor: Monitor,
+    /// The monitor before the last step, while that can be withdrawn.
+    last: Option<Monitor>,
     model: model::Monitor,
 }
 
 impl<'a> Beside<'a> {
     fn new(rows: &'a [Constraint], count: u64) -> Beside<'a> {
         let model = model::Monitor::counting_from(rows, count).expect("an accepted table");
-        Beside { rows, count, monitor: counting_from(rows, count), model }
+        Beside { rows, count, monitor: counting_from(rows, count), last: None, model }
     }
 
     /// Takes a step, or withdraws the last one where there is none to take, and compares: the answer, the verdicts, and word for
@@ -50,7 +52,10 @@ impl<'a> Beside<'a> {
         assert_eq!(answer, expected, "{what} after {:?}", self.model.steps());
         match found.seen.answer(answer) {
             Err(_) => untouched(&before, &self.monitor, &what),
-            Ok(()) => found.closes += usize::from(closed),
+            Ok(()) => {
+                found.closes += usize::from(closed);
+                self.compare_words(before, request, &what);
+            }
         }
         for (row, expected) in self.model.verdicts().into_iter().enumerate() {
             assert_eq!(verdict(&self.monitor, row), Ok(expected), "row {row} after {what}");
@@ -59,6 +64,20 @@ impl<'a> Beside<'a> {
         let mut left = counting_from(self.rows, self.count);
         assert!(take_all(&mut left, self.model.steps()).iter().all(Answer::is_ok));
         found.differing.compare(&self.monitor, &left, &what);
+    }
+
+    /// The words after a step or a withdrawal that was taken: a withdrawal puts back exactly those before the step that do not say
+    /// what may be withdrawn.
+    fn compare_words(&mut self, before: Monitor, request: Option<Step>, what: &str) {
+        if let Some(step) = request {
+            let event = matches!(step, Step::Event { .. } | Step::Coloured { .. });
+            room_after(&before, &self.monitor, event);
+            self.last = Some(before);
+        } else {
+            let last = self.last.take().expect("a step that can be withdrawn");
+            let places = differing(&withdrawn(&last, &before), &self.monitor);
+            assert!(places.is_empty(), "other words after {what}: {places:?}");
+        }
     }
 }
 

@@ -1,8 +1,9 @@
-//! Every refusal of a call on a lent monitor leaves every word as it was: each number, from each call that has it.
+//! Every refusal of a call on a lent monitor leaves every word as it was: each number, from each call that has it. Words of which none
+//! is what a call left: zeros, and too many rows.
 
 use checks::beside::{counting_from, fresh, take, take_all};
-use checks::words::untouched;
-use delkuthi::Monitor;
+use checks::words::{ROWS, untouched};
+use delkuthi::{Monitor, PAGE_LIMIT, ROW_LIMIT, WORDS};
 use model::random::Random;
 use model::random::calls::{Play, calls};
 use model::random::seen::Seen;
@@ -170,4 +171,51 @@ fn of_tables() {
         }
     }
     seen.demand_refusals((1..=7).chain([18]));
+}
+
+/// The page of a monitor.
+fn page(monitor: &Monitor) -> Vec<u8> {
+    let mut buffer = [0; PAGE_LIMIT];
+    let length = monitor.page(&mut buffer).expect("a buffer that is long enough");
+    buffer[..length].to_vec()
+}
+
+/// Memory of zeros is a monitor that is closed and has no rows: every call that only reads says so, every step is refused with 8
+/// and a withdrawal with 21, and no word changes. A table makes it fresh, as it does any other memory.
+#[test]
+fn of_zeros() {
+    let mut zeros = Monitor::from_words([0; WORDS]);
+    assert_eq!((zeros.is_closed(), zeros.rows(), zeros.clock(), zeros.steps()), (true, 0, 0, 0));
+    assert_eq!((zeros.broken_rows(), zeros.deadline(), zeros.verdicts().count()), (0, None, 0));
+    for row in [0, 1, 31, 32, usize::MAX] {
+        assert_eq!(zeros.verdict(row).map_err(|refusal| refusal.number()), Err(15));
+        assert_eq!((zeros.row_waiting(row), zeros.row_deadline(row)), (0, None));
+    }
+    assert_eq!(page(&zeros), page(&fresh(&[])));
+    let calls = any_calls(0);
+    assert!(calls.iter().all(|call| answered(&zeros, *call) == Some(8)));
+    nothing_to_withdraw(&zeros);
+    let rows = any_table(&mut Random::new(134));
+    zeros.restart(&table_bytes(&rows)).expect("an accepted table");
+    untouched(&fresh(&rows), &zeros, "a table over memory of zeros");
+}
+
+/// A word for the number of rows above 32 reads as 32, and no call speaks of a row behind the last.
+#[test]
+fn of_too_many_rows() {
+    let mut random = Random::new(135);
+    let rows = vec![Constraint::Order { source: 0, target: 1 }; ROW_LIMIT];
+    let (full, _) = in_use(&mut random, &rows, 40);
+    assert_eq!((full.words()[ROWS], full.rows()), (32, 32));
+    for number in [33, 64, 1 << 32, 1 << 63, u64::MAX] {
+        let mut words = *full.words();
+        words[ROWS] = number;
+        let mut many = Monitor::from_words(words);
+        assert_eq!((many.rows(), many.broken_rows()), (32, full.broken_rows()));
+        assert!(many.verdicts().eq(full.verdicts()) && page(&many) == page(&full));
+        assert_eq!(many.verdict(32).map_err(|refusal| refusal.number()), Err(15));
+        assert_eq!((many.row_waiting(32), many.row_deadline(32), many.deadline()), (0, None, full.deadline()));
+        many.close().expect("a close");
+        assert_eq!((many.rows(), many.verdicts().count()), (32, 32));
+    }
 }

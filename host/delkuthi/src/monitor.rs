@@ -5,14 +5,14 @@ use crate::refusal::Refusal;
 use core::fmt;
 
 /// How many words of 64 bits a monitor takes.
-pub const WORDS: usize = 3596;
+pub const WORDS: usize = 4480;
 
 /// The word for each verdict, as the library answers it; any other says that there is no such row.
 const OPEN: u8 = 0;
 const KEPT: u8 = 1;
 const BROKEN: u8 = 2;
 
-/// A monitor over a table: 28,768 bytes, with no pointer in them. A copy is a monitor of its own.
+/// A monitor over a table: 35,840 bytes, with no pointer in them. A copy is a monitor of its own.
 #[derive(Clone, PartialEq, Eq)]
 #[repr(transparent)]
 pub struct Monitor {
@@ -128,7 +128,7 @@ impl Monitor {
         }
     }
 
-    /// The number of rows of the table.
+    /// The number of rows of the table: at most 32, whatever the words are.
     pub fn rows(&self) -> usize {
         ffi::delkuthi_rows(self) as usize
     }
@@ -200,7 +200,8 @@ impl Monitor {
     }
 
     /// A monitor from memory that was put aside. Any words are safe: each call on them still ends and touches nothing
-    /// else. But on words that [`Monitor::words`] did not give, what a call answers means nothing.
+    /// else. But on words that [`Monitor::words`] did not give, what a call answers means nothing, unless all are 0: that is
+    /// a monitor which is closed and has no rows.
     ///
     /// # Panics
     /// If the archive that was linked is not this crate's: [`matches`](crate::matches).

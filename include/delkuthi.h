@@ -53,8 +53,9 @@
  *
  * A step that is refused has changed nothing, and the monitor goes on. So a
  * host that meets a 12 (more than 64 would wait in a row) can give the step
- * again once something was answered, at a time that is in order then. A report
- * ends at the first refusal, a 12 as any other: it is then one line.
+ * again once something was answered, at a time that is in order then;
+ * delkuthi_crowded_row says in which row. A report ends at the first refusal,
+ * a 12 as any other: it is then one line.
  *
  *
  * MEMORY AND THREADS
@@ -801,7 +802,11 @@ uint64_t delkuthi_clock(const delkuthi_monitor *monitor);
 DELKUTHI_NONNULL
 uint64_t delkuthi_steps(const delkuthi_monitor *monitor);
 
-/* Returns 1 once the recording is closed, else 0. */
+/*
+ * Returns 1 once the recording is closed, else 0. Memory of zeros, as that of a
+ * static delkuthi_monitor before delkuthi_fresh, reads as closed: each step on
+ * it is refused with DELKUTHI_CLOSED, and it stays as it was.
+ */
 DELKUTHI_NONNULL
 uint8_t delkuthi_closed(const delkuthi_monitor *monitor);
 
@@ -815,6 +820,18 @@ uint32_t delkuthi_broken_rows(const delkuthi_monitor *monitor);
  */
 DELKUTHI_NONNULL
 uint64_t delkuthi_row_waiting(const delkuthi_monitor *monitor, uint64_t row);
+
+/*
+ * Returns the first row for which delkuthi_event, given the same kind and time,
+ * would answer DELKUTHI_CROWDED: the row would be open with more than 64
+ * waiting. So a host that met a 12 learns in which row it has to be answered.
+ *
+ * Returns DELKUTHI_ROW_LIMIT where that call would answer anything else. An
+ * event of a coloured kind, a tick and the close never crowd a row.
+ */
+DELKUTHI_NONNULL
+uint8_t delkuthi_crowded_row(const delkuthi_monitor *monitor, uint8_t kind,
+                             uint64_t time);
 
 /*
  * Returns the deadline of a row that reads open: a tick to a time that is not

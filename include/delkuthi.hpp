@@ -155,6 +155,14 @@ public:
     // How many wait in a row that is open.
     std::uint64_t waiting(std::uint64_t row) const noexcept { return delkuthi_row_waiting(&words_, row); }
 
+    // The first row for which an event of a plain kind would be refused with 12; nothing where it would not be.
+    std::optional<std::uint8_t> crowded_row(std::uint8_t kind, std::uint64_t time) const noexcept
+    {
+        const std::uint8_t row = delkuthi_crowded_row(&words_, kind, time);
+
+        return row == DELKUTHI_ROW_LIMIT ? std::nullopt : std::optional(row);
+    }
+
     // The last time to which a tick leaves the row open, and the least of those of all rows; nothing where no tick breaks one.
     std::optional<std::uint64_t> deadline(std::uint64_t row) const noexcept
     {

@@ -82,6 +82,8 @@ static void every_call(const delkuthi_monitor *forged)
             monitor = *forged;
             begins("delkuthi_event");
             (void)delkuthi_event(&monitor, kinds[j], times[i]);
+            begins("delkuthi_crowded_row");
+            (void)delkuthi_crowded_row(forged, kinds[j], times[i]);
             monitor = *forged;
             begins("delkuthi_coloured_event");
             (void)delkuthi_coloured_event(&monitor, kinds[j], (uint8_t)(j % 9), times[i]);

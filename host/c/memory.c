@@ -71,6 +71,7 @@ static void calls(delkuthi_monitor *monitor)
         (void)delkuthi_deadline(monitor);
         (void)delkuthi_row_deadline(monitor, number() % 40);
         (void)delkuthi_row_waiting(monitor, number());
+        (void)delkuthi_crowded_row(monitor, (uint8_t)(number() % 72), time);
         (void)delkuthi_broken_rows(monitor);
         (void)(delkuthi_clock(monitor) + delkuthi_steps(monitor) + delkuthi_closed(monitor));
         (void)delkuthi_page(monitor, page, number() % (sizeof page + 1));

@@ -148,6 +148,17 @@ static void stepped(uint64_t answer)
     rows();
 }
 
+/* An event of a plain kind: the row that it crowds is known beforehand. */
+static void event(uint8_t kind, uint64_t time)
+{
+    uint8_t row = delkuthi_crowded_row(&monitor, kind, time), answer = delkuthi_event(&monitor, kind, time);
+
+    well &= (row < DELKUTHI_ROW_LIMIT) == (answer == DELKUTHI_CROWDED);
+    if (row < DELKUTHI_ROW_LIMIT)
+        printf(" crowds %d", row);
+    stepped(answer);
+}
+
 /* Calls on the monitor; returns whether this is one. */
 static int played_monitor(const char *call)
 {
@@ -159,7 +170,7 @@ static int played_monitor(const char *call)
     } else if (strcmp(call, "event") == 0) {
         uint8_t kind = byte();
 
-        stepped(delkuthi_event(&monitor, kind, number()));
+        event(kind, number());
     } else if (strcmp(call, "coloured") == 0) {
         uint8_t kind = byte(), colour = byte();
 

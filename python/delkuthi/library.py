@@ -105,6 +105,7 @@ FURTHER: dict[str, tuple[Any, list[Any]]] = {
     "delkuthi_deadline": (_NUMBER, [_MONITOR]),
     "delkuthi_row_deadline": (_NUMBER, [_MONITOR, _NUMBER]),
     "delkuthi_row_waiting": (_NUMBER, [_MONITOR, _NUMBER]),
+    "delkuthi_crowded_row": (_BYTE, [_MONITOR, _BYTE, _NUMBER]),
 }
 
 

@@ -130,6 +130,13 @@ class Monitor:
         """How many wait in a row that reads open; 0 in any other."""
         return int(self._library.delkuthi_row_waiting(self._memory, _row(row)))
 
+    def crowded_row(self, event: int | str, time: int) -> int | None:
+        """The first row for which an event of a plain kind would be refused with 12; ``None`` where it would not be."""
+        kind = self.table.kind(event)
+        given = kind if 0 <= kind <= 255 else 255, time if 0 <= time <= _LARGEST else _LARGEST
+        row = int(self._library.delkuthi_crowded_row(self._memory, *given))
+        return None if row == lib.ROW_LIMIT else row
+
     def clock(self) -> int:
         """The time of the last event or tick; 0 before any."""
         return int(self._library.delkuthi_clock(self._memory))

@@ -44,6 +44,15 @@ def test_random_lists_beside_the_model():
     assert seen >= {0, 8, 9, 10, 11, 19} and broken > 100
 
 
+def test_the_row_that_an_event_crowds():
+    monitor = Monitor(Table([Row.of("Order", source=0, target=1), Row.of("Delay", source=0, target=1, lower=0, upper=1_000)]))
+    for time in range(1, 65):
+        assert monitor.crowded_row(0, time) is None
+        monitor.event(0, time)
+    assert monitor.crowded_row(0, 65) == 1 and answer(monitor.event, 0, 65) == 12
+    assert [monitor.crowded_row(*one) for one in ((0, 64), (1, 65), (48, 65), (-1, 65), (300, 65), (0, -1), (0, 2**70))] == [None] * 7
+
+
 def test_a_copy_goes_its_own_way():
     monitor = Monitor(DELAY)
     monitor.event(0, 10)

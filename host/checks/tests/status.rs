@@ -1,10 +1,10 @@
 //! What a host asks while it runs, after random lists of calls and withdrawals, beside the model, which finds the first
 //! tick that breaks a row by search.
-//! Clauses: §15.1 to §15.9.
+//! Clauses: §15.1 to §15.9, §15.11, §15.13.
 
 use checks::beside::{fresh, take};
-use delkuthi::{Monitor, NO_LIMIT};
-use model::Constraint;
+use delkuthi::{Monitor, NO_LIMIT, ROW_LIMIT};
+use model::{Constraint, Step};
 use model::random::Random;
 use model::random::calls::calls;
 use model::random::tables::{any_table, table};
@@ -27,12 +27,24 @@ fn limit(deadline: u64) -> Option<u64> {
     (deadline != NO_LIMIT).then_some(deadline)
 }
 
+/// Which row an event would crowd is the same, and is said exactly where the event is refused with 12.
+fn compare_crowded(monitor: &Monitor, model: &model::Monitor, kind: u8, time: u64) -> bool {
+    let row = model.crowded_row(Step::Event { kind, time });
+    assert_eq!(monitor.crowded_row(kind, time), (row != ROW_LIMIT).then_some(row), "{kind}@{time} after {:?}", model.steps());
+    let refused = monitor.clone().event(kind, time).map_err(|refusal| refusal.number()) == Err(12);
+    assert_eq!(refused, row != ROW_LIMIT, "{kind}@{time} after {:?}", model.steps());
+    refused
+}
+
 /// Plays calls, a quarter of them withdrawals, and asks after each.
 fn play(random: &mut Random, rows: &[Constraint], number: usize) -> usize {
     let mut monitor = fresh(rows);
     let mut model = model::Monitor::fresh(rows).expect("an accepted table");
     let mut deadlines = 0;
     for call in calls(random, rows, number) {
+        if let Step::Event { kind, time } = call {
+            compare_crowded(&monitor, &model, kind, time);
+        }
         let what = if random.below(4) == 0 {
             assert_eq!(monitor.withdraw().map_err(|refusal| refusal.number()), model.withdraw());
             "withdraw".to_string()
@@ -95,4 +107,54 @@ fn a_tick_to_the_deadline_and_one_past_it() {
         }
     }
     assert!(tried > 1_000, "{tried}");
+}
+
+/// Rows that fill, with sources of several of them: the first that an event would crowd is named, up to 64 and beyond.
+#[test]
+fn the_row_that_an_event_crowds() {
+    let mut random = Random::new(155);
+    let mut refused = 0;
+    for _ in 0..40 {
+        let rows = crowding_table(&mut random);
+        let mut monitor = fresh(&rows);
+        let mut model = model::Monitor::fresh(&rows).expect("an accepted table");
+        for time in 1..=90 {
+            let kind = random.below(3) as u8;
+            for kind in 0..4 {
+                refused += usize::from(compare_crowded(&monitor, &model, kind, time));
+            }
+            assert_eq!(monitor.event(kind, time).map_err(|refusal| refusal.number()), model.event(kind, time));
+        }
+    }
+    assert!(refused > 100, "{refused}");
+}
+
+/// Rows with patience, three kinds among them, some of which no event crowds.
+fn crowding_table(random: &mut Random) -> Vec<Constraint> {
+    let row = |random: &mut Random| {
+        let (source, upper) = (random.below(3) as u8, 40 + random.below(100));
+        match random.below(4) {
+            0 => Constraint::Delay { source, target: 3, lower: 0, upper },
+            1 => Constraint::StrongDelay { source, target: 3, lower: 0, upper },
+            2 => Constraint::StrongSynchronization { kinds: vec![source, 3], tolerance: upper },
+            _ => Constraint::Order { source, target: 3 },
+        }
+    };
+    (0..1 + random.below(5)).map(|_| row(random)).collect()
+}
+
+/// Memory of zeros reads as closed, has no rows, and takes nothing.
+#[test]
+fn memory_of_zeros_is_closed() {
+    let mut monitor = Monitor::from_words([0; delkuthi::WORDS]);
+    assert!(monitor.is_closed());
+    assert_eq!((monitor.rows(), monitor.clock(), monitor.steps(), monitor.broken_rows()), (0, 0, 0, 0));
+    assert_eq!((monitor.deadline(), monitor.crowded_row(0, 1)), (None, None));
+    let refused = |answer: Result<(), delkuthi::Refusal>| answer.map_err(|refusal| refusal.number());
+    assert_eq!(refused(monitor.event(0, 1)), Err(8));
+    assert_eq!(refused(monitor.coloured_event(48, 0, 1)), Err(8));
+    assert_eq!(refused(monitor.tick(1)), Err(8));
+    assert_eq!(refused(monitor.close()), Err(8));
+    assert_eq!(refused(monitor.withdraw()), Err(21));
+    assert_eq!(monitor.words(), &[0; delkuthi::WORDS]);
 }

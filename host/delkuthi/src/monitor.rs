@@ -168,6 +168,30 @@ impl Monitor {
         ffi::delkuthi_row_waiting(self, row as u64) as usize
     }
 
+    /// The first row for which [`Monitor::event`], given the same kind and time, would be refused with 12: it would be open
+    /// with more than 64 waiting. None where the event would not be refused so. An event of a coloured kind, a tick and the
+    /// close never crowd a row.
+    ///
+    /// ```
+    /// # use delkuthi::{Monitor, Row, TABLE_LIMIT, write_table};
+    /// # let mut table = [0; TABLE_LIMIT];
+    /// # let rows = [Row::Order { source: 0, target: 1 }, Row::Delay { source: 0, target: 1, lower: 0, upper: 1_000 }];
+    /// # let length = write_table(&rows, &mut table)?;
+    /// let mut monitor = Monitor::fresh(&table[..length])?;
+    /// for time in 1..=64 {
+    ///     assert_eq!(monitor.crowded_row(0, time), None);
+    ///     monitor.event(0, time)?;
+    /// }
+    /// assert_eq!(monitor.crowded_row(0, 65), Some(1));
+    /// assert_eq!(monitor.event(0, 65).map_err(|refusal| refusal.number()), Err(12));
+    /// # Ok::<(), delkuthi::Refusal>(())
+    /// ```
+    #[inline]
+    pub fn crowded_row(&self, kind: u8, time: u64) -> Option<usize> {
+        let row = ffi::delkuthi_crowded_row(self, kind, time) as usize;
+        if row == crate::ROW_LIMIT { None } else { Some(row) }
+    }
+
     /// The last time to which a tick leaves a row open that reads open: one to any later time breaks it. None where no
     /// tick breaks the row, for a row that is broken, after the close, and where there is no row of that number.
     #[inline]

@@ -802,11 +802,7 @@ uint64_t delkuthi_clock(const delkuthi_monitor *monitor);
 DELKUTHI_NONNULL
 uint64_t delkuthi_steps(const delkuthi_monitor *monitor);
 
-/*
- * Returns 1 once the recording is closed, else 0. Memory of zeros, as that of a
- * static delkuthi_monitor before delkuthi_fresh, reads as closed: each step on
- * it is refused with DELKUTHI_CLOSED, and it stays as it was.
- */
+/* Returns 1 once the recording is closed, else 0. */
 DELKUTHI_NONNULL
 uint8_t delkuthi_closed(const delkuthi_monitor *monitor);
 

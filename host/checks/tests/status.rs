@@ -1,13 +1,13 @@
 //! What a host asks while it runs, after random lists of calls and withdrawals, beside the model, which finds the first
 //! tick that breaks a row by search.
-//! Clauses: §15.1 to §15.9, §15.11, §15.13.
+//! Clauses: §15.1 to §15.9, §15.11.
 
 use checks::beside::{fresh, take};
 use delkuthi::{Monitor, NO_LIMIT, ROW_LIMIT};
-use model::{Constraint, Step};
 use model::random::Random;
 use model::random::calls::calls;
 use model::random::tables::{any_table, table};
+use model::{Constraint, Step};
 
 /// All that is asked of each is the same.
 fn compare(monitor: &Monitor, model: &model::Monitor, what: &str) {
@@ -30,7 +30,12 @@ fn limit(deadline: u64) -> Option<u64> {
 /// Which row an event would crowd is the same, and is said exactly where the event is refused with 12.
 fn compare_crowded(monitor: &Monitor, model: &model::Monitor, kind: u8, time: u64) -> bool {
     let row = model.crowded_row(Step::Event { kind, time });
-    assert_eq!(monitor.crowded_row(kind, time), (row != ROW_LIMIT).then_some(row), "{kind}@{time} after {:?}", model.steps());
+    assert_eq!(
+        monitor.crowded_row(kind, time),
+        (row != ROW_LIMIT).then_some(row),
+        "{kind}@{time} after {:?}",
+        model.steps()
+    );
     let refused = monitor.clone().event(kind, time).map_err(|refusal| refusal.number()) == Err(12);
     assert_eq!(refused, row != ROW_LIMIT, "{kind}@{time} after {:?}", model.steps());
     refused
@@ -141,20 +146,4 @@ fn crowding_table(random: &mut Random) -> Vec<Constraint> {
         }
     };
     (0..1 + random.below(5)).map(|_| row(random)).collect()
-}
-
-/// Memory of zeros reads as closed, has no rows, and takes nothing.
-#[test]
-fn memory_of_zeros_is_closed() {
-    let mut monitor = Monitor::from_words([0; delkuthi::WORDS]);
-    assert!(monitor.is_closed());
-    assert_eq!((monitor.rows(), monitor.clock(), monitor.steps(), monitor.broken_rows()), (0, 0, 0, 0));
-    assert_eq!((monitor.deadline(), monitor.crowded_row(0, 1)), (None, None));
-    let refused = |answer: Result<(), delkuthi::Refusal>| answer.map_err(|refusal| refusal.number());
-    assert_eq!(refused(monitor.event(0, 1)), Err(8));
-    assert_eq!(refused(monitor.coloured_event(48, 0, 1)), Err(8));
-    assert_eq!(refused(monitor.tick(1)), Err(8));
-    assert_eq!(refused(monitor.close()), Err(8));
-    assert_eq!(refused(monitor.withdraw()), Err(21));
-    assert_eq!(monitor.words(), &[0; delkuthi::WORDS]);
 }

@@ -1,5 +1,6 @@
 //! Every refusal of a call on a lent monitor leaves every word as it was: each number, from each call that has it. Words of which none
 //! is what a call left: zeros, and too many rows.
+//! Clauses: §15.13.
 
 use checks::beside::{counting_from, fresh, take, take_all};
 use checks::words::{ROWS, untouched};
@@ -186,7 +187,10 @@ fn page(monitor: &Monitor) -> Vec<u8> {
 fn of_zeros() {
     let mut zeros = Monitor::from_words([0; WORDS]);
     assert_eq!((zeros.is_closed(), zeros.rows(), zeros.clock(), zeros.steps()), (true, 0, 0, 0));
-    assert_eq!((zeros.broken_rows(), zeros.deadline(), zeros.verdicts().count()), (0, None, 0));
+    assert_eq!(
+        (zeros.broken_rows(), zeros.deadline(), zeros.crowded_row(0, 1), zeros.verdicts().count()),
+        (0, None, None, 0)
+    );
     for row in [0, 1, 31, 32, usize::MAX] {
         assert_eq!(zeros.verdict(row).map_err(|refusal| refusal.number()), Err(15));
         assert_eq!((zeros.row_waiting(row), zeros.row_deadline(row)), (0, None));

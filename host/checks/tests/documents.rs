@@ -125,6 +125,19 @@ fn each_file_that_is_named_is_there() {
     assert!(missing.is_empty(), "{missing:?}");
 }
 
+/// Each wrong program that the decisions name as `crate/label` is an edit of that crate.
+#[test]
+fn the_wrong_programs_that_are_named_are_edits() {
+    let text = text_of(&root().join("docs/DECISIONS.md"));
+    let part =
+        text.split("\n## ").find(|part| part.starts_with("What the contracts rule out")).expect("the wrong programs");
+    let named: Vec<&str> = part.split('`').skip(1).step_by(2).filter(|name| name.contains('/')).collect();
+    let edit = |name: &str| name.split_once('/').map(|(one, label)| format!("crates/{one}/must-fail/{label}.edit"));
+    let missing: Vec<_> =
+        named.iter().filter(|name| !edit(name).is_some_and(|path| root().join(path).is_file())).collect();
+    assert!(named.len() >= 40 && missing.is_empty(), "{} named, not there: {missing:?}", named.len());
+}
+
 /// The report beside the drive is the one on it.
 #[test]
 fn the_report_beside_the_drive() {

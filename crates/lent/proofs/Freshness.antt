@@ -7,7 +7,7 @@ use mathlib.Core.Path.{_≡_, refl, sym, ap, ap₂, subst, _∙_}
 use mathlib.Core.Bool.{Bool, true, false, cond}
 use mathlib.Core.List.{List, [], _∷_, _++_, map}
 use lib.ListN.{length, getD, set, take, replicate, length-append, length-replicate, length-map, List·getD-append}
-use lib.Seq.{take-suc, take-length, getD-append-add, getD-at}
+use lib.Seq.{take-at, take-suc, take-length, getD-append-add, getD-at}
 use lib.Dec.{eqb, ltb}
 use borrow.Author.Tests.{ltb-true, ltb-false}
 use Rattle.constraint.specs.Limits.{rowLimit, waitingLimit}
@@ -45,7 +45,8 @@ numbers-small : (test : ℕ → Bool) (n : ℕ) → Each (λ i. i < n) (numbers 
 numbers-small test zero = each-none (λ i. i < 0)
 numbers-small test (suc n) =
     each-append (λ i. i < suc n) (numbers test n) (cond (test n) (n ∷ []) []) (λ i there. omega (arith, numbers-small test n i there))
-    (split (test n) (λ b. Each (λ i. i < suc n) (cond b (n ∷ []) [])) (λ _. each-cons (λ i. i < suc n) n [] (omega arith) (each-none (λ i. i < suc n)))
+    (split (test n) (λ b. Each (λ i. i < suc n) (cond b (n ∷ []) []))
+    (λ _. each-cons (λ i. i < suc n) n [] (omega arith) (each-none (λ i. i < suc n)))
     (λ _. each-none (λ i. i < suc n)))
 
 module _ (m : Monitor) (n : ℕ) where
@@ -77,6 +78,10 @@ module _ (m : Monitor) (n : ℕ) where
   ends-length zero = refl
   ends-length (suc kind) = omega (arith, length-append (endsTo m n kind) (length (listedTo m n (suc kind)) ∷ []), ends-length kind)
 
+  pub ends-whole : padded 64 (endsTo m n 64) ≡ endsTo m n 64
+  unfolding padded
+  ends-whole = take-at (endsTo m n 64) (replicate 64 0) 64 (ends-length 64)
+
   ends-at : (kinds kind : ℕ) → kind < kinds → at (endsTo m n kinds) kind ≡ length (listedTo m n (suc kind))
   unfolding endsTo
   ends-at zero kind there = absurd (omega (arith, there))
@@ -89,7 +94,8 @@ module _ (m : Monitor) (n : ℕ) where
       ∙ ap (λ (k : ℕ). length (listedTo m n (suc k))) (sym same))
 
   -- one kind more
-  pub ends-next : (kind place : ℕ) → place ≡ length (listedTo m n (suc kind)) → set (padded 64 (endsTo m n kind)) kind place ≡ padded 64 (endsTo m n (suc kind))
+  pub ends-next : (kind place : ℕ) → place ≡ length (listedTo m n (suc kind))
+      → set (padded 64 (endsTo m n kind)) kind place ≡ padded 64 (endsTo m n (suc kind))
   unfolding endsTo
   ends-next kind place is =
       ap₂ (set (padded 64 (endsTo m n kind))) (sym (ends-length kind)) is ∙ padded-next (endsTo m n kind) 64 (length (listedTo m n (suc kind)))
@@ -100,16 +106,16 @@ named-are : (h : Lent) (first : ℕ) (list : List ℕ) (n : ℕ) → n ≤ lengt
     → namedRows h first n ≡ take n list
 named-are h first list zero few each = refl
 named-are h first list (suc n) few each =
-    ap₂ (λ (l : List ℕ) (i : ℕ). l ++ (i ∷ [])) (named-are h first list n (omega (arith, few)) (λ i below. each i (omega (arith, below)))) (each n (omega arith))
+    ap₂ (λ (l : List ℕ) (i : ℕ). l ++ (i ∷ [])) (named-are h first list n (omega (arith, few)) (λ i below. each i (omega (arith, below))))
+    (each n (omega arith))
     ∙ sym (take-suc list n 0 (omega (arith, few)))
 
-module _ (h : Lent) (n : ℕ) (few : n ≤ 32) (ends : h .ends ≡ padded 64 (endsTo (h .monitor) n 64))
+module _ (h : Lent) (n : ℕ) (few : n ≤ 32) (ends : h .ends ≡ endsTo (h .monitor) n 64)
     (entries : h .entries ≡ padded 128 (listedTo (h .monitor) n 64)) where
   end-is : (kind : ℕ) → kind < 64 → endOf h kind ≡ length (listedTo (h .monitor) n (suc kind))
   end-is kind small =
       let stored : at (h .ends) kind ≡ length (listedTo (h .monitor) n (suc kind)) =
-          ap (λ (l : List ℕ). at l kind) ends
-          ∙ padded-at (endsTo (h .monitor) n 64) 64 kind (omega (arith, ends-length (h .monitor) n 64, small)) small ∙ ends-at (h .monitor) n 64 kind small in
+          ap (λ (l : List ℕ). at l kind) ends ∙ ends-at (h .monitor) n 64 kind small in
       omega (arith, stored, listed-few (h .monitor) n (suc kind), few)
 
   start-is : (kind : ℕ) → kind < 64 → startOf h kind ≡ length (listedTo (h .monitor) n kind)
@@ -129,7 +135,8 @@ module _ (h : Lent) (n : ℕ) (few : n ≤ 32) (ends : h .ends ≡ padded 64 (en
       let there : first + i < length (listedTo m n (suc kind)) = omega (arith, longer, below) in
       let last = later-at m n 64 (suc kind) (first + i) small there in
       ap (λ (l : List ℕ). at l (first + i) % 32) entries
-      ∙ ap (λ (k : ℕ). k % 32) (padded-at (listedTo m n 64) 128 (first + i) (last .0) (omega (arith, there, listed-few m n (suc kind), few)) ∙ last .1 ∙ kind-at m n kind i)
+      ∙ ap (λ (k : ℕ). k % 32)
+      (padded-at (listedTo m n 64) 128 (first + i) (last .0) (omega (arith, there, listed-few m n (suc kind), few)) ∙ last .1 ∙ kind-at m n kind i)
       ∙ mod-eq-of-lt (omega (arith, numbers-small (isOf m kind) n i below, few)))
       ∙ take-length list
 
@@ -207,7 +214,7 @@ fresh-shaped rows few =
       rows-there = length-is rows few;
       kept-there = refl;
       next-there = refl;
-      ends-there = padded-length (endsTo (after rows []) (length rows) 64) 64;
+      ends-there = ends-length (after rows []) (length rows) 64;
       entries-there = padded-length (listedTo (after rows []) (length rows) 64) 128;
     }
 
@@ -258,5 +265,5 @@ pub begun-words : (rows : List Constraint) → length rows ≤ rowLimit → (wor
 unfolding after play monitorOf padded
 begun-words rows few words exit cleared put =
     let done = subst (λ (w : Words). RowsPut (numbered w (length rows)) (after rows []) 32 exit) cleared put in
-    words-known (withLists (freshLent rows) (padded 64 []) (padded 128 [])) (shaped-lists (freshLent rows) (fresh-shaped rows few) [] []) exit (done .long)
-    (done .rows-lie) (λ k. done .others 32 (omega arith) k ∷ done .others 33 (omega arith) k ∷ done .others 34 (omega arith) k ∷ [])
+    words-known (withLists (freshLent rows) (padded 64 []) (padded 128 [])) (shaped-lists (freshLent rows) (fresh-shaped rows few) [] []) exit
+    (done .long) (done .rows-lie) (λ k. done .others 32 (omega arith) k ∷ done .others 33 (omega arith) k ∷ done .others 34 (omega arith) k ∷ [])

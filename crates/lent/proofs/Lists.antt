@@ -1,4 +1,4 @@
--- The lists of a lent monitor where they lie: a store in one is a store in one part of the record, and words whose blocks are all known are a monitor's.
+-- The lists of a lent monitor where they lie: a store in one is a store in one part of the record. Words whose blocks are all known are a monitor's.
 use Prim.Native.Nat.{ℕ, suc, _<_, _≤_, _/_, _%_}
 use native.Mathlib.Omega.{arith}
 use mathlib.Core.Path.{_≡_, refl, sym, ap, ap₂, subst, _∙_}
@@ -20,7 +20,8 @@ use Rattle.lent.proofs.Padding.{padded-length}
 
 module _ (h : Lent) (s : Shaped h) where
   pub end-written : (kind v : ℕ)
-      → set (wordsOf h) 32 (set (getD (wordsOf h) 32 []) 1 (set (getD (getD (wordsOf h) 32 []) 1 []) kind v)) ≡ wordsOf (withLists h (set (h .ends) kind v) (h .entries))
+      → set (wordsOf h) 32 (set (getD (wordsOf h) 32 []) 1 (set (getD (getD (wordsOf h) 32 []) 1 []) kind v))
+      ≡ wordsOf (withLists h (set (h .ends) kind v) (h .entries))
   unfolding wordsOf
   end-written kind v =
       ap (λ (b : List (List ℕ)). set (wordsOf h) 32 (set b 1 (set (getD b 1 []) kind v))) (numbers-read h s)
@@ -33,7 +34,8 @@ module _ (h : Lent) (s : Shaped h) where
   entry-written i v small =
       ap (λ (b : List (List ℕ)). set (wordsOf h) 33 (set b (i / 64) (set (getD b (i / 64) []) (i % 64) v))) (entries-read h s)
       ∙ last-written h s 1 (set (halves (h .entries)) (i / 64) (set (getD (halves (h .entries)) (i / 64) []) (i % 64) v))
-      ∙ ap (λ (b : List (List ℕ)). rowBlocks (h .monitor .rows) (h .monitor .before) ++ (numberBlock h ∷ b ∷ halves (drop 48 (h .monitor .next)) ∷ []))
+      ∙ ap (λ (b : List (List ℕ)). rowBlocks (h .monitor .rows) (h .monitor .before)
+      ++ (numberBlock h ∷ b ∷ halves (drop 48 (h .monitor .next)) ∷ []))
       (half-written (h .entries) i v small)
 
   pub shaped-lists : (ends entries : List ℕ) → Shaped (withLists h (padded 64 ends) (padded 128 entries))
@@ -69,4 +71,5 @@ words-known h s words long rows last =
     ∙ ap (λ (rest : Words). rowBlocks (h .monitor .rows) (h .monitor .before) ++ rest)
     (ap (λ (n : ℕ). drop n words) (s .rows-there) ∙ drop-cons words 32 [] (omega (arith, long))
     ∙ ap {B = Words} (λ rest. getD words 32 [] ∷ rest) (drop-cons words 33 [] (omega (arith, long))
-    ∙ ap {B = Words} (λ rest. getD words 33 [] ∷ rest) (drop-cons words 34 [] (omega (arith, long)) ∙ ap {B = Words} (λ rest. getD words 34 [] ∷ rest) none)) ∙ last)
+    ∙ ap {B = Words} (λ rest. getD words 33 [] ∷ rest) (drop-cons words 34 [] (omega (arith, long))
+    ∙ ap {B = Words} (λ rest. getD words 34 [] ∷ rest) none)) ∙ last)

@@ -13,7 +13,8 @@ use Rattle.constraint.specs.Limits.{rowLimit}
 use Rattle.constraint.specs.Steps.{at}
 use Rattle.constraint.specs.Questions.{Question, Judged}
 use Rattle.constraint.specs.Types.{lengths}
-use Rattle.constraint.specs.Table.{ShapeFits, lengthAt, bodyAt, placeQuestions, TableRead, table-of, table-refused, rowThen, ReadsRows, no-more, row-refused, row-taken, ReadsTable, version-refused, version-taken}
+use Rattle.constraint.specs.Table.{ShapeFits, lengthAt, bodyAt, placeQuestions, TableRead, table-of, table-refused, rowThen}
+use Rattle.constraint.specs.Table.{ReadsRows, no-more, row-refused, row-taken, ReadsTable, version-refused, version-taken}
 use Rattle.constraint.specs.declared.Answer.the-variants.{Taken, Refused}
 use Rattle.constraint.specs.declared.Constraint.{Constraint}
 use Rattle.constraint.proofs.Judged.{never}
@@ -42,7 +43,8 @@ shape-short body fits =
     (fits .length-right)
 
 -- a row that is taken has at most 36 bytes
-row-short : (bytes : List ℕ) (i place : ℕ) (c : Constraint) → Judged (placeQuestions bytes i place c) Taken → (i < rowLimit) × (lengthAt bytes place ≤ 34)
+row-short : (bytes : List ℕ) (i place : ℕ) (c : Constraint) → Judged (placeQuestions bytes i place c) Taken
+    → (i < rowLimit) × (lengthAt bytes place ≤ 34)
 row-short bytes i place c judged =
     let taken = place-taken bytes i place c judged in
     let body = length-take-le (lengthAt bytes place) (drop (place + 2) bytes) (omega (arith, length-drop (place + 2) bytes)) in
@@ -61,14 +63,17 @@ number-above (q ∷ later) n above (inr h) = let same : n ≡ q .0 = cc (h .1) i
 
 row-number : (bytes : List ℕ) (i place n : ℕ) (c : Constraint) → Judged (placeQuestions bytes i place c) (Refused n) → 0 < n
 unfolding placeQuestions AllAbove
-row-number bytes i place n c judged = number-above (placeQuestions bytes i place c) n (omega arith, (omega arith, (omega arith, (omega arith, (omega arith, (omega arith, (omega arith, tt))))))) judged
+row-number bytes i place n c judged =
+    number-above (placeQuestions bytes i place c) n
+    (omega arith, (omega arith, (omega arith, (omega arith, (omega arith, (omega arith, (omega arith, tt))))))) judged
 
 -- a refusal from a place on, with i rows before
 abbrev SmallBehind : ℕ → ℕ → TableRead → Type 0
 SmallBehind i start (table-of rows) = Unit {0}
 SmallBehind i start (table-refused n place) = (0 < n) × (place ≤ start + 36 * (rowLimit - i))
 
-small-more : (i start size : ℕ) (c : Constraint) (later : TableRead) → i < rowLimit → size ≤ 34 → SmallBehind (i + 1) (start + 2 + size) later → SmallBehind i start (rowThen c later)
+small-more : (i start size : ℕ) (c : Constraint) (later : TableRead) → i < rowLimit → size ≤ 34
+    → SmallBehind (i + 1) (start + 2 + size) later → SmallBehind i start (rowThen c later)
 small-more i start size c (table-of rows) room short small = tt
 small-more i start size c (table-refused n place) room short small = (small .0, omega (arith, small .1))
 

@@ -44,8 +44,8 @@ scan-next bytes rows i place r reads placed =
     let end : length bytes ≤ place = at-end bytes reads (ap table-of (drop-of-length-le rows past)) in
     let read = placed .none (λ whole. omega (arith, whole .0, end)) in (
       read .0 ∙ sym (getD-past rows i past),
-      subst (λ (later : List Constraint). ReadsRows bytes (i + 1) (r .next) (table-of later)) (sym (drop-of-length-le rows {i = i + 1} (omega (arith, past))))
-          (no-more (omega (arith, end, read .1))),
+      subst (λ (later : List Constraint). ReadsRows bytes (i + 1) (r .next) (table-of later))
+          (sym (drop-of-length-le rows {i = i + 1} (omega (arith, past)))) (no-more (omega (arith, end, read .1))),
     ))
 
 -- ---- stored

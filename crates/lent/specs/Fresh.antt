@@ -1,8 +1,10 @@
 -- A lent monitor made fresh over a table: every word of it, and the number that answers to the table's bytes.
 use Prim.Native.Nat.{ℕ, zero, suc, _+_, _*_, _<_, _≤_}
 use mathlib.Core.Path.{_≡_}
+use mathlib.Core.Bool.{Bool, cond}
 use mathlib.Core.List.{List, [], _∷_, _++_}
 use lib.ListN.{length, getD, take, replicate}
+use Rattle.constraint.specs.Limits.{rowLimit}
 use Rattle.constraint.specs.Accepted.{Accepted}
 use Rattle.constraint.specs.Table.{ReadsTable, table-of, table-refused}
 use Rattle.constraint.specs.declared.Constraint.{Constraint}
@@ -10,7 +12,7 @@ use Rattle.table.specs.Scan.{Counted}
 use Rattle.row.specs.Stored as Stored
 use Rattle.monitor.specs.Contract.{after}
 use Rattle.monitor.specs.declared.Monitor.{Monitor}
-use Rattle.lent.specs.Layout.{Lent, Words, wordsOf, rowAt, keptAt}
+use Rattle.lent.specs.Layout.{Lent, Words, wordsOf, Shaped, rowAt, keptAt}
 use Rattle.lent.specs.Contract.{numbers, isOf, Indexes}
 use Rattle.lent.specs.declared.fresh.Judged.{Judged}
 
@@ -41,7 +43,7 @@ freshLent rows =
       monitor = after rows [];
       soonest = 0;
       room = 0;
-      ends = padded 64 (endsTo (after rows []) (length rows) 64);
+      ends = endsTo (after rows []) (length rows) 64;
       entries = padded 128 (listedTo (after rows []) (length rows) 64);
     }
 
@@ -68,6 +70,10 @@ pub record Judges (bytes : List ℕ) (judged : Judged) : Type 0 where
   pub accepted : judged .number ≡ 0 → Counted (ReadsTable bytes) (judged .rows)
   pub refused : ¬ (judged .number ≡ 0) → RefusedAs bytes (judged .number)
 
+-- the words of a block that is cleared
+abbrev pub noWords : List (List ℕ)
+noWords = replicate 2 (replicate 64 0)
+
 -- the first blocks are those of a monitor's rows
 abbrev pub RowsLie : Monitor → ℕ → Words → Type 0
 RowsLie m n words = (i : ℕ) → i < n → getD words i [] ≡ Stored.wordsOf (rowAt m i) (keptAt m i)
@@ -78,10 +84,35 @@ pub record RowsPut (entry : Words) (m : Monitor) (n : ℕ) (exit : Words) : Type
   pub rows-lie : RowsLie m n exit
   pub others : (i : ℕ) → n ≤ i → getD exit i [] ≡ getD entry i []
 
--- the words of a block that is cleared
-abbrev pub noWords : List (List ℕ)
-noWords = replicate 2 (replicate 64 0)
+-- the rows of the table that the bytes hold
+abbrev pub StoresRows : List ℕ → Words → Words → Type 0
+StoresRows bytes entry exit =
+    (rows : List Constraint) → ReadsTable bytes (table-of rows) → length entry ≡ 35 → RowsPut entry (after rows []) 32 exit
 
--- the lists so far, and a place behind the entries
+-- the lists so far, and the place behind the entries
 abbrev pub ListsLie : Lent → List ℕ → List ℕ → ℕ → Words → Type 0
 ListsLie h ends entries place words = (place ≡ length entries) × (words ≡ wordsOf (withLists h (padded 64 ends) (padded 128 entries)))
+
+-- every word but those of the lists, over the n rows of the table
+abbrev pub StoresAll : List ℕ → ℕ → Words → Type 0
+StoresAll bytes n exit =
+    (rows : List Constraint) → ReadsTable bytes (table-of rows) → length rows ≤ rowLimit → n ≡ length rows → ListsLie (freshLent rows) [] [] 0 exit
+
+-- a change of one part of the record
+abbrev pub Becomes : Words → (Lent → Lent) → Words → Type 0
+Becomes entry change exit = (h : Lent) → entry ≡ wordsOf h → Shaped h → exit ≡ wordsOf (change h)
+
+-- one entry, or none
+abbrev pub oneIf : Bool → ℕ → List ℕ
+oneIf so i = cond so (i ∷ []) []
+
+-- more entries behind those before, from a place to a place
+abbrev pub Enters : ℕ → Words → (Lent → List ℕ) → ℕ → Words → Type 0
+Enters first entry more place exit =
+    (h : Lent) (ends entries : List ℕ) → Shaped h → ListsLie h ends entries first entry → ListsLie h ends (entries ++ more h) place exit
+
+-- the lists over n rows, where there were none
+abbrev pub Enlists : ℕ → Words → Words → Type 0
+Enlists n entry exit =
+    (h : Lent) → Shaped h → ListsLie h [] [] 0 entry
+    → exit ≡ wordsOf (withLists h (endsTo (h .monitor) n 64) (padded 128 (listedTo (h .monitor) n 64)))

@@ -9,18 +9,12 @@ use row::concerns;
 use row::stored;
 use table::ReadAnswer;
 use table::scan;
-ghost use Prim.Native.Nat.{ℕ, _+_, _<_, _≤_};
+ghost use Prim.Native.Nat.{_+_, _<_, _≤_};
 ghost use mathlib.Core.Path.{_≡_};
-ghost use mathlib.Core.Bool.{cond};
-ghost use mathlib.Core.List.{List, [], _∷_, _++_};
 ghost use lib.ListN.{length, set, replicate};
-ghost use Rattle.constraint.specs.Limits.{rowLimit};
-ghost use Rattle.constraint.specs.Table.{ReadsTable, table-of};
-ghost use Rattle.constraint.specs.declared.Constraint.{Constraint};
-ghost use Rattle.monitor.specs.Contract.{after};
 ghost use Rattle.lent.specs.Layout.{Lent, wordsOf, Shaped};
 ghost use Rattle.lent.specs.Contract.{numbers, isOf};
-ghost use Rattle.lent.specs.Fresh.{withLists, freshLent, listedTo, endsTo, Begins, Judges, noWords, RowsPut, ListsLie};
+ghost use Rattle.lent.specs.Fresh.{withLists, oneIf, Begins, Judges, noWords, StoresRows, StoresAll, Becomes, Enters, Enlists};
 
 // The number that answers to a table's bytes: 0, or 256 times the place and the number of the refusal; and how many rows they hold.
 pub struct Judged {
@@ -59,7 +53,7 @@ fn clear(blocks: &mut [[[u64; 64]; 2]])
 
 // Each row of an accepted table, before any step; behind the last one no row is read but the filler, and it fills the other places.
 fn put_rows(m: &mut Words, table: &[u8])
-    ensures { λ _. ⌜ ((rows : List Constraint) → ReadsTable (now (table .entry)) (table-of rows) → length (now (m .entry)) ≡ 35 → RowsPut (now (m .entry)) (after rows []) 32 (now (m .exit))) ⌝ }
+    ensures { λ _. ⌜ StoresRows (now (table .entry)) (now (m .entry)) (now (m .exit)) ⌝ }
 {
     let mut place = 1;
     let mut i = 0;
@@ -74,7 +68,7 @@ fn put_rows(m: &mut Words, table: &[u8])
 
 // Every word but those of the lists, which are 0, over the n rows of a table.
 fn begin(m: &mut Words, table: &[u8], n: usize)
-    ensures { λ _. ⌜ ((rows : List Constraint) → ReadsTable (now (table .entry)) (table-of rows) → length rows ≤ rowLimit → n ≡ length rows → ListsLie (freshLent rows) [] [] 0 (now (m .exit))) ⌝ }
+    ensures { λ _. ⌜ StoresAll (now (table .entry)) n (now (m .exit)) ⌝ }
 {
     clear(m);
     m[NUMBERS][0][OPEN] = 1;
@@ -84,7 +78,7 @@ fn begin(m: &mut Words, table: &[u8], n: usize)
 
 // Another entry.
 fn put_entry(m: &mut Words, place: usize, i: usize)
-    ensures { λ _. ⌜ ((h : Lent) → now (m .entry) ≡ wordsOf h → Shaped h → now (m .exit) ≡ wordsOf (withLists h (h .ends) (set (h .entries) place i))) ⌝ }
+    ensures { λ _. ⌜ Becomes (now (m .entry)) (λ h. withLists h (h .ends) (set (h .entries) place i)) (now (m .exit)) ⌝ }
 {
     if place < 128 {
         m[ENTRIES][place / 64][place % 64] = i as u64;
@@ -94,7 +88,7 @@ fn put_entry(m: &mut Words, place: usize, i: usize)
 // Another end of a kind's rows.
 fn put_end(m: &mut Words, kind: usize, place: usize)
     requires { ⌜ kind < 64 ⌝ }
-    ensures { λ _. ⌜ ((h : Lent) → now (m .entry) ≡ wordsOf h → Shaped h → now (m .exit) ≡ wordsOf (withLists h (set (h .ends) kind place) (h .entries))) ⌝ }
+    ensures { λ _. ⌜ Becomes (now (m .entry)) (λ h. withLists h (set (h .ends) kind place) (h .entries)) (now (m .exit)) ⌝ }
 {
     m[NUMBERS][1][kind] = place as u64;
 }
@@ -110,7 +104,7 @@ fn is_of(m: &Words, i: usize, kind: usize) -> bool
 // Row i, entered at a place if a kind concerns it: the place behind.
 fn enter(m: &mut Words, kind: usize, i: usize, place: usize) -> usize
     requires { ⌜ (i < 32) × (place ≤ 4096) ⌝ }
-    ensures { λ r. ⌜ ((r ≤ place + 1) × ((h : Lent) (ends entries : List ℕ) → Shaped h → ListsLie h ends entries place (now (m .entry)) → ListsLie h ends (entries ++ cond (isOf (h .monitor) kind i) (i ∷ []) []) r (now (m .exit)))) ⌝ }
+    ensures { λ r. ⌜ ((r ≤ place + 1) × Enters place (now (m .entry)) (λ h. oneIf (isOf (h .monitor) kind i) i) r (now (m .exit))) ⌝ }
 {
     if is_of(m, i, kind) {
         put_entry(m, place, i);
@@ -122,7 +116,7 @@ fn enter(m: &mut Words, kind: usize, i: usize, place: usize) -> usize
 // Those of the first n rows that a kind concerns, entered from a place on: the place behind them.
 fn enlist_kind(m: &mut Words, kind: usize, n: usize, first: usize) -> usize
     requires { ⌜ (n ≤ 32) × (first ≤ 2048) ⌝ }
-    ensures { λ r. ⌜ ((r ≤ first + n) × ((h : Lent) (ends entries : List ℕ) → Shaped h → ListsLie h ends entries first (now (m .entry)) → ListsLie h ends (entries ++ numbers (isOf (h .monitor) kind) n) r (now (m .exit)))) ⌝ }
+    ensures { λ r. ⌜ ((r ≤ first + n) × Enters first (now (m .entry)) (λ h. numbers (isOf (h .monitor) kind) n) r (now (m .exit))) ⌝ }
 {
     let mut place = first;
     let mut i = 0;
@@ -136,7 +130,7 @@ fn enlist_kind(m: &mut Words, kind: usize, n: usize, first: usize) -> usize
 // The lists over n rows, kind after kind.
 fn enlist(m: &mut Words, n: usize)
     requires { ⌜ n ≤ 32 ⌝ }
-    ensures { λ _. ⌜ ((h : Lent) → Shaped h → ListsLie h [] [] 0 (now (m .entry)) → ((place : ℕ) × ListsLie h (endsTo (h .monitor) n 64) (listedTo (h .monitor) n 64) place (now (m .exit)))) ⌝ }
+    ensures { λ _. ⌜ Enlists n (now (m .entry)) (now (m .exit)) ⌝ }
 {
     let mut place = 0;
     let mut kind = 0;

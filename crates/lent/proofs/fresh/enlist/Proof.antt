@@ -7,7 +7,7 @@ use mathlib.Core.List.{List, []}
 use Rattle.lent.specs.Layout.{Lent, wordsOf, Shaped}
 use Rattle.lent.specs.Fresh.{listedTo, endsTo, padded, withLists, ListsLie}
 use Rattle.lent.proofs.Lists.{shaped-lists}
-use Rattle.lent.proofs.Freshness.{ends-next}
+use Rattle.lent.proofs.Freshness.{ends-next, ends-whole}
 use Rattle.lent.proofs.fresh.enlist.Statement.{statement}
 use Rattle.lent.proofs.fresh.enlist.Tie as tie
 
@@ -63,7 +63,8 @@ returns c h s lies =
     let l = c .before .loop in
     let n = c .before .before .args .n in
     let at-end : l .kind ≡ 64 = omega arith in
-    (l .place, subst (λ (k : ℕ). ListsLie h (endsTo (h .monitor) n k) (listedTo (h .monitor) n k) (l .place) (l .m)) at-end (l .inv .1 .1 h s lies))
+    subst (λ (k : ℕ). ListsLie h (endsTo (h .monitor) n k) (listedTo (h .monitor) n k) (l .place) (l .m)) at-end (l .inv .1 .1 h s lies) .1
+    ∙ ap (λ (ends : List ℕ). wordsOf (withLists h ends (padded 128 (listedTo (h .monitor) n 64)))) (ends-whole (h .monitor) n)
 
 pub enlist-spec : {M : Type 1} → statement M
 enlist-spec =

@@ -20,10 +20,9 @@ abbrev μ-loop : tie.MeasureT-loop
 μ-loop m₀ kind n first place₀ i₀ m place i = n - i
 
 loop-holds : tie.Need-loop-holds Inv-loop μ-loop
-loop-holds c = (
-  omega arith,
-  (omega arith, λ h ends entries s lies. subst (λ (l : List ℕ). ListsLie h ends l (c .args .first) (c .args .m .now)) (sym (append-nil entries)) lies),
-)
+loop-holds c =
+    let a = c .args in
+    (omega arith, (omega arith, λ h ends entries s. subst (λ (l : List ℕ). ListsLie h ends l (a .first) (a .m .now)) (sym (append-nil entries))))
 
 enter-requires : tie.Need-enter-requires Inv-loop μ-loop
 enter-requires c κs = (omega arith, omega arith)
@@ -57,7 +56,8 @@ returns c =
     let at-end : l .i ≡ a .n = omega arith in (
       omega (arith, l .inv .1 .0, at-end),
       λ h ends entries s lies.
-          subst (λ (k : ℕ). ListsLie h ends (entries ++ numbers (isOf (h .monitor) (a .kind)) k) (l .place) (l .m)) at-end (l .inv .1 .1 h ends entries s lies),
+          subst (λ (k : ℕ). ListsLie h ends (entries ++ numbers (isOf (h .monitor) (a .kind)) k) (l .place) (l .m)) at-end
+              (l .inv .1 .1 h ends entries s lies),
     )
 
 pub enlist-kind-spec : {M : Type 1} → statement M

@@ -36,7 +36,8 @@ returns-2 c =
     let a = st .args in (
       omega arith,
       λ h ends entries s lies.
-          let is = sym (c .before .is-of .ensures (withLists h (padded 64 ends) (padded 128 entries)) (lies .1) (shaped-lists h s ends entries)) ∙ c .if1 .left in
+          let h′ = withLists h (padded 64 ends) (padded 128 entries) in
+          let is = sym (c .before .is-of .ensures h′ (lies .1) (shaped-lists h s ends entries)) ∙ c .if1 .left in
           subst (λ (b : Bool). ListsLie h ends (entries ++ cond b (a .i ∷ []) []) (a .place) (a .m .now)) (sym is)
           (subst (λ (l : List ℕ). ListsLie h ends l (a .place) (a .m .now)) (sym (append-nil entries)) lies),
     )

@@ -19,7 +19,8 @@ enum-known-answer : tie.Need-enum-known-answer
 enum-known-answer c = search needs
 
 -- the refusal that was read
-refusal : (c : tie.After-answer) → ReadsTable (now (c .before .before .before .before .args .table)) (table-refused (c .answer .given .0 .0) (c .answer .given .0 .1 .0))
+refusal : (c : tie.After-answer)
+    → ReadsTable (now (c .before .before .before .before .args .table)) (table-refused (c .answer .given .0 .0) (c .answer .given .0 .1 .0))
 refusal c = (rw (c .answer .given .1) at (c .before .before .judge .ensures)) .0
 
 small : (c : tie.After-answer) → (0 < c .answer .given .0 .0) × (c .answer .given .0 .1 .0 ≤ 1153)
@@ -41,7 +42,8 @@ returns-2 : tie.Need-returns-2
 returns-2 c =
     record {
       accepted = λ none. absurd (omega (arith, none, small (c .before) .0));
-      refused = λ _. record { question = _; place = _; reads = refusal (c .before); above = small (c .before) .0; below = omega arith; numbered = refl };
+      refused = λ _.
+          record { question = _; place = _; reads = refusal (c .before); above = small (c .before) .0; below = omega arith; numbered = refl };
     }
 
 pub judge-spec : {M : Type 1} → statement M

@@ -21,7 +21,8 @@ returns c h e s =
 returns-2 : tie.Need-returns-2
 returns-2 c h e s =
     let a = c .before .args in
-    e ∙ ap (λ (entries : List ℕ). wordsOf (withLists h (h .ends) entries)) (sym (set-past (a .place) (a .i) (h .entries) (omega (arith, c .if1 .left, s .entries-there))))
+    e ∙ ap (λ (entries : List ℕ). wordsOf (withLists h (h .ends) entries))
+    (sym (set-past (a .place) (a .i) (h .entries) (omega (arith, c .if1 .left, s .entries-there))))
 
 pub put-entry-spec : {M : Type 1} → statement M
 put-entry-spec =

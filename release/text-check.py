@@ -4,7 +4,7 @@
     text-check.py                  says what is wrong; status 1 where something is
     text-check.py --count          the numbers for each folder
     text-check.py --allow          writes release/text-allowance.txt anew, from what there is
-    text-check.py --fix FOLDER..   takes the names that are not used out of the imports of the files below the folders
+    text-check.py --fix FOLDER..   takes the names that are not used out of the imports of the files below the folders, and cuts long imports
 
 What is looked for: a line of more than 150 characters, a tab, a blank at a line's end, and a name that a file of proofs imports and does not
 use. Rows of a table in a document may be long, and so may what it shows as it is printed. The allowance has, for a folder that is not clean, how
@@ -73,26 +73,36 @@ def unused(text):
 
 
 def without(line, dead):
-    """A line with an import, without some names; nothing where none is left."""
+    """A line with an import, without some names, as lines that are not too long; none where no name is left."""
     imported = IMPORT.match(line)
     if imported["alias"]:
-        return []
-    left = [item.strip() for item in imported["names"].split(",") if item.strip() not in dead]
-    return [f"use {imported['module']}.{{{', '.join(left)}}}"] if left else []
+        return [] if dead else [line]
+    lines = []
+    for item in (item.strip() for item in imported["names"].split(",")):
+        if item in dead:
+            continue
+        if lines and len(lines[-1]) + len(item) + 2 <= WIDTH:
+            lines[-1] = f"{lines[-1][:-1]}, {item}}}"
+        else:
+            lines.append(f"use {imported['module']}.{{{item}}}")
+    return lines
+
+
+def fixed(text):
+    """A text of proofs with its imports as they should be."""
+    found = unused(text)
+    parts = (without(line, found.get(number, [])) if IMPORT.match(line) else [line] for number, line in enumerate(text.splitlines()))
+    return "".join(f"{line}\n" for part in parts for line in part)
 
 
 def fix(folders):
-    """Takes the unused names out. A name may be used by an import's own module alone, so a file is looked at until nothing falls away."""
+    """Writes the files below some folders with their imports as they should be."""
     for file in sources(folders):
-        if file.suffix != ".antt":
-            continue
-        before = text = file.read_text(encoding="utf-8")
-        while found := unused(text):
-            lines = [without(line, found[number]) if number in found else [line] for number, line in enumerate(text.splitlines())]
-            text = "".join(f"{line}\n" for part in lines for line in part)
-        if text != before:
-            file.write_text(text, encoding="utf-8")
-            print(file.relative_to(ROOT))
+        if file.suffix == ".antt":
+            text = file.read_text(encoding="utf-8")
+            if fixed(text) != text:
+                file.write_text(fixed(text), encoding="utf-8")
+                print(file.relative_to(ROOT))
 
 
 def look():

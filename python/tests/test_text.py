@@ -38,7 +38,12 @@ def test_an_import_is_left_with_what_is_used():
     found = program()
     assert found.without("use A.{a, b as c, d}", ["a", "d"]) == ["use A.{b as c}"]
     assert found.without("use A.{a}", ["a"]) == []
-    assert found.without("use A as M", ["M"]) == []
+    assert (found.without("use A as M", ["M"]), found.without("use A as M", [])) == ([], ["use A as M"])
+    names = [f"name-{number}" for number in range(100, 140)]
+    lines = found.without(f"use A.{{{', '.join(names)}}}", [])
+    assert len(lines) == 3 and all(len(line) <= found.WIDTH for line in lines)
+    assert [name for line in lines for name in line[7:-1].split(", ")] == names
+    assert found.unused(found.fixed(PROOF)) == {}
 
 
 def test_the_sources_are_within_what_is_allowed():

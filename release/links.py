@@ -4,8 +4,8 @@
     links.py            says which names are declared nowhere or in several places, and which lists are not up to date; status 1 where some are
     links.py --write    writes the lists of links at the documents' ends anew
 
-A document writes [`name`], and its link is the file that declares it. Where there are several: in a clause's row a definition is looked for in
-specs, a theorem in proofs, a function in src, and elsewhere the name's form says which it is; what is public comes first. A qualifier chooses:
+A document writes [`name`], and its link is the file that declares it. Where there are several: in a table of four columns a definition is looked for
+in specs, a theorem in proofs, a function in src, and elsewhere the name's form says which it is; what is public comes first. A qualifier chooses:
 `delay::apply` is declared in the module or crate delay, `Monitor::event` beside `impl Monitor`, `Promise.exact` in the file of the record Promise.
 Where several files are left, a link that is one of them stays.
 """
@@ -20,7 +20,7 @@ LINK = re.compile(r"^\[`([^`]+)`\]: (.*)\n", re.M)
 PROOF = re.compile(r"^\s*((?:(?:pub|abbrev|unfoldable|opaque|data|record|private)\s+)*)([^\s(){}.,;:]+)\s+[:({]", re.M)
 CODE = re.compile(r"(pub (?:\(crate\) )?(?:extern \"C\" )?)?\b(?:fn|const|struct|enum|type|int)\s+(\w+)")
 IMPLEMENTED = re.compile(r"^impl (\w+)", re.M)
-# The folders by the column of a clause's row; elsewhere by the form of the name.
+# The folders by the column: definition, theorem, function.
 COLUMNS = {1: ("specs", "proofs", "src"), 2: ("proofs", "specs", "src"), 3: ("src", "", "specs", "proofs")}
 
 
@@ -50,11 +50,11 @@ def names(text):
     """The names that a document links, each with the folders to look in: by the column in which it stands first."""
     found = {}
     for line in text.splitlines():
-        cells = line.strip("|").split("|") if line.startswith("| §") else [line]
-        for column, cell in enumerate(cells):
+        cells = line.strip("|").split("|") if line.startswith("|") else []
+        for column, cell in enumerate(cells if len(cells) == 4 else [line]):
             for name in LINKED.findall(cell):
                 form = 3 if "_" in name or "::" in name else 2 if "-" in name else 1
-                found.setdefault(name, COLUMNS.get(column if len(cells) > 1 else form, COLUMNS[form]))
+                found.setdefault(name, COLUMNS[column or form])
     return found
 
 

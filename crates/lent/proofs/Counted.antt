@@ -57,6 +57,10 @@ module _ (h : Lent) (ix : Indexes h) (room : ℕ) (few : Roomy (withRoom h room)
         roomy = record { now-few = few .now-few; then-few = few .then-few; now-room = few .now-room; then-room = few .then-room };
       }
 
+-- the numbers before a call that is taken, with the first free time of a place, as they may be put back
+abbrev pub undoAt : Monitor → ℕ → Undo
+undoAt m place = record { may = 1; place = place; next = getD (m .next) place 0; clock = m .clock; count = m .count; closed = m .closed }
+
 -- the monitor after a call that is taken, by what occurs, the place and the first free time of its stream, and the mark of the close
 abbrev pub takenFrom : Monitor → Occurrence → ℕ → List ℕ → ℕ → Monitor
 takenFrom m o place next closed =
@@ -68,7 +72,7 @@ takenFrom m o place next closed =
       closed = closed;
       len = m .len;
       before = zipFirst (m .len) (saves o (nextStep m)) (m .rows) (m .before);
-      undo = record { may = 1; place = place; next = getD (m .next) place 0; clock = m .clock; count = m .count; closed = m .closed };
+      undo = undoAt m place;
     }
 
 -- the first rows of a monitor are all

@@ -4,7 +4,6 @@ use native.Mathlib.Omega.{arith}
 use mathlib.Core.Path.{_≡_, refl, sym, _∙_, ap}
 use mathlib.Core.Bool.{Bool, false, cond}
 use mathlib.Core.List.{[], _∷_, _++_, append-nil}
-use lib.ListN.{getD}
 use Rattle.constraint.specs.declared.Call.{Call}
 use Rattle.row.specs.Machine.{noEvent, rowStep}
 use Rattle.row.specs.declared.Occurrence.{Occurrence}
@@ -21,7 +20,7 @@ use Rattle.lent.proofs.Hearing.{moved, saves, calm}
 use Rattle.lent.proofs.Listing as Listing
 use Rattle.lent.proofs.Listing.{all-stepped, some-late, step-indexes}
 use Rattle.lent.proofs.Room.{step-crowd}
-use Rattle.lent.proofs.Counted.{takenFrom, all-rows, Answered, renumbered-indexes}
+use Rattle.lent.proofs.Counted.{undoAt, takenFrom, all-rows, Answered, renumbered-indexes}
 
 none-pass : (test : ℕ → Bool) (n : ℕ) → ((i : ℕ) → i < n → test i ≡ false) → numbers test n ≡ []
 none-pass test zero out = refl
@@ -54,8 +53,7 @@ module _ (h : Lent) (ix : Indexes h) (call : Call) (o : Occurrence) (no-event : 
 
   counted : Indexes c
   counted =
-      renumbered-indexes h ix (h .room) (ix .roomy) (m .next) (ix .shaped .next-there) (o .time) (nextStep m) closed
-      (record { may = 1; place = 0; next = getD (m .next) 0 0; clock = m .clock; count = m .count; closed = m .closed }) marked
+      renumbered-indexes h ix (h .room) (ix .roomy) (m .next) (ix .shaped .next-there) (o .time) (nextStep m) closed (undoAt m 0) marked
       (ix .sound .closed-mark)
 
   above : 0 < nextStep m

@@ -4,7 +4,7 @@ use Prim.Native.Nat.{ℕ, _-_, _<_}
 use native.Mathlib.Omega.{arith}
 use mathlib.Core.Path.{_≡_, refl, sym, _∙_, ap}
 use mathlib.Core.Bool.{Bool, false, cond}
-use lib.ListN.{getD, set, length-set}
+use lib.ListN.{set, length-set}
 use Rattle.constraint.specs.Streams.{stream, kindOf}
 use Rattle.constraint.specs.declared.Call.{Call}
 use Rattle.constraint.proofs.Lists.{split}
@@ -21,7 +21,7 @@ use Rattle.lent.proofs.Hearing.{moved, saves}
 use Rattle.lent.proofs.Listing as Listing
 use Rattle.lent.proofs.Listing.{same-named, all-stepped, step-indexes}
 use Rattle.lent.proofs.Room.{roomed-roomy, event-fits, crowd-known, step-crowd, each-free}
-use Rattle.lent.proofs.Counted.{takenFrom, all-rows, Answered, renumbered-indexes}
+use Rattle.lent.proofs.Counted.{undoAt, takenFrom, all-rows, Answered, renumbered-indexes}
 
 module _ (h : Lent) (ix : Indexes h) (call : Call) (kind stream time : ℕ) (small : kind < 64) (kind-is : kindOf stream ≡ kind)
     (seen : occurrenceBy call (h .monitor .clock) ≡ eventAt stream time)
@@ -48,9 +48,7 @@ module _ (h : Lent) (ix : Indexes h) (call : Call) (kind stream time : ℕ) (sma
   counted =
       renumbered-indexes h ix (roomFor h - 1) (roomed-roomy h (ix .roomy)) (set (m .next) stream (plus time 1))
       (length-set (m .next) stream (plus time 1) ∙ ix .shaped .next-there)
-      time (nextStep m) (m .closed) (record { may = 1; place = stream; next = getD (m .next) stream 0; clock = m .clock; count = m .count; closed =
-      m .closed })
-      (ix .sound .closed-mark) (ix .sound .closed-mark)
+      time (nextStep m) (m .closed) (undoAt m stream) (ix .sound .closed-mark) (ix .sound .closed-mark)
 
   above : 0 < nextStep m
   above = omega arith

@@ -1,5 +1,5 @@
--- The step of a row is what its parts make of it: an open row that is overdue, or that the close finds, is ended; one that an event concerns hears it; and no step
--- leaves more than 64 waiting, nor does a withdrawal.
+-- The step of a row is what its parts make of it: an open row that is overdue, or that the close finds, is ended; one that an event concerns
+-- hears it; and no step leaves more than 64 waiting, nor does a withdrawal.
 use Prim.Native.Nat.{ℕ, _+_, _≤_}
 use native.Mathlib.Omega.{arith}
 use mathlib.Core.Path.{_≡_, refl, sym, _∙_, ap}
@@ -39,7 +39,8 @@ module _ (r : Row) (o : Occurrence) (number : ℕ) (unbroken : ltb 0 (r .now .br
   changed-heard : changedRow r (changeBy r o) number .crowded ≡ false → changedRow r (changeBy r o) number .row ≡ heardRow r o number
   unfolding changedRow withChange
   changed-heard e =
-      by-room (changeBy r o .breaks) (ltb waitingLimit (length (changed (changeBy r o .edit) (itemsOf r)))) (brokenRow r number) r (applied r (changeBy r o)) e
+      by-room (changeBy r o .breaks) (ltb waitingLimit (length (changed (changeBy r o .edit) (itemsOf r)))) (brokenRow r number) r
+      (applied r (changeBy r o)) e
 
   pub step-heard : rowStep r o number .crowded ≡ false → rowStep r o number .row ≡ heardRow r o number
   step-heard room = ap (λ (s : RowStep). s .row) own-step ∙ changed-heard (ap (λ (s : RowStep). s .crowded) (sym own-step) ∙ room)
@@ -60,7 +61,9 @@ module _ (r : Row) (o : Occurrence) (number : ℕ) where
 
   by-tests : (broken late closes own unkept : Bool) (s : RowStep) (x y : State)
       → cond broken false (cond late true (cond closes (cond own false true) false)) ≡ true
-      → cond {A = RowStep} broken (stays (rowFrom (r .rule) (r .times) y)) (cond late (stays (rowFrom (r .rule) (r .times) x)) (cond own s (cond (closes && unkept) (stays (rowFrom (r .rule) (r .times) x)) (stays (rowFrom (r .rule) (r .times) y))))) .row
+      → cond {A = RowStep} broken (stays (rowFrom (r .rule) (r .times) y))
+      (cond late (stays (rowFrom (r .rule) (r .times) x))
+      (cond own s (cond (closes && unkept) (stays (rowFrom (r .rule) (r .times) x)) (stays (rowFrom (r .rule) (r .times) y))))) .row
       ≡ rowFrom (r .rule) (r .times) (cond late x (cond unkept x y))
   by-tests true late closes own unkept s x y e = both (sym e)
   by-tests false true closes own unkept s x y e = refl
@@ -75,8 +78,10 @@ module _ (r : Row) (o : Occurrence) (number : ℕ) where
       by-tests (ltb 0 (r .now .broken)) (ltb (r .now .due) (o .time)) (o .closes) (concerns (r .rule) (o .kind)) (eqb (r .now .kept) 0)
       (changedRow r (changeBy r o) number) (brokenState number) (r .now) e
 
-  by-saves : (broken late closes own : Bool) (place : ℕ) (b : Before) → cond broken false (cond late true (cond closes (cond own false true) false)) ≡ true
-      → cond (cond broken false (cond late true (cond closes true own))) (savedAt r (cond broken 0 (cond late 0 (cond own place 0))) number) b ≡ savedAt r 0 number
+  by-saves : (broken late closes own : Bool) (place : ℕ) (b : Before)
+      → cond broken false (cond late true (cond closes (cond own false true) false)) ≡ true
+      → cond (cond broken false (cond late true (cond closes true own))) (savedAt r (cond broken 0 (cond late 0 (cond own place 0))) number) b
+      ≡ savedAt r 0 number
   by-saves true late closes own place b e = both (sym e)
   by-saves false true closes own place b e = refl
   by-saves false false true true place b e = both (sym e)
@@ -112,12 +117,15 @@ Roomy now = now .len ≤ 64
 pushed-few : (word : ℕ) (q : Ring) → q .len ≤ 64 → pushRing word q .len ≤ 64
 unfolding pushRing
 pushed-few word q few =
-    split (ltb (q .len) 64) (λ b. ltb (q .len) 64 ≡ b → cond {A = Ring} b (ringOf (set (q .times) (ringPlace (q .head) (q .len)) word) (q .head) (q .len + 1)) q .len ≤ 64)
+    split (ltb (q .len) 64) (λ b. ltb (q .len) 64 ≡ b
+    → cond {A = Ring} b (ringOf (set (q .times) (ringPlace (q .head) (q .len)) word) (q .head) (q .len + 1)) q .len ≤ 64)
     (λ _ e. omega (arith, ltb-true (q .len) 64 e)) (λ _ e. few) refl
 
 put-few : (i word : ℕ) (q : Ring) → q .len ≤ 64 → putRing i word q .len ≤ 64
 unfolding putRing
-put-few i word q few = split (ltb i (q .len)) (λ b. cond {A = Ring} b (ringOf (set (q .times) (ringPlace (q .head) i) word) (q .head) (q .len)) q .len ≤ 64) (λ _. few) (λ _. few)
+put-few i word q few =
+    split (ltb i (q .len)) (λ b. cond {A = Ring} b (ringOf (set (q .times) (ringPlace (q .head) i) word) (q .head) (q .len)) q .len ≤ 64) (λ _. few)
+    (λ _. few)
 
 edited-few : (edit : Edit) (q : Ring) → q .len ≤ 64 → edited edit q .len ≤ 64
 edited-few (Drop k) q few = omega (arith, few)
@@ -132,7 +140,8 @@ few-by false x y p q = q
 changed-few : (r : Row) (change : Change) (number : ℕ) → Roomy (r .now) → Roomy (changedRow r change number .row .now)
 unfolding changedRow brokenRow applied
 changed-few r change number few =
-    few-by (change .breaks) (stays (brokenRow r number)) (cond (ltb waitingLimit (length (changed (change .edit) (itemsOf r)))) (crowding r) (stays (applied r change))) (omega arith)
+    few-by (change .breaks) (stays (brokenRow r number))
+    (cond (ltb waitingLimit (length (changed (change .edit) (itemsOf r)))) (crowding r) (stays (applied r change))) (omega arith)
     (few-by (ltb waitingLimit (length (changed (change .edit) (itemsOf r)))) (crowding r) (stays (applied r change)) few
     (edited-few (change .edit) (ringOf (r .times) (r .now .head) (r .now .len)) few))
 

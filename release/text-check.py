@@ -6,8 +6,8 @@
     text-check.py --allow          writes release/text-allowance.txt anew, from what there is
     text-check.py --fix FOLDER..   takes the names that are not used out of the imports of the files below the folders, and cuts long imports
 
-What is looked for: a line of more than 150 characters, a tab, a blank at a line's end, and a name that a file of proofs imports and does not
-use. Rows of a table in a document may be long, and so may what it shows as it is printed. The allowance has, for a folder that is not clean, how
+What is looked for: a line of more than 150 characters, a tab, a blank at a line's end, and a name that a file of code or of proofs imports and does
+not use. Rows of a table in a document may be long, and so may what it shows as it is printed. The allowance has, for a folder that is not clean, how
 many long lines and unused names it may have: what is above that is wrong, so the numbers only fall. What a file exports again (`pub use`) is
 never unused.
 """
@@ -19,11 +19,13 @@ from pathlib import Path
 ROOT = Path(__file__).resolve().parent.parent
 ALLOWANCE = ROOT / "release/text-allowance.txt"
 ENDINGS = {".rt", ".antt", ".rs", ".py", ".c", ".h", ".hpp", ".cpp", ".md"}
+IMPORTING = {".rt", ".antt"}
 WIDTH = 150
-# One line is one import: the module, and the names in braces; or the module by another name.
-IMPORT = re.compile(r"^use (?P<module>[^\s{]+)(?:\.\{(?P<names>[^}]*)\}| as (?P<alias>\S+))\s*$")
-# What stands between two names of the proof language; `[]` is a name.
+# One line is one import, of proofs or of code: a module and names in braces, a module by another name, or one name of code.
+IMPORT = re.compile(r"^(?P<before>(?:ghost )?use )(?P<module>[^\s{;]+?)(?:\.\{(?P<names>[^}]*)\}| as (?P<alias>[^\s;]+))?(?P<after>;?)$")
+# What stands between two names of the proof language, of which `[]` is one; in code a name ends at other signs too.
 TOKENS = re.compile(r"\[\]|[^\s(){};,.\"⌜⌝⟦⟧@]+")
+COMMENT = re.compile(r"(?:^|\s)(?:--|//).*")
 
 
 def sources(folders):
@@ -40,9 +42,11 @@ def folder_of(file):
 
 
 def tokens(text):
-    """The names and signs of a text of proofs, without its comments and its imports."""
-    lines = (line.split("--")[0] if re.search(r"(^|\s)--", line) else line for line in text.splitlines() if not IMPORT.match(line))
-    return set(TOKENS.findall("\n".join(lines)))
+    """The names and signs of a text, without its comments and its imports; in code, where imports end with a semicolon, words too."""
+    lines = [(IMPORT.match(line), line) for line in text.splitlines()]
+    text = "\n".join(COMMENT.sub("", line) for imported, line in lines if not imported)
+    code = any(imported and imported["after"] for imported, _ in lines)
+    return {*TOKENS.findall(text), *(re.findall(r"\w+", text) if code else [])}
 
 
 def is_used(name, there):
@@ -53,43 +57,45 @@ def is_used(name, there):
     return "_" in name and parts != [] and all(part in there for part in parts)
 
 
-def local_name(item):
-    """By what name a file has what it imports: `a as b` is b."""
-    return item.split(" as ")[-1].strip()
+def imported_by(line):
+    """What a line with an import imports: names, the other name of a module, or the last part of a path of code."""
+    found = IMPORT.match(line)
+    if found is None:
+        return []
+    if found["names"] is not None:
+        return [item.strip() for item in found["names"].split(",")]
+    return [found["alias"] or found["module"].split("::")[-1]]
 
 
 def unused(text):
-    """For the number of each line with an import what is not used of it: names, or the other name of a module."""
+    """For the number of each line with an import what is not used of it; `a as b` is used as b."""
     there = tokens(text)
     found = {}
     for number, line in enumerate(text.splitlines()):
-        imported = IMPORT.match(line)
-        if imported:
-            items = [imported["alias"]] if imported["alias"] else [item.strip() for item in imported["names"].split(",")]
-            dead = [item for item in items if not is_used(local_name(item), there)]
-            if dead:
-                found[number] = dead
+        dead = [item for item in imported_by(line) if not is_used(item.split(" as ")[-1].strip(), there)]
+        if dead:
+            found[number] = dead
     return found
 
 
 def without(line, dead):
     """A line with an import, without some names, as lines that are not too long; none where no name is left."""
     imported = IMPORT.match(line)
-    if imported["alias"]:
+    if imported["names"] is None:
         return [] if dead else [line]
-    lines = []
-    for item in (item.strip() for item in imported["names"].split(",")):
+    front, back, lines = f"{imported['before']}{imported['module']}.{{", f"}}{imported['after']}", []
+    for item in imported_by(line):
         if item in dead:
             continue
         if lines and len(lines[-1]) + len(item) + 2 <= WIDTH:
-            lines[-1] = f"{lines[-1][:-1]}, {item}}}"
+            lines[-1] = f"{lines[-1][:-len(back)]}, {item}{back}"
         else:
-            lines.append(f"use {imported['module']}.{{{item}}}")
+            lines.append(f"{front}{item}{back}")
     return lines
 
 
 def fixed(text):
-    """A text of proofs with its imports as they should be."""
+    """A text with its imports as they should be."""
     found = unused(text)
     parts = (without(line, found.get(number, [])) if IMPORT.match(line) else [line] for number, line in enumerate(text.splitlines()))
     return "".join(f"{line}\n" for part in parts for line in part)
@@ -98,7 +104,7 @@ def fixed(text):
 def fix(folders):
     """Writes the files below some folders with their imports as they should be."""
     for file in sources(folders):
-        if file.suffix == ".antt":
+        if file.suffix in IMPORTING:
             text = file.read_text(encoding="utf-8")
             if fixed(text) != text:
                 file.write_text(fixed(text), encoding="utf-8")
@@ -119,7 +125,7 @@ def look():
                 never.append(f"{name}:{number}: a tab")
             if line != line.rstrip():
                 never.append(f"{name}:{number}: a blank at the end")
-        if file.suffix == ".antt":
+        if file.suffix in IMPORTING:
             found["unused"] += [f"{name}:{number + 1}: {item} is not used" for number, dead in unused(text).items() for item in dead]
     return counted, never
 

@@ -34,6 +34,26 @@ def test_a_name_is_used_by_itself_by_its_parts_or_before_a_dot():
     assert program().unused(PROOF) == {1: ["zero", "_<_"], 2: ["_∷_"], 3: ["unseen"], 4: ["Other"], 6: ["Words"]}
 
 
+CODE = """// unseen
+use constraint::NO_LIMIT;
+use machine::words;
+use machine::unseen;
+ghost use Prim.Native.Nat.{ℕ, _<_, _+_};
+
+pub fn first(w: &[u64; 64]) -> u64
+    ensures { λ r. ⌜ r < 2 ⌝ }
+{
+    words::at(w, NO_LIMIT)
+}
+"""
+
+
+def test_imports_of_code():
+    found = program()
+    assert found.unused(CODE) == {3: ["unseen"], 4: ["ℕ", "_+_"]}
+    assert found.fixed(CODE) == CODE.replace("use machine::unseen;\n", "").replace("{ℕ, _<_, _+_}", "{_<_}")
+
+
 def test_an_import_is_left_with_what_is_used():
     found = program()
     assert found.without("use A.{a, b as c, d}", ["a", "d"]) == ["use A.{b as c}"]

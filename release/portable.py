@@ -6,7 +6,8 @@
 FOLDER is made anew. It gets a module for each CRATE of crates.txt and for each crate that one of them uses, from the very
 sources: what is left out are `ghost use` items and the clauses `requires` and `ensures`. What is added: `derive(Clone,
 Copy)`, which a proved type has without saying so, for each exported function one with pointers and lengths, as
-include/delkuthi.h declares it, the headers, and a script of calls to be played on the machine. Anything else that is not Rust stops the program: it guesses nothing.
+include/delkuthi.h declares it, the headers, and a script of calls to be played on the machine. Anything else that is not Rust
+stops the program: it guesses nothing.
 """
 import re
 import shutil

@@ -72,7 +72,8 @@ def command(chance, table, log):
         return ["shrink", table, log, row, *options(chance)]
     if what == 4:
         return ["stamps", table, log, row, chance.choice(["1 ms", "0", "9" * 30, "-1", "1.0000001 s"]), *options(chance)]
-    shown = chance.choice(([], [], ["--json"], ["--junit", "out.xml"], ["--html", "out.html"], ["--plot", "out.svg"], ["--page"], ["--exercised"], ["--measure"],
+    shown = chance.choice(([], [], ["--json"], ["--junit", "out.xml"], ["--html", "out.html"], ["--plot", "out.svg"], ["--page"],
+                           ["--exercised"], ["--measure"],
                            ["--trace", "out.json"], ["--measure", "--html", "out.html"], ["--as-one", log]))
     return ["check", table, log, *shown, *options(chance)]
 

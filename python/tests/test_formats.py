@@ -105,7 +105,8 @@ def test_why_an_event_never_came(tmp_path):
     path.write_text("(1.0) can0 101#0203\n(1.1) can1 102#\n(1.2) can0 103#\n(1.3) can0 101#01\n")
     assert [line.replace(f"{path}: ", "") for line in check(table, str(path)).warnings] == [
         "the log has no a: no frame 0x100 came", "the log has no b: 0x101 came, but never with data 01..",
-        "the log has no c: 0x102 came, but on no bus can3; the log has can0, can1", "the log has no d: no frame 0x00000103 came, only standard ones of that number"]
+        "the log has no c: 0x102 came, but on no bus can3; the log has can0, can1",
+        "the log has no d: no frame 0x00000103 came, only standard ones of that number"]
     table = Table.from_text('unit us\nevent tyre_pressure = 0\nevent door = 1 from csv "Door open"\nevent x = 2\nOrder 0 -> 1\n')
     path = tmp_path / "a.csv"
     for text in ("time,event\n1,Tyre_Presure\n2,door open\n3,nothing alike\n", 'time,event\n1,"Tyre_Presure"\n2,door open\n3,\n'):
@@ -117,7 +118,8 @@ def test_why_an_event_never_came(tmp_path):
 
 TRC = {
     "1.0": ["     1)      1059 0100  2  01 02", "     2)      1283 18FF0001  0 ", "     3)      1284 FFFFFFFF  4  00 00 00 08  BUSHEAVY"],
-    "1.1": ["     1)      1059.9  Rx         0100  2  01 02", "     2)      1283.2  Tx     18FF0001  0 ", "     3)      1284.0  Warng  FFFFFFFF  4  00 00 00 08"],
+    "1.1": ["     1)      1059.9  Rx         0100  2  01 02", "     2)      1283.2  Tx     18FF0001  0 ",
+            "     3)      1284.0  Warng  FFFFFFFF  4  00 00 00 08"],
     "1.3": ["     1)      1059.900 1  Rx        0100 -  2    01 02", "     2)      1283.231 2  Rx    18FF0001 -  0",
             "     3)      1284.100 1  Rx        0100 -  0    RTR"],
     "2.0": ["      1      1059.900 DT     0100 Rx 2  01 02", "      2      1283.231 FD 18FF0001 Rx 0 ", "      3      1284.100 RR     0100 Rx 8"],

@@ -6,10 +6,10 @@
     text-check.py --allow          writes release/text-allowance.txt anew, from what there is
     text-check.py --fix FOLDER..   takes the names that are not used out of the imports of the files below the folders, and cuts long imports
 
-What is looked for: a line of more than 150 characters, a tab, a blank at a line's end, and a name that a file of code or of proofs imports and does
-not use. Rows of a table in a document may be long, and so may what it shows as it is printed. The allowance has, for a folder that is not clean, how
-many long lines and unused names it may have: what is above that is wrong, so the numbers only fall. What a file exports again (`pub use`) is
-never unused.
+What is looked for: a line of more than 150 characters, a tab, a blank at a line's end, a name that a file of code or of proofs imports and does not
+use, and one that a file of definitions or proofs declares and that nothing else uses, cites in a contract or names in a document. Rows of a table in
+a document may be long, and so may what it shows as it is printed. What a file exports again (`pub use`) is never unused. The allowance has, for a
+folder that is not clean, how many of each it may have: what is above that is wrong, so the numbers only fall.
 """
 import re
 import subprocess
@@ -20,11 +20,14 @@ ROOT = Path(__file__).resolve().parent.parent
 ALLOWANCE = ROOT / "release/text-allowance.txt"
 ENDINGS = {".rt", ".antt", ".rs", ".py", ".c", ".h", ".hpp", ".cpp", ".md"}
 IMPORTING = {".rt", ".antt"}
+SORTS = {"long": "long lines", "unused": "unused imports", "idle": "names that nothing uses"}
 WIDTH = 150
 # One line is one import, of proofs or of code: a module and names in braces, a module by another name, or one name of code.
 IMPORT = re.compile(r"^(?P<before>(?:ghost )?use )(?P<module>[^\s{;]+?)(?:\.\{(?P<names>[^}]*)\}| as (?P<alias>[^\s;]+))?(?P<after>;?)$")
 # What stands between two names of the proof language, of which `[]` is one; in code a name ends at other signs too.
 TOKENS = re.compile(r"\[\]|[^\s(){};,.\"⌜⌝⟦⟧@]+")
+# What a line of proofs declares; what the proof of a function is called goes by the function's name.
+DECLARED = re.compile(r"^\s*(?:(?:pub|abbrev|unfoldable|opaque|data|record|private)\s+)*([^\s(){}.,;:]+)(?:\s+(?:\([^)]*\)|\{[^}]*\}))*\s+:(?:\s|$)")
 COMMENT = re.compile(r"(?:^|\s)(?:--|//).*")
 
 
@@ -111,13 +114,56 @@ def fix(folders):
                 print(file.relative_to(ROOT))
 
 
+def declarations(text):
+    """Each name that a text of proofs declares, with the number of its line and the names and signs that stand in what is said of it."""
+    found = []
+    for number, line in enumerate(text.splitlines(), 1):
+        if IMPORT.match(line):
+            continue
+        line = COMMENT.sub("", line)
+        declared = DECLARED.match(line)
+        if declared:
+            found.append((declared[1], number, set()))
+            line = line[declared.end(1):]
+        words = TOKENS.findall(line)
+        if found:
+            found[-1][2].update(words[1:] if words and words[0] == found[-1][0] else words)
+    return found
+
+
+def idle(texts):
+    """For each file what it declares and nothing else uses."""
+    declared = {file: declarations(text) for file, text in texts.items() if file.suffix == ".antt"}
+    users, cited = {}, set()
+    for file, names in declared.items():
+        for name, _, words in names:
+            for word in words:
+                users.setdefault(word, set()).add((file, name))
+    for file, text in texts.items():
+        if file.suffix == ".rt":
+            cited |= tokens(text)
+        elif file.suffix == ".md" and "history" not in file.parts:
+            cited |= set(re.findall(r"[^\s`\[\]().,;:]+", text))
+
+    def has_other_users(word, file, name):
+        return word in cited or bool(users.get(word, set()) - {(file, name)})
+
+    def is_idle(file, name):
+        parts = [part for part in name.split("_") if part]
+        whole = has_other_users(name, file, name)
+        return not (whole or name.endswith("-spec") or ("_" in name and all(has_other_users(part, file, name) for part in parts)))
+
+    return {file: [(name, number) for name, number, _ in names if is_idle(file, name)] for file, names in declared.items()}
+
+
 def look():
-    """What is wrong in each folder: long lines and unused names, which may be allowed, and what never is."""
+    """What is wrong in each folder: long lines, unused imports and idle names, which may be allowed, and what never is."""
     counted, never = {}, []
-    for file in sources([]):
-        text = file.read_text(encoding="utf-8")
+    texts = {file: file.read_text(encoding="utf-8") for file in sources([])}
+    idle_names = idle(texts)
+    for file, text in texts.items():
         name = file.relative_to(ROOT)
-        found = counted.setdefault(folder_of(file), {"long": [], "unused": []})
+        found = counted.setdefault(folder_of(file), {sort: [] for sort in SORTS})
         for number, line in enumerate(text.splitlines(), 1):
             if len(line) > WIDTH and not (file.suffix == ".md" and line.startswith(("|", "    "))):
                 found["long"].append(f"{name}:{number}: {len(line)} characters")
@@ -127,21 +173,27 @@ def look():
                 never.append(f"{name}:{number}: a blank at the end")
         if file.suffix in IMPORTING:
             found["unused"] += [f"{name}:{number + 1}: {item} is not used" for number, dead in unused(text).items() for item in dead]
+        found["idle"] += [f"{name}:{number}: nothing uses {item}" for item, number in idle_names.get(file, [])]
     return counted, never
 
 
 def allowed():
-    """The allowance: for a folder how many long lines and unused names it may have."""
+    """The allowance: for a folder how many it may have of each."""
     lines = ALLOWANCE.read_text(encoding="utf-8").splitlines() if ALLOWANCE.is_file() else []
     rows = (line.split() for line in lines if line and not line.startswith("#"))
-    return {folder: {"long": int(long), "unused": int(names)} for folder, long, names in rows}
+    return {folder: dict(zip(SORTS, map(int, numbers))) for folder, *numbers in rows}
 
 
 def write_allowance(counted):
     """Writes what there is as the allowance."""
-    rows = [f"{folder} {len(found['long'])} {len(found['unused'])}\n" for folder, found in sorted(counted.items()) if any(found.values())]
-    ALLOWANCE.write_text("# A folder, its long lines, its unused imports: as many as it may have. What is not listed has none.\n" + "".join(rows),
-                         encoding="utf-8")
+    rows = [" ".join([folder, *(str(len(found[sort])) for sort in SORTS)]) + "\n" for folder, found in sorted(counted.items()) if any(found.values())]
+    opening = "# A folder, and how many it may have: long lines, unused imports, names that nothing uses. What is not listed has none.\n"
+    ALLOWANCE.write_text(opening + "".join(rows), encoding="utf-8")
+
+
+def said(numbers):
+    """Three numbers in words."""
+    return ", ".join(f"{number} {words}" for number, words in zip(numbers, SORTS.values()))
 
 
 def main():
@@ -158,16 +210,15 @@ def main():
         return 0
     if option == "--count":
         for folder, found in sorted(counted.items()):
-            print(f"{folder}: {len(found['long'])} long lines, {len(found['unused'])} unused imports")
+            print(f"{folder}: {said([len(found[sort]) for sort in SORTS])}")
     may = allowed()
     for folder, found in counted.items():
         for sort, places in found.items():
             limit = may.get(folder, {}).get(sort, 0)
             if len(places) > limit:
-                wrong += [f"{folder}: {len(places)} {sort}, allowed are {limit}:", *places]
+                wrong += [f"{folder}: {len(places)} {SORTS[sort]}, allowed are {limit}:", *places]
     print("\n".join(wrong), end="\n" if wrong else "")
-    totals = {sort: sum(len(found[sort]) for found in counted.values()) for sort in ("long", "unused")}
-    print(f"{totals['long']} long lines, {totals['unused']} unused imports, {len(wrong)} wrong")
+    print(f"{said([sum(len(found[sort]) for found in counted.values()) for sort in SORTS])}; {len(wrong)} lines above")
     return 1 if wrong else 0
 
 

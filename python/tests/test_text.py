@@ -2,6 +2,7 @@
 import importlib.util
 import subprocess
 import sys
+from pathlib import Path
 
 from conftest import ROOT
 
@@ -64,6 +65,13 @@ def test_an_import_is_left_with_what_is_used():
     assert len(lines) == 3 and all(len(line) <= found.WIDTH for line in lines)
     assert [name for line in lines for name in line[7:-1].split(", ")] == names
     assert found.unused(found.fixed(PROOF)) == {}
+
+
+def test_what_nothing_uses():
+    """A law that is used in its own proof alone is used by nothing; one that a contract cites or a document names is."""
+    proof = "again : (n : ℕ) → ℕ\nagain zero = zero\nagain (suc n) = again n\n\nlaw : ℕ\nlaw = 1\n\npub top : ℕ\ntop = law\n\npub cited : ℕ\ncited = 2\n"
+    texts = {Path("a/A.antt"): proof, Path("a/lib.rt"): "pub fn f() -> u64\n    ensures { λ r. ⌜ r ≡ cited ⌝ }\n{ 2 }\n", Path("b.md"): "See `top`."}
+    assert program().idle(texts) == {Path("a/A.antt"): [("again", 1)]}
 
 
 def test_the_sources_are_within_what_is_allowed():

@@ -7,7 +7,7 @@
 A document writes [`name`], and its link is the file that declares it. Where there are several: in a table of four columns a definition is looked for
 in specs, a theorem in proofs, a function in src, and elsewhere the name's form says which it is; what is public comes first. A qualifier chooses:
 `delay::apply` is declared in the module or crate delay, `Monitor::event` beside `impl Monitor`, `Promise.exact` in the file of the record Promise.
-Where several files are left, a link that is one of them stays.
+Where several files are left, a link that is one of them stays. The laws that other documents name have to be declared somewhere too.
 """
 import re
 import sys
@@ -15,6 +15,10 @@ from pathlib import Path
 
 ROOT = Path(__file__).resolve().parent.parent
 DOCUMENTS = ("docs/READING.md", "docs/ARCHITECTURE.md")
+# What has the form of a law's name, in documents that name laws without links.
+NAMING = ("README.md", "docs/DATASHEET.md", "docs/SAFETY.md", "docs/DECISIONS.md")
+LAW = re.compile(r"`([a-z]\w*(?:-\w+)+)`")
+OTHER_NAMES = {"must-fail", "pkg-config"}
 LINKED = re.compile(r"\[`([^`\]]+)`\]")
 LINK = re.compile(r"^\[`([^`]+)`\]: (.*)\n", re.M)
 PROOF = re.compile(r"^\s*((?:(?:pub|abbrev|unfoldable|opaque|data|record|private)\s+)*)([^\s(){}.,;:]+)\s+[:({]", re.M)
@@ -95,6 +99,10 @@ def main():
         elif made != text and not missing:
             missing = ["the list of links is not up to date: release/links.py --write"]
         wrong += [f"{document}: {one}" for one in missing]
+    declared = set().union(*(file.names for file in files))
+    for document in (name for name in NAMING if (ROOT / name).is_file()):
+        laws = set(LAW.findall((ROOT / document).read_text(encoding="utf-8"))) - OTHER_NAMES
+        wrong += [f"{document}: {law} is declared nowhere" for law in sorted(laws - declared)]
     print("\n".join(wrong), end="\n" if wrong else "")
     return 1 if wrong else 0
 

@@ -72,20 +72,23 @@ fn the_links_are_made_from_the_names() {
 
 #[test]
 fn a_link_that_leads_elsewhere_is_named() {
-    let said = |reading: &str| {
+    let with = |readme: &str, reading: &str| {
         let files = [
+            ("README.md", readme),
             ("docs/READING.md", reading),
             ("docs/ARCHITECTURE.md", "No names.\n\n"),
-            ("crates/a/specs/Things.antt", "pub Thing : Type 0\n"),
+            ("crates/a/specs/Things.antt", "pub Thing : Type 0\npub a-law : Thing\n"),
             ("crates/b/specs/Things.antt", "pub Thing : Type 0\npub Other : Type 0\n"),
         ];
         let (_folder, program) = Folder::around("release/links.py", &files);
         said_of_links(&program)
     };
+    let said = |reading: &str| with("`a-law` and `pkg-config`", reading);
     let other = "[`Other`]: ../crates/b/specs/Things.antt\n";
     assert_eq!(said(&format!("[`Other`].\n\n{other}")), (Some(0), String::new()));
     assert!(said("[`Other`].\n\n").1.contains("not up to date"));
     assert!(said("[`Other`].\n\n[`Other`]: ../crates/a/specs/Things.antt\n").1.contains("not up to date"));
+    assert!(with("`no-law`", "\n").1.contains("README.md: no-law is declared nowhere"));
     assert!(said("[`None`].\n\n").1.contains("None is declared nowhere"));
     assert!(said("[`Thing`].\n\n").1.contains("Thing is declared in ../crates/a/specs/Things.antt, ../crates/b"));
     let thing = "[`Thing`]: ../crates/a/specs/Things.antt\n";

@@ -111,7 +111,8 @@
  * What waits in a row: sources that have no target yet (Delay, StrongDelay),
  * groups begun and not complete (StrongSynchronization). In other rows nothing
  * waits. The stack that a call uses is measured, not proved: a verdict uses no
- * more than a step may, and so does a withdrawal.
+ * more than a step may, and so does a withdrawal; delkuthi_report_of uses no
+ * more than report_on may.
  *
  *
  * THE TABLE
@@ -913,6 +914,20 @@ DELKUTHI_CHECKED DELKUTHI_NONNULL
 size_t delkuthi_report_on(delkuthi_monitor *monitor,
                           const uint8_t *table, size_t table_length,
                           const uint8_t *recording, size_t recording_length,
+                          uint8_t *report, size_t report_length);
+
+/*
+ * The report of a closed monitor whose steps the host gave it one by one: the
+ * bytes that delkuthi_report writes for the same table and steps. It changes
+ * nothing in the monitor.
+ *
+ * Returns how many bytes were written, at most DELKUTHI_REPORT_LIMIT. If the
+ * monitor is not closed, or the report is longer than report_length, it returns
+ * 0, and the memory stays as it was. Bytes behind the report stay as they were;
+ * no byte 0 is put there.
+ */
+DELKUTHI_CHECKED DELKUTHI_NONNULL
+size_t delkuthi_report_of(const delkuthi_monitor *monitor,
                           uint8_t *report, size_t report_length);
 
 /*

@@ -64,6 +64,7 @@ void start(void)
     (void)delkuthi_row_verdict(&monitor, delkuthi_rows(&monitor));
     (void)delkuthi_row_step(&monitor, delkuthi_rows(&monitor));
     (void)delkuthi_page(&monitor, page, sizeof page);
+    (void)delkuthi_report_of(&monitor, report, sizeof report);
     (void)delkuthi_report(bytes, sizeof bytes, bytes, sizeof bytes, report, sizeof report);
     (void)delkuthi_report_on(&monitor, bytes, sizeof bytes, bytes, sizeof bytes, report, sizeof report);
 }

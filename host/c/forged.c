@@ -111,6 +111,8 @@ static void every_call(const delkuthi_monitor *forged)
     (void)delkuthi_broken_rows(forged);
     begins("delkuthi_page");
     (void)delkuthi_page(forged, page, sizeof page);
+    begins("delkuthi_report_of");
+    (void)delkuthi_report_of(forged, page, DELKUTHI_REPORT_LIMIT);
     begins("delkuthi_rows");
     (void)delkuthi_rows(forged);
 }

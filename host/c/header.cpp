@@ -37,7 +37,10 @@ int main()
     well = well && delkuthi_deadline(&bench.monitor) == DELKUTHI_NO_LIMIT && delkuthi_row_waiting(&bench.monitor, 0) == 0;
     well = well && delkuthi_row_deadline(&bench.monitor, 0) == DELKUTHI_NO_LIMIT;
     well = well && delkuthi_crowded_row(&bench.monitor, 0, 7) == DELKUTHI_ROW_LIMIT;
+    well = well && delkuthi_report_of(&bench.monitor, bench.report, sizeof bench.report) == 0;
     well = well && delkuthi_close(&bench.monitor) == DELKUTHI_TAKEN;
+    well = well && delkuthi_report_of(&bench.monitor, bench.report, sizeof bench.report) == 20;
+    well = well && std::memcmp(bench.report, "closed 3\n0 broken 2\n", 20) == 0;
     well = well && delkuthi_rows(&bench.monitor) == 1;
     well = well && delkuthi_page(&bench.monitor, bench.page, 2 * 73 - 1) == 0;
     well = well && delkuthi_page(&bench.monitor, bench.page, sizeof bench.page) == 2 * 73;

@@ -74,6 +74,7 @@ static void calls(delkuthi_monitor *monitor)
         (void)delkuthi_crowded_row(monitor, (uint8_t)(number() % 72), time);
         (void)delkuthi_broken_rows(monitor);
         (void)(delkuthi_clock(monitor) + delkuthi_steps(monitor) + delkuthi_closed(monitor));
+        (void)delkuthi_report_of(monitor, page, number() % (DELKUTHI_REPORT_LIMIT + 1));
         (void)delkuthi_page(monitor, page, number() % (sizeof page + 1));
         if (i % 8 == 7)
             (void)delkuthi_close(monitor);
@@ -100,7 +101,8 @@ static int closed(delkuthi_monitor *zeros)
     size_t i;
     int well = delkuthi_closed(zeros) == 1 && delkuthi_rows(zeros) == 0 && delkuthi_clock(zeros) == 0
         && delkuthi_steps(zeros) == 0 && delkuthi_broken_rows(zeros) == 0 && delkuthi_deadline(zeros) == DELKUTHI_NO_LIMIT
-        && delkuthi_page(zeros, page, sizeof page) == 73;
+        && delkuthi_page(zeros, page, sizeof page) == 73 && delkuthi_report_of(zeros, page, sizeof page) == 9
+        && memcmp(page, "closed 0\n", 9) == 0;
 
     for (row = 0; row < 40; row++)
         well = well && delkuthi_row_verdict(zeros, row) == DELKUTHI_NO_ROW && delkuthi_row_step(zeros, row) == 0

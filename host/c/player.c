@@ -4,8 +4,8 @@
  * Of two libraries that are played the same script, on machines alike or not,
  * the texts are the same exactly when all answers are. Behind a call on the
  * monitor stands what each row reads: o open, k kept, b and a step broken; how
- * many wait in it and its deadline; and then the numbers of the monitor. A
- * buffer that a call writes is printed whole. With `words`, for machines with
+ * many wait in it and its deadline; and then the numbers of the monitor; behind
+ * a close the report. A buffer that a call writes is printed whole. With `words`, for machines with
  * sizes of 64 bits, a sum of the monitor's bytes stands there too. A call that
  * is refused and yet changed the monitor or a buffer is an exit status of 1.
  *
@@ -159,6 +159,20 @@ static void event(uint8_t kind, uint64_t time)
     stepped(answer);
 }
 
+/* The close, and the report of the monitor, which there is not before. */
+static void close_it(void)
+{
+    size_t written;
+
+    memset(buffer, FILL, sizeof buffer);
+    written = delkuthi_report_of(&monitor, buffer, sizeof buffer);
+    well &= delkuthi_closed(&monitor) ? written > 0 : written == 0 && untouched(0, sizeof buffer);
+    stepped(delkuthi_close(&monitor));
+    memset(buffer, FILL, sizeof buffer);
+    written = delkuthi_report_of(&monitor, buffer, sizeof buffer);
+    wrote(written, written);
+}
+
 /* Calls on the monitor; returns whether this is one. */
 static int played_monitor(const char *call)
 {
@@ -178,7 +192,7 @@ static int played_monitor(const char *call)
     } else if (strcmp(call, "tick") == 0)
         stepped(delkuthi_tick(&monitor, number()));
     else if (strcmp(call, "close") == 0)
-        stepped(delkuthi_close(&monitor));
+        close_it();
     else if (strcmp(call, "withdraw") == 0)
         stepped(delkuthi_withdraw(&monitor));
     else

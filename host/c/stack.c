@@ -66,6 +66,7 @@ static void *verdict(void *unused)
     (void)delkuthi_row_step(&monitor, delkuthi_rows(&monitor) - 1);
     (void)delkuthi_deadline(&monitor);
     (void)delkuthi_broken_rows(&monitor);
+    (void)delkuthi_crowded_row(&monitor, 0, delkuthi_clock(&monitor) + 1);
     return unused;
 }
 
@@ -97,6 +98,12 @@ static void *report_on(void *unused)
 {
     (void)delkuthi_report_on(&monitor, table.bytes, table.length, recording.bytes, recording.length, report,
                              sizeof report);
+    return unused;
+}
+
+static void *report_of(void *unused)
+{
+    (void)delkuthi_report_of(&monitor, report, sizeof report);
     return unused;
 }
 
@@ -170,6 +177,7 @@ int main(int argc, char **argv)
     well &= within(DELKUTHI_PAGE_STACK, "page", printed);
     well &= within(DELKUTHI_REPORT_STACK, "report", whole_report);
     well &= within(DELKUTHI_REPORT_ON_STACK, "report_on", report_on);
+    well &= within(DELKUTHI_REPORT_ON_STACK, "report_of", report_of);
     well &= within(DELKUTHI_STAMPS_STACK, "stamps", late_stamps);
     well &= within(DELKUTHI_JOIN_STACK, "join", join);
     well &= within(DELKUTHI_STRETCH_STACK, "stretch", short_stretch);

@@ -99,6 +99,7 @@ CALLS: dict[str, tuple[Any, list[Any]]] = {
     "delkuthi_join": (_NUMBER, [_DATA, _LENGTH, _DATA, _LENGTH, _DATA, _LENGTH]),
     "delkuthi_report": (_LENGTH, [_DATA, _LENGTH, _DATA, _LENGTH, _DATA, _LENGTH]),
     "delkuthi_report_on": (_LENGTH, [_MONITOR, _DATA, _LENGTH, _MONITOR, _LENGTH, _DATA, _LENGTH]),
+    "delkuthi_report_of": (_LENGTH, [_MONITOR, _DATA, _LENGTH]),
 }
 #: The calls that are used where the library has them.
 FURTHER: dict[str, tuple[Any, list[Any]]] = {

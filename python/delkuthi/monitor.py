@@ -153,6 +153,12 @@ class Monitor:
         """A bit for each row: bit i is 1 where row i reads broken."""
         return int(self._library.delkuthi_broken_rows(self._memory))
 
+    def report(self) -> str | None:
+        """The report of the monitor once it is closed, as :func:`report` gives it for the same steps; ``None`` before."""
+        buffer = ctypes.create_string_buffer(lib.REPORT_LIMIT)
+        written = self._library.delkuthi_report_of(self._memory, buffer, lib.REPORT_LIMIT)
+        return buffer.raw[:written].decode("ascii") if written else None
+
     def page(self) -> str:
         """The printed page: for each row a line of 72 characters with its number, type, verdict and step."""
         buffer = ctypes.create_string_buffer(lib.PAGE_LIMIT)

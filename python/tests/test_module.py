@@ -109,7 +109,9 @@ def test_the_report_says_what_the_monitor_says(case):
         monitor.take(kind, time)
     monitor.close()
     lines = [f"closed {len(steps) + 1}", *(f"{row} {verdict}" for row, verdict in enumerate(monitor.verdicts))]
-    assert report(table, recording_bytes(steps)) == "".join(line + "\n" for line in lines)
+    assert report(table, recording_bytes(steps)) == "".join(line + "\n" for line in lines) == monitor.report()
+    monitor.withdraw()
+    assert monitor.report() is None
 
 
 @given(played())

@@ -2,7 +2,7 @@
 
 use crate::beside::take;
 use crate::words::untouched;
-use delkuthi::{Monitor, report};
+use delkuthi::{Monitor, REPORT_LIMIT, report};
 use model::random::seen::Seen;
 use model::recording::read_record;
 use model::report_text;
@@ -25,6 +25,14 @@ pub fn report_in(table: &[u8], recording: &[u8], length: usize) -> Option<Vec<u8
 /// As above.
 pub fn report_on(monitor: &mut Monitor, table: &[u8], recording: &[u8], length: usize) -> Option<Vec<u8>> {
     written_in(length, |buffer| monitor.report_on(table, recording, buffer))
+}
+
+/// The report of a closed monitor, and nothing of one that is not.
+///
+/// # Panics
+/// As above.
+pub fn report_of(monitor: &Monitor, length: usize) -> Option<Vec<u8>> {
+    written_in(length, |buffer| monitor.report(buffer))
 }
 
 fn written_in(length: usize, write: impl FnOnce(&mut [u8]) -> Option<usize>) -> Option<Vec<u8>> {
@@ -68,6 +76,24 @@ pub fn compare_on(monitor: &Monitor, table: &[u8], recording: &[u8], seen: &mut 
         assert_eq!(report_on(&mut lent, table, recording, length).as_ref(), written, "{}", told());
         untouched(&left, &lent, &told());
     }
+}
+
+/// Compares the report of a monitor with the model's, in buffers that are just long enough, one byte short and of no length. Where the
+/// monitor is not closed there is none, in the longest buffer. Gives whether there was one. No word of the monitor changes.
+///
+/// # Panics
+/// If one differs.
+pub fn compare_of(monitor: &Monitor, model: &model::Monitor) -> bool {
+    let before = monitor.clone();
+    let expected = model::report_of(model).map(String::into_bytes);
+    let told = || format!("after {:?} over {:?}", model.steps(), model.rows());
+    assert_eq!(report_of(monitor, REPORT_LIMIT), expected, "{}", told());
+    if let Some(report) = &expected {
+        assert_eq!(report_of(monitor, report.len()).as_ref(), Some(report), "{}", told());
+        assert_eq!((report_of(monitor, report.len() - 1), report_of(monitor, 0)), (None, None), "{}", told());
+    }
+    untouched(&before, monitor, "the report of a monitor");
+    expected.is_some()
 }
 
 /// The monitor that the calls of a report leave: fresh over the table, after the records up to the first that is refused,

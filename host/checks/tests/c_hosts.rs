@@ -342,7 +342,7 @@ fn the_stack() {
     let files = Files::new(&table_bytes(&rows), &recording(&mut Random::new(406), &rows, 100));
     let ran = host.run(&files.paths);
     println!("bytes of stack:\n{}", ran.printed);
-    assert_eq!((ran.status, ran.printed.lines().count()), (Some(0), 13));
+    assert_eq!((ran.status, ran.printed.lines().count()), (Some(0), 14));
 }
 
 /// A report on a lent monitor, on a stack of 8,192 bytes.

@@ -1,16 +1,18 @@
 //! The report through the exported function, beside the model's, byte by byte.
 //! Clauses: §6.5, §7.1 to §7.9, §7.22, §8.13, §8.14, §9.3, §9.4, §9.10.
 
+use checks::beside::{counting_from, fresh, take};
 use checks::places::example_bytes;
-use checks::reports::{compare, compare_on, report_in};
+use checks::reports::{compare, compare_of, compare_on, report_in, report_of};
 use delkuthi::{Monitor, WORDS};
 use model::examples::{RECORDING, REPORT, TABLE};
 use model::notation::{delay, order, steps, strong_delay, synchronization};
 use model::random::Random;
+use model::random::calls::calls;
 use model::random::recordings::{damaged_recording, recording, refused_recording};
 use model::random::seen::Seen;
 use model::random::tables::{any_table, damaged_table, table};
-use model::{Constraint, LAST_TIME, Step, recording_bytes, report_text, table_bytes};
+use model::{Constraint, LAST_COUNT, LAST_TIME, Step, recording_bytes, report_text, table_bytes};
 
 /// The library's report, in words.
 fn text(table: &[u8], recording: &[u8]) -> String {
@@ -82,6 +84,54 @@ fn on_a_lent_monitor() {
         }
     }
     seen.demand_refusals((1..=7).chain(9..=14).chain([18, 19]));
+}
+
+/// Of a monitor that took its steps one by one, with withdrawals among them: after each, and once more when the close is withdrawn. For
+/// the steps that are left it is the report that the library writes on a recording of them.
+#[test]
+fn of_a_monitor() {
+    let mut random = Random::new(205);
+    let mut closed = 0;
+    for _ in 0..400 {
+        let rows = any_table(&mut random);
+        let (mut monitor, mut model) = (fresh(&rows), model::Monitor::fresh(&rows).expect("an accepted table"));
+        let number = random.place(60);
+        for call in calls(&mut random, &rows, number) {
+            if random.below(5) == 0 {
+                assert_eq!(monitor.withdraw().map_err(|refusal| refusal.number()), model.withdraw());
+            } else {
+                assert_eq!(take(&mut monitor, call), model.step(call));
+            }
+            closed += usize::from(compare_of(&monitor, &model));
+        }
+        if !model.closed() {
+            monitor.close().expect("a close");
+            model.close().expect("a close");
+        }
+        assert!(compare_of(&monitor, &model));
+        let taken = &model.steps()[..model.steps().len() - 1];
+        let of_steps = text(&table_bytes(&rows), &recording_bytes(taken)).into_bytes();
+        assert_eq!(report_of(&monitor, of_steps.len()), Some(of_steps));
+        monitor.withdraw().expect("a close to withdraw");
+        model.withdraw().expect("a close to withdraw");
+        assert!(!compare_of(&monitor, &model));
+    }
+    assert!(closed > 100, "{closed}");
+}
+
+/// Of a monitor at the end of the count, where the steps have the most digits; and of memory of zeros, which is closed.
+#[test]
+fn of_a_monitor_at_the_end_of_the_count() {
+    let rows = vec![order(); 32];
+    let mut monitor = counting_from(&rows, LAST_COUNT - 3);
+    monitor.event(1, 1).expect("an event in order");
+    monitor.tick(2).expect("a tick in order");
+    monitor.close().expect("a close");
+    let line = |row| format!("{row} broken {}\n", LAST_COUNT - 1);
+    let expected = format!("closed {LAST_COUNT}\n{}", (0..32).map(line).collect::<String>()).into_bytes();
+    assert!(expected.len() <= delkuthi::REPORT_LIMIT);
+    assert!(report_of(&monitor, expected.len()) == Some(expected), "the report of a monitor at the end of the count");
+    assert_eq!(report_of(&Monitor::from_words([0; WORDS]), 64), Some(b"closed 0\n".to_vec()));
 }
 
 /// Buffers of every length, to some bytes more than the report has.

@@ -3,7 +3,8 @@
 //! Clauses: §15.1 to §15.9, §15.11.
 
 use checks::beside::{fresh, take};
-use delkuthi::{Monitor, NO_LIMIT, ROW_LIMIT};
+use checks::words::untouched;
+use delkuthi::{LAST_TIME, Monitor, NO_LIMIT, ROW_LIMIT};
 use model::random::Random;
 use model::random::calls::calls;
 use model::random::tables::{any_table, table};
@@ -114,7 +115,8 @@ fn a_tick_to_the_deadline_and_one_past_it() {
     assert!(tried > 1_000, "{tried}");
 }
 
-/// Rows that fill, with sources of several of them: the first that an event would crowd is named, up to 64 and beyond.
+/// Rows in which 64 wait soon, and further sources, answers and withdrawals: the first row that an event would crowd is named, for kinds
+/// and times that are taken and that are refused. After the close there is none.
 #[test]
 fn the_row_that_an_event_crowds() {
     let mut random = Random::new(155);
@@ -123,27 +125,50 @@ fn the_row_that_an_event_crowds() {
         let rows = crowding_table(&mut random);
         let mut monitor = fresh(&rows);
         let mut model = model::Monitor::fresh(&rows).expect("an accepted table");
-        for time in 1..=90 {
-            let kind = random.below(3) as u8;
-            for kind in 0..4 {
-                refused += usize::from(compare_crowded(&monitor, &model, kind, time));
-            }
+        for time in 1..=74 {
+            let kind = if time < 68 || random.chance(60) { 0 } else { 1 + random.below(3) as u8 };
             assert_eq!(monitor.event(kind, time).map_err(|refusal| refusal.number()), model.event(kind, time));
+            if time > 60 {
+                refused += compare_all_crowded(&monitor, &model);
+            }
+            if random.chance(6) {
+                assert_eq!(monitor.withdraw().map_err(|refusal| refusal.number()), model.withdraw());
+            }
         }
+        monitor.close().expect("a close");
+        model.close().expect("a close");
+        assert_eq!(compare_all_crowded(&monitor, &model), 0);
     }
-    assert!(refused > 100, "{refused}");
+    assert!(refused > 200, "{refused}");
 }
 
-/// Rows with patience, three kinds among them, some of which no event crowds.
+/// Kinds in their range, at its ends and beyond, at times around the clock, when the rows are overdue, at the last time and beyond: how
+/// many are refused with 12. No word of the monitor changes.
+fn compare_all_crowded(monitor: &Monitor, model: &model::Monitor) -> usize {
+    let (before, clock) = (monitor.clone(), monitor.clock());
+    let times = [clock - 1, clock, clock + 1, clock + 4_990, clock + 5_001, LAST_TIME, LAST_TIME + 1, u64::MAX];
+    let kinds = [0, 1, 2, 3, 47, 48, 63, 64, 255];
+    let events = kinds.into_iter().flat_map(|kind| times.map(|time| (kind, time)));
+    let refused = events.filter(|(kind, time)| compare_crowded(monitor, model, *kind, *time)).count();
+    untouched(&before, monitor, "a question for the row that an event crowds");
+    refused
+}
+
+/// Rows with patience, of which kind 0 is the source, among others.
 fn crowding_table(random: &mut Random) -> Vec<Constraint> {
-    let row = |random: &mut Random| {
-        let (source, upper) = (random.below(3) as u8, 40 + random.below(100));
-        match random.below(4) {
-            0 => Constraint::Delay { source, target: 3, lower: 0, upper },
-            1 => Constraint::StrongDelay { source, target: 3, lower: 0, upper },
-            2 => Constraint::StrongSynchronization { kinds: vec![source, 3], tolerance: upper },
-            _ => Constraint::Order { source, target: 3 },
-        }
-    };
-    (0..1 + random.below(5)).map(|_| row(random)).collect()
+    let group = |n: u8| Constraint::StrongSynchronization { kinds: (0..n).collect(), tolerance: 5_000 };
+    let patient = [
+        Constraint::Delay { source: 0, target: 1, lower: 0, upper: 5_000 },
+        Constraint::Delay { source: 0, target: 2, lower: 60, upper: 4_950 },
+        Constraint::StrongDelay { source: 0, target: 3, lower: 0, upper: 5_000 },
+        group(2),
+        group(3),
+        group(4),
+    ];
+    let mut rows = table(random, 2);
+    for _ in 0..1 + random.place(3) {
+        let row = random.pick(&patient).clone();
+        rows.insert(random.place(rows.len() + 1), row);
+    }
+    rows
 }

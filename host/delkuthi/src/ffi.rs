@@ -51,6 +51,7 @@ extern "C" {
     pub fn delkuthi_fresh(monitor: &mut Monitor, table: *const u8, table_length: usize) -> u64;
     pub fn delkuthi_table(rows: *const u8, rows_size: usize, table: *mut u8, table_length: usize) -> u64;
     pub fn delkuthi_page(monitor: &Monitor, page: *mut u8, page_length: usize) -> usize;
+    pub fn delkuthi_report_of(monitor: &Monitor, report: *mut u8, report_length: usize) -> usize;
     pub fn delkuthi_report(
         table: *const u8,
         table_length: usize,

@@ -26,10 +26,10 @@
 //!
 //! As compiled for x86-64 the library's calls behind [`Monitor::fresh`], [`Monitor::event`], [`Monitor::tick`],
 //! [`Monitor::close`], [`Monitor::withdraw`] and [`Monitor::verdict`] use at most 1 KiB of stack each, that of a page at
-//! most 2 KiB, that of [`Monitor::report_on`] at most 6 KiB, that of [`write_table`] at most 12 KiB, that of [`join`] at
-//! most 16 KiB, that of [`stamped`] at most 20 KiB, that of [`shortest_stretch`] at most 32 KiB, and that of [`report`],
-//! which has a monitor of its own, at most 40 KiB. These are the limits of `include/delkuthi.h` (`DELKUTHI_STEP_STACK`
-//! and its like), to which a test holds what is measured.
+//! most 2 KiB, those of [`Monitor::report`] and [`Monitor::report_on`] at most 6 KiB, that of [`write_table`] at most
+//! 12 KiB, that of [`join`] at most 16 KiB, that of [`stamped`] at most 20 KiB, that of [`shortest_stretch`] at most
+//! 32 KiB, and that of [`report`], which has a monitor of its own, at most 40 KiB. These are the limits of
+//! `include/delkuthi.h` (`DELKUTHI_STEP_STACK` and its like), to which a test holds what is measured.
 //!
 //! # Where the archive comes from
 //!

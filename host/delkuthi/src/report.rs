@@ -32,6 +32,29 @@ pub fn report(table: &[u8], recording: &[u8], buffer: &mut [u8]) -> Option<usize
 }
 
 impl Monitor {
+    /// The report of this monitor once it is closed, as [`report`] writes it for the same table and steps; gives the number of bytes
+    /// written. If the monitor is not closed, or the buffer is too short, it gives `None`, with nothing written.
+    ///
+    /// ```
+    /// use delkuthi::{Monitor, REPORT_LIMIT};
+    ///
+    /// let table = [1, 0, 19, 1, 0, 1, 0, 0, 0, 0, 0, 0, 0, 2, 0, 0, 0, 0, 0, 0, 0, 3];
+    /// let mut monitor = Monitor::fresh(&table)?;
+    /// let mut buffer = [0; REPORT_LIMIT];
+    /// monitor.event(0, 10)?;
+    /// monitor.tick(14)?;
+    /// assert_eq!(monitor.report(&mut buffer), None);
+    /// monitor.close()?;
+    /// let length = monitor.report(&mut buffer).expect("the report of a closed monitor");
+    /// assert_eq!(&buffer[..length], b"closed 3\n0 broken 2\n");
+    /// # Ok::<(), delkuthi::Refusal>(())
+    /// ```
+    pub fn report(&self, buffer: &mut [u8]) -> Option<usize> {
+        // SAFETY: pointer and length are a slice's, and its memory is not the monitor's.
+        let written = unsafe { ffi::delkuthi_report_of(self, buffer.as_mut_ptr(), buffer.len()) };
+        if written == 0 { None } else { Some(written) }
+    }
+
     /// The report on a recording under a table, as [`report`] writes it, on this monitor, whatever it was: no other is on
     /// the stack. If the table is refused the monitor stays as it was. Otherwise it has then taken the records up to the
     /// first that was refused, or all of them and the close, however short the buffer is.

@@ -49,7 +49,7 @@ pub use open::open;
 pub use page::{page_of, page_text};
 pub use questions::{Answer, Refusal};
 pub use recording::{read_recording, recording_bytes};
-pub use report::{program_output, report, report_text};
+pub use report::{program_output, report, report_of, report_text};
 pub use stamps::{Stamped, Stamps, stamped};
 pub use steps::{Events, History, Step};
 pub use stretches::{RECORD_LIMIT, Stretch, first_breaking, shortest_stretch};

@@ -27,6 +27,11 @@ pub fn report_text(table: &[u8], recording: &[u8]) -> String {
     closed_monitor(table, recording).map_or_else(|refusal| refused_text(&refusal), |monitor| closed_text(&monitor))
 }
 
+/// The report of a monitor once it is closed (§7.4); nothing before.
+pub fn report_of(monitor: &Monitor) -> Option<String> {
+    monitor.closed().then(|| closed_text(monitor))
+}
+
 /// What the program prints for two files: a report, or the refusal of a file that is too large (§9.9).
 pub fn program_output(table: &[u8], recording: &[u8]) -> String {
     let fit = table.len() <= TABLE_SIZE_LIMIT && recording.len() <= RECORDING_SIZE_LIMIT;

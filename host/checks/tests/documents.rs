@@ -141,6 +141,17 @@ fn the_wrong_programs_that_are_named_are_edits() {
     assert!(named.len() >= 40 && missing.is_empty(), "{} named, not there: {missing:?}", named.len());
 }
 
+/// The list of crates says of each what it is, and names no other.
+#[test]
+fn each_crate_has_a_word() {
+    let list = text_of(&root().join("crates.txt"));
+    let listed: HashSet<&str> =
+        list.lines().filter(|line| !line.starts_with('#')).filter_map(|line| Some(line.split_once(':')?.0)).collect();
+    let words = list.lines().filter_map(|line| line.strip_prefix("# ")?.get(17..)?.split_once("  "));
+    let said: HashSet<&str> = words.map(|(name, _)| name).filter(|name| !name.is_empty()).collect();
+    assert_eq!(said, listed);
+}
+
 /// The report beside the drive is the one on it.
 #[test]
 fn the_report_beside_the_drive() {

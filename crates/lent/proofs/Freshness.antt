@@ -115,7 +115,7 @@ module _ (h : Lent) (n : ℕ) (few : n ≤ 32) (ends : h .ends ≡ endsTo (h .mo
   end-is : (kind : ℕ) → kind < 64 → endOf h kind ≡ length (listedTo (h .monitor) n (suc kind))
   end-is kind small =
       let stored : at (h .ends) kind ≡ length (listedTo (h .monitor) n (suc kind)) =
-          ap (λ (l : List ℕ). at l kind) ends ∙ ends-at (h .monitor) n 64 kind small in
+      ap (λ (l : List ℕ). at l kind) ends ∙ ends-at (h .monitor) n 64 kind small in
       omega (arith, stored, listed-few (h .monitor) n (suc kind), few)
 
   start-is : (kind : ℕ) → kind < 64 → startOf h kind ≡ length (listedTo (h .monitor) n kind)
@@ -190,7 +190,7 @@ either false x y p q = q
 taken-few : (rule : Rule) (len : ℕ) → len ≤ waitingLimit → takenIn rule len ≤ waitingLimit
 taken-few rule len few =
     let beyond-few : (limit taken : ℕ) → taken ≤ waitingLimit → beyond limit (rule .span) taken ≤ waitingLimit =
-        λ limit taken small. either (ltb limit (rule .span)) taken 0 small (omega arith) in
+    λ limit taken small. either (ltb limit (rule .span)) taken 0 small (omega arith) in
     either (eqb (rule .form) 3) _ _ (beyond-few 64 len few)
     (either (eqb (rule .form) 5) _ _ (beyond-few 64 len few)
     (either (eqb (rule .form) 10) _ _ (beyond-few 31 64 (omega arith))
@@ -229,9 +229,9 @@ held-are rows few = omega (arith, few)
 fresh-roomy : (rows : List Constraint) → Roomy (freshLent rows)
 fresh-roomy rows =
     let now-few : (i : ℕ) → rowAt (after rows []) i .now .len ≤ waitingLimit =
-        λ i. subst (λ (r : Row). r .now .len ≤ waitingLimit) (sym (row-is rows i)) (row-few (getD rows i filler)) in
+    λ i. subst (λ (r : Row). r .now .len ≤ waitingLimit) (sym (row-is rows i)) (row-few (getD rows i filler)) in
     let then-few : (i : ℕ) → keptAt (after rows []) i .state .len ≤ waitingLimit =
-        λ i. subst (λ (b : Before). b .state .len ≤ waitingLimit) (sym (kept-is rows i)) (omega arith) in
+    λ i. subst (λ (b : Before). b .state .len ≤ waitingLimit) (sym (kept-is rows i)) (omega arith) in
     record {
       now-few = λ i _. now-few i;
       then-few = λ i _. then-few i;

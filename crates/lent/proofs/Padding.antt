@@ -36,7 +36,7 @@ module _ (list : List ℕ) where
   stored-next (suc n) v room =
       let whole : List ℕ = list ++ (v ∷ replicate n 0) in
       let long : length whole ≡ length list + suc n =
-          length-append list (v ∷ replicate n 0) ∙ ap (λ (k : ℕ). length list + suc k) (length-replicate {A = ℕ} n 0) in
+      length-append list (v ∷ replicate n 0) ∙ ap (λ (k : ℕ). length list + suc k) (length-replicate {A = ℕ} n 0) in
       ap (take (suc n)) (set-at list 0 (replicate n 0) v (length list) refl)
       ∙ sym (take-append-le (suc n) whole (0 ∷ []) (omega (arith, long)))
       ∙ ap (take (suc n)) (append-assoc list (v ∷ replicate n 0) (0 ∷ [])

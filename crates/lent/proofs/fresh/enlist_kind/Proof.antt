@@ -57,7 +57,7 @@ returns c =
       omega (arith, l .inv .1 .0, at-end),
       λ h ends entries s lies.
           subst (λ (k : ℕ). ListsLie h ends (entries ++ numbers (isOf (h .monitor) (a .kind)) k) (l .place) (l .m)) at-end
-              (l .inv .1 .1 h ends entries s lies),
+          (l .inv .1 .1 h ends entries s lies),
     )
 
 pub enlist-kind-spec : {M : Type 1} → statement M

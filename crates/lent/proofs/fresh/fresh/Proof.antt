@@ -29,9 +29,9 @@ returns c =
     let rows : List Constraint = counted .rows in
     let lies = b .begin .ensures rows (counted .reads) (counted .room) (counted .counted) in
     let words : c .enlist .last .0 ≡ wordsOf (freshLent rows) =
-        c .enlist .ensures (freshLent rows) (fresh-shaped rows (counted .room)) lies
-        ∙ ap (λ (n : ℕ). wordsOf (withLists (freshLent rows) (endsTo (after rows []) n 64) (padded 128 (listedTo (after rows []) n 64))))
-        (counted .counted) in
+    c .enlist .ensures (freshLent rows) (fresh-shaped rows (counted .room)) lies
+    ∙ ap (λ (n : ℕ). wordsOf (withLists (freshLent rows) (endsTo (after rows []) n 64) (padded 128 (listedTo (after rows []) n 64))))
+    (counted .counted) in
     subst₂ (λ (number : ℕ) (exit : Words). Begins (now (a .table)) (now (a .m)) number exit) (sym (t .if1 .taken)) (sym words)
     (begun rows (counted .reads) (counted .accepted) (fresh-indexes rows (counted .accepted)))
 

@@ -25,7 +25,7 @@ returns c h e s =
     let st = c .before .before .before in
     let a = st .args in
     let rule = c .before .rule-at .ensures ∙ ap (λ (w : List (List ℕ)). ruleAt (getD w 1 [])) (row-lies h s (now (a .m)) e (a .i) (st .pre))
-        ∙ rule-read (rowAt (h .monitor) (a .i)) (keptAt (h .monitor) (a .i)) in
+    ∙ rule-read (rowAt (h .monitor) (a .i)) (keptAt (h .monitor) (a .i)) in
     c .concerns .ensures ∙ ap (λ (r : Rule). concerns r (a .kind)) rule
 
 pub is-of-spec : {M : Type 1} → statement M

@@ -55,7 +55,7 @@ loop-again c =
           let so-far = l .inv .1 rows reads long in
           let next = scan-next _ rows (l .i) (l .place) (d .row-at .result) (so-far .0) (d .row-at .ensures) in
           let row = c .begin .ensures ∙ ap (λ (x : Constraint). Stored.wordsOf (rowOf x) noBefore) (next .0)
-              ∙ ap₂ Stored.wordsOf (sym (row-is rows (l .i))) (sym (kept-is rows (l .i))) in
+          ∙ ap₂ Stored.wordsOf (sym (row-is rows (l .i))) (sym (kept-is rows (l .i))) in
           (next .1, put-next _ (after rows []) (l .i) (l .m) (c .begin .last .0) (omega arith) (so-far .1) row),
     )
 

@@ -3,7 +3,7 @@
 
     text-check.py                  says what is wrong; status 1 where something is
     text-check.py --count          the numbers for each folder
-    text-check.py --allow          writes release/text-allowance.txt anew, from what there is
+    text-check.py --allow          lowers the numbers of release/text-allowance.txt to what there is; it raises none
     text-check.py --fix FOLDER..   takes the names that are not used out of the imports of the files below the folders, and cuts long imports
 
 What is looked for: a line of more than 150 characters, a tab, a blank at a line's end, a name that a file of code or of proofs imports and does not
@@ -184,9 +184,15 @@ def allowed():
     return {folder: dict(zip(SORTS, map(int, numbers))) for folder, *numbers in rows}
 
 
+def lowered(counted, may):
+    """The allowance, no higher than what there is; a folder of which nothing is allowed stays without."""
+    least = {folder: [min(len(found[sort]), may.get(folder, {}).get(sort, 0)) for sort in SORTS] for folder, found in sorted(counted.items())}
+    return {folder: numbers for folder, numbers in least.items() if any(numbers)}
+
+
 def write_allowance(counted):
-    """Writes what there is as the allowance."""
-    rows = [" ".join([folder, *(str(len(found[sort])) for sort in SORTS)]) + "\n" for folder, found in sorted(counted.items()) if any(found.values())]
+    """Lowers the allowance to what there is."""
+    rows = [" ".join([folder, *map(str, numbers)]) + "\n" for folder, numbers in lowered(counted, allowed()).items()]
     opening = "# A folder, and how many it may have: long lines, unused imports, names that nothing uses. What is not listed has none.\n"
     ALLOWANCE.write_text(opening + "".join(rows), encoding="utf-8")
 

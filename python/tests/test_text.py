@@ -74,6 +74,12 @@ def test_what_nothing_uses():
     assert program().idle(texts) == {Path("a/A.antt"): [("again", 1)]}
 
 
+def test_the_allowance_is_lowered_and_never_raised():
+    counted = {"a": {"long": ["x"], "unused": ["x", "y"], "idle": []}, "b": {"long": ["x"], "unused": [], "idle": []}}
+    may = {"a": {"long": 3, "unused": 1, "idle": 2}}
+    assert program().lowered(counted, may) == {"a": [1, 1, 0]}
+
+
 def test_the_sources_are_within_what_is_allowed():
     done = subprocess.run([sys.executable, PROGRAM], capture_output=True, text=True)
     assert (done.returncode, done.stderr) == (0, ""), done.stdout

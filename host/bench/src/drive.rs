@@ -1,6 +1,9 @@
 //! Tables of 32 rows of all types, with signals on which every row stays open until the close.
 
-use model::constraint::stream;
+use model::limits::stream;
+use model::types::{
+    Burst, Delay, ExecutionTime, Order, Reaction, Repeat, Repetition, Sporadic, StrongDelay, StrongSynchronization,
+};
 use model::{Constraint, FIRST_COLOURED, LAST_TIME, NO_LIMIT, Step};
 
 /// A signal comes once in a round of this length.
@@ -66,7 +69,7 @@ impl Signals {
         let (stimulus, response) = (FIRST_COLOURED, FIRST_COLOURED + 1);
         (0..colours).for_each(|colour| _ = self.of_stream(stream(stimulus, colour), 0));
         (0..colours).for_each(|colour| _ = self.of_stream(stream(response, 7 - colour), 0));
-        Constraint::Reaction { stimulus, response, minimum: APART, maximum: LAST_TIME / 2 }
+        Constraint::Reaction(Reaction { stimulus, response, minimum: APART, maximum: LAST_TIME / 2 })
     }
 
     /// A source, and so many targets that are so many rounds behind it.
@@ -93,56 +96,59 @@ impl Signals {
 
 fn delay((source, target): (Signal, Signal)) -> Constraint {
     let (lower, upper) = (target.after(source) - WOBBLE, target.after(source) + WOBBLE);
-    Constraint::Delay { source: source.stream, target: target.stream, lower, upper }
+    Constraint::Delay(Delay { source: source.stream, target: target.stream, lower, upper })
 }
 
 fn strong_delay((source, target): (Signal, Signal)) -> Constraint {
     let (lower, upper) = (target.after(source) - WOBBLE, target.after(source) + WOBBLE);
-    Constraint::StrongDelay { source: source.stream, target: target.stream, lower, upper }
+    Constraint::StrongDelay(StrongDelay { source: source.stream, target: target.stream, lower, upper })
 }
 
 fn order((source, target): (Signal, Signal)) -> Constraint {
-    Constraint::Order { source: source.stream, target: target.stream }
+    Constraint::Order(Order { source: source.stream, target: target.stream })
 }
 
 fn synchronization(signals: &[Signal]) -> Constraint {
     let tolerance = signals[signals.len() - 1].after(signals[0]) + WOBBLE;
-    Constraint::StrongSynchronization { kinds: signals.iter().map(|signal| signal.stream).collect(), tolerance }
+    Constraint::StrongSynchronization(StrongSynchronization {
+        kinds: signals.iter().map(|signal| signal.stream).collect(),
+        tolerance,
+    })
 }
 
 /// An execution from a start to a stop, with a pause.
 fn execution_time(start: Signal, (preempt, resume): (Signal, Signal), stop: Signal) -> Constraint {
     let running = stop.after(start) - resume.after(preempt);
-    Constraint::ExecutionTime {
+    Constraint::ExecutionTime(ExecutionTime {
         start: start.stream,
         stop: stop.stream,
         preempt: preempt.stream,
         resume: resume.stream,
         lower: running.saturating_sub(2 * WOBBLE),
         upper: running + 2 * WOBBLE,
-    }
+    })
 }
 
 fn repeat(event: Signal, span: u8) -> Constraint {
     let length = u64::from(span) * PERIOD;
-    Constraint::Repeat { event: event.stream, span, lower: length - WOBBLE, upper: length + WOBBLE }
+    Constraint::Repeat(Repeat { event: event.stream, span, lower: length - WOBBLE, upper: length + WOBBLE })
 }
 
 fn burst(event: Signal, maximum: u8) -> Constraint {
     let length = u64::from(maximum) * PERIOD - WOBBLE;
-    Constraint::Burst { event: event.stream, maximum, length, minimum: PERIOD - WOBBLE }
+    Constraint::Burst(Burst { event: event.stream, maximum, length, minimum: PERIOD - WOBBLE })
 }
 
 /// Points in a rhythm, or with room for a few times more or less, or with no limit above.
 fn sporadic(event: Signal, upper: u64) -> Constraint {
     let lower = if upper == PERIOD { PERIOD } else { PERIOD - 3 };
-    Constraint::Sporadic { event: event.stream, lower, upper, jitter: WOBBLE, minimum: PERIOD - WOBBLE }
+    Constraint::Sporadic(Sporadic { event: event.stream, lower, upper, jitter: WOBBLE, minimum: PERIOD - WOBBLE })
 }
 
 /// Points in a rhythm, so many places apart.
 fn repetition(event: Signal, span: u8) -> Constraint {
     let length = u64::from(span) * PERIOD;
-    Constraint::Repetition { event: event.stream, span, lower: length, upper: length, jitter: WOBBLE }
+    Constraint::Repetition(Repetition { event: event.stream, span, lower: length, upper: length, jitter: WOBBLE })
 }
 
 /// The lags, spans, maxima and uppers of the rows of one type.

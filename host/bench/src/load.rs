@@ -28,15 +28,6 @@ pub struct Load {
     pub refused: bool,
 }
 
-/// The kind of which 64 can wait in a row, if there is one.
-fn waiting_source(row: &Constraint) -> Option<u8> {
-    match row {
-        Constraint::Delay { source, .. } | Constraint::StrongDelay { source, .. } => Some(*source),
-        Constraint::StrongSynchronization { kinds, .. } => kinds.first().copied(),
-        _ => None,
-    }
-}
-
 /// The time of a drive's event.
 fn time(event: Step) -> u64 {
     match event {
@@ -126,7 +117,7 @@ impl Load {
     /// So many sources that are refused with 12, in turn those of each kind of which 64 wait.
     pub fn crowding(self, calls: usize) -> Load {
         let Some(Call::Step(last)) = self.ahead.last() else { return self };
-        let mut sources: Vec<u8> = self.rows.iter().filter_map(waiting_source).collect();
+        let mut sources: Vec<u8> = self.rows.iter().filter_map(|row| row.as_type().crowding_kind()).collect();
         sources.dedup();
         let again = sources.into_iter().map(|kind| Call::Step(Step::Event { kind, time: time(*last) + 1 }));
         let calls = again.cycle().take(calls).collect();

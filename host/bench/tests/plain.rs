@@ -5,6 +5,7 @@ use model::random::Random;
 use model::random::calls::{Play, calls};
 use model::random::seen::Seen;
 use model::random::tables::any_table;
+use model::types::{Burst, Delay, Repeat, Repetition, StrongDelay, StrongSynchronization};
 use model::{Answer, Constraint, Monitor, Step};
 
 #[test]
@@ -147,12 +148,12 @@ fn lists_with_withdrawals_beside_the_model() {
 #[test]
 fn long_rows_with_withdrawals() {
     let rows = [
-        Constraint::Repeat { event: 0, span: 64, lower: 128, upper: 130 },
-        Constraint::Burst { event: 0, maximum: 64, length: 128, minimum: 1 },
-        Constraint::Repetition { event: 0, span: 8, lower: 16, upper: 17, jitter: 1 },
-        Constraint::Delay { source: 0, target: 1, lower: 80, upper: 500 },
-        Constraint::StrongDelay { source: 0, target: 1, lower: 0, upper: 500 },
-        Constraint::StrongSynchronization { kinds: vec![0, 1], tolerance: 500 },
+        Constraint::Repeat(Repeat { event: 0, span: 64, lower: 128, upper: 130 }),
+        Constraint::Burst(Burst { event: 0, maximum: 64, length: 128, minimum: 1 }),
+        Constraint::Repetition(Repetition { event: 0, span: 8, lower: 16, upper: 17, jitter: 1 }),
+        Constraint::Delay(Delay { source: 0, target: 1, lower: 80, upper: 500 }),
+        Constraint::StrongDelay(StrongDelay { source: 0, target: 1, lower: 0, upper: 500 }),
+        Constraint::StrongSynchronization(StrongSynchronization { kinds: vec![0, 1], tolerance: 500 }),
     ];
     let mut random = Random::new(604);
     for _ in 0..8 {
@@ -171,7 +172,7 @@ fn long_rows_with_withdrawals() {
 /// 64 wait again after their answer was withdrawn, and one less after the last of them was.
 #[test]
 fn sixty_four_wait_again() {
-    let mut beside = Beside::new(&[Constraint::Delay { source: 0, target: 1, lower: 0, upper: 1_000 }]);
+    let mut beside = Beside::new(&[Constraint::Delay(Delay { source: 0, target: 1, lower: 0, upper: 1_000 })]);
     let source = |time| Step::Event { kind: 0, time };
     (1..=64).for_each(|time| assert_eq!(beside.step(source(time)), Ok(())));
     assert_eq!(beside.step(source(65)), Err(12));
@@ -182,7 +183,8 @@ fn sixty_four_wait_again() {
     assert_eq!(beside.step(Step::Tick { time: 1_002 }), Ok(()));
     assert_eq!(beside.step(source(1_002)), Ok(()));
     assert_eq!(beside.withdraw(), Ok(()));
-    let mut beside = Beside::new(&[Constraint::StrongDelay { source: 0, target: 1, lower: 0, upper: 1_000 }]);
+    let mut beside =
+        Beside::new(&[Constraint::StrongDelay(StrongDelay { source: 0, target: 1, lower: 0, upper: 1_000 })]);
     (1..=64).for_each(|time| assert_eq!(beside.step(source(time)), Ok(())));
     assert_eq!(beside.withdraw(), Ok(()));
     assert_eq!((beside.step(source(64)), beside.step(source(65))), (Ok(()), Err(12)));

@@ -1,6 +1,9 @@
 //! `docs/CONTRACT.md` as data: its clauses, and its examples to be executed.
 
 use crate::places::root;
+use model::types::{
+    Burst, Delay, ExecutionTime, Order, Reaction, Repeat, Repetition, Sporadic, StrongDelay, StrongSynchronization,
+};
 use model::{Constraint, NO_LIMIT, Step};
 use std::collections::HashMap;
 use std::fs;
@@ -85,40 +88,46 @@ fn row(line: &str) -> Option<Constraint> {
     Some(match name {
         "Delay" => {
             let ((source, target), (lower, upper)) = (kinds(), bounds());
-            Constraint::Delay { source, target, lower, upper }
+            Constraint::Delay(Delay { source, target, lower, upper })
         }
         "StrongDelay" => {
             let ((source, target), (lower, upper)) = (kinds(), bounds());
-            Constraint::StrongDelay { source, target, lower, upper }
+            Constraint::StrongDelay(StrongDelay { source, target, lower, upper })
         }
         "Repeat" => {
             let (lower, upper) = bounds();
-            Constraint::Repeat { event: byte("event"), span: byte("span"), lower, upper }
+            Constraint::Repeat(Repeat { event: byte("event"), span: byte("span"), lower, upper })
         }
         "Sporadic" => {
             let (lower, upper) = bounds();
             let (jitter, minimum) = (time("jitter"), time("minimum"));
-            Constraint::Sporadic { event: byte("event"), lower, upper, jitter, minimum }
+            Constraint::Sporadic(Sporadic { event: byte("event"), lower, upper, jitter, minimum })
         }
         "Burst" => {
             let (length, minimum) = (time("length"), time("minimum"));
-            Constraint::Burst { event: byte("event"), maximum: byte("maximum"), length, minimum }
+            Constraint::Burst(Burst { event: byte("event"), maximum: byte("maximum"), length, minimum })
         }
-        "Reaction" => Constraint::Reaction {
+        "Reaction" => Constraint::Reaction(Reaction {
             stimulus: byte("stimulus"),
             response: byte("response"),
             minimum: time("minimum"),
             maximum: time("maximum"),
-        },
-        "Order" => Constraint::Order { source: byte("source"), target: byte("target") },
+        }),
+        "Order" => Constraint::Order(Order { source: byte("source"), target: byte("target") }),
         "ExecutionTime" => {
             let (start, stop, preempt, resume) = (byte("start"), byte("stop"), byte("preempt"), byte("resume"));
             let (lower, upper) = bounds();
-            Constraint::ExecutionTime { start, stop, preempt, resume, lower, upper }
+            Constraint::ExecutionTime(ExecutionTime { start, stop, preempt, resume, lower, upper })
         }
         "Repetition" => {
             let (lower, upper) = bounds();
-            Constraint::Repetition { event: byte("event"), span: byte("span"), lower, upper, jitter: time("jitter") }
+            Constraint::Repetition(Repetition {
+                event: byte("event"),
+                span: byte("span"),
+                lower,
+                upper,
+                jitter: time("jitter"),
+            })
         }
         _ => panic!("no type: {line}"),
     })
@@ -129,7 +138,7 @@ fn synchronization(text: &str) -> Constraint {
     let (kinds, tolerance) = text.split_once(" tolerance ").expect("a tolerance");
     let kinds = kinds.strip_prefix("kinds ").expect("kinds");
     let kinds = kinds.split(' ').map(|kind| kind.parse().expect("a kind")).collect();
-    Constraint::StrongSynchronization { kinds, tolerance: number(tolerance) }
+    Constraint::StrongSynchronization(StrongSynchronization { kinds, tolerance: number(tolerance) })
 }
 
 fn number(word: &str) -> u64 {

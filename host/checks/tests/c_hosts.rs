@@ -5,12 +5,15 @@ use checks::hosts::{Host, Ran, c_host, c_host_alone, c_host_with_header, compile
 use checks::places::{Folder, archive_folder, example, example_bytes, root};
 use checks::rows::numbers_of;
 use delkuthi::Monitor;
-use model::constraint::NO_LIMIT;
 use model::examples::{Example, RECORDING, REPORT, TABLE, examples};
+use model::limits::NO_LIMIT;
 use model::random::Random;
 use model::random::recordings::{recording, refused_recording};
 use model::random::seen::Seen;
 use model::random::tables::{any_table, damaged_rows, damaged_table, table};
+use model::types::{
+    Burst, Delay, ExecutionTime, Order, Repeat, Repetition, Sporadic, StrongDelay, StrongSynchronization,
+};
 use model::{
     Constraint, Step, Verdict, page_text, read_table, recording_bytes, refused_row, report_text, table_bytes,
     write_table,
@@ -280,20 +283,22 @@ fn the_monitors_memory() {
 
 /// A row of each type, and of each number of kinds, that stays open for a while.
 fn one_of_each() -> [Constraint; 12] {
-    let synchronization = |kinds: &[u8]| Constraint::StrongSynchronization { kinds: kinds.to_vec(), tolerance: 50 };
+    let synchronization = |kinds: &[u8]| {
+        Constraint::StrongSynchronization(StrongSynchronization { kinds: kinds.to_vec(), tolerance: 50 })
+    };
     [
-        Constraint::Delay { source: 0, target: 1, lower: 2, upper: 30 },
-        Constraint::Delay { source: 0, target: 1, lower: 2, upper: NO_LIMIT },
-        Constraint::StrongDelay { source: 0, target: 1, lower: 2, upper: 30 },
-        Constraint::Repeat { event: 0, span: 3, lower: 0, upper: NO_LIMIT },
-        Constraint::Sporadic { event: 0, lower: 0, upper: NO_LIMIT, jitter: 3, minimum: 0 },
-        Constraint::Burst { event: 0, maximum: 9, length: 4, minimum: 0 },
-        Constraint::Order { source: 0, target: 1 },
+        Constraint::Delay(Delay { source: 0, target: 1, lower: 2, upper: 30 }),
+        Constraint::Delay(Delay { source: 0, target: 1, lower: 2, upper: NO_LIMIT }),
+        Constraint::StrongDelay(StrongDelay { source: 0, target: 1, lower: 2, upper: 30 }),
+        Constraint::Repeat(Repeat { event: 0, span: 3, lower: 0, upper: NO_LIMIT }),
+        Constraint::Sporadic(Sporadic { event: 0, lower: 0, upper: NO_LIMIT, jitter: 3, minimum: 0 }),
+        Constraint::Burst(Burst { event: 0, maximum: 9, length: 4, minimum: 0 }),
+        Constraint::Order(Order { source: 0, target: 1 }),
         synchronization(&[0, 1]),
         synchronization(&[0, 1, 2]),
         synchronization(&[0, 1, 2, 3]),
-        Constraint::ExecutionTime { start: 0, stop: 1, preempt: 2, resume: 3, lower: 2, upper: 50 },
-        Constraint::Repetition { event: 0, span: 8, lower: 0, upper: 90, jitter: 9 },
+        Constraint::ExecutionTime(ExecutionTime { start: 0, stop: 1, preempt: 2, resume: 3, lower: 2, upper: 50 }),
+        Constraint::Repetition(Repetition { event: 0, span: 8, lower: 0, upper: 90, jitter: 9 }),
     ]
 }
 

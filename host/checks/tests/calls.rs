@@ -8,6 +8,7 @@ use model::random::Random;
 use model::random::calls::calls;
 use model::random::seen::Seen;
 use model::random::tables::{any_table, damaged_table, table};
+use model::types::{Delay, Order, Reaction, Repeat, StrongSynchronization};
 use model::{Constraint, EARLIER_LAST_TIME, LAST_COUNT, LAST_TIME, Step, Verdict, read_table, table_bytes};
 
 #[test]
@@ -42,7 +43,7 @@ fn lists_at_the_end_of_the_count() {
 /// The step that makes the count 2^64 − 1 is taken, and nothing after it, the close neither; 8 stands before 24.
 #[test]
 fn the_end_of_the_count() {
-    let rows = [Constraint::Delay { source: 0, target: 1, lower: 2, upper: 3 }];
+    let rows = [Constraint::Delay(Delay { source: 0, target: 1, lower: 2, upper: 3 })];
     let mut monitor = counting_from(&rows, LAST_COUNT - 2);
     let mut closed = monitor.clone();
     assert_eq!((monitor.event(0, 10), monitor.tick(14)), (Ok(()), Ok(())));
@@ -212,8 +213,8 @@ fn any_memory_is_safe() {
 #[test]
 fn the_ends_of_the_ranges() {
     let rows = [
-        Constraint::Delay { source: 0, target: 47, lower: LAST_TIME, upper: LAST_TIME },
-        Constraint::Reaction { stimulus: 48, response: 63, minimum: LAST_TIME, maximum: LAST_TIME },
+        Constraint::Delay(Delay { source: 0, target: 47, lower: LAST_TIME, upper: LAST_TIME }),
+        Constraint::Reaction(Reaction { stimulus: 48, response: 63, minimum: LAST_TIME, maximum: LAST_TIME }),
     ];
     let mut monitor = fresh(&rows);
     let mut model = model::Monitor::fresh(&rows).expect("an accepted table");
@@ -261,15 +262,16 @@ fn forms_of_events() {
 /// Each way in which a row has a kind of the wrong sort, by the reader, fresh and the writer, and what is asked before.
 #[test]
 fn sorts_of_kinds() {
-    let delay = |source, target, lower, upper| Constraint::Delay { source, target, lower, upper };
-    let reaction = |stimulus, response, minimum, maximum| Constraint::Reaction { stimulus, response, minimum, maximum };
+    let delay = |source, target, lower, upper| Constraint::Delay(Delay { source, target, lower, upper });
+    let reaction =
+        |stimulus, response, minimum, maximum| Constraint::Reaction(Reaction { stimulus, response, minimum, maximum });
     let expected = [
         (delay(48, 1, 0, 0), 18),
         (delay(0, 63, 2, 1), 18),
         (delay(48, 48, 2, 1), 5),
-        (Constraint::Order { source: 47, target: 48 }, 18),
-        (Constraint::Repeat { event: 48, span: 0, lower: 0, upper: 0 }, 18),
-        (Constraint::StrongSynchronization { kinds: vec![0, 1, 2, 48], tolerance: 0 }, 18),
+        (Constraint::Order(Order { source: 47, target: 48 }), 18),
+        (Constraint::Repeat(Repeat { event: 48, span: 0, lower: 0, upper: 0 }), 18),
+        (Constraint::StrongSynchronization(StrongSynchronization { kinds: vec![0, 1, 2, 48], tolerance: 0 }), 18),
         (reaction(0, 49, 4, 6), 18),
         (reaction(48, 47, 6, 4), 18),
         (reaction(48, 48, 4, 6), 5),

@@ -4,7 +4,7 @@
 use checks::beside::{fresh, take, verdict};
 use delkuthi::Monitor;
 use model::examples::examples;
-use model::notation::{delay, strong_delay};
+use model::types::{delay, strong_delay};
 use model::{Constraint, EARLIER_LAST_TIME, LAST_TIME, NO_LIMIT, Verdict, table_bytes};
 
 #[test]

@@ -4,12 +4,13 @@
 use checks::beside::{fresh, take, verdict};
 use model::random::Random;
 use model::random::executions::{SeenWays, next_step, row, way};
-use model::{Constraint, Monitor, Step, Verdict};
+use model::types::ExecutionTime;
+use model::{Monitor, Step, Verdict};
 
 /// Plays a list until the row is broken or the recording closed, at most so many steps; gives the number of steps.
-fn play(random: &mut Random, row: &Constraint, steps: u64, wrong: u64, ways: &mut SeenWays) -> u64 {
-    let rows = std::slice::from_ref(row);
-    let (mut monitor, mut model) = (fresh(rows), Monitor::fresh(rows).expect("an accepted row"));
+fn play(random: &mut Random, row: &ExecutionTime, steps: u64, wrong: u64, ways: &mut SeenWays) -> u64 {
+    let rows = [row.clone().into()];
+    let (mut monitor, mut model) = (fresh(&rows), Monitor::fresh(&rows).expect("an accepted row"));
     while model.recorded().count() < steps {
         let step = next_step(random, row, model.recorded(), wrong);
         let before = model.recorded().clone();

@@ -8,6 +8,7 @@ use delkuthi::REPORT_LIMIT;
 use model::join::{Input, JoinRefusal, join, joined_steps};
 use model::notation::steps;
 use model::random::{Random, damage};
+use model::types::Delay;
 use model::{Constraint, LAST_TIME, Refusal, Step, recording_bytes, table_bytes};
 use std::collections::HashSet;
 use std::fs;
@@ -203,8 +204,8 @@ fn the_example() {
     let ms = 1_000;
     let (button, light, chime) = (0, 1, 2);
     let rows = [
-        Constraint::Delay { source: button, target: light, lower: 0, upper: 50 * ms },
-        Constraint::Delay { source: button, target: chime, lower: 0, upper: 20 * ms },
+        Constraint::Delay(Delay { source: button, target: light, lower: 0, upper: 50 * ms }),
+        Constraint::Delay(Delay { source: button, target: chime, lower: 0, upper: 20 * ms }),
     ];
     let event = |kind, time| Step::Event { kind, time };
     let bus = recording_bytes(&[

@@ -212,10 +212,10 @@ fn the_rust_crates_numbers_are_the_headers() {
 
 #[test]
 fn the_models_numbers_are_the_crates() {
-    use model::constraint::{
+    use model::limits::{
         FIRST_COLOURED, LAST_COLOUR, LAST_COUNT, LAST_KIND, LAST_TIME, NO_LIMIT, REPETITION_SPAN_LIMIT, ROW_LIMIT,
     };
-    use model::constraint::{SPAN_LIMIT, STREAMS, WAITING_LIMIT};
+    use model::limits::{SPAN_LIMIT, STREAMS, WAITING_LIMIT};
     use model::report::{RECORDING_SIZE_LIMIT, TABLE_SIZE_LIMIT};
     const PROGRAM: &str = "crates/delkuthi/src/lib.rt";
     let limits = [

@@ -5,14 +5,15 @@
 use checks::beside::{fresh, take, verdict};
 use model::random::Random;
 use model::random::repetitions::{SeenOutcomes, next_step, outcome, row};
-use model::{Constraint, Monitor, REPETITION_SPAN_LIMIT, Step, Verdict};
+use model::types::Repetition;
+use model::{Monitor, REPETITION_SPAN_LIMIT, Step, Verdict};
 
 /// Plays a list until the row is broken, or so many steps and the close; counts what became of the row.
-fn play(random: &mut Random, row: &Constraint, span: u8, seen: &mut SeenOutcomes) {
+fn play(random: &mut Random, row: &Repetition, span: u8, seen: &mut SeenOutcomes) {
     // from event span + 1 on, or not at all
     let (steps, wrong_at) = (5 * u64::from(span) + 12, usize::from(span) + random.place(5 * usize::from(span) + 12));
-    let rows = std::slice::from_ref(row);
-    let (mut monitor, mut model) = (fresh(rows), Monitor::fresh(rows).expect("an accepted row"));
+    let rows = [row.clone().into()];
+    let (mut monitor, mut model) = (fresh(&rows), Monitor::fresh(&rows).expect("an accepted row"));
     while model.recorded().count() < steps {
         let step = next_step(random, row, model.recorded(), wrong_at);
         assert_eq!((take(&mut monitor, step), model.step(step)), (Ok(()), Ok(())), "{step} of {row:?}");

@@ -6,12 +6,13 @@ use checks::places::example_bytes;
 use checks::reports::{compare, compare_of, compare_on, report_in, report_of};
 use delkuthi::{Monitor, WORDS};
 use model::examples::{RECORDING, REPORT, TABLE};
-use model::notation::{delay, order, steps, strong_delay, synchronization};
+use model::notation::steps;
 use model::random::Random;
 use model::random::calls::calls;
 use model::random::recordings::{damaged_recording, recording, refused_recording};
 use model::random::seen::Seen;
 use model::random::tables::{any_table, damaged_table, table};
+use model::types::{Burst, Repeat, Sporadic, delay, order, strong_delay, synchronization};
 use model::{Constraint, LAST_COUNT, LAST_TIME, Step, recording_bytes, report_text, table_bytes};
 
 /// The library's report, in words.
@@ -211,9 +212,9 @@ fn times_at_the_limit() {
             delay(0, field),
             delay(field, field),
             delay(field, u64::MAX),
-            Constraint::Repeat { event: 0, span: 1, lower: field, upper: field },
-            Constraint::Sporadic { event: 0, lower: field, upper: u64::MAX, jitter: field, minimum: field },
-            Constraint::Burst { event: 0, maximum: 64, length: field, minimum: field },
+            Constraint::Repeat(Repeat { event: 0, span: 1, lower: field, upper: field }),
+            Constraint::Sporadic(Sporadic { event: 0, lower: field, upper: u64::MAX, jitter: field, minimum: field }),
+            Constraint::Burst(Burst { event: 0, maximum: 64, length: field, minimum: field }),
             synchronization(4, field),
         ];
         for row in rows {

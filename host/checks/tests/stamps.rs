@@ -5,6 +5,7 @@ use checks::contract::{blocks, text};
 use checks::reports::report_in;
 use delkuthi::REPORT_LIMIT;
 use model::random::{Random, damage};
+use model::types::{Delay, Reaction, Repeat};
 use model::{Constraint, LAST_TIME, NO_LIMIT, Refusal, Stamped, Stamps, Step, recording_bytes, stamped, table_bytes};
 use std::collections::HashSet;
 
@@ -32,7 +33,7 @@ enum Others {
 
 /// A table of one Repeat of span 1, and a recording of its stamps up to a clock.
 fn files(stamps: &Stamps, others: Others) -> (Vec<u8>, Vec<u8>) {
-    let row = Constraint::Repeat { event: 0, span: 1, lower: stamps.lower, upper: stamps.upper };
+    let row = Constraint::Repeat(Repeat { event: 0, span: 1, lower: stamps.lower, upper: stamps.upper });
     let coloured = |time| (others == Others::Coloured).then_some(Step::Coloured { kind: 48, colour: 1, time });
     let at = |&time: &u64| [Step::Event { kind: 0, time }].into_iter().chain(coloured(time));
     let mut steps: Vec<Step> = stamps.stamps.iter().flat_map(at).collect();
@@ -112,10 +113,10 @@ fn refusals_in_their_order() {
     let mut random = Random::new(1304);
     let mut seen = HashSet::new();
     let rows = [
-        Constraint::Delay { source: 0, target: 1, lower: 0, upper: NO_LIMIT },
-        Constraint::Repeat { event: 0, span: 2, lower: 1, upper: 3 },
-        Constraint::Repeat { event: 0, span: 1, lower: 1, upper: 3 },
-        Constraint::Reaction { stimulus: 48, response: 49, minimum: 1, maximum: 3 },
+        Constraint::Delay(Delay { source: 0, target: 1, lower: 0, upper: NO_LIMIT }),
+        Constraint::Repeat(Repeat { event: 0, span: 2, lower: 1, upper: 3 }),
+        Constraint::Repeat(Repeat { event: 0, span: 1, lower: 1, upper: 3 }),
+        Constraint::Reaction(Reaction { stimulus: 48, response: 49, minimum: 1, maximum: 3 }),
     ];
     // 70 sources wait in row 0: 12 for a monitor, and nothing here
     let steps: Vec<Step> = (1..=70).map(|time| Step::Event { kind: 0, time }).collect();

@@ -5,10 +5,10 @@ use checks::contract::{blocks, text};
 use checks::places::root;
 use checks::reports::report_in;
 use delkuthi::REPORT_LIMIT;
-use model::notation::{
+use model::random::{Random, damage};
+use model::types::{
     burst, delay, execution_time, order, reaction, repeat, repetition, sporadic, strong_delay, synchronization,
 };
-use model::random::{Random, damage};
 use model::{
     Constraint, LAST_TIME, Monitor, RECORD_LIMIT, Refusal, Step, Stretch, first_breaking, recording_bytes,
     shortest_stretch, table_bytes,

@@ -3,11 +3,11 @@
 
 use checks::rows::write;
 use checks::table_host::{read, rewrite};
-use model::constraint::TYPES;
-use model::notation::order;
+use model::TYPES;
 use model::random::Random;
 use model::random::seen::Seen;
 use model::random::tables::{any_table, damaged_rows, damaged_table, table};
+use model::types::order;
 use model::{Constraint, Refusal, read_table, refused_row, table_bytes, write_table};
 
 /// What a buffer is filled with, so that a byte written is noticed.

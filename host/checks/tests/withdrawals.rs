@@ -8,6 +8,7 @@ use model::random::Random;
 use model::random::calls::calls;
 use model::random::seen::Seen;
 use model::random::tables::{any_table, table};
+use model::types::{Delay, Reaction, Repeat, StrongDelay, StrongSynchronization};
 use model::{Answer, Constraint, LAST_COUNT, Step, Verdict};
 
 fn withdraw(monitor: &mut Monitor) -> Answer {
@@ -132,11 +133,12 @@ fn at_the_end_of_the_count() {
 
 /// Rows in which something waits, with the kinds 0 to 3 at most, and far from being due.
 fn waiting_rows() -> Vec<Constraint> {
-    let group = |n: u8| Constraint::StrongSynchronization { kinds: (0..n).collect(), tolerance: 5_000 };
+    let group =
+        |n: u8| Constraint::StrongSynchronization(StrongSynchronization { kinds: (0..n).collect(), tolerance: 5_000 });
     vec![
-        Constraint::Delay { source: 0, target: 1, lower: 0, upper: 5_000 },
-        Constraint::Delay { source: 0, target: 1, lower: 60, upper: 5_000 },
-        Constraint::StrongDelay { source: 0, target: 1, lower: 0, upper: 5_000 },
+        Constraint::Delay(Delay { source: 0, target: 1, lower: 0, upper: 5_000 }),
+        Constraint::Delay(Delay { source: 0, target: 1, lower: 60, upper: 5_000 }),
+        Constraint::StrongDelay(StrongDelay { source: 0, target: 1, lower: 0, upper: 5_000 }),
         group(2),
         group(3),
         group(4),
@@ -187,10 +189,10 @@ fn answers(monitor: &mut Monitor, list: &str) -> Vec<u8> {
 
 #[test]
 fn the_examples() {
-    let delay = Constraint::Delay { source: 0, target: 1, lower: 2, upper: 3 };
-    let wide = Constraint::Delay { source: 0, target: 1, lower: 0, upper: 1000 };
-    let repeat = Constraint::Repeat { event: 0, span: 1, lower: 4, upper: 4 };
-    let reaction = Constraint::Reaction { stimulus: 48, response: 49, minimum: 4, maximum: 6 };
+    let delay = Constraint::Delay(Delay { source: 0, target: 1, lower: 2, upper: 3 });
+    let wide = Constraint::Delay(Delay { source: 0, target: 1, lower: 0, upper: 1000 });
+    let repeat = Constraint::Repeat(Repeat { event: 0, span: 1, lower: 4, upper: 4 });
+    let reaction = Constraint::Reaction(Reaction { stimulus: 48, response: 49, minimum: 4, maximum: 6 });
     let check = |row: &Constraint, list: &str, expected: &[u8], reads: Verdict| {
         let mut monitor = fresh(std::slice::from_ref(row));
         assert_eq!(answers(&mut monitor, list), expected, "{list}");

@@ -9,6 +9,7 @@ use model::random::Random;
 use model::random::calls::{Play, calls};
 use model::random::seen::Seen;
 use model::random::tables::any_table;
+use model::types::{Delay, Order, StrongDelay, StrongSynchronization};
 use model::{Constraint, FIRST_COLOURED, LAST_COLOUR, LAST_COUNT, LAST_KIND, LAST_TIME, Step, table_bytes};
 use std::collections::BTreeSet;
 
@@ -103,9 +104,10 @@ fn of_steps_at_the_end_of_the_count() {
 /// A row in which 64 wait, the kinds of which one more event is refused with 12, and the steps that lead there.
 fn full_rows() -> Vec<(Constraint, Vec<u8>, Vec<Step>)> {
     let sources = |kind: u8| (1..=64).map(move |time| Step::Event { kind, time });
-    let group = |n: u8| Constraint::StrongSynchronization { kinds: (0..n).collect(), tolerance: 1_000 };
-    let delay = |lower| Constraint::Delay { source: 0, target: 1, lower, upper: 1_000 };
-    let strong_delay = Constraint::StrongDelay { source: 0, target: 1, lower: 0, upper: 1_000 };
+    let group =
+        |n: u8| Constraint::StrongSynchronization(StrongSynchronization { kinds: (0..n).collect(), tolerance: 1_000 });
+    let delay = |lower| Constraint::Delay(Delay { source: 0, target: 1, lower, upper: 1_000 });
+    let strong_delay = Constraint::StrongDelay(StrongDelay { source: 0, target: 1, lower: 0, upper: 1_000 });
     // the events of each time kind after kind, so that times do not fall
     let both = (1..=64).flat_map(|time| [1, 3].map(|kind| Step::Event { kind, time }));
     vec![
@@ -124,7 +126,7 @@ fn full_rows() -> Vec<(Constraint, Vec<u8>, Vec<Step>)> {
 fn of_steps_where_sixty_four_wait() {
     for (row, kinds, steps) in full_rows() {
         for place in [0, 3, 31] {
-            let mut rows = vec![Constraint::Order { source: 40, target: 41 }; 31];
+            let mut rows = vec![Constraint::Order(Order { source: 40, target: 41 }); 31];
             rows.insert(place, row.clone());
             let mut monitor = fresh(&rows);
             assert!(take_all(&mut monitor, &steps).iter().all(Result::is_ok));
@@ -144,12 +146,12 @@ fn of_steps_where_sixty_four_wait() {
 /// Tables that are refused with each number, over a monitor in use: by fresh and by the report on it.
 #[test]
 fn of_tables() {
-    let delay = |source, target, lower, upper| Constraint::Delay { source, target, lower, upper };
+    let delay = |source, target, lower, upper| Constraint::Delay(Delay { source, target, lower, upper });
     let row = |row: Constraint| table_bytes(&[row]);
     let refused = [
         (1, vec![2]),
         (2, vec![1, 0]),
-        (3, table_bytes(&vec![Constraint::Order { source: 0, target: 1 }; 33])),
+        (3, table_bytes(&vec![Constraint::Order(Order { source: 0, target: 1 }); 33])),
         (4, vec![1, 0, 3, 11, 0, 1]),
         (5, row(delay(64, 1, 0, 0))),
         (6, row(delay(0, 1, 0, LAST_TIME + 1))),
@@ -208,7 +210,7 @@ fn of_zeros() {
 #[test]
 fn of_too_many_rows() {
     let mut random = Random::new(135);
-    let rows = vec![Constraint::Order { source: 0, target: 1 }; ROW_LIMIT];
+    let rows = vec![Constraint::Order(Order { source: 0, target: 1 }); ROW_LIMIT];
     let (full, _) = in_use(&mut random, &rows, 40);
     assert_eq!((full.words()[ROWS], full.rows()), (32, 32));
     for number in [33, 64, 1 << 32, 1 << 63, u64::MAX] {

@@ -1,7 +1,7 @@
 //! Steps that one row cannot tell apart (§3.10).
 
-use crate::constraint::Constraint;
 use crate::steps::Step;
+use crate::types::Constraint;
 
 /// Do the two steps stand beside each other for the row? One event of its kinds in both; or others, with the clocks at
 /// the same time after them; or the close in both.

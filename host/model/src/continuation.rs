@@ -1,6 +1,6 @@
 //! What may still come (§2.3).
 
-use crate::constraint::STREAMS;
+use crate::limits::STREAMS;
 use crate::steps::{Events, History, Step};
 
 /// An event of a continuation. Its time has no largest value but that of its number.

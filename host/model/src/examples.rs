@@ -1,9 +1,9 @@
 //! Examples 1 to 12 of the contract (§10.1 to §10.12) and its file (§7.11), for every monitor to be held to.
 
-use crate::constraint::Constraint;
 use crate::monitor::Verdict;
-use crate::notation::{delay, order, repeat, sporadic, strong_delay, synchronization};
 use crate::steps::Step;
+use crate::types::Constraint;
+use crate::types::{delay, order, repeat, sporadic, strong_delay, synchronization};
 
 /// The table of the file: Delay 0→1, 2 to 3.
 pub const TABLE: [u8; 22] = [1, 0, 0x13, 1, 0, 1, 0, 0, 0, 0, 0, 0, 0, 2, 0, 0, 0, 0, 0, 0, 0, 3];

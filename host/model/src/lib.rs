@@ -2,10 +2,11 @@
 //! to be executed beside. It keeps the list of accepted steps and works every answer out from that list, the slow and obvious way.
 //!
 //! ```
+//! use model::types::Delay;
 //! use model::{Constraint, Monitor, Verdict};
 //!
 //! // Example 2: Delay 0→1, 2 to 3.
-//! let row = Constraint::Delay { source: 0, target: 1, lower: 2, upper: 3 };
+//! let row = Constraint::from(Delay { source: 0, target: 1, lower: 2, upper: 3 });
 //! let mut monitor = Monitor::fresh(&[row])?;
 //! monitor.event(0, 10)?;
 //! monitor.tick(13)?;
@@ -16,12 +17,11 @@
 //! ```
 
 pub mod beside;
-pub mod constraint;
 pub mod continuation;
 pub mod examples;
-pub mod executions;
 pub mod hidden_points;
 pub mod join;
+pub mod limits;
 pub mod meets;
 pub mod monitor;
 pub mod notation;
@@ -37,11 +37,11 @@ pub mod status;
 pub mod steps;
 pub mod stretches;
 pub mod table;
-pub mod waiting;
+pub mod types;
 
-pub use constraint::{
-    Constraint, EARLIER_LAST_TIME, FIRST_COLOURED, LAST_COLOUR, LAST_COUNT, LAST_KIND, LAST_TIME, NO_LIMIT,
-    REPETITION_SPAN_LIMIT, ROW_LIMIT, SPAN_LIMIT, STREAMS, TYPES, WAITING_LIMIT,
+pub use limits::{
+    EARLIER_LAST_TIME, FIRST_COLOURED, LAST_COLOUR, LAST_COUNT, LAST_KIND, LAST_TIME, NO_LIMIT, REPETITION_SPAN_LIMIT,
+    ROW_LIMIT, SPAN_LIMIT, STREAMS, WAITING_LIMIT,
 };
 pub use meets::meets;
 pub use monitor::{Monitor, Verdict};
@@ -54,4 +54,4 @@ pub use stamps::{Stamped, Stamps, stamped};
 pub use steps::{Events, History, Step};
 pub use stretches::{RECORD_LIMIT, Stretch, first_breaking, shortest_stretch};
 pub use table::{read_table, refused_row, table_bytes, write_table};
-pub use waiting::waiting;
+pub use types::{Constraint, TYPES};

@@ -1,10 +1,10 @@
 //! The monitor as the contract defines it: a table, and the list of accepted steps.
 
-use crate::constraint::{Constraint, WAITING_LIMIT};
+use crate::limits::WAITING_LIMIT;
 use crate::open::open;
 use crate::questions::{Answer, ask, rows_questions, step_questions};
 use crate::steps::{History, Step};
-use crate::waiting::waiting;
+use crate::types::Constraint;
 use std::fmt;
 
 /// What a row reads. It is written as in the report: "open", "kept", "broken 3".
@@ -116,7 +116,7 @@ impl Monitor {
 
     /// Question 12 (§8.12).
     fn has_room(&self, open: &[bool], after: &History) -> bool {
-        self.rows.iter().zip(open).all(|(row, open)| !open || waiting(row, after) <= WAITING_LIMIT)
+        self.rows.iter().zip(open).all(|(row, open)| !open || row.waiting(after) <= WAITING_LIMIT)
     }
 
     /// What the row of this number reads (§2.4 to §2.6), or 15 if there is none (§8.15).
@@ -137,7 +137,7 @@ impl Monitor {
     /// How many wait in the row of this number; none in a broken one (§6.4).
     pub fn waiting(&self, row: usize) -> Result<usize, u8> {
         ask(15, row < self.rows.len())?;
-        Ok(if self.broken[row].is_some() { 0 } else { waiting(&self.rows[row], &self.recorded) })
+        Ok(if self.broken[row].is_some() { 0 } else { self.rows[row].waiting(&self.recorded) })
     }
 
     pub fn rows(&self) -> &[Constraint] {

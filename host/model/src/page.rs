@@ -1,7 +1,7 @@
 //! The printed page (§7.14 to §7.19).
 
-use crate::constraint::Constraint;
 use crate::monitor::{Monitor, Verdict};
+use crate::types::Constraint;
 
 /// The bytes of a line before its end (§7.15).
 const WIDTH: usize = 72;
@@ -31,22 +31,6 @@ fn line(number: usize, row: &Constraint, verdict: &Verdict) -> String {
         Verdict::Kept => ("kept", String::new()),
         Verdict::Broken(step) => ("broken", step.to_string()),
     };
-    let columns = format!("{number:>3}  {:<24}{word:<8}{step:>20}", name(row));
+    let columns = format!("{number:>3}  {:<24}{word:<8}{step:>20}", row.name());
     format!("{columns:<WIDTH$}\n")
-}
-
-/// The name of a row's type in TADL2, without "Constraint".
-fn name(row: &Constraint) -> &'static str {
-    match row {
-        Constraint::Delay { .. } => "Delay",
-        Constraint::StrongDelay { .. } => "StrongDelay",
-        Constraint::Repeat { .. } => "Repeat",
-        Constraint::Sporadic { .. } => "Sporadic",
-        Constraint::Burst { .. } => "Burst",
-        Constraint::Order { .. } => "Order",
-        Constraint::StrongSynchronization { .. } => "StrongSynchronization",
-        Constraint::ExecutionTime { .. } => "ExecutionTime",
-        Constraint::Reaction { .. } => "Reaction",
-        Constraint::Repetition { .. } => "Repetition",
-    }
 }

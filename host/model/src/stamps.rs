@@ -1,12 +1,13 @@
 //! Stamps known within a range (section 12): what a Repeat row of span 1 reads where each stamp may be late.
 
-use crate::constraint::{Constraint, LAST_TIME, NO_LIMIT};
+use crate::limits::{LAST_TIME, NO_LIMIT};
 use crate::meets::{apart, not_later};
 use crate::monitor::Monitor;
 use crate::questions::{Refusal, ask};
 use crate::recording::read_recording;
 use crate::steps::Events;
 use crate::table::read_table;
+use crate::types::{Constraint, Repeat};
 
 /// The three words (§12.3).
 #[derive(Clone, Copy, Debug, PartialEq, Eq, Hash)]
@@ -33,7 +34,7 @@ pub fn stamped(table: &[u8], recording: &[u8], row: u64, late: u64) -> Result<St
     let taken = read_recording(Monitor::fresh(&[]).expect("a table of no rows"), recording)?;
     let refused = |number| Refusal { number, place: 0 };
     ask(15, row < rows.len() as u64).map_err(refused)?;
-    let Constraint::Repeat { event, span: 1, lower, upper } = rows[row as usize] else {
+    let Constraint::Repeat(Repeat { event, span: 1, lower, upper }) = rows[row as usize] else {
         return Err(refused(25));
     };
     ask(10, late <= LAST_TIME).map_err(refused)?;

@@ -1,12 +1,11 @@
 //! What a host asks while it runs (§15): worked out from the definitions, the deadlines by a search for the first tick that
 //! leaves a row not open.
 
-use crate::constraint::{LAST_TIME, NO_LIMIT, ROW_LIMIT, WAITING_LIMIT};
+use crate::limits::{LAST_TIME, NO_LIMIT, ROW_LIMIT, WAITING_LIMIT};
 use crate::monitor::{Monitor, Verdict};
 use crate::open::open;
 use crate::questions::step_questions;
 use crate::steps::Step;
-use crate::waiting::waiting;
 
 impl Monitor {
     /// The clock (§15.1).
@@ -32,7 +31,7 @@ impl Monitor {
 
     /// How many wait in a row that reads open; 0 of any other (§15.5).
     pub fn row_waiting(&self, row: usize) -> usize {
-        if self.verdict(row) == Ok(Verdict::Open) { waiting(&self.rows()[row], self.recorded()) } else { 0 }
+        if self.verdict(row) == Ok(Verdict::Open) { self.rows()[row].waiting(self.recorded()) } else { 0 }
     }
 
     /// Whether the row is open after a tick to that time.
@@ -68,7 +67,7 @@ impl Monitor {
         let full = |row: &usize| {
             self.verdict(*row) == Ok(Verdict::Open)
                 && open(&self.rows()[*row], &after)
-                && waiting(&self.rows()[*row], &after) > WAITING_LIMIT
+                && self.rows()[*row].waiting(&after) > WAITING_LIMIT
         };
         (0..self.rows().len()).find(full).unwrap_or(ROW_LIMIT)
     }

@@ -1,6 +1,6 @@
 //! Steps, and what a list of accepted steps has recorded (§1.3 to §1.7).
 
-use crate::constraint::{FIRST_COLOURED, STREAMS, stream};
+use crate::limits::{FIRST_COLOURED, STREAMS, stream};
 use std::fmt;
 use std::str::FromStr;
 

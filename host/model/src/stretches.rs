@@ -1,11 +1,11 @@
 //! The shortest stretch of consecutive records that breaks a row (section 14): every stretch tried, each by a monitor of its own.
 
-use crate::constraint::Constraint;
 use crate::monitor::{Monitor, Verdict};
 use crate::questions::{Refusal, ask};
 use crate::recording::read_recording;
 use crate::steps::Step;
 use crate::table::read_table;
+use crate::types::Constraint;
 
 /// How many records a recording may have (§14.1).
 pub const RECORD_LIMIT: usize = 256;

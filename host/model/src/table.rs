@@ -1,71 +1,13 @@
 //! The table's bytes (§4.1 to §4.7) and the table's questions (§9.3).
 
-use crate::constraint::{Constraint, ROW_LIMIT, TYPES};
+use crate::limits::ROW_LIMIT;
 use crate::questions::{Refusal, ask, fields_questions, rows_questions};
-
-/// The length of each type (§4.5), by the type byte; to type 7 its n is added.
-const LENGTHS: [usize; 11] = [0, 19, 19, 19, 34, 19, 3, 10, 21, 19, 27];
-
-/// A field, of one byte or of eight (§4.4).
-enum Field {
-    Byte(u8),
-    Time(u64),
-}
-
-/// The fields of a row, in their order (§4.5).
-fn fields(row: &Constraint) -> Vec<Field> {
-    use Field::{Byte, Time};
-    match row {
-        Constraint::Delay { source, target, lower, upper }
-        | Constraint::StrongDelay { source, target, lower, upper } => {
-            vec![Byte(*source), Byte(*target), Time(*lower), Time(*upper)]
-        }
-        Constraint::Repeat { event, span, lower, upper } => {
-            vec![Byte(*event), Byte(*span), Time(*lower), Time(*upper)]
-        }
-        Constraint::Sporadic { event, lower, upper, jitter, minimum } => {
-            vec![Byte(*event), Time(*lower), Time(*upper), Time(*jitter), Time(*minimum)]
-        }
-        Constraint::Burst { event, maximum, length, minimum } => {
-            vec![Byte(*event), Byte(*maximum), Time(*length), Time(*minimum)]
-        }
-        Constraint::Order { source, target } => vec![Byte(*source), Byte(*target)],
-        Constraint::StrongSynchronization { kinds, tolerance } => {
-            let n = u8::try_from(kinds.len()).expect("an n of one byte");
-            let kinds = kinds.iter().map(|kind| Byte(*kind));
-            std::iter::once(Byte(n)).chain(kinds).chain([Time(*tolerance)]).collect()
-        }
-        Constraint::ExecutionTime { start, stop, preempt, resume, lower, upper } => {
-            vec![Byte(*start), Byte(*stop), Byte(*preempt), Byte(*resume), Time(*lower), Time(*upper)]
-        }
-        Constraint::Reaction { stimulus, response, minimum, maximum } => {
-            vec![Byte(*stimulus), Byte(*response), Time(*minimum), Time(*maximum)]
-        }
-        Constraint::Repetition { event, span, lower, upper, jitter } => {
-            vec![Byte(*event), Byte(*span), Time(*lower), Time(*upper), Time(*jitter)]
-        }
-    }
-}
-
-/// The row's fields that are times, in order.
-pub(crate) fn time_fields(row: &Constraint) -> Vec<u64> {
-    let time = |field| match field {
-        Field::Time(time) => Some(time),
-        Field::Byte(_) => None,
-    };
-    fields(row).into_iter().filter_map(time).collect()
-}
+use crate::types::{Constraint, Field};
 
 /// A row's bytes (§4.3), whatever stands in the fields.
 fn row_bytes(row: &Constraint) -> Vec<u8> {
-    let mut body = vec![row.type_byte()];
-    for field in fields(row) {
-        match field {
-            Field::Byte(byte) => body.push(byte),
-            Field::Time(time) => body.extend(time.to_be_bytes()),
-        }
-    }
-    with_length(&body)
+    let fields = row.fields();
+    with_length(&std::iter::once(row.type_byte()).chain(fields.iter().flat_map(Field::bytes)).collect::<Vec<u8>>())
 }
 
 /// A length field of two bytes, the most significant first (§4.1), and these bytes behind it.
@@ -115,8 +57,7 @@ fn read_row(bytes: &[u8], before: usize) -> Result<(Constraint, usize), u8> {
     let body = body.unwrap_or(&[]);
     // §8.3
     ask(3, before < ROW_LIMIT)?;
-    ask(4, shape_fits(body))?;
-    let row = constraint_of(body);
+    let row = row_of(body).ok_or(4)?;
     fields_questions(&row)?;
     Ok((row, 2 + body.len()))
 }
@@ -127,47 +68,30 @@ pub(crate) fn body_at_start(bytes: &[u8]) -> Option<&[u8]> {
     rest.get(..usize::from(u16::from_be_bytes(*length)))
 }
 
-/// Question 4 (§8.4).
-fn shape_fits(body: &[u8]) -> bool {
-    match body {
-        [7, n, ..] => (2..=4).contains(n) && body.len() == LENGTHS[7] + usize::from(*n),
-        [7] | [] => false,
-        [type_byte, ..] => TYPES.contains(type_byte) && body.len() == LENGTHS[usize::from(*type_byte)],
-    }
+/// Question 4 (§8.4): the row that a body stands for, if it is one of a type's, neither shorter nor longer.
+fn row_of(body: &[u8]) -> Option<Constraint> {
+    let mut bytes = Reader { left: body };
+    let number = bytes.byte()?;
+    let row = Constraint::read(number, &mut bytes)?;
+    (bytes.left.is_empty() && row.fields().iter().all(Field::number_of_kinds_fits)).then_some(row)
 }
 
-/// The row that a body of fitting shape stands for.
-fn constraint_of(body: &[u8]) -> Constraint {
-    let time = |place| time_at(body, place);
-    match body[0] {
-        1 => Constraint::Delay { source: body[1], target: body[2], lower: time(3), upper: time(11) },
-        2 => Constraint::StrongDelay { source: body[1], target: body[2], lower: time(3), upper: time(11) },
-        3 => Constraint::Repeat { event: body[1], span: body[2], lower: time(3), upper: time(11) },
-        4 => Constraint::Sporadic {
-            event: body[1],
-            lower: time(2),
-            upper: time(10),
-            jitter: time(18),
-            minimum: time(26),
-        },
-        5 => Constraint::Burst { event: body[1], maximum: body[2], length: time(3), minimum: time(11) },
-        6 => Constraint::Order { source: body[1], target: body[2] },
-        8 => Constraint::ExecutionTime {
-            start: body[1],
-            stop: body[2],
-            preempt: body[3],
-            resume: body[4],
-            lower: time(5),
-            upper: time(13),
-        },
-        9 => Constraint::Reaction { stimulus: body[1], response: body[2], minimum: time(3), maximum: time(11) },
-        10 => {
-            Constraint::Repetition { event: body[1], span: body[2], lower: time(3), upper: time(11), jitter: time(19) }
-        }
-        _ => {
-            let end = 2 + usize::from(body[1]);
-            Constraint::StrongSynchronization { kinds: body[2..end].to_vec(), tolerance: time(end) }
-        }
+/// Bytes from which a row's fields are read, one after the other.
+pub struct Reader<'a> {
+    left: &'a [u8],
+}
+
+impl Reader<'_> {
+    /// The next byte, if there is one.
+    pub fn byte(&mut self) -> Option<u8> {
+        self.left.split_off_first().copied()
+    }
+
+    /// The time in the next eight bytes, if they are there (§4.4).
+    pub fn time(&mut self) -> Option<u64> {
+        let (bytes, left) = self.left.split_first_chunk::<8>()?;
+        self.left = left;
+        Some(u64::from_be_bytes(*bytes))
     }
 }
 

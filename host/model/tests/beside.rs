@@ -4,8 +4,8 @@
 mod common;
 
 use common::{delay, fresh, steps};
+use model::TYPES;
 use model::beside::{beside, is_own, time_of};
-use model::constraint::TYPES;
 use model::random::Random;
 use model::random::calls::Play;
 use model::random::seen::Seen;

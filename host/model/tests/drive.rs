@@ -5,6 +5,9 @@
 use std::fs;
 use std::path::{Path, PathBuf};
 
+use model::types::{
+    Burst, Delay, ExecutionTime, Order, Reaction, Repeat, Repetition, Sporadic, StrongDelay, StrongSynchronization,
+};
 use model::{Constraint, Monitor, NO_LIMIT, Step, page_text, read_recording, report_text};
 
 const MILLISECOND: u64 = 1_000;
@@ -35,29 +38,51 @@ const GATEWAY_REPLY: u8 = 49;
 fn rows() -> Vec<Constraint> {
     let ms = MILLISECOND;
     vec![
-        Constraint::Delay { source: BRAKE_PEDAL, target: BRAKE_LIGHT, lower: 0, upper: 50 * ms },
-        Constraint::StrongDelay { source: STEERING_REQUEST, target: STEERING_REPLY, lower: ms, upper: 20 * ms },
-        Constraint::Repeat { event: WHEEL_SPEED, span: 1, lower: 9 * ms, upper: 11 * ms },
-        Constraint::Sporadic { event: CAMERA_FRAME, lower: 40 * ms, upper: 40 * ms, jitter: 3 * ms, minimum: 35 * ms },
-        Constraint::Burst { event: DIAGNOSTIC, maximum: 3, length: 100 * ms, minimum: ms },
-        Constraint::Order { source: BELT_SENSOR, target: BELT_LOG },
-        Constraint::StrongSynchronization {
+        Constraint::Delay(Delay { source: BRAKE_PEDAL, target: BRAKE_LIGHT, lower: 0, upper: 50 * ms }),
+        Constraint::StrongDelay(StrongDelay {
+            source: STEERING_REQUEST,
+            target: STEERING_REPLY,
+            lower: ms,
+            upper: 20 * ms,
+        }),
+        Constraint::Repeat(Repeat { event: WHEEL_SPEED, span: 1, lower: 9 * ms, upper: 11 * ms }),
+        Constraint::Sporadic(Sporadic {
+            event: CAMERA_FRAME,
+            lower: 40 * ms,
+            upper: 40 * ms,
+            jitter: 3 * ms,
+            minimum: 35 * ms,
+        }),
+        Constraint::Burst(Burst { event: DIAGNOSTIC, maximum: 3, length: 100 * ms, minimum: ms }),
+        Constraint::Order(Order { source: BELT_SENSOR, target: BELT_LOG }),
+        Constraint::StrongSynchronization(StrongSynchronization {
             kinds: vec![INDICATOR_FRONT, INDICATOR_REAR, INDICATOR_MIRROR],
             tolerance: 5 * ms,
-        },
-        Constraint::Delay { source: DOOR_OPEN, target: CABIN_LIGHT, lower: 0, upper: 150 * ms },
-        Constraint::Repeat { event: CAMERA_FRAME, span: 2, lower: 70 * ms, upper: NO_LIMIT },
-        Constraint::Repeat { event: TYRE_PRESSURE, span: 1, lower: 24 * ms, upper: 26 * ms },
-        Constraint::ExecutionTime {
+        }),
+        Constraint::Delay(Delay { source: DOOR_OPEN, target: CABIN_LIGHT, lower: 0, upper: 150 * ms }),
+        Constraint::Repeat(Repeat { event: CAMERA_FRAME, span: 2, lower: 70 * ms, upper: NO_LIMIT }),
+        Constraint::Repeat(Repeat { event: TYRE_PRESSURE, span: 1, lower: 24 * ms, upper: 26 * ms }),
+        Constraint::ExecutionTime(ExecutionTime {
             start: TASK_START,
             stop: TASK_STOP,
             preempt: TASK_PREEMPT,
             resume: TASK_RESUME,
             lower: 2 * ms,
             upper: 6 * ms,
-        },
-        Constraint::Repetition { event: CAMERA_FRAME, span: 2, lower: 80 * ms, upper: 80 * ms, jitter: 3 * ms },
-        Constraint::Reaction { stimulus: GATEWAY_REQUEST, response: GATEWAY_REPLY, minimum: 3 * ms, maximum: 8 * ms },
+        }),
+        Constraint::Repetition(Repetition {
+            event: CAMERA_FRAME,
+            span: 2,
+            lower: 80 * ms,
+            upper: 80 * ms,
+            jitter: 3 * ms,
+        }),
+        Constraint::Reaction(Reaction {
+            stimulus: GATEWAY_REQUEST,
+            response: GATEWAY_REPLY,
+            minimum: 3 * ms,
+            maximum: 8 * ms,
+        }),
     ]
 }
 

@@ -11,7 +11,8 @@ use model::random::calls::calls;
 use model::random::seen::Seen;
 use model::random::tables::{Scale, row};
 use model::search::open_by_search;
-use model::{Answer, Constraint, Events, History, LAST_COUNT, LAST_TIME, Monitor, NO_LIMIT, Step, Verdict, waiting};
+use model::types::{Delay, ExecutionTime, Order};
+use model::{Answer, Constraint, Events, History, LAST_COUNT, LAST_TIME, Monitor, NO_LIMIT, Step, Verdict};
 
 #[test]
 fn fresh_monitor() {
@@ -26,9 +27,9 @@ fn fresh_monitor() {
 
 #[test]
 fn fresh_questions_in_order() {
-    let bad_kind = Constraint::Order { source: 64, target: 0 };
-    let bad_everything = Constraint::Delay { source: 3, target: 3, lower: LAST_TIME + 2, upper: LAST_TIME + 1 };
-    let bad_times = Constraint::Delay { source: 3, target: 4, lower: LAST_TIME + 2, upper: LAST_TIME + 1 };
+    let bad_kind = Constraint::Order(Order { source: 64, target: 0 });
+    let bad_everything = Constraint::Delay(Delay { source: 3, target: 3, lower: LAST_TIME + 2, upper: LAST_TIME + 1 });
+    let bad_times = Constraint::Delay(Delay { source: 3, target: 4, lower: LAST_TIME + 2, upper: LAST_TIME + 1 });
     let number = |rows: &[Constraint]| Monitor::fresh(rows).map(|_| ());
     assert_eq!(number(&vec![order(); 32]), Ok(()));
     assert_eq!(number(&vec![order(); 33]), Err(3));
@@ -113,7 +114,7 @@ fn the_end_of_the_count() {
 #[test]
 fn one_crowded_row_refuses_for_all() {
     let wide = delay(0, 1000);
-    let narrow = Constraint::Delay { source: 0, target: 2, lower: 0, upper: 63 };
+    let narrow = Constraint::Delay(Delay { source: 0, target: 2, lower: 0, upper: 63 });
     let mut monitor = fresh(&[wide, narrow]);
     (1..=64).for_each(|time| assert_eq!(monitor.event(0, time), Ok(())));
     assert_eq!(monitor.event(0, 65), Err(12));
@@ -170,7 +171,8 @@ fn what_waits_in_each_type() {
 
 #[test]
 fn nothing_waits_in_the_other_types() {
-    let executions = Constraint::ExecutionTime { start: 4, stop: 0, preempt: 1, resume: 2, lower: 0, upper: 9 };
+    let executions =
+        Constraint::ExecutionTime(ExecutionTime { start: 4, stop: 0, preempt: 1, resume: 2, lower: 0, upper: 9 });
     let rows = [order(), repeat(64, 0, 900), sporadic(0, 900, 9, 0), burst(64, 0, 0), executions];
     let mut monitor = fresh(&rows);
     for time in 0..200 {
@@ -235,7 +237,7 @@ fn first_no(rows: &[Constraint], accepted: &[Step], call: Step) -> Answer {
     let counted = recorded.count() < u64::MAX;
     let room = || {
         let after = History::of(&[accepted, &[call]].concat());
-        rows.iter().all(|row| waiting(row, &after) <= 64 || !open_by_search(row, &after))
+        rows.iter().all(|row| row.waiting(&after) <= 64 || !open_by_search(row, &after))
     };
     let questions = match call {
         Step::Event { kind, time } => {
@@ -289,7 +291,7 @@ fn reads(row: &Constraint, accepted: &[Step]) -> Verdict {
 /// Are there too many continuations of the row's to try each?
 fn too_many_places(row: &Constraint) -> bool {
     match row {
-        Constraint::ExecutionTime { lower, .. } => *lower > 1,
+        Constraint::ExecutionTime(ExecutionTime { lower, .. }) => *lower > 1,
         row => row.kinds().len() > 2,
     }
 }

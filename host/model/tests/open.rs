@@ -9,6 +9,7 @@ use model::open::earliest_continuation;
 use model::random::Random;
 use model::random::tables::{Scale, row_of_type};
 use model::search::{open_by_search, open_within, reach};
+use model::types::{ExecutionTime, StrongSynchronization};
 use model::{Constraint, History, NO_LIMIT, Step, TYPES, open};
 
 /// The kinds that the small rows use.
@@ -17,12 +18,12 @@ const KINDS: [u8; 4] = [0, 1, 2, 3];
 /// A small row of a type. With more kinds there are fewer places to search.
 fn small_row(random: &mut Random, type_byte: u8) -> Constraint {
     match row_of_type(random, type_byte, Scale::Small, &KINDS) {
-        Constraint::StrongSynchronization { kinds, tolerance } => {
+        Constraint::StrongSynchronization(StrongSynchronization { kinds, tolerance }) => {
             let tolerance = tolerance.min(6 - kinds.len() as u64);
-            Constraint::StrongSynchronization { kinds, tolerance }
+            Constraint::StrongSynchronization(StrongSynchronization { kinds, tolerance })
         }
-        Constraint::ExecutionTime { start, stop, preempt, resume, lower, upper } => {
-            Constraint::ExecutionTime { start, stop, preempt, resume, lower: lower.min(2), upper }
+        Constraint::ExecutionTime(ExecutionTime { start, stop, preempt, resume, lower, upper }) => {
+            Constraint::ExecutionTime(ExecutionTime { start, stop, preempt, resume, lower: lower.min(2), upper })
         }
         row => row,
     }

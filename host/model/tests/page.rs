@@ -3,6 +3,7 @@
 mod common;
 
 use common::{delay, fresh, order, steps};
+use model::types::StrongSynchronization;
 use model::{Constraint, Monitor, Verdict, page_of, page_text};
 
 const HEADING: &str = "------------------------------------------------------------------------\n";
@@ -49,7 +50,7 @@ fn a_heading_for_each_16_rows() {
 
 #[test]
 fn the_longest_step_and_the_longest_name() {
-    let rows = [Constraint::StrongSynchronization { kinds: vec![0, 1], tolerance: 2 }];
+    let rows = [Constraint::StrongSynchronization(StrongSynchronization { kinds: vec![0, 1], tolerance: 2 })];
     let broken = line("  0  StrongSynchronization   broken  18446744073709551615");
     assert_eq!(page_of(&rows, &[Verdict::Broken(u64::MAX)]), HEADING.to_string() + &broken);
 }

@@ -8,6 +8,7 @@ use common::{
 use model::random::Random;
 use model::random::seen::Seen;
 use model::random::tables::{any_table, damaged_rows, damaged_table};
+use model::types::{Delay, ExecutionTime, Order, Reaction, Repeat, StrongSynchronization};
 use model::{Constraint, LAST_TIME, Monitor, Refusal, read_table, table_bytes, write_table};
 
 /// The bytes of a text in hexadecimal.
@@ -107,7 +108,7 @@ fn shape() {
 #[test]
 fn fields_in_order() {
     let number = |row: Constraint| refused(&table_bytes(&[order(), row]));
-    let delay = |source, target, lower, upper| Constraint::Delay { source, target, lower, upper };
+    let delay = |source, target, lower, upper| Constraint::Delay(Delay { source, target, lower, upper });
     assert_eq!(number(delay(64, 1, LAST_TIME + 1, 0)), (5, 6));
     assert_eq!(number(delay(1, 1, 0, 0)), (5, 6));
     assert_eq!(number(delay(0, 1, LAST_TIME + 1, 0)), (6, 6));
@@ -122,21 +123,31 @@ fn fields_in_order() {
     assert_eq!(number(sporadic(0, 1, u64::MAX, 0)), (6, 6));
     assert_eq!(number(sporadic(0, 1, 0, LAST_TIME + 1)), (6, 6));
     assert_eq!(number(burst(0, 1, 1)), (6, 6));
-    assert_eq!(number(Constraint::StrongSynchronization { kinds: vec![1, 2, 3, 1], tolerance: u64::MAX }), (5, 6));
+    assert_eq!(
+        number(Constraint::StrongSynchronization(StrongSynchronization {
+            kinds: vec![1, 2, 3, 1],
+            tolerance: u64::MAX
+        })),
+        (5, 6)
+    );
     assert_eq!(number(synchronization(4, LAST_TIME + 1)), (6, 6));
     let execution = |start, stop, preempt, resume, lower, upper| {
-        number(Constraint::ExecutionTime { start, stop, preempt, resume, lower, upper })
+        number(Constraint::ExecutionTime(ExecutionTime { start, stop, preempt, resume, lower, upper }))
     };
     assert_eq!(execution(0, 1, 2, 0, 2, 5), (5, 6));
     assert_eq!(execution(0, 1, 2, 64, 2, 5), (5, 6));
     assert_eq!(execution(0, 1, 2, 3, 2, u64::MAX), (6, 6));
     assert_eq!(execution(0, 1, 2, 3, 6, 5), (7, 6));
     // plain kinds in all types but 9, coloured ones in type 9: after 5, and before 6 and 7
-    let reaction = |stimulus, response, minimum, maximum| Constraint::Reaction { stimulus, response, minimum, maximum };
+    let reaction =
+        |stimulus, response, minimum, maximum| Constraint::Reaction(Reaction { stimulus, response, minimum, maximum });
     assert_eq!(number(delay(48, 1, u64::MAX, 0)), (18, 6));
     assert_eq!(number(delay(0, 63, 2, 1)), (18, 6));
-    assert_eq!(number(Constraint::Repeat { event: 48, span: 0, lower: 0, upper: 0 }), (18, 6));
-    assert_eq!(number(Constraint::StrongSynchronization { kinds: vec![1, 2, 48], tolerance: 0 }), (18, 6));
+    assert_eq!(number(Constraint::Repeat(Repeat { event: 48, span: 0, lower: 0, upper: 0 })), (18, 6));
+    assert_eq!(
+        number(Constraint::StrongSynchronization(StrongSynchronization { kinds: vec![1, 2, 48], tolerance: 0 })),
+        (18, 6)
+    );
     assert_eq!(number(reaction(0, 49, 4, 6)), (18, 6));
     assert_eq!(number(reaction(48, 47, 6, 4)), (18, 6));
     assert_eq!(number(reaction(48, 48, 4, 6)), (5, 6));
@@ -153,7 +164,7 @@ fn fields_in_order() {
 #[test]
 fn writer_questions_in_order() {
     let mut buffer = [7; 16];
-    let bad = Constraint::Order { source: 64, target: 0 };
+    let bad = Constraint::Order(Order { source: 64, target: 0 });
     assert_eq!(write_table(&[order(), bad.clone()], &mut []), Err(5));
     assert_eq!(write_table(&[vec![order(); 32], vec![bad]].concat(), &mut []), Err(3));
     assert_eq!(write_table(&[synchronization(5, 0)], &mut []), Err(4));

@@ -6,7 +6,7 @@ pub mod report;
 mod ring;
 mod rule;
 
-use model::constraint::stream;
+use model::limits::stream;
 use model::{Answer, Constraint, FIRST_COLOURED, LAST_COLOUR, LAST_COUNT, LAST_KIND, LAST_TIME, Step, Verdict};
 use rule::{Before, Left, Rule};
 

@@ -1,7 +1,10 @@
 //! A row's constraint with what it keeps of the events so far, changed in place.
 
 use super::ring::{Ends, Ring};
-use model::constraint::stream;
+use model::limits::stream;
+use model::types::{
+    Burst, Delay, ExecutionTime, Order, Reaction, Repeat, Repetition, Sporadic, StrongDelay, StrongSynchronization,
+};
 use model::{Constraint, NO_LIMIT};
 
 /// No time: later than all.
@@ -74,30 +77,30 @@ impl Rule {
     /// The rule before any event.
     pub fn new(row: &Constraint) -> Rule {
         match *row {
-            Constraint::Delay { source, lower, upper, .. } => {
+            Constraint::Delay(Delay { source, lower, upper, .. }) => {
                 Rule::Delay { source, lower, upper, waiting: Ring::default(), target: NEVER }
             }
-            Constraint::StrongDelay { source, lower, upper, .. } => {
+            Constraint::StrongDelay(StrongDelay { source, lower, upper, .. }) => {
                 Rule::StrongDelay { source, lower, upper, waiting: Ring::default(), early: NEVER }
             }
-            Constraint::Repeat { span, lower, upper, .. } => repeat(span, lower, upper, 0),
-            Constraint::Burst { maximum, length, minimum, .. } => repeat(maximum, length, NO_LIMIT, minimum),
-            Constraint::Sporadic { lower, upper, jitter, minimum, .. } => {
+            Constraint::Repeat(Repeat { span, lower, upper, .. }) => repeat(span, lower, upper, 0),
+            Constraint::Burst(Burst { maximum, length, minimum, .. }) => repeat(maximum, length, NO_LIMIT, minimum),
+            Constraint::Sporadic(Sporadic { lower, upper, jitter, minimum, .. }) => {
                 Rule::Sporadic { stride: lower.max(1), upper, jitter, minimum, low: 0, high: 0, last: NEVER }
             }
-            Constraint::Order { source, .. } => Rule::Order { source, ahead: 0, early: NEVER },
-            Constraint::StrongSynchronization { kinds: ref list, tolerance } => {
+            Constraint::Order(Order { source, .. }) => Rule::Order { source, ahead: 0, early: NEVER },
+            Constraint::StrongSynchronization(StrongSynchronization { kinds: ref list, tolerance }) => {
                 let kinds = std::array::from_fn(|place| list.get(place).copied().unwrap_or(u8::MAX));
                 Rule::StrongSynchronization { kinds, n: list.len(), tolerance, begun: Ring::default(), counts: [0; 4] }
             }
-            Constraint::ExecutionTime { start, stop, preempt, resume, lower, upper } => {
+            Constraint::ExecutionTime(ExecutionTime { start, stop, preempt, resume, lower, upper }) => {
                 let kinds = [start, stop, preempt, resume];
                 Rule::ExecutionTime { kinds, lower, upper, phase: Phase::Idle, last: NEVER, ran: 0 }
             }
-            Constraint::Reaction { stimulus, minimum, maximum, .. } => {
+            Constraint::Reaction(Reaction { stimulus, minimum, maximum, .. }) => {
                 Rule::Reaction { stimuli: stream(stimulus, 0), minimum, maximum, colours: [Colour::Quiet; 8] }
             }
-            Constraint::Repetition { span, lower, upper, jitter, .. } => {
+            Constraint::Repetition(Repetition { span, lower, upper, jitter, .. }) => {
                 Rule::Repetition { span: span.into(), lower, upper, jitter, places: Ring::default() }
             }
         }

@@ -1,13 +1,13 @@
 //! Random lists of calls: events, ticks and closes, accepted and refused.
 
 use super::Random;
-use crate::constraint::{Constraint, EARLIER_LAST_TIME, FIRST_COLOURED, LAST_COLOUR, LAST_KIND, LAST_TIME, STREAMS};
 use crate::continuation::{Event, Together};
+use crate::limits::{EARLIER_LAST_TIME, FIRST_COLOURED, LAST_COLOUR, LAST_KIND, LAST_TIME, STREAMS};
 use crate::monitor::{Monitor, Verdict};
 use crate::open::earliest_continuation;
 use crate::questions::Answer;
 use crate::steps::{Events, Step};
-use crate::table::time_fields;
+use crate::types::Constraint;
 
 /// How the calls of a list are chosen.
 #[derive(Clone, Copy, Debug)]
@@ -187,7 +187,7 @@ impl Play {
         let stream = self.stream_of(row);
         let late: Vec<u64> = self.monitor.recorded().times(stream).iter().rev().take(5).copied().collect();
         let base = if late.is_empty() { self.monitor.recorded().clock() } else { *self.random.pick(&late) };
-        let fields: Vec<u64> = time_fields(row).into_iter().filter(|field| *field <= LAST_TIME).collect();
+        let fields: Vec<u64> = row.times().into_iter().filter(|field| *field <= LAST_TIME).collect();
         let field = if fields.is_empty() { 0 } else { *self.random.pick(&fields) };
         let time = (base + field + self.random.below(3)).saturating_sub(1);
         let soon = self.monitor.recorded().clock() + 1 + self.random.below(20);
@@ -247,8 +247,7 @@ fn open_rows(monitor: &Monitor) -> Vec<&Constraint> {
 
 /// Crowding only where something of the table can wait.
 fn manner(random: &mut Random, rows: &[Constraint]) -> Manner {
-    let waits = |row: &&Constraint| matches!(row.type_byte(), 1 | 2 | 7);
-    let kinds: Vec<u8> = rows.iter().filter(waits).map(|row| row.kinds()[0]).collect();
+    let kinds: Vec<u8> = rows.iter().filter_map(|row| row.as_type().crowding_kind()).collect();
     match random.below(8) {
         0 => Manner::Careless,
         1 | 2 if !kinds.is_empty() => Manner::Crowding(*random.pick(&kinds)),

@@ -1,9 +1,8 @@
 //! Random lists of calls over one ExecutionTime: such as keep it open for long, and such as break it in every way.
 
 use super::Random;
-use crate::constraint::Constraint;
-use crate::executions::{Executions, Part};
 use crate::steps::{History, Step};
+use crate::types::{ExecutionTime, Executions, Part};
 use std::collections::BTreeMap;
 
 /// Where an execution stands.
@@ -64,40 +63,25 @@ struct Standing {
 }
 
 impl Standing {
-    fn of(row: &Constraint, recorded: &History) -> Standing {
+    fn of(row: &ExecutionTime, recorded: &History) -> Standing {
         let executions = Executions::of(row, recorded);
-        let begun = executions.begun();
-        let phase = match begun.last() {
+        let phase = match executions.begun().last() {
             None => Phase::Idle,
             Some((_, Part::Preempt)) => Phase::Preempted,
             Some(_) => Phase::Running,
         };
-        let ran = begun.windows(2).filter(|pair| pair[0].1 != Part::Preempt).map(|pair| pair[1].0 - pair[0].0).sum();
-        Standing { phase, last: executions.last_time(), ran }
+        Standing { phase, last: executions.last_time(), ran: executions.ran() }
     }
 }
 
-/// The kinds of the row in the order of its fields, each with what it is to the row.
-fn parts(row: &Constraint) -> Vec<(u8, Part)> {
-    row.kinds().into_iter().zip([Part::Start, Part::Stop, Part::Preempt, Part::Resume]).collect()
-}
-
-fn upper_of(row: &Constraint) -> u64 {
-    if let Constraint::ExecutionTime { upper, .. } = row { *upper } else { 0 }
-}
-
-fn lower_of(row: &Constraint) -> u64 {
-    if let Constraint::ExecutionTime { lower, .. } = row { *lower } else { 0 }
-}
-
 /// How a step breaks the row, which it leaves broken and found open.
-pub fn way(row: &Constraint, before: &History, step: Step) -> Way {
+pub fn way(row: &ExecutionTime, before: &History, step: Step) -> Way {
     let Standing { phase, last, ran } = Standing::of(row, before);
     let Step::Event { kind, time } = step else {
         return if step == Step::Close { Way::Closed(phase) } else { Way::TooLongAtTick };
     };
-    let Some((_, part)) = parts(row).into_iter().find(|(one, _)| *one == kind) else { return Way::TooLongAtOther };
-    if phase == Phase::Running && last.is_some_and(|last| ran + (time - last) > upper_of(row)) {
+    let Some((_, part)) = row.parts().into_iter().find(|(one, _)| *one == kind) else { return Way::TooLongAtOther };
+    if phase == Phase::Running && last.is_some_and(|last| ran + (time - last) > row.upper) {
         return Way::TooLongAtOwn;
     }
     match (phase, part) {
@@ -132,7 +116,7 @@ impl SeenWays {
 }
 
 /// An accepted row of four kinds from 0 to 9: with no time to run, with little, or with much.
-pub fn row(random: &mut Random) -> Constraint {
+pub fn row(random: &mut Random) -> ExecutionTime {
     let kinds = super::tables::different(random, &[0, 1, 2, 3, 4, 5, 6, 7, 8, 9], 4);
     let (lower, upper) = match random.below(12) {
         0 => (0, 0),
@@ -142,19 +126,19 @@ pub fn row(random: &mut Random) -> Constraint {
         }
         _ => (random.below(6), random.from_to(6, 200)),
     };
-    Constraint::ExecutionTime { start: kinds[0], stop: kinds[1], preempt: kinds[2], resume: kinds[3], lower, upper }
+    ExecutionTime { start: kinds[0], stop: kinds[1], preempt: kinds[2], resume: kinds[3], lower, upper }
 }
 
 /// A next step over the row that can be accepted: mostly one that keeps it open, now and then any, as often as
 /// `wrong` says in a thousand.
-pub fn next_step(random: &mut Random, row: &Constraint, recorded: &History, wrong: u64) -> Step {
+pub fn next_step(random: &mut Random, row: &ExecutionTime, recorded: &History, wrong: u64) -> Step {
     let standing = Standing::of(row, recorded);
     if random.below(1000) < wrong {
         return any_step(random, row, recorded, &standing);
     }
     let next = standing.last.map_or(0, |last| last + 1).max(recorded.clock());
     let event = |part: Part, time: u64| {
-        let kind = parts(row).into_iter().find(|(_, one)| *one == part).map_or(0, |(kind, _)| kind);
+        let kind = row.parts().into_iter().find(|(_, one)| *one == part).map_or(0, |(kind, _)| kind);
         Step::Event { kind, time }
     };
     match standing.phase {
@@ -164,12 +148,12 @@ pub fn next_step(random: &mut Random, row: &Constraint, recorded: &History, wron
         Phase::Running => {
             // the stop at the end of the time that is left, or soon; a preempt before it
             let last = standing.last.unwrap_or(0);
-            let latest = last + upper_of(row).saturating_sub(standing.ran);
+            let latest = last + row.upper.saturating_sub(standing.ran);
             let longest = random.chance(20);
             let time = if longest { latest.max(next) } else { (next + random.below(4)).min(latest.max(next)) };
             let run = standing.ran + (time - last);
-            let stops = lower_of(row) <= run && (run >= upper_of(row) || random.chance(40));
-            let short = run >= upper_of(row);
+            let stops = row.lower <= run && (run >= row.upper || random.chance(40));
+            let short = run >= row.upper;
             if stops {
                 event(Part::Stop, time)
             } else if short {
@@ -182,10 +166,10 @@ pub fn next_step(random: &mut Random, row: &Constraint, recorded: &History, wron
 }
 
 /// A step that is none of the row's: a tick or another kind's event, not after its time to run.
-fn beside(random: &mut Random, row: &Constraint, recorded: &History, standing: &Standing) -> Step {
+fn beside(random: &mut Random, row: &ExecutionTime, recorded: &History, standing: &Standing) -> Step {
     let clock = recorded.clock();
     let latest = match standing.phase {
-        Phase::Running => standing.last.unwrap_or(0) + upper_of(row).saturating_sub(standing.ran),
+        Phase::Running => standing.last.unwrap_or(0) + row.upper.saturating_sub(standing.ran),
         _ => clock + 20,
     };
     let time = (clock + random.below(3)).min(latest.max(clock));
@@ -198,11 +182,11 @@ fn beside(random: &mut Random, row: &Constraint, recorded: &History, standing: &
 
 /// Any step: an event of the row's, right at the row's last time, soon, or about the end of the time to run; a tick or
 /// another kind's event past it; the close.
-fn any_step(random: &mut Random, row: &Constraint, recorded: &History, standing: &Standing) -> Step {
+fn any_step(random: &mut Random, row: &ExecutionTime, recorded: &History, standing: &Standing) -> Step {
     let clock = recorded.clock();
-    let end = standing.last.unwrap_or(clock) + upper_of(row).saturating_sub(standing.ran);
+    let end = standing.last.unwrap_or(clock) + row.upper.saturating_sub(standing.ran);
     let past = (end + 1 + random.below(3)).max(clock + 1);
-    let kind = *random.pick(&row.kinds());
+    let kind = random.pick(&row.parts()).0;
     let time = (*random.pick(&[clock, clock, clock + 1, clock + 2, end, past])).max(clock);
     match random.below(10) {
         0 => Step::Close,

@@ -2,10 +2,10 @@
 
 use super::Random;
 use super::calls::Play;
-use crate::constraint::Constraint;
 use crate::questions::Answer;
 use crate::recording::recording_bytes;
 use crate::steps::Step;
+use crate::types::Constraint;
 
 /// The bytes of a recording of at most so many records over an accepted table. Mostly all of it is accepted; at times
 /// the refused calls of a list stand in it too.

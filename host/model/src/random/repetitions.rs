@@ -1,9 +1,10 @@
 //! Random lists of events over one Repetition: such as keep it open for many spans, and such as break it, early and late.
 
 use super::Random;
-use crate::constraint::{Constraint, REPETITION_SPAN_LIMIT};
 use crate::hidden_points::Spacing;
+use crate::limits::REPETITION_SPAN_LIMIT;
 use crate::steps::{Events, History, Step};
+use crate::types::Repetition;
 use std::collections::BTreeMap;
 
 /// Why an event leaves a Repetition no points (§5.10.1 to §5.10.3).
@@ -36,18 +37,8 @@ pub fn outcomes(span: u8) -> Vec<Outcome> {
     first.into_iter().chain(early).chain(late).collect()
 }
 
-/// What the row says of its points, and the kind of its events.
-fn spacing(row: &Constraint) -> (u8, Spacing) {
-    match *row {
-        Constraint::Repetition { event, span, lower, upper, jitter } => {
-            (event, Spacing { span: span.into(), lower, upper, jitter })
-        }
-        _ => panic!("no Repetition: {row:?}"),
-    }
-}
-
 /// An accepted row of a span: mostly with room for its points, at times with none.
-pub fn row(random: &mut Random, span: u8) -> Constraint {
+pub fn row(random: &mut Random, span: u8) -> Repetition {
     assert!((1..=REPETITION_SPAN_LIMIT).contains(&span));
     let least = u64::from(span);
     let (lower, upper) = match random.below(16) {
@@ -61,7 +52,7 @@ pub fn row(random: &mut Random, span: u8) -> Constraint {
             (lower, lower.max(least) + random.below(3 * least + 4))
         }
     };
-    Constraint::Repetition { event: random.below(10) as u8, span, lower, upper, jitter: random.below(2 * least + 12) }
+    Repetition { event: random.below(10) as u8, span, lower, upper, jitter: random.below(2 * least + 12) }
 }
 
 /// Why a row has no points for the events, of which it had for all but the last.
@@ -79,8 +70,8 @@ fn way(spacing: &Spacing, events: &[u64]) -> Way {
 }
 
 /// What became of a row with these events, if it is one of the outcomes: it is open, or broken by the last of them.
-pub fn outcome(row: &Constraint, recorded: &History) -> Option<Outcome> {
-    let (kind, spacing) = spacing(row);
+pub fn outcome(row: &Repetition, recorded: &History) -> Option<Outcome> {
+    let (kind, spacing) = (row.event, row.spacing());
     let events = recorded.times(kind);
     let beyond = events.len() > 2 * spacing.span;
     match (spacing.has_points(events), beyond) {
@@ -94,8 +85,8 @@ pub fn outcome(row: &Constraint, recorded: &History) -> Option<Outcome> {
 /// A next step over the row that can be accepted: mostly an event that keeps it open, often the first or the last such
 /// one; where there are `wrong_at` events the one right before or behind these. Now and then a tick or an event of
 /// another kind.
-pub fn next_step(random: &mut Random, row: &Constraint, recorded: &History, wrong_at: usize) -> Step {
-    let (kind, spacing) = spacing(row);
+pub fn next_step(random: &mut Random, row: &Repetition, recorded: &History, wrong_at: usize) -> Step {
+    let (kind, spacing) = (row.event, row.spacing());
     let clock = recorded.clock();
     if random.chance(5) {
         return Step::Tick { time: clock + 1 };

@@ -5,6 +5,7 @@ use super::Random;
 use super::calls::calls;
 use super::recordings::{damaged_recording, recording};
 use super::tables::{any_table, damaged_rows, damaged_table};
+use crate::types::repeat;
 use crate::{Constraint, LAST_TIME, NO_LIMIT, Step, recording_bytes, table_bytes};
 
 /// Bytes in hexadecimal; "-" where there are none.
@@ -89,18 +90,13 @@ fn put_searches(random: &mut Random, rows: &[Constraint], script: &mut Vec<Strin
     let lower = random.below(9);
     let upper = if random.chance(15) { NO_LIMIT } else { lower + random.below(9) };
     let span = if random.chance(90) { 1 } else { 2 };
-    let repeat = table_bytes(&[Constraint::Repeat { event: 0, span, lower, upper }]);
+    let row = table_bytes(&[repeat(span, lower, upper)]);
     let late = if random.chance(95) { random.below(7) } else { LAST_TIME + random.below(2) };
-    script.push(format!(
-        "stamps {} {} {} {late}",
-        hex(&repeat),
-        hex(&events(random, &[0, 0, 1], 9)),
-        random.below(9) / 8
-    ));
+    script.push(format!("stamps {} {} {} {late}", hex(&row), hex(&events(random, &[0, 0, 1], 9)), random.below(9) / 8));
     let records = random.place(40);
     let searched = recording(random, rows, records);
     script.push(format!("stretch {} {} {}", hex(&table_bytes(rows)), hex(&searched), random.place(rows.len() + 1)));
-    script.push(format!("stretch {} {} 0", hex(&repeat), hex(&damaged_recording(random, rows, 6))));
+    script.push(format!("stretch {} {} 0", hex(&row), hex(&damaged_recording(random, rows, 6))));
 }
 
 /// So many times a list of calls on a monitor with withdrawals and pages among them, and reports, a table, joins, late stamps

@@ -1,9 +1,9 @@
 //! What a random test has come across, so that a test which never saw a case fails.
 
-use crate::constraint::{Constraint, TYPES};
 use crate::meets::meets;
 use crate::monitor::{Monitor, Verdict};
 use crate::steps::Step;
+use crate::types::{Constraint, TYPES};
 use std::collections::BTreeMap;
 
 /// How often each refusal number, and each verdict of each row type, was seen.

@@ -1,8 +1,9 @@
 //! What the tests share: the contract's notation, and monitors in it.
 #![allow(dead_code, unused_imports)]
 
-pub use model::notation::{
-    burst, delay, execution_time, order, reaction, repeat, repetition, sporadic, steps, strong_delay, synchronization,
+pub use model::notation::steps;
+pub use model::types::{
+    burst, delay, execution_time, order, reaction, repeat, repetition, sporadic, strong_delay, synchronization,
 };
 use model::{Constraint, History, Monitor};
 

@@ -1,0 +1,276 @@
+//! The row types (§4.5): a file for each, with all that the model says of it, and here the list of them.
+
+mod burst;
+mod delay;
+mod execution_time;
+mod order;
+mod reaction;
+mod repeat;
+mod repetition;
+mod sporadic;
+mod strong_delay;
+mod strong_synchronization;
+
+pub use burst::{Burst, burst};
+pub use delay::{Delay, delay};
+pub use execution_time::{ExecutionTime, Executions, Part, execution_time};
+pub use order::{Order, order};
+pub use reaction::{Reaction, reaction};
+pub use repeat::{Repeat, repeat};
+pub use repetition::{Repetition, repetition};
+pub use sporadic::{Sporadic, sporadic};
+pub use strong_delay::{StrongDelay, strong_delay};
+pub use strong_synchronization::{StrongSynchronization, synchronization};
+
+use crate::continuation::Event;
+use crate::limits::{FIRST_COLOURED, LAST_COLOUR, LAST_TIME, NO_LIMIT, stream};
+use crate::random::Random;
+use crate::random::tables::Draw;
+use crate::steps::{Events, History};
+use crate::table::Reader;
+
+/// What the model says of a row of one type. The functions but [`RowType::fields`] and those on bytes and random rows are for
+/// rows that pass questions 4 to 7 and 18.
+pub trait RowType {
+    /// The row whose fields stand at the start of the bytes, if they do (§4.5).
+    fn read(bytes: &mut Reader) -> Option<Self>
+    where
+        Self: Sized;
+
+    /// The fields in the order of the bytes (§4.5).
+    fn fields(&self) -> Vec<Field>;
+
+    /// The two times of which the first may not be above the second, if there are such (§8.7).
+    fn bounds(&self) -> Option<(u64, u64)> {
+        None
+    }
+
+    /// Is the definition true of all these events together, at the clock that they close at (§5.1 to §5.10)?
+    fn meets(&self, events: &dyn Events) -> bool;
+
+    /// How many wait, if the row is open: in most types nothing (§6.4).
+    fn waiting(&self, _recorded: &History) -> usize {
+        0
+    }
+
+    /// The kind of which 64 can come to wait, if there is one.
+    fn crowding_kind(&self) -> Option<u8> {
+        None
+    }
+
+    /// The earliest continuation that the row can use, before the close: if any continuation meets the row, this one does.
+    ///
+    /// It is the empty one where a definition speaks of each event together with earlier ones, or with the clock where a later
+    /// one is wanted. What is true with a continuation, at the clock that it closes at, is true without it at the clock now: a
+    /// later event that was in time is no earlier than now.
+    fn earliest_continuation(&self, _recorded: &History) -> Vec<Event> {
+        Vec::new()
+    }
+
+    /// A time so late that a continuation which meets the row can be chosen with no event after it.
+    ///
+    /// Where the empty continuation will do it is the clock. A few more places are searched to see that they change nothing.
+    fn reach(&self, recorded: &History) -> u64 {
+        recorded.clock() + 3
+    }
+
+    /// What the definition asks, in parts that speak of different streams; all of them together are the definition.
+    fn demands(&self) -> Vec<Demand<'_>> {
+        let streams = self.fields().iter().flat_map(Field::streams).collect();
+        vec![Demand { streams, met: Box::new(|events| self.meets(events)) }]
+    }
+
+    /// An accepted row, drawn at random.
+    fn random(draw: &mut Draw) -> Self
+    where
+        Self: Sized;
+
+    /// Puts something odd in one field.
+    fn damage(&mut self, random: &mut Random);
+}
+
+/// Streams, and whether events of theirs are as is asked.
+pub struct Demand<'a> {
+    pub streams: Vec<u8>,
+    pub met: Box<dyn Fn(&dyn Events) -> bool + 'a>,
+}
+
+/// A field of a row, by what may stand in it (§4.4 to §4.7).
+#[derive(Clone, Debug, PartialEq, Eq)]
+pub enum Field {
+    /// A plain kind.
+    Kind(u8),
+    /// A coloured kind.
+    Coloured(u8),
+    /// Two to four plain kinds; their number stands before them.
+    Kinds(Vec<u8>),
+    /// A number from 1 to `most`.
+    Count { value: u8, most: u8 },
+    /// A time.
+    Time(u64),
+    /// A time, or the mark for no upper limit (§4.7).
+    Limit(u64),
+}
+
+impl Field {
+    /// The kinds in it.
+    pub fn kinds(&self) -> Vec<u8> {
+        match self {
+            Field::Kind(kind) | Field::Coloured(kind) => vec![*kind],
+            Field::Kinds(kinds) => kinds.clone(),
+            Field::Count { .. } | Field::Time(_) | Field::Limit(_) => Vec::new(),
+        }
+    }
+
+    /// The streams of its kinds: of a coloured one those of each colour.
+    pub fn streams(&self) -> Vec<u8> {
+        match self {
+            Field::Coloured(kind) => (0..=LAST_COLOUR).map(|colour| stream(*kind, colour)).collect(),
+            _ => self.kinds(),
+        }
+    }
+
+    /// The time in it, the mark too.
+    pub fn time(&self) -> Option<u64> {
+        match self {
+            Field::Time(time) | Field::Limit(time) => Some(*time),
+            _ => None,
+        }
+    }
+
+    /// Question 4 but for the length: is the number of kinds in range (§8.4)?
+    pub fn number_of_kinds_fits(&self) -> bool {
+        !matches!(self, Field::Kinds(kinds) if !(2..=4).contains(&kinds.len()))
+    }
+
+    /// Question 18: are its kinds of the right sort (§8.18)?
+    pub fn sort_fits(&self) -> bool {
+        let coloured = matches!(self, Field::Coloured(_));
+        self.kinds().iter().all(|kind| (*kind >= FIRST_COLOURED) == coloured)
+    }
+
+    /// Question 6: is it in range (§8.6)?
+    pub fn in_range(&self) -> bool {
+        match self {
+            Field::Kind(_) | Field::Coloured(_) | Field::Kinds(_) => true,
+            Field::Count { value, most } => (1..=*most).contains(value),
+            Field::Time(time) => *time <= LAST_TIME,
+            Field::Limit(time) => *time <= LAST_TIME || *time == NO_LIMIT,
+        }
+    }
+
+    /// Its bytes (§4.4).
+    ///
+    /// # Panics
+    /// Where there are more kinds than a byte can say.
+    pub fn bytes(&self) -> Vec<u8> {
+        match self {
+            Field::Kind(byte) | Field::Coloured(byte) | Field::Count { value: byte, .. } => vec![*byte],
+            Field::Kinds(kinds) => {
+                let number = u8::try_from(kinds.len()).expect("a number of one byte");
+                std::iter::once(number).chain(kinds.iter().copied()).collect()
+            }
+            Field::Time(time) | Field::Limit(time) => time.to_be_bytes().to_vec(),
+        }
+    }
+}
+
+/// Makes of the list of types, by number, what has a case for each.
+macro_rules! row_types {
+    ($($number:literal => $name:ident,)*) => {
+        /// A row of a table: its type and fields. Any values can stand in the fields; the questions say which are accepted.
+        ///
+        /// Rows with the same type and fields are the same (§4.8).
+        #[derive(Clone, Debug, PartialEq, Eq)]
+        pub enum Constraint {
+            $(#[doc = concat!("Type ", $number, ".")] $name($name),)*
+        }
+
+        /// The numbers of the types (§4.5).
+        pub const TYPES: [u8; [$($number),*].len()] = [$($number),*];
+
+        impl Constraint {
+            /// The number of its type (§4.5).
+            pub fn type_byte(&self) -> u8 {
+                match self { $(Constraint::$name(_) => $number,)* }
+            }
+
+            /// The name of its type in TADL2, without "Constraint".
+            pub fn name(&self) -> &'static str {
+                match self { $(Constraint::$name(_) => stringify!($name),)* }
+            }
+
+            /// What its type says of it.
+            pub fn as_type(&self) -> &dyn RowType {
+                match self { $(Constraint::$name(row) => row,)* }
+            }
+
+            /// The same, to change a field.
+            pub fn as_type_mut(&mut self) -> &mut dyn RowType {
+                match self { $(Constraint::$name(row) => row,)* }
+            }
+
+            /// The row of the type of this number whose fields stand at the start of the bytes, if it is a type's and they do.
+            pub fn read(number: u8, bytes: &mut Reader) -> Option<Constraint> {
+                match number {
+                    $($number => $name::read(bytes).map(Constraint::$name),)*
+                    _ => None,
+                }
+            }
+
+            /// An accepted row of the type of this number, if it is a type's.
+            pub fn random(number: u8, draw: &mut Draw) -> Option<Constraint> {
+                match number {
+                    $($number => Some(Constraint::$name($name::random(draw))),)*
+                    _ => None,
+                }
+            }
+        }
+
+        $(impl From<$name> for Constraint {
+            fn from(row: $name) -> Constraint {
+                Constraint::$name(row)
+            }
+        })*
+    };
+}
+
+row_types! {
+    1 => Delay,
+    2 => StrongDelay,
+    3 => Repeat,
+    4 => Sporadic,
+    5 => Burst,
+    6 => Order,
+    7 => StrongSynchronization,
+    8 => ExecutionTime,
+    9 => Reaction,
+    10 => Repetition,
+}
+
+impl Constraint {
+    /// The fields in the order of the bytes (§4.5).
+    pub fn fields(&self) -> Vec<Field> {
+        self.as_type().fields()
+    }
+
+    /// The kinds that the row names, in the order of its fields.
+    pub fn kinds(&self) -> Vec<u8> {
+        self.fields().iter().flat_map(Field::kinds).collect()
+    }
+
+    /// The streams that an accepted row looks at: its plain kinds, or each colour of its coloured ones.
+    pub fn streams(&self) -> Vec<u8> {
+        self.fields().iter().flat_map(Field::streams).collect()
+    }
+
+    /// The fields that are times, in their order.
+    pub fn times(&self) -> Vec<u64> {
+        self.fields().iter().filter_map(Field::time).collect()
+    }
+
+    /// How many wait in the row, if it is open (§6.1 to §6.4).
+    pub fn waiting(&self, recorded: &History) -> usize {
+        self.as_type().waiting(recorded)
+    }
+}

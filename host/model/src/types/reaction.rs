@@ -1,0 +1,102 @@
+//! Reaction (§5.9): after each stimulus the first response of its colour.
+
+use super::{Constraint, Demand, Field, RowType};
+use crate::continuation::Event;
+use crate::limits::{FIRST_COLOURED, LAST_COLOUR, LAST_KIND, stream};
+use crate::meets::between;
+use crate::random::Random;
+use crate::random::tables::{Draw, different, odd_kind, odd_time};
+use crate::steps::{Events, History};
+use crate::table::Reader;
+
+/// A row of type 9.
+#[derive(Clone, Debug, PartialEq, Eq)]
+pub struct Reaction {
+    pub stimulus: u8,
+    pub response: u8,
+    pub minimum: u64,
+    pub maximum: u64,
+}
+
+impl Reaction {
+    /// Of one colour: the first response of all is minimum to maximum after each stimulus.
+    fn meets_in(&self, colour: u8, events: &dyn Events) -> bool {
+        let first = events.times(stream(self.response, colour)).first();
+        let suits = |&time: &u64| first.is_some_and(|&first| between(self.minimum, self.maximum, time, first));
+        events.times(stream(self.stimulus, colour)).iter().all(suits)
+    }
+
+    /// The missing first response of a colour: as early as its newest stimulus and the clock allow. A later one could only be
+    /// too late for its oldest stimulus.
+    fn missing(&self, colour: u8, recorded: &History) -> Option<Event> {
+        let (stimuli, responses) = (stream(self.stimulus, colour), stream(self.response, colour));
+        let newest = recorded.times(stimuli).last().filter(|_| recorded.times(responses).is_empty())?;
+        Some(Event { stream: responses, time: (newest + self.minimum).max(recorded.clock()) })
+    }
+}
+
+impl RowType for Reaction {
+    fn read(bytes: &mut Reader) -> Option<Reaction> {
+        let (stimulus, response) = (bytes.byte()?, bytes.byte()?);
+        Some(Reaction { stimulus, response, minimum: bytes.time()?, maximum: bytes.time()? })
+    }
+
+    fn fields(&self) -> Vec<Field> {
+        let (minimum, maximum) = (Field::Time(self.minimum), Field::Time(self.maximum));
+        vec![Field::Coloured(self.stimulus), Field::Coloured(self.response), minimum, maximum]
+    }
+
+    fn bounds(&self) -> Option<(u64, u64)> {
+        Some((self.minimum, self.maximum))
+    }
+
+    fn meets(&self, events: &dyn Events) -> bool {
+        (0..=LAST_COLOUR).all(|colour| self.meets_in(colour, events))
+    }
+
+    /// In each colour that has stimuli and no response yet a response; further stimuli only ask for more.
+    fn earliest_continuation(&self, recorded: &History) -> Vec<Event> {
+        let mut further: Vec<Event> = (0..=LAST_COLOUR).filter_map(|colour| self.missing(colour, recorded)).collect();
+        further.sort_by_key(|event| event.time);
+        further
+    }
+
+    /// Drop all further events but the first response of each colour with a recorded stimulus, which is at most maximum after
+    /// it.
+    fn reach(&self, recorded: &History) -> u64 {
+        recorded.clock() + self.maximum
+    }
+
+    /// What is asked of one colour does not speak of the others.
+    fn demands(&self) -> Vec<Demand<'_>> {
+        let of_colour = |colour: u8| Demand {
+            streams: vec![stream(self.stimulus, colour), stream(self.response, colour)],
+            met: Box::new(move |events| self.meets_in(colour, events)),
+        };
+        (0..=LAST_COLOUR).map(of_colour).collect()
+    }
+
+    /// Mostly of the first coloured kinds, so that rows share them.
+    fn random(draw: &mut Draw) -> Reaction {
+        let last = if draw.random.chance(70) { FIRST_COLOURED + 2 } else { LAST_KIND };
+        let coloured: Vec<u8> = (FIRST_COLOURED..=last).collect();
+        let kinds = different(draw.random, &coloured, 2);
+        let (minimum, maximum) = draw.bounds;
+        Reaction { stimulus: kinds[0], response: kinds[1], minimum, maximum }
+    }
+
+    fn damage(&mut self, random: &mut Random) {
+        match random.below(5) {
+            0 => self.response = odd_kind(random),
+            1 => self.response = self.stimulus,
+            2 => self.minimum = odd_time(random),
+            3 => self.maximum = odd_time(random),
+            _ => (self.minimum, self.maximum) = (self.maximum, self.minimum),
+        }
+    }
+}
+
+/// For tests: of kinds 48 and 49.
+pub fn reaction(minimum: u64, maximum: u64) -> Constraint {
+    Reaction { stimulus: 48, response: 49, minimum, maximum }.into()
+}

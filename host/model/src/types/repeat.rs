@@ -1,0 +1,67 @@
+//! Repeat (§5.3): from each event to the one span places on.
+
+use super::{Constraint, Field, RowType};
+use crate::limits::SPAN_LIMIT;
+use crate::meets::{not_later, spans_apart};
+use crate::random::Random;
+use crate::random::tables::{Draw, odd_kind, odd_span, odd_time};
+use crate::steps::Events;
+use crate::table::Reader;
+
+/// A row of type 3.
+#[derive(Clone, Debug, PartialEq, Eq)]
+pub struct Repeat {
+    pub event: u8,
+    pub span: u8,
+    pub lower: u64,
+    pub upper: u64,
+}
+
+impl Repeat {
+    /// Are the events that have none span places after them at most upper before the clock?
+    fn not_silent(&self, events: &[u64], clock: u64) -> bool {
+        let has_none = |(place, _): &(usize, &u64)| place + usize::from(self.span) >= events.len();
+        events.iter().enumerate().filter(has_none).all(|(_, event)| not_later(self.upper, *event, clock))
+    }
+}
+
+impl RowType for Repeat {
+    fn read(bytes: &mut Reader) -> Option<Repeat> {
+        Some(Repeat { event: bytes.byte()?, span: bytes.byte()?, lower: bytes.time()?, upper: bytes.time()? })
+    }
+
+    fn fields(&self) -> Vec<Field> {
+        let span = Field::Count { value: self.span, most: SPAN_LIMIT };
+        vec![Field::Kind(self.event), span, Field::Time(self.lower), Field::Limit(self.upper)]
+    }
+
+    fn bounds(&self) -> Option<(u64, u64)> {
+        Some((self.lower, self.upper))
+    }
+
+    /// Events span places apart are lower to upper apart, and those without such a one are not silent for too long.
+    fn meets(&self, events: &dyn Events) -> bool {
+        let (times, clock) = (events.times(self.event), events.clock());
+        spans_apart(self.span, self.lower, self.upper, times) && self.not_silent(times, clock)
+    }
+
+    fn random(draw: &mut Draw) -> Repeat {
+        let ([event, _], (lower, upper)) = (draw.kinds, draw.lower_and_limit());
+        Repeat { event, span: draw.span(), lower, upper }
+    }
+
+    fn damage(&mut self, random: &mut Random) {
+        match random.below(5) {
+            0 => self.event = odd_kind(random),
+            1 => self.span = odd_span(random),
+            2 => (self.lower, self.upper) = (self.upper, self.lower),
+            3 => self.lower = odd_time(random),
+            _ => self.upper = odd_time(random),
+        }
+    }
+}
+
+/// For tests: the events of kind 0.
+pub fn repeat(span: u8, lower: u64, upper: u64) -> Constraint {
+    Repeat { event: 0, span, lower, upper }.into()
+}

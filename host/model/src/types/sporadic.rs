@@ -1,0 +1,64 @@
+//! Sporadic (§5.4): each event at most jitter after its point, the points so far apart.
+
+use super::{Constraint, Field, RowType};
+use crate::hidden_points::Spacing;
+use crate::meets::at_least_apart;
+use crate::random::Random;
+use crate::random::tables::{Draw, odd_kind, odd_time};
+use crate::steps::Events;
+use crate::table::Reader;
+
+/// A row of type 4.
+#[derive(Clone, Debug, PartialEq, Eq)]
+pub struct Sporadic {
+    pub event: u8,
+    pub lower: u64,
+    pub upper: u64,
+    pub jitter: u64,
+    pub minimum: u64,
+}
+
+impl RowType for Sporadic {
+    fn read(bytes: &mut Reader) -> Option<Sporadic> {
+        let event = bytes.byte()?;
+        let (lower, upper) = (bytes.time()?, bytes.time()?);
+        Some(Sporadic { event, lower, upper, jitter: bytes.time()?, minimum: bytes.time()? })
+    }
+
+    fn fields(&self) -> Vec<Field> {
+        let (jitter, minimum) = (Field::Time(self.jitter), Field::Time(self.minimum));
+        vec![Field::Kind(self.event), Field::Time(self.lower), Field::Limit(self.upper), jitter, minimum]
+    }
+
+    fn bounds(&self) -> Option<(u64, u64)> {
+        Some((self.lower, self.upper))
+    }
+
+    /// The events have hidden points, the last of which is not too long before the clock, and are at least minimum apart.
+    fn meets(&self, events: &dyn Events) -> bool {
+        let times = events.times(self.event);
+        let spacing = Spacing { span: 1, lower: self.lower, upper: self.upper, jitter: self.jitter };
+        spacing.has_hidden_points(times, events.clock()) && at_least_apart(self.minimum, times)
+    }
+
+    fn random(draw: &mut Draw) -> Sporadic {
+        let ([event, _], (lower, upper)) = (draw.kinds, draw.lower_and_limit());
+        let minimum = draw.time_mostly_0();
+        Sporadic { event, lower, upper, jitter: draw.time(), minimum }
+    }
+
+    fn damage(&mut self, random: &mut Random) {
+        match random.below(5) {
+            0 => self.event = odd_kind(random),
+            1 => self.jitter = odd_time(random),
+            2 => (self.lower, self.upper) = (self.upper, self.lower),
+            3 => self.minimum = odd_time(random),
+            _ => self.upper = odd_time(random),
+        }
+    }
+}
+
+/// For tests: the events of kind 0.
+pub fn sporadic(lower: u64, upper: u64, jitter: u64, minimum: u64) -> Constraint {
+    Sporadic { event: 0, lower, upper, jitter, minimum }.into()
+}

@@ -1,0 +1,79 @@
+//! StrongDelay (§5.2): after each source its own target.
+
+use super::{Constraint, Field, RowType};
+use crate::continuation::Event;
+use crate::meets::between;
+use crate::open::partners;
+use crate::random::Random;
+use crate::random::tables::{Draw, odd_kind, odd_time};
+use crate::steps::{Events, History};
+use crate::table::Reader;
+
+/// A row of type 2.
+#[derive(Clone, Debug, PartialEq, Eq)]
+pub struct StrongDelay {
+    pub source: u8,
+    pub target: u8,
+    pub lower: u64,
+    pub upper: u64,
+}
+
+impl RowType for StrongDelay {
+    fn read(bytes: &mut Reader) -> Option<StrongDelay> {
+        Some(StrongDelay { source: bytes.byte()?, target: bytes.byte()?, lower: bytes.time()?, upper: bytes.time()? })
+    }
+
+    fn fields(&self) -> Vec<Field> {
+        vec![Field::Kind(self.source), Field::Kind(self.target), Field::Time(self.lower), Field::Time(self.upper)]
+    }
+
+    fn bounds(&self) -> Option<(u64, u64)> {
+        Some((self.lower, self.upper))
+    }
+
+    /// Sources and targets pair up, each target lower to upper after its source.
+    fn meets(&self, events: &dyn Events) -> bool {
+        let (sources, targets) = (events.times(self.source), events.times(self.target));
+        let right = |(&source, &target): (&u64, &u64)| between(self.lower, self.upper, source, target);
+        targets.len() == sources.len() && sources.iter().zip(targets).all(right)
+    }
+
+    /// The sources beyond the number of targets (§6.2).
+    fn waiting(&self, recorded: &History) -> usize {
+        recorded.times(self.source).len().saturating_sub(recorded.times(self.target).len())
+    }
+
+    fn crowding_kind(&self) -> Option<u8> {
+        Some(self.source)
+    }
+
+    fn earliest_continuation(&self, recorded: &History) -> Vec<Event> {
+        partners(recorded, self.source, self.target, self.lower)
+    }
+
+    /// Drop what is beyond the larger number recorded of a kind. Each pair left has a recorded member, at most at the clock,
+    /// and the other is at most upper later.
+    fn reach(&self, recorded: &History) -> u64 {
+        recorded.clock() + self.upper
+    }
+
+    fn random(draw: &mut Draw) -> StrongDelay {
+        let ([source, target], (lower, upper)) = (draw.kinds, draw.bounds);
+        StrongDelay { source, target, lower, upper }
+    }
+
+    fn damage(&mut self, random: &mut Random) {
+        match random.below(5) {
+            0 => self.source = odd_kind(random),
+            1 => self.target = self.source,
+            2 => self.lower = odd_time(random),
+            3 => self.upper = odd_time(random),
+            _ => (self.lower, self.upper) = (self.upper, self.lower),
+        }
+    }
+}
+
+/// For tests: the source of kind 0, the target of kind 1.
+pub fn strong_delay(lower: u64, upper: u64) -> Constraint {
+    StrongDelay { source: 0, target: 1, lower, upper }.into()
+}

@@ -87,7 +87,7 @@ module _ (engine : (c : Constraint) → Sound c → Exact c) (steps : List Step)
 
 -- ---- a call that is refused with 12 is accepted but for that
 
-accepts-crowded : (rows : List Constraint) (steps : List Step) (call : Call) → Judged (questions rows steps call) (Refused 12) → Accepts steps (stepFor call)
+pub accepts-crowded : (rows : List Constraint) (steps : List Step) (call : Call) → Judged (questions rows steps call) (Refused 12) → Accepts steps (stepFor call)
 unfolding Judged questions
 accepts-crowded rows steps (Call.Event k t) (inl (o, inl (counted, inl (kind, inl (plain, inl (small, inl (order, last))))))) =
     record { not-closed = o; counted = counted; stream-small = omega arith; time-small = small; in-order = order }

@@ -7,4 +7,5 @@ pub mod Theorem
 pub mod Places
 pub mod There
 pub mod FirstCrowded
+pub mod Coloured
 pub mod Zeros

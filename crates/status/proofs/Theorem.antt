@@ -40,7 +40,7 @@ use Rattle.status.proofs.Marks.{bit-is, marks-small}
 use Rattle.status.proofs.Crowded.{crowded-says}
 
 -- the row of a number fits the steps
-fit-at : (steps : List Step) (cs : List Constraint) (rows : List Row) → FitRows engine steps cs rows → (i : ℕ) (c : Constraint) → getElem? cs i ≡ some c
+pub fit-at : (steps : List Step) (cs : List Constraint) (rows : List Row) → FitRows engine steps cs rows → (i : ℕ) (c : Constraint) → getElem? cs i ≡ some c
     → (sound : Sound c) × Fits c (engine c sound) steps (getD rows i noRow)
 fit-at steps [] rows fit i c is = never (cc)
 fit-at steps (d ∷ cs) [] fit i c is = absurd fit

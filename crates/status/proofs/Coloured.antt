@@ -1,0 +1,87 @@
+-- An event of a coloured kind crowds no row: nothing waits in a Reaction, and to a row of any other type it is no event of its own.
+use Prim.Native.Nat.{ℕ, _≤_, _<_}
+use native.Mathlib.Omega.{arith}
+use mathlib.Core.Path.{_≡_, refl, sym}
+use mathlib.Core.Bool.{false}
+use mathlib.Core.List.{List, [], _∷_, _++_}
+use lib.Dec.{eqb}
+use borrow.Author.Tests.{ne-eqb}
+use Rattle.constraint.specs.Limits.{firstColoured}
+use Rattle.constraint.specs.Streams.{stream}
+use Rattle.constraint.specs.Steps.{Step, event, among}
+use Rattle.constraint.specs.Accepted.{KindsSuit, Accepted}
+use Rattle.constraint.specs.Questions.{Judged}
+use Rattle.constraint.specs.Run.{stepFor, questions, Request, Left}
+use Rattle.constraint.specs.Waiting.{waiting}
+use Rattle.constraint.specs.declared.Answer.the-variants.{Refused}
+use Rattle.constraint.specs.declared.Call.{Call}
+use Rattle.constraint.specs.declared.Constraint.{Constraint}
+use Rattle.constraint.specs.declared.Constraint.the-variants.{Delay, StrongDelay, Repeat, Sporadic, Burst, Order, ExecutionTime, Reaction, Repetition}
+use Rattle.constraint.specs.declared.Constraint.the-variants.{StrongSynchronization2, StrongSynchronization3, StrongSynchronization4}
+use Rattle.constraint.proofs.Streams.{streams}
+use Rattle.constraint.proofs.History.{own-other}
+use Rattle.constraint.proofs.Continuations.{open-before}
+use Rattle.constraint.proofs.Waitings.{waiting-same}
+use Rattle.row.proofs.Engine.{engine}
+use Rattle.row.proofs.Steps.{fits-room}
+use Rattle.monitor.specs.Contract.{Remains}
+use Rattle.monitor.specs.declared.Monitor.{Monitor}
+use Rattle.monitor.proofs.Following.{Follows}
+use Rattle.monitor.proofs.Withdrawing.{after-follows}
+use Rattle.status.specs.Contract.{Crowds, CrowdedRow, crowded, none-crowded}
+use Rattle.status.proofs.Crowded.{accepts-crowded, crowded-says}
+use Rattle.status.proofs.Theorem.{fit-at}
+
+-- ---- what waits in a row stays as it is
+
+module _ (s t : ℕ) (late : firstColoured ≤ s) (steps : List Step) where
+  other : (k : ℕ) → k < firstColoured → eqb s k ≡ false
+  other k plain = ne-eqb s k (λ same. omega (arith, same, plain, late))
+
+  -- a row that has no such stream
+  same-waits : (c : Constraint) → among s (streams c) ≡ false → waiting c (steps ++ (event s t ∷ [])) ≡ waiting c steps
+  same-waits c none = waiting-same c (steps ++ (event s t ∷ [])) steps (own-other (streams c) s t steps none)
+
+  coloured-waits : (c : Constraint) → KindsSuit c → waiting c (steps ++ (event s t ∷ [])) ≡ waiting c steps
+  unfolding KindsSuit waiting
+  coloured-waits (Delay a b lower upper) k = same-waits (Delay a b lower upper) (rw (other a (k .0), other b (k .1 .0)) refl)
+  coloured-waits (StrongDelay a b lower upper) k = same-waits (StrongDelay a b lower upper) (rw (other a (k .0), other b (k .1 .0)) refl)
+  coloured-waits (Repeat a span lower upper) k = refl
+  coloured-waits (Sporadic a lower upper jitter minimum) k = refl
+  coloured-waits (Burst a maximum length minimum) k = refl
+  coloured-waits (Order a b) k = refl
+  coloured-waits (StrongSynchronization2 a b tolerance) k =
+      same-waits (StrongSynchronization2 a b tolerance) (rw (other a (k .1 .0), other b (k .1 .1 .0)) refl)
+  coloured-waits (StrongSynchronization3 a b c tolerance) k =
+      same-waits (StrongSynchronization3 a b c tolerance) (rw (other a (k .1 .0), other b (k .1 .1 .0), other c (k .1 .1 .1 .0)) refl)
+  coloured-waits (StrongSynchronization4 a b c d tolerance) k =
+      same-waits (StrongSynchronization4 a b c d tolerance)
+      (rw (other a (k .1 .0), other b (k .1 .1 .0), other c (k .1 .1 .1 .0), other d (k .1 .1 .1 .1 .0)) refl)
+  coloured-waits (ExecutionTime a b c d lower upper) k = refl
+  coloured-waits (Reaction a b minimum maximum) k = refl
+  coloured-waits (Repetition a span lower upper jitter) k = refl
+
+-- ---- so it is never why an event is refused
+
+module _ (rows : List Constraint) (steps : List Step) (m : Monitor) (f : Follows engine rows steps m) (kind colour time : ℕ) where
+  abbrev call : Call
+  call = Call.ColouredEvent kind colour time
+
+  not-refused : {n : ℕ} → CrowdedRow rows steps call n → ¬ Judged (questions rows steps call) (Refused 12)
+  not-refused (none-crowded free) = free
+  not-refused (crowded i c judged is full others) =
+      let fit = fit-at steps rows (m .rows) (f .fit) i c is in
+      let accepts = accepts-crowded rows steps call judged in
+      let few = fits-room c (engine c (fit .0)) steps (f .valid) _ (fit .1) (open-before c steps (stepFor call) accepts (full .0)) in
+      absurd (omega (arith, few, full .1, coloured-waits (stream kind colour) time (omega arith) steps c (fit .0 .kinds-suit)))
+
+  coloured-free : ¬ Judged (questions rows steps call) (Refused 12)
+  coloured-free = not-refused (crowded-says engine rows steps m f call)
+
+-- after any list of requests over an accepted table
+pub coloured-crowds-none : (rows : List Constraint) (requests : List Request) → Accepted rows
+    → (left : Left) × Remains rows requests left
+    × ((kind colour time : ℕ) → ¬ Judged (questions rows (left .steps) (Call.ColouredEvent kind colour time)) (Refused 12))
+coloured-crowds-none rows requests accepted =
+    let a = after-follows engine rows requests accepted in
+    (a .0, a .1, λ kind colour time. coloured-free rows (a .0 .steps) _ (a .2) kind colour time)

@@ -1,7 +1,7 @@
 -- An event of a coloured kind crowds no row: nothing waits in a Reaction, and to a row of any other type it is no event of its own.
 use Prim.Native.Nat.{ℕ, _≤_, _<_}
 use native.Mathlib.Omega.{arith}
-use mathlib.Core.Path.{_≡_, refl, sym}
+use mathlib.Core.Path.{_≡_, refl}
 use mathlib.Core.Bool.{false}
 use mathlib.Core.List.{List, [], _∷_, _++_}
 use lib.Dec.{eqb}
@@ -28,7 +28,7 @@ use Rattle.monitor.specs.Contract.{Remains}
 use Rattle.monitor.specs.declared.Monitor.{Monitor}
 use Rattle.monitor.proofs.Following.{Follows}
 use Rattle.monitor.proofs.Withdrawing.{after-follows}
-use Rattle.status.specs.Contract.{Crowds, CrowdedRow, crowded, none-crowded}
+use Rattle.status.specs.Contract.{CrowdedRow, crowded, none-crowded}
 use Rattle.status.proofs.Crowded.{accepts-crowded, crowded-says}
 use Rattle.status.proofs.Theorem.{fit-at}
 

@@ -24,7 +24,8 @@ use Rattle.row.specs.Machine.{rowStep}
 use Rattle.row.specs.declared.Row.{Row}
 use Rattle.row.proofs.Exact.{Sound, Exact}
 use Rattle.row.proofs.Steps.{After, seen, fits-room, fits-step}
-use Rattle.monitor.specs.Machine.{anyFirst, nextStep, nextFor, occurrenceOf, refusalBy, ownRefusal, timeRefusal, crowds, stepOf, refuses, takes, takenCall}
+use Rattle.monitor.specs.Machine.{anyFirst, nextStep, nextFor, occurrenceOf, refusalBy, ownRefusal, timeRefusal, crowds, stepOf, refuses, takes}
+use Rattle.monitor.specs.Machine.{takenCall}
 use Rattle.monitor.specs.declared.Monitor.{Monitor}
 use Rattle.monitor.proofs.FittingRows.{FitRows}
 use Rattle.monitor.proofs.Following.{Follows, step-is, seen-is, step-answered}

@@ -33,7 +33,8 @@ use Rattle.monitor.proofs.Withdrawing.{after-follows}
 use Rattle.lent.specs.Layout.{rowAt}
 use Rattle.status.specs.Numbers.{there, deadlineBy, deadlineOf, leastOf, waitingBy, waitingOf, brokenMark, brokenRowsOf, crowdedRowOf}
 use Rattle.status.specs.Contract as C
-use Rattle.status.specs.Contract.{BrokenRows, RowWaiting, Asked, AsksClock, AsksSteps, AsksClosed, AsksBrokenRows, AsksWaiting, AsksRowDeadline, AsksDeadline, AsksCrowdedRow}
+use Rattle.status.specs.Contract.{BrokenRows, RowWaiting, Asked, AsksClock, AsksSteps, AsksClosed, AsksBrokenRows, AsksWaiting, AsksRowDeadline}
+use Rattle.status.specs.Contract.{AsksDeadline, AsksCrowdedRow}
 use Rattle.status.proofs.Deadlines.{open-now, fits-deadline, row-deadline-once}
 use Rattle.status.proofs.Waiting.{fits-waiting}
 use Rattle.status.proofs.Marks.{bit-is, marks-small}

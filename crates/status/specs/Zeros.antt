@@ -1,5 +1,4 @@
 -- Memory of zeros, and the monitor that lies in it: closed, and without rows (§15.13).
-use mathlib.Core.List.{List}
 use lib.ListN.{replicate}
 use Rattle.constraint.specs.Limits.{rowLimit, streamCount}
 use Rattle.machine.specs.declared.Rule.{Rule}

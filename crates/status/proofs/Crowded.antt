@@ -42,7 +42,8 @@ module _ (f : Row → Bool) where
       let parts = or-false (f r) (anyFirst n f rows) e in
       rw (parts .0) (none-marked n (i + 1) rows (parts .1))
 
-module _ (engine : (c : Constraint) → Sound c → Exact c) (steps : List Step) (valid : Valid steps) (call : Call) (number : ℕ) (counted : number ≡ length steps + 1)
+module _ (engine : (c : Constraint) → Sound c → Exact c) (steps : List Step) (valid : Valid steps) (call : Call) (number : ℕ)
+    (counted : number ≡ length steps + 1)
     (accepts : Accepts steps (stepFor call)) where
   abbrev full : Row → Bool
   full r = rowStep r (seen steps (stepFor call)) number .crowded
@@ -54,17 +55,25 @@ module _ (engine : (c : Constraint) → Sound c → Exact c) (steps : List Step)
   row-full : (c : Constraint) (sound : Sound c) (r : Row) → Rattle.row.proofs.Steps.Fits c (engine c sound) steps r → (b : Bool) → full r ≡ b
       → cond b (Crowds steps call c) (¬ Crowds steps call c)
   row-full c sound r fit b is =
-      let after : After c (engine c sound) (steps ++ (stepFor call ∷ [])) (full r) (moved r) = rw counted (fits-step c (engine c sound) steps valid sound (stepFor call) accepts r fit) in
+      let after : After c (engine c sound) (steps ++ (stepFor call ∷ [])) (full r) (moved r) = rw counted
+      (fits-step c (engine c sound) steps valid sound (stepFor call) accepts r fit) in
       by-test b (subst (λ x. After c (engine c sound) (steps ++ (stepFor call ∷ [])) x (moved r)) is after)
     where
-      by-test : (x : Bool) → After c (engine c sound) (steps ++ (stepFor call ∷ [])) x (moved r) → cond x (Crowds steps call c) (¬ Crowds steps call c)
+      by-test : (x : Bool) → After c (engine c sound) (steps ++ (stepFor call ∷ [])) x (moved r)
+          → cond x (Crowds steps call c) (¬ Crowds steps call c)
       by-test true after = after
-      by-test false after = λ crowding. omega (arith, fits-room c (engine c sound) (steps ++ (stepFor call ∷ [])) (valid-more (stepFor call) valid accepts) _ after (crowding .0), crowding .1)
+      by-test false after = λ crowding. omega (
+        arith,
+        fits-room c (engine c sound) (steps ++ (stepFor call ∷ []))
+            (valid-more (stepFor call) valid accepts) _ after (crowding .0),
+        crowding .1,
+      )
 
   -- row k is crowded, and none before it
   abbrev FirstFull : List Constraint → ℕ → Type 0
   FirstFull cs k =
-      (c : Constraint) × (getElem? cs k ≡ some c) × Crowds steps call c × ((j : ℕ) (d : Constraint) → j < k → getElem? cs j ≡ some d → ¬ Crowds steps call d)
+      (c : Constraint) × (getElem? cs k ≡ some c) × Crowds steps call c
+      × ((j : ℕ) (d : Constraint) → j < k → getElem? cs j ≡ some d → ¬ Crowds steps call d)
 
   -- the first full row, of rows numbered from i on
   first-full : (cs : List Constraint) (rows : List Row) → FitRows engine steps cs rows → (i : ℕ) → anyFirst (length cs) full rows ≡ true
@@ -74,11 +83,15 @@ module _ (engine : (c : Constraint) → Sound c → Exact c) (steps : List Step)
   first-full (c ∷ cs) [] fit i e = absurd fit
   first-full (c ∷ cs) (r ∷ rows) fit i e =
       split (full r)
-      (λ b. full r ≡ b → (b || anyFirst (length cs) full rows) ≡ true → (k : ℕ) × (cond b i (firstMarked (length cs) full (i + 1) rows) ≡ i + k) × FirstFull (c ∷ cs) k)
+      (λ b. full r ≡ b → (b || anyFirst (length cs) full rows) ≡ true → (k : ℕ) × (cond b i (firstMarked (length cs) full (i + 1) rows) ≡ i + k)
+      × FirstFull (c ∷ cs) k)
       (λ _ is some-full. (0, omega arith, (c, refl, row-full c (fit .0 .0) r (fit .0 .1) true is, λ j d h. absurd (omega arith))))
       (λ _ is some-full.
-      let found = first-full cs rows (fit .1) (i + 1) some-full in
-      (suc (found .0), found .1 ∙ omega arith, (found .2 .0, found .2 .1, found .2 .2, behind (row-full c (fit .0 .0) r (fit .0 .1) false is) (found .2 .3))))
+      let found = first-full cs rows (fit .1) (i + 1) some-full in (
+        suc (found .0),
+        found .1 ∙ omega arith,
+        (found .2 .0, found .2 .1, found .2 .2, behind (row-full c (fit .0 .0) r (fit .0 .1) false is) (found .2 .3)),
+      ))
       refl e
     where
       behind : {k : ℕ} → ¬ Crowds steps call c → ((j : ℕ) (d : Constraint) → j < k → getElem? cs j ≡ some d → ¬ Crowds steps call d)
@@ -88,7 +101,8 @@ module _ (engine : (c : Constraint) → Sound c → Exact c) (steps : List Step)
 
 -- ---- a call that is refused with 12 is accepted but for that
 
-pub accepts-crowded : (rows : List Constraint) (steps : List Step) (call : Call) → Judged (questions rows steps call) (Refused 12) → Accepts steps (stepFor call)
+pub accepts-crowded : (rows : List Constraint) (steps : List Step) (call : Call) → Judged (questions rows steps call) (Refused 12)
+    → Accepts steps (stepFor call)
 unfolding Judged questions
 accepts-crowded rows steps (Call.Event k t) (inl (o, inl (counted, inl (kind, inl (plain, inl (small, inl (order, last))))))) =
     record { not-closed = o; counted = counted; stream-small = omega arith; time-small = small; in-order = order }
@@ -125,7 +139,8 @@ other-number false m n p q = q
 
 time-number : (t clock next : ℕ) → ¬ (timeRefusal t clock next ≡ 12)
 time-number t clock next =
-    other-number (ltb lastTime t) 10 _ (λ e. omega arith) (other-number (ltb t clock) 11 _ (λ e. omega arith) (other-number (ltb t next) 11 0 (λ e. omega arith) (λ e. omega arith)))
+    other-number (ltb lastTime t) 10 _ (λ e. omega arith)
+    (other-number (ltb t clock) 11 _ (λ e. omega arith) (other-number (ltb t next) 11 0 (λ e. omega arith) (λ e. omega arith)))
 
 own-number : (call : Call) (clock next : ℕ) → ¬ (ownRefusal call clock next ≡ 12)
 own-number (Call.Event k t) clock next =
@@ -133,30 +148,37 @@ own-number (Call.Event k t) clock next =
 own-number (Call.ColouredEvent k c t) clock next =
     other-number (ltb lastKind k) 9 _ (λ e. omega arith) (other-number (ltb k firstColoured) 19 _ (λ e. omega arith)
     (other-number (ltb lastColour c) 19 _ (λ e. omega arith) (time-number t clock next)))
-own-number (Call.Tick t) clock next = other-number (ltb lastTime t) 10 _ (λ e. omega arith) (other-number (leb t clock) 11 0 (λ e. omega arith) (λ e. omega arith))
+own-number (Call.Tick t) clock next = other-number (ltb lastTime t) 10 _ (λ e. omega arith)
+    (other-number (leb t clock) 11 0 (λ e. omega arith) (λ e. omega arith))
 own-number Call.Close clock next = λ e. omega arith
 
-module _ (engine : (c : Constraint) → Sound c → Exact c) (rows : List Constraint) (steps : List Step) (m : Monitor) (f : Follows engine rows steps m) (call : Call) where
+module _ (engine : (c : Constraint) → Sound c → Exact c) (rows : List Constraint) (steps : List Step) (m : Monitor) (f : Follows engine rows steps m)
+    (call : Call) where
   abbrev refusal : ℕ
   refusal = refusalBy call (m .closed) (m .count) (m .clock) (nextFor m call)
 
   refusal-other : ¬ (refusal ≡ 12)
   refusal-other =
-      other-number (ltb 0 (m .closed)) 8 _ (λ e. omega arith) (other-number (leb lastCount (m .count)) 24 _ (λ e. omega arith) (own-number call (m .clock) (nextFor m call)))
+      other-number (ltb 0 (m .closed)) 8 _ (λ e. omega arith)
+      (other-number (leb lastCount (m .count)) 24 _ (λ e. omega arith) (own-number call (m .clock) (nextFor m call)))
 
   not-crowded : (a : Answer) → ¬ (a ≡ Refused 12) → Judged (questions rows steps call) a → ¬ Judged (questions rows steps call) (Refused 12)
   not-crowded a other judged crowding = other (judged-once (questions rows steps call) a (Refused 12) judged crowding)
 
   -- what the rows see is what the definitions' step is
-  first-is : (k : ℕ) → firstMarked (length rows) (λ r. rowStep r (seen steps (stepFor call)) (nextStep m) .crowded) 0 (m .rows) ≡ 0 + k → crowdedFirst m call ≡ k
+  first-is : (k : ℕ) → firstMarked (length rows) (λ r. rowStep r (seen steps (stepFor call)) (nextStep m) .crowded) 0 (m .rows) ≡ 0 + k
+      → crowdedFirst m call ≡ k
   first-is k e = rw (f .len-is, seen-is engine rows steps m f call) (e ∙ omega arith)
 
   is-crowded : crowds m call ≡ true → Judged (questions rows steps call) (Refused 12) → CrowdedRow rows steps call (crowdedFirst m call)
   is-crowded full judged =
       let accepts = accepts-crowded rows steps call judged in
-      let some-full : anyFirst (length rows) (λ r. rowStep r (seen steps (stepFor call)) (nextStep m) .crowded) (m .rows) ≡ true = rw (f .len-is, seen-is engine rows steps m f call) at full in
-      let found = first-full engine steps (f .valid) call (nextStep m) (step-is engine rows steps m f (counted-of (stepFor call) steps accepts)) accepts rows (m .rows) (f .fit) 0 some-full in
-      subst (CrowdedRow rows steps call) (sym (first-is (found .0) (found .1))) (crowded (found .0) (found .2 .0) judged (found .2 .1) (found .2 .2) (found .2 .3))
+      let some-full : anyFirst (length rows) (λ r. rowStep r (seen steps (stepFor call)) (nextStep m) .crowded) (m .rows)
+      ≡ true = rw (f .len-is, seen-is engine rows steps m f call) at full in
+      let found = first-full engine steps (f .valid) call (nextStep m)
+      (step-is engine rows steps m f (counted-of (stepFor call) steps accepts)) accepts rows (m .rows) (f .fit) 0 some-full in
+      subst (CrowdedRow rows steps call) (sym (first-is (found .0) (found .1)))
+      (crowded (found .0) (found .2 .0) judged (found .2 .1) (found .2 .2) (found .2 .3))
 
   pub crowded-says : CrowdedRow rows steps call (crowdedRowOf m call)
   unfolding crowdedRowOf stepOf
@@ -166,9 +188,11 @@ module _ (engine : (c : Constraint) → Sound c → Exact c) (rows : List Constr
       → CrowdedRow rows steps call (cond b rowLimit (crowdedFirst m call)))
       (λ e judged. none-crowded (not-crowded (Refused refusal) (λ same. refusal-other (cc)) judged))
       (λ e. split (crowds m call)
-      (λ b. crowds m call ≡ b → Judged (questions rows steps call) (cond b (refuses 12 m) (takes (takenCall m call)) .answer) → CrowdedRow rows steps call (crowdedFirst m call))
+      (λ b. crowds m call ≡ b → Judged (questions rows steps call) (cond b (refuses 12 m) (takes (takenCall m call)) .answer)
+      → CrowdedRow rows steps call (crowdedFirst m call))
       (λ _ full judged. is-crowded full judged)
-      (λ _ free judged. subst (CrowdedRow rows steps call) (sym (none-marked (λ r. rowStep r (occurrenceOf m call) (nextStep m) .crowded) (m .len) 0 (m .rows) free))
+      (λ _ free judged. subst (CrowdedRow rows steps call)
+      (sym (none-marked (λ r. rowStep r (occurrenceOf m call) (nextStep m) .crowded) (m .len) 0 (m .rows) free))
       (none-crowded (not-crowded Taken (λ same. never (cc)) judged)))
       refl)
       (step-answered engine rows steps m f call .0)

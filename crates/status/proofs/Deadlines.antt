@@ -27,7 +27,8 @@ use Rattle.status.specs.Numbers.{deadlineBy}
 module _ (c : Constraint) (exact : Exact c) (steps : List Step) (valid : Valid steps) where
   module _ (words : List ℕ) (s : State) (g : Going c exact steps words s) where
     -- the clock before or at a time, and the due time not before it
-    open-until : (later : List Step) → Past later → closed later ≡ false → own (streams c) steps ≡ own (streams c) later → clock later ≤ s .due → Open c later
+    open-until : (later : List Step) → Past later → closed later ≡ false → own (streams c) steps ≡ own (streams c) later → clock later ≤ s .due
+        → Open c later
     open-until later past o same soon =
         exact .is-open past o (exact .same same (g .live)) (subst (λ (n : ℕ). clock later ≤ n) (g .due-is) soon)
 
@@ -36,7 +37,8 @@ module _ (c : Constraint) (exact : Exact c) (steps : List Step) (valid : Valid s
 
     open-tick : closed steps ≡ false → (t : ℕ) → clock steps < t → t ≤ lastTime → t ≤ s .due → Open c (steps ++ (tick t ∷ []))
     open-tick o t later small soon =
-        open-until (steps ++ (tick t ∷ [])) (past-tick t steps (past-of valid) small later) (closed-tick t steps ∙ o) (sym (own-tick (streams c) t steps)) (rw (clock-tick t steps) soon)
+        open-until (steps ++ (tick t ∷ [])) (past-tick t steps (past-of valid) small later) (closed-tick t steps ∙ o)
+        (sym (own-tick (streams c) t steps)) (rw (clock-tick t steps) soon)
 
     shut-tick : (t : ℕ) → t ≤ lastTime → s .due < t → ¬ Open c (steps ++ (tick t ∷ []))
     shut-tick t small passed = exact .late (past-of valid) (g .live) (subst (λ (n : ℕ). n < t) (g .due-is) passed) small
@@ -51,14 +53,19 @@ module _ (c : Constraint) (exact : Exact c) (steps : List Step) (valid : Valid s
         (λ e. endless (λ t later small. open-tick o t later small (omega (arith, ltb-false (s .due) lastTime e))))
 
   -- whatever the row's type
-  pub fits-deadline : (r : Row) → Fits c exact steps r → (shut : ℕ) → ltb 0 shut ≡ closed steps → Deadline c steps (deadlineBy shut (r .now .broken) (r .now .due))
+  pub fits-deadline : (r : Row) → Fits c exact steps r → (shut : ℕ) → ltb 0 shut ≡ closed steps
+      → Deadline c steps (deadlineBy shut (r .now .broken) (r .now .due))
   fits-deadline r f shut is =
-      subst (λ (b : Bool). Deadline c steps (cond b noLimit (cond (ltb 0 (r .now .broken)) noLimit (cond (ltb (r .now .due) lastTime) (r .now .due) noLimit)))) (sym is)
-      (split (closed steps) (λ b. Deadline c steps (cond b noLimit (cond (ltb 0 (r .now .broken)) noLimit (cond (ltb (r .now .due) lastTime) (r .now .due) noLimit))))
+      subst (λ (b : Bool). Deadline c steps (cond b noLimit
+      (cond (ltb 0 (r .now .broken)) noLimit (cond (ltb (r .now .due) lastTime) (r .now .due) noLimit)))) (sym is)
+      (split (closed steps) (λ b. Deadline c steps
+      (cond b noLimit (cond (ltb 0 (r .now .broken)) noLimit (cond (ltb (r .now .due) lastTime) (r .now .due) noLimit))))
       (λ e. over (inl e))
       (λ o. ⊎-elim
-      (λ (g : Going c exact steps (r .times) (r .now)). rw (le-ltb 0 (r .now .broken) (omega (arith, g .unbroken))) (running o (open-now (r .times) (r .now) g o) (going-deadline (r .times) (r .now) g o)))
-      (λ (b : Broken c exact steps (r .now .broken)). rw (lt-ltb 0 (r .now .broken) (b .counted)) (over (inr (broken-shut c (r .now .broken) valid (b .first)))))
+      (λ (g : Going c exact steps (r .times) (r .now)). rw (le-ltb 0 (r .now .broken) (omega (arith, g .unbroken)))
+      (running o (open-now (r .times) (r .now) g o) (going-deadline (r .times) (r .now) g o)))
+      (λ (b : Broken c exact steps (r .now .broken)). rw (lt-ltb 0 (r .now .broken) (b .counted))
+      (over (inr (broken-shut c (r .now .broken) valid (b .first)))))
       (f .state)))
 
 -- ---- a deadline is one number

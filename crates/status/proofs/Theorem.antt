@@ -41,22 +41,26 @@ use Rattle.status.proofs.Marks.{bit-is, marks-small}
 use Rattle.status.proofs.Crowded.{crowded-says}
 
 -- the row of a number fits the steps
-pub fit-at : (steps : List Step) (cs : List Constraint) (rows : List Row) → FitRows engine steps cs rows → (i : ℕ) (c : Constraint) → getElem? cs i ≡ some c
+pub fit-at : (steps : List Step) (cs : List Constraint) (rows : List Row) → FitRows engine steps cs rows → (i : ℕ) (c : Constraint) → getElem? cs i
+    ≡ some c
     → (sound : Sound c) × Fits c (engine c sound) steps (getD rows i noRow)
 fit-at steps [] rows fit i c is = never (cc)
 fit-at steps (d ∷ cs) [] fit i c is = absurd fit
-fit-at steps (d ∷ cs) (r ∷ rows) fit zero c is = let same : d ≡ c = cc in subst (λ (x : Constraint). (sound : Sound x) × Fits x (engine x sound) steps r) same (fit .0)
+fit-at steps (d ∷ cs) (r ∷ rows) fit zero c is = let same : d
+    ≡ c = cc in subst (λ (x : Constraint). (sound : Sound x) × Fits x (engine x sound) steps r) same (fit .0)
 fit-at steps (d ∷ cs) (r ∷ rows) fit (suc i) c is = fit-at steps cs rows (fit .1) i c is
 
 module _ (rows : List Constraint) (steps : List Step) (m : Monitor) (f : Follows engine rows steps m) where
   -- by whether there is a row of that number
-  by-row : (i : ℕ) (P : Bool → Type 0) → ((c : Constraint) → i < rowLimit → getElem? rows i ≡ some c → (sound : Sound c) → Fits c (engine c sound) steps (rowAt m i) → P true)
+  by-row : (i : ℕ) (P : Bool → Type 0) → ((c : Constraint) → i < rowLimit → getElem? rows i ≡ some c → (sound : Sound c)
+      → Fits c (engine c sound) steps (rowAt m i) → P true)
       → (getElem? rows i ≡ none → P false) → P (there i (m .len))
   by-row i P found missing =
       by-cases (decLt i (length rows))
       (λ h. let there-is = has-row rows i h in
       let fit = fit-at steps rows (m .rows) (f .fit) i (there-is .0) (there-is .1) in
-      rw (f .len-is, lt-ltb i (length rows) h, lt-ltb i rowLimit (omega (arith, f .few))) (found (there-is .0) (omega (arith, f .few)) (there-is .1) (fit .0) (fit .1)))
+      rw (f .len-is, lt-ltb i (length rows) h, lt-ltb i rowLimit (omega (arith, f .few)))
+      (found (there-is .0) (omega (arith, f .few)) (there-is .1) (fit .0) (fit .1)))
       (λ h. rw (f .len-is, le-ltb i (length rows) (omega arith)) (missing (has-none rows i (omega arith))))
 
   deadline-says : (i : ℕ) → RowDeadline rows steps i (deadlineOf m i)
@@ -69,7 +73,8 @@ module _ (rows : List Constraint) (steps : List Step) (m : Monitor) (f : Follows
   waiting-says : (i : ℕ) → RowWaiting rows steps i (waitingOf m i)
   unfolding waitingOf
   waiting-says i =
-      by-row i (λ b. RowWaiting rows steps i (cond b (waitingBy (m .closed) (rowAt m i .now .broken) (rowAt m i .rule .form) (rowAt m i .now .len)) 0))
+      by-row i (λ b. RowWaiting rows steps i (cond b
+      (waitingBy (m .closed) (rowAt m i .now .broken) (rowAt m i .rule .form) (rowAt m i .now .len)) 0))
       (λ c small is sound fit. fits-waiting c (engine c sound) steps (f .valid) rows i is (rowAt m i) fit (m .closed) (f .closed-is))
       C.no-row
 
@@ -87,7 +92,8 @@ module _ (rows : List Constraint) (steps : List Step) (m : Monitor) (f : Follows
   unfolding leastOf
   least-below zero i h = absurd (omega arith)
   least-below (suc n) i h =
-      by-cases (decLt i n) (λ g. omega (arith, least-below n i g)) (λ g. let same : i ≡ n = omega arith in subst (λ (k : ℕ). min (leastOf m n) (deadlineOf m n) ≤ deadlineOf m k) (sym same) (omega arith))
+      by-cases (decLt i n) (λ g. omega (arith, least-below n i g))
+      (λ g. let same : i ≡ n = omega arith in subst (λ (k : ℕ). min (leastOf m n) (deadlineOf m n) ≤ deadlineOf m k) (sym same) (omega arith))
 
   least-limit : (n : ℕ) → leastOf m n ≤ noLimit
   unfolding leastOf
@@ -101,20 +107,27 @@ module _ (rows : List Constraint) (steps : List Step) (m : Monitor) (f : Follows
         least = λ i e is.
             by-cases (decLt i rowLimit)
             (λ h. omega (arith, least-below rowLimit i h, row-deadline-once rows steps i (deadlineOf m i) e (deadline-says i) is))
-            (λ h. omega (arith, least-limit rowLimit, row-deadline-once rows steps i noLimit e (no-row (has-none rows i (omega (arith, f .few)))) is));
+            (λ h. omega (
+              arith,
+              least-limit rowLimit,
+              row-deadline-once rows steps i noLimit e
+                  (no-row (has-none rows i (omega (arith, f .few)))) is,
+            ));
       }
 
   -- ---- broken rows
 
   -- the row's mark, as a statement
-  broken-fits : (c : Constraint) (sound : Sound c) (r : Row) → Fits c (engine c sound) steps r → cond (ltb 0 (r .now .broken)) (¬ Open c steps) (Open c steps)
+  broken-fits : (c : Constraint) (sound : Sound c) (r : Row) → Fits c (engine c sound) steps r
+      → cond (ltb 0 (r .now .broken)) (¬ Open c steps) (Open c steps)
   broken-fits c sound r fit =
       ⊎-elim
       (λ (g : Going c (engine c sound) steps (r .times) (r .now)).
       rw (le-ltb 0 (r .now .broken) (omega (arith, g .unbroken)))
       (split (closed steps) (λ b. closed steps ≡ b → Open c steps) (λ _ e. open-of-meets c steps (g .met e))
       (λ _ o. open-now c (engine c sound) steps (f .valid) (r .times) (r .now) g o) refl))
-      (λ (b : Broken c (engine c sound) steps (r .now .broken)). rw (lt-ltb 0 (r .now .broken) (b .counted)) (broken-shut c (r .now .broken) (f .valid) (b .first)))
+      (λ (b : Broken c (engine c sound) steps (r .now .broken)). rw (lt-ltb 0 (r .now .broken) (b .counted))
+      (broken-shut c (r .now .broken) (f .valid) (b .first)))
       (fit .state)
 
   -- what a mark of 1 says, and that a row that is broken has it
@@ -122,7 +135,8 @@ module _ (rows : List Constraint) (steps : List Step) (m : Monitor) (f : Follows
   marked-broken i =
       by-row i (λ b. mark (b && ltb 0 (rowAt m i .now .broken)) ≡ 1 → (c : Constraint) × (getElem? rows i ≡ some c) × (¬ Open c steps))
       (λ c small is sound fit.
-      split (ltb 0 (rowAt m i .now .broken)) (λ b. cond b (¬ Open c steps) (Open c steps) → mark b ≡ 1 → (d : Constraint) × (getElem? rows i ≡ some d) × (¬ Open d steps))
+      split (ltb 0 (rowAt m i .now .broken)) (λ b. cond b (¬ Open c steps) (Open c steps) → mark b ≡ 1 → (d : Constraint)
+      × (getElem? rows i ≡ some d) × (¬ Open d steps))
       (λ _ shut one. (c, is, shut)) (λ _ is-open one. absurd (omega arith)) (broken-fits c sound (rowAt m i) fit))
       (λ missing one. absurd (omega arith))
 
@@ -132,7 +146,8 @@ module _ (rows : List Constraint) (steps : List Step) (m : Monitor) (f : Follows
       (λ d small is-d sound fit. (
         small,
         split (ltb 0 (rowAt m i .now .broken)) (λ b. cond b (¬ Open d steps) (Open d steps) → mark b ≡ 1)
-            (λ _ x. refl) (λ _ is-open. let same : d ≡ c = cc in absurd (shut (subst (λ (x : Constraint). Open x steps) same is-open))) (broken-fits d sound (rowAt m i) fit),
+            (λ _ x. refl) (λ _ is-open. let same : d ≡ c = cc in absurd (shut (subst (λ (x : Constraint). Open x steps) same is-open)))
+            (broken-fits d sound (rowAt m i) fit),
       ))
       (λ missing. never (cc))
 
@@ -141,13 +156,15 @@ module _ (rows : List Constraint) (steps : List Step) (m : Monitor) (f : Follows
       record {
         small = marks-small m 0;
         broken = λ i h one. marked-broken i (sym (bit-is m rowLimit 0 i h ∙ ap (brokenMark m) (omega arith)) ∙ one);
-        marked = λ i c is shut. let found = broken-marked i c is shut in bit-is m rowLimit 0 i (found .0) ∙ ap (brokenMark m) (omega arith) ∙ found .1;
+        marked = λ i c is shut. let found = broken-marked i c is shut in bit-is m rowLimit 0 i (found .0) ∙ ap (brokenMark m) (omega arith)
+            ∙ found .1;
       }
 
 -- ---- the contracts, of what equals the numbers
 
 asked : (m : Monitor) (number : ℕ) (Says : List Constraint → List Step → ℕ → Type 0)
-    → ((rows : List Constraint) (steps : List Step) → Follows engine rows steps m → Says rows steps number) → {answer : ℕ} → answer ≡ number → Asked m number Says answer
+    → ((rows : List Constraint) (steps : List Step) → Follows engine rows steps m → Says rows steps number) → {answer : ℕ} → answer ≡ number
+    → Asked m number Says answer
 asked m number Says says {answer} is =
     record {
       equals = is;

@@ -30,8 +30,10 @@ waits-are : (b : Bool) (waiting n : ℕ) → Waits b waiting n → waiting ≡ c
 waits-are true waiting n w = w
 waits-are false waiting n w = w .0
 
-module _ (c : Constraint) (exact : Exact c) (steps : List Step) (valid : Valid steps) (rows : List Constraint) (i : ℕ) (is : getElem? rows i ≡ some c) where
-  going-waits : (r : Row) → r .rule ≡ ruleOf c → Going c exact steps (r .times) (r .now) → waiting c steps ≡ cond (waitsIn (r .rule .form)) (r .now .len) 0
+module _ (c : Constraint) (exact : Exact c) (steps : List Step) (valid : Valid steps) (rows : List Constraint) (i : ℕ)
+    (is : getElem? rows i ≡ some c) where
+  going-waits : (r : Row) → r .rule ≡ ruleOf c → Going c exact steps (r .times) (r .now) → waiting c steps
+      ≡ cond (waitsIn (r .rule .form)) (r .now .len) 0
   going-waits r rule g =
       waits-are (waitsIn (ruleOf c .form)) (waiting c steps) _ (exact .waits (past-of valid) (g .live))
       ∙ ap (λ (n : ℕ). cond (waitsIn (ruleOf c .form)) n 0) (ring-length (r .times) (r .now .head) (r .now .len))

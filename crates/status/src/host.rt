@@ -26,7 +26,8 @@ ghost use Rattle.row.specs.Machine.{mark};
 ghost use Rattle.lent.specs.Layout.{Lent, wordsOf, Shaped, rowAt};
 ghost use Rattle.lent.specs.Contract.{ReadOff};
 ghost use Rattle.status.specs.Numbers.{deadlineBy, firstMarked};
-ghost use Rattle.status.specs.Contract.{AsksClock, AsksSteps, AsksClosed, AsksBrokenRows, AsksWaiting, AsksRowDeadline, AsksDeadline, AsksCrowdedRow};
+ghost use Rattle.status.specs.Contract.{AsksClock, AsksSteps, AsksClosed, AsksBrokenRows, AsksWaiting};
+ghost use Rattle.status.specs.Contract.{AsksRowDeadline, AsksDeadline, AsksCrowdedRow};
 
 // The clock.
 #[no_mangle]

@@ -1,11 +1,12 @@
 //! The numbers of the header, of the Rust crate and of the model are those of the proved crates.
 
 use checks::sources::{Header, constant, definition, definitions, number, number_between, text};
+use checks::words;
 use std::collections::{BTreeMap, BTreeSet};
 
 const CONSTRAINT: &str = "crates/constraint/src/lib.rt";
 const LIMITS: &str = "crates/constraint/specs/Limits.antt";
-const LENT: &str = "crates/delkuthi/src/lent.rt";
+const LENT: &str = "crates/delkuthi/src/host.rt";
 const LENT_DEFINED: &str = "crates/delkuthi/specs/Lent.antt";
 const PROGRAM_DEFINED: &str = "crates/delkuthi/specs/Program.antt";
 
@@ -48,7 +49,7 @@ fn by_definitions() -> BTreeMap<String, u64> {
         ("OPEN", definition(LENT_DEFINED, "wordOf (some Verdict.Open)")),
         ("KEPT", definition(LENT_DEFINED, "wordOf (some Verdict.Kept)")),
         ("BROKEN", definition(LENT_DEFINED, "wordOf (some (Verdict.Broken n))")),
-        ("TAKEN", definition("crates/inplace/specs/Store.antt", "numberOf Taken")),
+        ("TAKEN", definition("crates/lent/specs/Steps.antt", "answerTo h Call.Close")),
         ("REPORT_LIMIT", definition("crates/text/proofs/Reports.antt", "reportLimit")),
         ("PAGE_LIMIT", page_limit()),
         ("UNSURE", stamps_word("Unsure")),
@@ -271,6 +272,17 @@ fn the_limits_on_the_stack_are_the_headers() {
         let said = said.trim_start_matches("(fresh) ").split(' ').next().unwrap_or_default();
         assert_eq!(said, (bytes / 1024).to_string(), "{name}");
     }
+}
+
+/// The words that the tests know by their places stand where the code has them.
+#[test]
+fn the_places_of_words_are_the_crates() {
+    let of_lent = |name| constant("crates/lent/src/lib.rt", name) as usize;
+    let beside = |name| 128 * of_lent("NUMBERS") + of_lent(name);
+    assert_eq!([words::ROWS, words::SOONEST, words::ROOM], ["ROWS", "SOONEST", "ROOM"].map(beside));
+    assert_eq!(words::LAST_STEP, beside("MAY")..beside("CLOSED") + 1);
+    let of_row = |name| 128 + 64 + constant("crates/machine/src/words.rt", name) as usize;
+    assert_eq!(words::past(1), of_row("PAST")..of_row("STAMP") + 1);
 }
 
 /// A row for the writer has as many bytes as the longest row, in the header, in the Rust crate and in the definitions.

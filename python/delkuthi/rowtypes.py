@@ -2,7 +2,8 @@
 says why it is broken, and what says where its events may come.
 
 The form says the grammar of the row in the text, how it is printed, and the order and sizes of its bytes: ``{name:role}``
-is a field, everything else stands as written. The roles:
+is a field, everything else stands as written. This is the one list of the types: ``tests/test_rowtypes.py`` holds contract,
+header, Rust crate, model and definitions to it. The roles:
 
 ========  =======================================  ==================
 role      text                                     bytes

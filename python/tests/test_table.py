@@ -258,17 +258,6 @@ def test_rows_by_their_fields_names():
         Table([Row.of("Order", "two\nlines", source=0, target=1)])
 
 
-def test_the_types_are_the_contracts():
-    """Number, name and fields of each type are those in the contract's list, and there is no other."""
-    contract = (ROOT / "docs/CONTRACT.md").read_text(encoding="utf-8")
-    listed = contract.split("| type | name | fields | length |")[1].split("\n\n")[0]
-    lines = [[cell.strip() for cell in line.strip("|").split("|")] for line in listed.strip().splitlines()[1:]]
-    assert [(line[0], line[1]) for line in lines] == [(str(row_type.number), row_type.name) for row_type in TYPES]
-    for line, row_type in zip(lines, TYPES):
-        names = ", ".join("n (2, 3 or 4), n kinds" if part.role == "kinds" else part.name for part in row_type.fields)
-        assert line[2] == names
-
-
 def test_the_version_is_the_products():
     assert delkuthi.__version__ == (ROOT / "VERSION").read_text().strip()
 

@@ -2,12 +2,12 @@
 -- and 16.
 use Prim.Native.Nat.{ℕ}
 use native.Mathlib.Omega.{arith}
-use mathlib.Core.Path.{_≡_, sym, subst}
+use mathlib.Core.Path.{_≡_, subst}
 use mathlib.Core.List.{List}
 use Rattle.constraint.specs.Steps.{Step}
 use Rattle.constraint.specs.Questions.{Judged}
 use Rattle.constraint.specs.Recording.{ReadsInOrder, recording-of}
-use Rattle.constraint.specs.Joined.{NoneInCommon, AnswersJoin, no-first, no-second, in-common, too-short, written}
+use Rattle.constraint.specs.Joined.{AnswersJoin, no-first, no-second, in-common, too-short, written}
 use Rattle.constraint.specs.declared.Answer.the-variants.{Taken, Refused}
 use Rattle.constraint.specs.declared.JoinAnswer.{JoinAnswer}
 use Rattle.constraint.proofs.Judged.{never, judged-none, judged-yes, judged-no}

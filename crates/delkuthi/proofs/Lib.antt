@@ -6,11 +6,8 @@ pub mod Gathering
 pub mod Outcome
 pub mod Telling
 pub mod Refusals
+mod Lying
 mod Numbers
-mod Walk
-mod Several
-mod Lending
-mod RowNumbers
 pub mod Printing
 pub mod RecordNumbers
 pub mod StampNumbers

@@ -3,25 +3,23 @@
 use Prim.Native.Nat.{ℕ, zero, suc, _<_, _≤_}
 use native.Mathlib.Omega.{arith}
 use mathlib.Core.Path.{_≡_, refl, ap, _∙_}
-use mathlib.Core.Bool.{Bool, true, false, cond, _&&_, _||_}
+use mathlib.Core.Bool.{Bool, true, false, cond, _&&_}
 use mathlib.Core.List.{List, [], _∷_}
 use mathlib.Core.Option.{Option, none, some}
 use lib.ListN.{length, getD, getElem?}
-use lib.Dec.{leb, ltb}
+use lib.Dec.{ltb}
 use borrow.Author.Tests.{ltb-true}
 use Rattle.constraint.specs.Limits.{rowLimit}
 use Rattle.constraint.specs.Steps.{Step}
 use Rattle.constraint.specs.Promise.{ReadsRow, row, no-row}
-use Rattle.constraint.specs.declared.Call.{Call}
-use Rattle.constraint.specs.declared.Answer.the-variants.{Refused}
 use Rattle.constraint.specs.declared.Constraint.{Constraint}
 use Rattle.constraint.specs.declared.Verdict.{Verdict}
 use Rattle.constraint.proofs.Judged.{never}
 use Rattle.constraint.proofs.Lists.{split}
 use Rattle.row.specs.Machine.{rowVerdict}
 use Rattle.row.proofs.Engine.{engine}
-use Rattle.monitor.specs.Machine.{noRow, refuses, takes, refusalBy, nextFor, crowds, takenCall, stepOf, verdictOf}
-use Rattle.monitor.specs.Contract.{Steps, verdictIn, stepIn}
+use Rattle.monitor.specs.Machine.{noRow, verdictOf}
+use Rattle.monitor.specs.Contract.{verdictIn, stepIn}
 use Rattle.monitor.specs.Parts.{placeOf, verdictBy}
 use Rattle.delkuthi.specs.Lent.{
   wordOf,
@@ -31,10 +29,9 @@ use Rattle.delkuthi.specs.Lent.{
   NumberOfRows,
 }
 use Rattle.monitor.specs.declared.Monitor.{Monitor}
-use Rattle.monitor.specs.declared.Stepped.{Stepped}
 use Rattle.monitor.proofs.Withdrawing.{after-follows}
 use Rattle.monitor.proofs.RowVerdicts.{verdict-by-is}
-use Rattle.monitor.proofs.Theorem.{step-kept as steps-kept, reading-kept}
+use Rattle.monitor.proofs.Theorem.{reading-kept}
 use Rattle.stamps.proofs.Answers.{within}
 
 -- ---- verdicts
@@ -110,6 +107,6 @@ step-kept m i step full made =
 
 -- ---- rows
 
-pub rows-kept : (m : Monitor) → NumberOfRows m (m .len)
-rows-kept m =
-    record { equals = refl; means = λ rows requests accepted e. ap (λ (x : Monitor). x .len) e ∙ after-follows engine rows requests accepted .2 .len-is }
+pub rows-kept : (m : Monitor) (number : ℕ) → number ≡ m .len → NumberOfRows m number
+rows-kept m number so =
+    record { equals = so; means = λ rows requests accepted e. so ∙ ap (λ (x : Monitor). x .len) e ∙ after-follows engine rows requests accepted .2 .len-is }

@@ -1,23 +1,20 @@
 -- Records are taken one after the other: what reading gives from a place on, over the steps taken before it, is what it gives from the start.
 use Prim.Native.Nat.{ℕ, zero, suc, _+_, _*_, _≤_, _<_}
 use mathlib.Core.Path.{_≡_, refl, sym, ap, subst, _∙_}
-use mathlib.Core.Bool.{Bool, true, false, cond}
+use mathlib.Core.Bool.{true, false}
 use mathlib.Core.List.{List, [], _∷_, _++_}
 use native.Mathlib.Omega.{arith}
 use lib.ListN.{length, length-append}
-use lib.Dec.{eqb}
 use Rattle.constraint.specs.Limits.{lastCount}
-use Rattle.constraint.specs.Streams.{stream}
 use Rattle.constraint.specs.Steps.{Step, at, closed}
 use Rattle.constraint.specs.Questions.{Judged}
 use Rattle.constraint.specs.Run.{stepFor, questions, asks}
-use Rattle.constraint.specs.Bytes.{numberAt}
 use Rattle.constraint.specs.Table.{lengthAt, bodyAt}
-use Rattle.constraint.specs.Recording.{VersionKnown, version-refused, colourIn, callOf, callAt, RecordAt, recordQuestions, recording-of, recording-refused, ReadsRecords, no-more, record-refused, record-taken, version-taken}
+use Rattle.constraint.specs.Recording.{VersionKnown, version-refused, callAt, RecordAt, recordQuestions, recording-of, recording-refused}
+use Rattle.constraint.specs.Recording.{ReadsRecords, no-more, record-refused, record-taken, version-taken}
 use Rattle.constraint.specs.declared.Call.{Call}
 use Rattle.constraint.specs.declared.Answer.the-variants.{Taken, Refused}
 use Rattle.constraint.specs.declared.Constraint.{Constraint}
-use Rattle.constraint.proofs.History.{closed-event, closed-tick}
 use Rattle.constraint.proofs.Judged.{never, judged-yes, judged-all, judged-once}
 use Rattle.recording.specs.Record.{CallAt}
 use Rattle.recording.proofs.Records.{record-judged, record-refused as record-not-there, unclosed-more}
@@ -25,8 +22,9 @@ use Rattle.monitor.specs.Machine.{stepOf as machineStep}
 use Rattle.monitor.specs.Contract.{Steps}
 use Rattle.monitor.specs.declared.Monitor.{Monitor}
 use Rattle.monitor.specs.declared.Stepped.{Stepped}
-use Rattle.inplace.specs.Store.{steppedFrom}
-use Rattle.delkuthi.specs.Taking.{Took, TakenUpTo, RecordingTakenAs, StepsBefore, at-version, at-first, behind, goesOn, endsWith, left, UpTo, of-record, of-close, Turns, on, over, TakesRecording}
+use Rattle.lent.specs.Contract.{steppedFrom}
+use Rattle.delkuthi.specs.Taking.{Took, TakenUpTo, RecordingTakenAs, StepsBefore, at-version, at-first, behind, goesOn, endsWith, left, UpTo}
+use Rattle.delkuthi.specs.Taking.{of-record, of-close, Turns, on, over, TakesRecording}
 use Rattle.delkuthi.specs.declared.records.Turn.{Turn}
 use Rattle.table.specs.declared.ReadAnswer.{ReadAnswer}
 use Rattle.monitor.proofs.Theorem.{monitor-is-exact}

@@ -7,7 +7,8 @@ use mathlib.Core.Logic.{inl, inr}
 use Rattle.constraint.specs.Steps.{Step}
 use Rattle.constraint.specs.Questions.{Question, Judged}
 use Rattle.constraint.specs.Run.{questions}
-use Rattle.constraint.specs.Recording.{callAt, recordQuestions, recording-refused, ReadsRecords, record-refused, record-taken, ReadsInOrder, version-refused, version-taken}
+use Rattle.constraint.specs.Recording.{callAt, recordQuestions, recording-refused, ReadsRecords, record-refused, record-taken, ReadsInOrder}
+use Rattle.constraint.specs.Recording.{version-refused, version-taken}
 use Rattle.constraint.specs.declared.Answer.the-variants.{Refused}
 use Rattle.constraint.specs.declared.Call.{Call}
 use Rattle.constraint.proofs.Judged.{never}

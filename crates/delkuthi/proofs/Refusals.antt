@@ -16,7 +16,7 @@ use Rattle.table.specs.Writing.{Writes, answerIn}
 use Rattle.table.specs.declared.WriteAnswer.{WriteAnswer}
 use Rattle.table.proofs.Bodies.{row-length}
 use Rattle.table.proofs.Standing.{body-short}
-use Rattle.opening.proofs.Refusals.{AllAbove, number-above}
+use Rattle.lent.proofs.Refusals.{AllAbove, number-above}
 use Rattle.delkuthi.specs.Tables.{tableNumber, MakesTable}
 
 rows-above : (i : ℕ) (rows : List Constraint) (later : List Question) → AllAbove later → AllAbove (rowsQuestions i rows later)

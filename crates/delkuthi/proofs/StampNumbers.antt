@@ -4,7 +4,7 @@ use native.Mathlib.Omega.{arith}
 use mathlib.Core.List.{List}
 use Rattle.constraint.specs.Stamps.{stampsQuestions, AnswersStamps, no-table, no-recording, not-asked}
 use Rattle.constraint.specs.declared.StampedAnswer.{StampedAnswer}
-use Rattle.opening.proofs.Refusals.{AllAbove, number-above, refused-small}
+use Rattle.lent.proofs.Refusals.{AllAbove, number-above, refused-small}
 use Rattle.delkuthi.proofs.RecordNumbers.{refusal-short}
 
 pub stamped-above : (table recording : List ℕ) (i e n place : ℕ) → AnswersStamps table recording i e (StampedAnswer.Refused n place) → 0 < n

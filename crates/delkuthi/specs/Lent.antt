@@ -19,9 +19,9 @@ use Rattle.monitor.specs.declared.Monitor.{Monitor}
 abbrev pub version : ℕ
 version = 0 * 1000000 + 5 * 1000 + 0
 
--- the bytes of a monitor with its index (`monitor-size`: of its type on the machine)
+-- the bytes of a lent monitor: 35 blocks of two arrays of 64 words of eight bytes
 abbrev pub monitorSize : ℕ
-monitorSize = 28768
+monitorSize = 35 * 2 * 64 * 8
 
 -- ---- verdicts
 

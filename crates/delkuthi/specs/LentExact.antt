@@ -14,24 +14,19 @@ use Rattle.constraint.specs.Report.{Reports}
 use Rattle.constraint.specs.declared.Constraint.{Constraint}
 use Rattle.constraint.specs.declared.Verdict.{Verdict}
 use Rattle.monitor.specs.Contract.{stepIn}
-use Rattle.monitor.specs.declared.Monitor.{Monitor}
-use Rattle.inplace.specs.Store.{answerFrom}
-use Rattle.inplace.specs.Index.{Takes}
-use Rattle.inplace.specs.declared.index.Indexed.{Indexed}
-use Rattle.opening.specs.Begins.{Begins}
+use Rattle.lent.specs.Layout.{Words}
+use Rattle.lent.specs.Contract.{answerFrom, Takes, ReadOff}
+use Rattle.lent.specs.Fresh.{Begins}
 use Rattle.delkuthi.specs.Taking.{StepsBefore}
 use Rattle.delkuthi.specs.Lent.{wordOf, WordOfVerdict, StepOfVerdict, NumberOfRows}
 use Rattle.delkuthi.specs.Printed.{WritesPage}
-use Rattle.delkuthi.specs.Reporting.{ReportsOn}
+use Rattle.delkuthi.specs.Reporting.{ReportsOn, ReportsSteps, ReportsOf}
 
 -- ---- the memory
 
--- what a host lends to the calls, and the monitor in it
+-- what a host lends to the calls
 abbrev pub Memory : Type 0
-Memory = Indexed
-
-abbrev pub monitorIn : Memory → Monitor
-monitorIn h = h .monitor
+Memory = Words
 
 -- ---- a host's calls
 
@@ -48,14 +43,17 @@ Untouched (asked {h = h} {mid = mid} r number takes rest) = (0 < number → mid 
 
 -- ---- what is read then
 
--- what the exported readers answer is what the rows read after these steps: the word and the step of each row number, the number of rows, the page
+-- what the exported readers answer is what the rows read after these steps: the word and the step of each row number, the number of rows, the page,
+-- and the report
 pub record ReadsAs (h : Memory) (rows : List Constraint) (steps : List Step) : Type 0 where
   pub verdicts : (i : ℕ) → (v : Option Verdict) × ReadsRow rows steps i v
-      × ((word : ℕ) → WordOfVerdict (monitorIn h) i word → word ≡ wordOf v)
-      × ((step : ℕ) → StepOfVerdict (monitorIn h) i step → step ≡ stepIn v)
-  pub counted : (number : ℕ) → NumberOfRows (monitorIn h) number → number ≡ length rows
-  pub paged : (buffer : List ℕ) (number : ℕ) (written : List ℕ) → WritesPage (monitorIn h) buffer number written
+      × ((word : ℕ) → ReadOff h (λ m. WordOfVerdict m i) word → word ≡ wordOf v)
+      × ((step : ℕ) → ReadOff h (λ m. StepOfVerdict m i) step → step ≡ stepIn v)
+  pub counted : (number : ℕ) → ReadOff h NumberOfRows number → number ≡ length rows
+  pub paged : (buffer : List ℕ) (number : ℕ) (written : List ℕ) → ReadOff h (λ m answer. WritesPage m buffer answer written) number
       → Pages rows steps buffer number written
+  pub told : (buffer : List ℕ) (number : ℕ) (written : List ℕ) → ReadOff h (λ m answer. ReportsOf m buffer answer written) number
+      → ReportsSteps rows steps buffer number written
 
 -- after a recording: its steps and the close, or the steps before the record that was refused
 pub data ReadsRecorded (h : Memory) (rows : List Constraint) (recording : List ℕ) : Type 0 where

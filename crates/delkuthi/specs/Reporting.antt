@@ -1,23 +1,47 @@
 -- What the report on a lent monitor promises: the bytes of the report, and the monitor that has taken the recording.
 use Prim.Native.Nat.{ℕ}
+use mathlib.Core.Path.{_≡_}
+use mathlib.Core.Bool.{true, false}
 use mathlib.Core.List.{List}
-use Rattle.constraint.specs.Report.{Reports}
+use lib.ListN.{length}
+use Rattle.constraint.specs.Steps.{Step, closed}
+use Rattle.constraint.specs.Accepted.{Accepted}
+use Rattle.constraint.specs.Run.{Request, Left}
+use Rattle.constraint.specs.Report.{closedText, EachReads, Reports}
 use Rattle.constraint.specs.Table.{ReadsTable, table-of, table-refused}
 use Rattle.constraint.specs.declared.Constraint.{Constraint}
-use Rattle.inplace.specs.Index.{Indexes}
-use Rattle.inplace.specs.declared.index.Indexed.{Indexed}
+use Rattle.constraint.specs.declared.Verdict.{Verdict}
+use Rattle.text.specs.Content.{Copied}
+use Rattle.monitor.specs.Contract.{after, Remains}
+use Rattle.monitor.specs.declared.Monitor.{Monitor}
+use Rattle.lent.specs.Layout.{Words}
+use Rattle.lent.specs.Contract.{Holds}
 use Rattle.table.specs.declared.ReadAnswer.{ReadAnswer}
 use Rattle.delkuthi.specs.Taking.{RecordingTakenAs}
 
 -- the answer to a table and a recording, and what lies in the lent monitor then: the table's refusal, and all as it was; or the recording's
--- answer, and the monitor over the table's rows after the steps that were taken, and the close where all were, with its index
-pub data LeftBy (before : Indexed) (table recording : List ℕ) : ReadAnswer → Indexed → Type 0 where
+-- answer, and the monitor over the table's rows after the steps that were taken, and the close where all were
+pub data LeftBy (before : Words) (table recording : List ℕ) : ReadAnswer → Words → Type 0 where
   unused : (n place : ℕ) → ReadsTable table (table-refused n place) → LeftBy before table recording (ReadAnswer.Refused n place) before
-  used : (rows : List Constraint) (answer : ReadAnswer) (after : Indexed) → ReadsTable table (table-of rows)
-      → RecordingTakenAs rows recording answer (after .monitor) → Indexes after → LeftBy before table recording answer after
+  used : (rows : List Constraint) (answer : ReadAnswer) (after : Words) (m : Monitor) → ReadsTable table (table-of rows)
+      → RecordingTakenAs rows recording answer m → Holds after m → LeftBy before table recording answer after
 
 -- §7.22: the number and the buffer are the report's, whatever lay in the monitor; and the monitor has been used, however short the buffer is
-pub record ReportsOn (before : Indexed) (table recording buffer : List ℕ) (number : ℕ) (written : List ℕ) (after : Indexed) : Type 0 where
+pub record ReportsOn (before : Words) (table recording buffer : List ℕ) (number : ℕ) (written : List ℕ) (after : Words) : Type 0 where
   pub reports : Reports table recording buffer number written
   pub answer : ReadAnswer
   pub left-by : LeftBy before table recording answer after
+
+-- ---- of a monitor that was stepped call by call
+
+-- the bytes that a recording of the same steps is reported in, once these are closed: a count of them and what each row reads; before the close
+-- nothing is written
+pub data ReportsSteps (rows : List Constraint) (steps : List Step) (before : List ℕ) : ℕ → List ℕ → Type 0 where
+  unclosed : closed steps ≡ false → ReportsSteps rows steps before 0 before
+  told : {answer : ℕ} {written : List ℕ} (verdicts : List Verdict) → closed steps ≡ true → EachReads steps rows verdicts
+      → Copied (closedText (length steps) verdicts) before answer written → ReportsSteps rows steps before answer written
+
+-- the report of a monitor that requests have made: that of the steps that they have left
+pub record ReportsOf (m : Monitor) (before : List ℕ) (answer : ℕ) (written : List ℕ) : Type 0 where
+  pub means : (rows : List Constraint) (requests : List Request) → Accepted rows → m ≡ after rows requests
+      → (left : Left) × Remains rows requests left × ReportsSteps rows (left .steps) before answer written

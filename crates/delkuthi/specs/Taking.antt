@@ -1,24 +1,24 @@
 -- What taking a recording gives: each record is put to the monitor that has taken those before it, and then the close.
 use Prim.Native.Nat.{ℕ, suc, _+_, _-_, _≤_, _<_}
 use mathlib.Core.Path.{_≡_}
-use mathlib.Core.Bool.{true, false, cond}
+use mathlib.Core.Bool.{Bool, true, false, cond}
 use mathlib.Core.List.{List, [], _∷_, _++_, map}
 use lib.ListN.{length}
 use Rattle.constraint.specs.Steps.{Step, close, at, closed}
 use Rattle.constraint.specs.Questions.{Judged}
 use Rattle.constraint.specs.Accepted.{Accepted}
 use Rattle.constraint.specs.Table.{lengthAt}
-use Rattle.constraint.specs.Recording.{VersionKnown, callAt, recordQuestions, RecordingRead, recording-of, recording-refused, ReadsRecords, ReadsRecording}
+use Rattle.constraint.specs.Recording.{VersionKnown, callAt, recordQuestions, RecordingRead, recording-of, recording-refused, ReadsRecords}
+use Rattle.constraint.specs.Recording.{ReadsRecording}
 use Rattle.constraint.specs.declared.Answer.the-variants.{Taken}
-use Rattle.constraint.specs.Run.{stepFor, asks}
+use Rattle.constraint.specs.Run.{stepFor, Request, asks}
 use Rattle.constraint.specs.declared.Call.{Call}
 use Rattle.constraint.specs.declared.Constraint.{Constraint}
-use Rattle.monitor.specs.Contract.{after, Steps}
+use Rattle.monitor.specs.Contract.{after, Remains, Steps}
 use Rattle.monitor.specs.Beside.{TakesAll}
 use Rattle.monitor.specs.declared.Monitor.{Monitor}
-use Rattle.inplace.specs.Store.{steppedFrom}
-use Rattle.inplace.specs.Index.{Indexes}
-use Rattle.inplace.specs.declared.index.Indexed.{Indexed}
+use Rattle.lent.specs.Layout.{Words}
+use Rattle.lent.specs.Contract.{steppedFrom, Holds}
 use Rattle.recording.specs.Record.{CallAt}
 use Rattle.delkuthi.specs.declared.records.Turn.{Turn}
 use Rattle.table.specs.declared.ReadAnswer.{ReadAnswer}
@@ -29,6 +29,14 @@ pub record Took (rows : List Constraint) (steps : List Step) (m : Monitor) : Typ
   pub calls : List Call
   pub all-taken : TakesAll rows calls steps
   pub made : m ≡ after rows (map asks calls)
+
+-- a monitor over an accepted table after requests that have left just these steps
+pub record Stands (rows : List Constraint) (steps : List Step) (m : Monitor) : Type 0 where
+  pub accepted : Accepted rows
+  pub requests : List Request
+  pub may : Bool
+  pub remains : Remains rows requests (record { steps = steps; may = may })
+  pub made : m ≡ after rows requests
 
 -- the steps of the records before a place: none before the version byte and before the first record, which stands behind it
 pub data StepsBefore (rows : List Constraint) (bytes : List ℕ) : ℕ → List Step → Type 0 where
@@ -57,9 +65,9 @@ RecordingTakenAs rows bytes (ReadAnswer.Refused n place) m =
 pub record TakesRecording (m : Monitor) (bytes : List ℕ) (answer : ReadAnswer) (m′ : Monitor) : Type 0 where
   pub means : (rows : List Constraint) → Took rows [] m → RecordingTakenAs rows bytes answer m′
 
--- the same where the monitor lies with its index, which stays the monitor's
-abbrev pub TakesRecords : Indexed → List ℕ → ReadAnswer → Indexed → Type 0
-TakesRecords h bytes answer h′ = TakesRecording (h .monitor) bytes answer (h′ .monitor) × Indexes h′
+-- the same of the monitor that lies in the words
+abbrev pub TakesRecords : Words → List ℕ → ReadAnswer → Words → Type 0
+TakesRecords entry bytes answer exit = (m : Monitor) → Holds entry m → (m′ : Monitor) × TakesRecording m bytes answer m′ × Holds exit m′
 
 -- ---- turn by turn
 

@@ -8,12 +8,13 @@ use Rattle.constraint.specs.Steps.{Step}
 use Rattle.constraint.specs.Report.{rowLines, closedText, refusedText, EachReads}
 use Rattle.constraint.specs.declared.Constraint.{Constraint}
 use Rattle.constraint.specs.declared.Verdict.{Verdict}
-use Rattle.text.specs.Content.{content, extended, Holds, Copied}
+use Rattle.text.specs.Content.{content, extended, Holds as Contains, Copied}
 use Rattle.text.specs.declared.Text.{Text}
 use Rattle.monitor.specs.Machine.{noRow}
 use Rattle.monitor.specs.declared.Monitor.{Monitor}
-use Rattle.inplace.specs.declared.index.Indexed.{Indexed}
-use Rattle.delkuthi.specs.Taking.{Took}
+use Rattle.lent.specs.Layout.{Words}
+use Rattle.lent.specs.Contract.{Holds}
+use Rattle.delkuthi.specs.Taking.{Stands}
 use Rattle.delkuthi.specs.Reporting.{LeftBy}
 use Rattle.delkuthi.specs.declared.report.Summary.{Summary}
 use Rattle.table.specs.declared.ReadAnswer.{ReadAnswer}
@@ -30,7 +31,8 @@ summaryOf answer count len closed = record { answer = answer; count = count; len
 
 -- the same with the step that broke row i
 abbrev pub withStep : Summary → ℕ → ℕ → Summary
-withStep summary i step = record { answer = summary .answer; count = summary .count; len = summary .len; closed = summary .closed; steps = set (summary .steps) i step }
+withStep summary i step =
+    record { answer = summary .answer; count = summary .count; len = summary .len; closed = summary .closed; steps = set (summary .steps) i step }
 
 -- the answer, and the numbers of a monitor and of its first n rows
 pub record GathersUpTo (n : ℕ) (m : Monitor) (answer : ReadAnswer) (summary : Summary) : Type 0 where
@@ -46,15 +48,20 @@ pub record GathersUpTo (n : ℕ) (m : Monitor) (answer : ReadAnswer) (summary : 
 abbrev pub Gathers : Monitor → ReadAnswer → Summary → Type 0
 Gathers m answer summary = GathersUpTo rowLimit m answer summary
 
+-- the answer, and the numbers of whatever monitor lies in the words
+pub record GathersFrom (words : Words) (answer : ReadAnswer) (summary : Summary) : Type 0 where
+  pub answer-is : summary .answer ≡ answer
+  pub of-monitor : (m : Monitor) → Holds words m → Gathers m answer summary
+
 -- the summary, and what lies in the lent monitor then
-pub record SummaryOn (before : Indexed) (table recording : List ℕ) (summary : Summary) (after : Indexed) : Type 0 where
+pub record SummaryOn (before : Words) (table recording : List ℕ) (summary : Summary) (after : Words) : Type 0 where
   pub left-by : LeftBy before table recording (summary .answer) after
-  pub gathers : Gathers (after .monitor) (summary .answer) summary
+  pub gathers : GathersFrom after (summary .answer) summary
 
 -- the same on a monitor of its own
 pub record SummaryAlone (table recording : List ℕ) (summary : Summary) : Type 0 where
-  pub before : Indexed
-  pub after : Indexed
+  pub before : Words
+  pub after : Words
   pub summary-on : SummaryOn before table recording summary after
 
 -- ---- its text
@@ -63,23 +70,27 @@ pub record SummaryAlone (table recording : List ℕ) (summary : Summary) : Type 
 pub record Tells (Said : List ℕ → Type 0) (text : Text) : Type 0 where
   pub bytes : List ℕ
   pub said : Said bytes
-  pub holds : Holds text bytes
+  pub holds : Contains text bytes
 
--- the lines of the rows of a monitor that has taken some steps: what each row reads after them
+-- the lines of the rows of a monitor to which some steps are left: what each row reads after them
 pub record TellsRows (summary : Summary) (before text : Text) : Type 0 where
-  pub means : (m : Monitor) → Gathers m (summary .answer) summary → (rows : List Constraint) (steps : List Step) → Took rows steps m
+  pub means : (m : Monitor) → Gathers m (summary .answer) summary → (rows : List Constraint) (steps : List Step) → Stands rows steps m
       → (verdicts : List Verdict) × EachReads steps rows verdicts × (text ≡ extended (rowLines 0 verdicts) before)
 
--- the report on what a recording gave: its steps counted and the rows' lines, or the refusal
-abbrev pub TellsRecording : ReadAnswer → Monitor → Text → Type 0
-TellsRecording ReadAnswer.Accepted m text =
-    (rows : List Constraint) (steps : List Step) → Took rows steps m
-    → (verdicts : List Verdict) × EachReads steps rows verdicts × Holds text (closedText (length steps) verdicts)
-TellsRecording (ReadAnswer.Refused n place) m text = Holds text (refusedText n place)
+-- the report on a monitor: its steps counted and the rows' lines
+abbrev pub TellsClosed : Monitor → Text → Type 0
+TellsClosed m text =
+    (rows : List Constraint) (steps : List Step) → Stands rows steps m
+    → (verdicts : List Verdict) × EachReads steps rows verdicts × Contains text (closedText (length steps) verdicts)
 
--- the report of a summary, of whatever monitor that was gathered from
+-- the report of a summary with an answer: that on whatever monitor it was gathered from, or the refusal
+abbrev pub TellsAs : ReadAnswer → Summary → Text → Type 0
+TellsAs ReadAnswer.Accepted summary text = (m : Monitor) → Gathers m ReadAnswer.Accepted summary → TellsClosed m text
+TellsAs (ReadAnswer.Refused n place) summary text = Contains text (refusedText n place)
+
+-- and with its own
 abbrev pub TellsSummary : Summary → Text → Type 0
-TellsSummary summary text = (m : Monitor) → Gathers m (summary .answer) summary → TellsRecording (summary .answer) m text
+TellsSummary summary text = TellsAs (summary .answer) summary text
 
 -- the answer, and what is then in the buffer
 pub record WritesSummary (summary : Summary) (before : List ℕ) (answer : ℕ) (after : List ℕ) : Type 0 where

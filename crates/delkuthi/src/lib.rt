@@ -1,18 +1,20 @@
 // The report on a recording: what the rows of a table read after it. It is also offered to a host in C.
+pub mod host;
 pub mod joining;
-pub mod lent;
 pub mod printed;
 mod records;
 mod report;
 pub mod stamped;
 pub mod tables;
 
-use inplace::index::Indexed;
+use lent::Words;
+use table::ReadAnswer;
 use text::Text;
 ghost use Rattle.constraint.specs.Report.{Reports};
+ghost use Rattle.lent.specs.Contract.{ReadOff};
 ghost use Rattle.delkuthi.specs.Program.{Prints};
 ghost use Rattle.delkuthi.specs.Telling.{Tells};
-ghost use Rattle.delkuthi.specs.Reporting.{ReportsOn};
+ghost use Rattle.delkuthi.specs.Reporting.{ReportsOn, ReportsOf};
 
 // How many bytes a table file has at most.
 pub const TABLE_SIZE_LIMIT: usize = 2048;
@@ -29,7 +31,8 @@ pub fn program_text(table: &[u8], recording: &[u8]) -> Text
     report::text_of(report::summary_alone(table, recording))
 }
 
-// Writes the report on a recording under a table to a lent buffer and answers the number of bytes written; where the buffer is too short, answers 0 and leaves it as it was.
+// Writes the report on a recording under a table to a lent buffer and answers the number of bytes written; where the buffer is too short, answers 0
+// and leaves it as it was.
 #[no_mangle]
 pub extern "C" fn delkuthi_report(table: &[u8], recording: &[u8], buffer: &mut [u8]) -> usize
     ensures { λ r. ⌜ Reports (now (table .entry)) (now (recording .entry)) (now (buffer .entry)) r (now (buffer .exit)) ⌝ }
@@ -37,10 +40,11 @@ pub extern "C" fn delkuthi_report(table: &[u8], recording: &[u8], buffer: &mut [
     report::write(report::summary_alone(table, recording), buffer)
 }
 
-// Writes the report on a recording under a table to a lent buffer, on a monitor that is lent: the number of bytes written, or 0 where the buffer is too short, which then stays as it was.
+// Writes the report on a recording under a table to a lent buffer, on a monitor that is lent: the number of bytes written, or 0 where the buffer is
+// too short, which then stays as it was.
 #[no_mangle]
 pub extern "C" fn delkuthi_report_on(
-    m: &mut Indexed,
+    m: &mut Words,
     table: &[u8],
     recording: &[u8],
     buffer: &mut [u8],
@@ -48,5 +52,18 @@ pub extern "C" fn delkuthi_report_on(
     ensures { λ r. ⌜ ReportsOn (now (m .entry)) (now (table .entry)) (now (recording .entry)) (now (buffer .entry)) r (now (buffer .exit)) (now (m .exit)) ⌝ }
 {
     let summary = report::summary_on(m, table, recording);
+    report::write(summary, buffer)
+}
+
+// Writes the report of a monitor that was stepped call by call to a lent buffer: the number of bytes written, or 0 where the buffer is too short or
+// the monitor is not closed, and then the buffer stays as it was.
+#[no_mangle]
+pub extern "C" fn delkuthi_report_of(m: &Words, buffer: &mut [u8]) -> usize
+    ensures { λ r. ⌜ ReadOff (now (m .entry)) (λ n answer. ReportsOf n (now (buffer .entry)) answer (now (buffer .exit))) r ⌝ }
+{
+    if lent::closed(m) == 0 {
+        return 0;
+    }
+    let summary = report::summary_by(m, ReadAnswer::Accepted);
     report::write(summary, buffer)
 }

@@ -1,11 +1,13 @@
 // Takes a recording: call by call, those of its records and then the close, on one monitor where it lies.
 use constraint::Call;
-use inplace::index;
-use inplace::index::Indexed;
+use lent::Words;
+use lent::calls;
 use recording::Record;
 use table::ReadAnswer;
 ghost use mathlib.Core.Path.{_≡_};
-ghost use Rattle.inplace.specs.Index.{Indexes};
+ghost use Rattle.constraint.specs.Run.{asks};
+ghost use Rattle.monitor.specs.declared.Monitor.{Monitor};
+ghost use Rattle.lent.specs.Contract.{Takes, Holds};
 ghost use Rattle.delkuthi.specs.Taking.{goesOn, endsWith, NextAtStart, NextFrom, NextAfter, TakesRecords};
 
 // What is next in a recording: a call, the place of its record and the place behind it (the close's are both the end); or
@@ -98,15 +100,28 @@ fn next_turn(bytes: &[u8], turn: Turn, number: u8) -> Turn
     turn_at(bytes, turn.next)
 }
 
+// A call on a monitor that is lent: 0 if it is taken, else the number of its refusal.
+fn take(m: &mut Words, call: Call) -> u8
+    ensures { λ r. ⌜ Takes (now (m .entry)) (asks call) r (now (m .exit)) ⌝ }
+{
+    match call {
+        Call::Event { kind, time } => calls::event(m, kind, time),
+        Call::ColouredEvent { kind, colour, time } => calls::coloured_event(m, kind, colour, time),
+        Call::Tick { time } => calls::tick(m, time),
+        Call::Close => calls::close(m),
+    }
+}
+
 // Puts a whole recording to a fresh monitor that is lent, which takes each call where it lies: accepted where every record was
 // taken, and the close.
-pub(crate) fn take_recording(m: &mut Indexed, bytes: &[u8]) -> ReadAnswer
-    requires { ⌜ Indexes (now m) ⌝ }
+pub(crate) fn take_recording(m: &mut Words, bytes: &[u8]) -> ReadAnswer
+    requires { ⌜ ((fresh : Monitor) × Holds (now m) fresh) ⌝ }
     ensures { λ r. ⌜ TakesRecords (now (m .entry)) (now (bytes .entry)) r (now (m .exit)) ⌝ }
 {
     let mut turn = first_turn(bytes);
     while turn.more {
-        let number = index::take(m, turn.call);
+        let call = turn.call;
+        let number = take(m, call);
         turn = next_turn(bytes, turn, number);
     }
     turn.answer

@@ -1,8 +1,10 @@
 // The report on a recording: a summary is gathered from the monitor where that lies, and then written.
-use crate::lent::delkuthi_fresh;
 use crate::records::take_recording;
-use inplace::index;
-use inplace::index::Indexed;
+use lent::COUNT;
+use lent::NUMBERS;
+use lent::Words;
+use lent::fresh::fresh;
+use machine::words;
 use monitor::RowVerdict;
 use monitor::verdicts;
 use table::ReadAnswer;
@@ -10,8 +12,8 @@ use text::Text;
 ghost use Prim.Native.Nat.{_<_};
 ghost use mathlib.Core.Path.{_≡_};
 ghost use Rattle.constraint.specs.Limits.{rowLimit};
-ghost use Rattle.constraint.specs.Report.{ReportOf};
-ghost use Rattle.delkuthi.specs.Telling.{refusalOf, summaryOf, withStep, Gathers, Tells, TellsRows, TellsSummary, SummaryOn, SummaryAlone, WritesSummary};
+ghost use Rattle.delkuthi.specs.Telling.{refusalOf, summaryOf, withStep, GathersFrom, TellsRows, TellsSummary, SummaryOn, SummaryAlone};
+ghost use Rattle.delkuthi.specs.Telling.{WritesSummary};
 
 // The summary that a report is written from: the answer to the recording, and of the monitor that took it the numbers that the lines are made of.
 pub struct Summary {
@@ -59,13 +61,13 @@ fn with_step(mut summary: Summary, i: usize, step: u64) -> Summary
 }
 
 // The summary of a monitor that is lent, with an answer.
-fn summary_by(m: &mut Indexed, answer: ReadAnswer) -> Summary
-    ensures { λ r. ⌜ Gathers (now (m .entry) .monitor) answer r × (now (m .exit) ≡ now (m .entry)) ⌝ }
+pub(crate) fn summary_by(m: &Words, answer: ReadAnswer) -> Summary
+    ensures { λ r. ⌜ GathersFrom (now (m .entry)) answer r ⌝ }
 {
-    let mut summary = summary_of(answer, m.monitor.count, m.monitor.len, m.monitor.closed);
+    let mut summary = summary_of(answer, m[NUMBERS][0][COUNT], lent::held(m), lent::closed(m));
     let mut i = 0;
     while i < 32 {
-        let step = m.monitor.rows[i].now.broken;
+        let step = m[i][1][words::BROKEN];
         summary = with_step(summary, i, step);
         i += 1;
     }
@@ -73,16 +75,15 @@ fn summary_by(m: &mut Indexed, answer: ReadAnswer) -> Summary
 }
 
 // The summary of a recording under a table, on a monitor that is lent.
-pub(crate) fn summary_on(m: &mut Indexed, table: &[u8], recording: &[u8]) -> Summary
+pub(crate) fn summary_on(m: &mut Words, table: &[u8], recording: &[u8]) -> Summary
     ensures { λ r. ⌜ SummaryOn (now (m .entry)) (now (table .entry)) (now (recording .entry)) r (now (m .exit)) ⌝ }
 {
-    let number = delkuthi_fresh(m, table);
-    let answer = if number == 0 {
-        take_recording(m, recording)
-    } else {
-        refusal_of(number)
-    };
-    summary_by(m, answer)
+    let number = fresh(m, table);
+    if number == 0 {
+        let answer = take_recording(m, recording);
+        return summary_by(m, answer);
+    }
+    summary_by(m, refusal_of(number))
 }
 
 // The text with the lines of the rows behind it.
@@ -129,6 +130,6 @@ pub(crate) fn write(summary: Summary, buffer: &mut [u8]) -> usize
 pub(crate) fn summary_alone(table: &[u8], recording: &[u8]) -> Summary
     ensures { λ r. ⌜ SummaryAlone (now (table .entry)) (now (recording .entry)) r ⌝ }
 {
-    let mut m = index::empty();
+    let mut m = [[[0u64; 64]; 2]; 35];
     summary_on(&mut m, table, recording)
 }

@@ -2,9 +2,9 @@
 use Prim.Native.Nat.{ℕ, _<_}
 use native.Mathlib.Omega.{arith}
 use mathlib.Core.List.{List}
-use Rattle.constraint.specs.Stretches.{stretchQuestions, AnswersRow, no-stretch, AnswersStretch, no-table, no-recording, answers}
+use Rattle.constraint.specs.Stretches.{stretchQuestions, no-stretch, AnswersStretch, no-table, no-recording, answers}
 use Rattle.constraint.specs.declared.StretchAnswer.{StretchAnswer}
-use Rattle.opening.proofs.Refusals.{AllAbove, number-above, refused-small}
+use Rattle.lent.proofs.Refusals.{AllAbove, number-above, refused-small}
 use Rattle.delkuthi.proofs.RecordNumbers.{refusal-short}
 
 pub stretch-above : (table recording : List ℕ) (i n place : ℕ) → AnswersStretch table recording i (StretchAnswer.Refused n place) → 0 < n

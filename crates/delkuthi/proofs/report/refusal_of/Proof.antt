@@ -1,5 +1,4 @@
 -- A mask of eight bits keeps the remainder by 256, and a shift by eight divides by 256: that is how the number was made.
-use mathlib.Core.Path.{refl}
 use lib.Bits.{and-mask, and-le-r}
 use native.Mathlib.Nat.{lt-of-le-of-lt}
 use native.Mathlib.Omega.{arith}

@@ -1,51 +1,43 @@
 -- The loop puts line behind line: those of the rows before the row number are what these read.
 use native.Mathlib.Omega.{arith}
 use borrow.Author.Needs.{needs}
-use Prim.Native.Nat.{ℕ, _-_, _<_}
-use mathlib.Core.Path.{_≡_, sym, ap, subst, _∙_}
+use Prim.Native.Nat.{ℕ, _-_}
+use mathlib.Core.Path.{ap, _∙_}
 use mathlib.Core.List.{List}
 use lib.ListN.{getD}
-use Rattle.constraint.specs.Limits.{rowLimit}
 use Rattle.constraint.specs.Steps.{Step}
 use Rattle.constraint.specs.declared.Constraint.{Constraint}
-use Rattle.monitor.specs.Parts.{placeOf, verdictBy}
+use Rattle.monitor.specs.Parts.{verdictBy}
 use Rattle.monitor.specs.Contract.{verdictIn, Reading}
 use Rattle.monitor.specs.declared.Monitor.{Monitor}
-use Rattle.monitor.proofs.RowVerdicts.{place-small}
-use Rattle.delkuthi.specs.Taking.{Took}
+use Rattle.delkuthi.specs.Taking.{Stands}
 use Rattle.delkuthi.specs.Telling.{Gathers}
-use Rattle.delkuthi.proofs.Taking.{took-follows, took-reads}
+use Rattle.delkuthi.proofs.Taking.{stands-follows, stands-reads}
+use Rattle.delkuthi.proofs.Lying.{placed}
 use Rattle.delkuthi.proofs.Gathering.{gathered-reads}
 use Rattle.delkuthi.proofs.RowLines.{LinesUpTo, past-rows, lines-none, lines-more, lines-all}
 use Rattle.delkuthi.proofs.report.row_lines.Statement.{statement}
 use Rattle.delkuthi.proofs.report.row_lines.Tie as tie
 
--- the place of a row is one of 32
-small : (at row : ℕ) → at ≡ placeOf row → at < rowLimit
-small at row e = subst (λ (k : ℕ). k < rowLimit) (sym e) (place-small row)
-
 abbrev Inv-loop : tie.InvT-loop
 Inv-loop summary lines₀ row₀ lines row =
-    (m : Monitor) → Gathers m (summary .answer) summary → (rows : List Constraint) (steps : List Step) → Took rows steps m
+    (m : Monitor) → Gathers m (summary .answer) summary → (rows : List Constraint) (steps : List Step) → Stands rows steps m
     → LinesUpTo rows steps lines₀ row lines
 
 abbrev μ-loop : tie.MeasureT-loop
 μ-loop summary lines₀ row₀ lines row = summary .len - row
 
 loop-holds : tie.Need-loop-holds Inv-loop μ-loop
-loop-holds c = λ m gathers rows steps took. lines-none rows steps (c .args .text)
+loop-holds c = λ m gathers rows steps stands. lines-none rows steps (c .args .text)
 
 place-requires : tie.Need-place-requires Inv-loop μ-loop
 place-requires c κs = tt
 
-placed : (c : tie.After-place Inv-loop μ-loop) → c .place .result < rowLimit
-placed c = small (c .place .result) (c .before .before .loop .row) (c .place .ensures)
-
 mul-step : tie.Need-mul-step Inv-loop μ-loop
-mul-step c = omega (arith, placed c)
+mul-step c = omega (arith, placed (c .place .result) (c .before .before .loop .row) (c .place .ensures))
 
 element-copy-out-step : tie.Need-element-copy-out-step Inv-loop μ-loop
-element-copy-out-step c = placed c
+element-copy-out-step c = placed (c .place .result) (c .before .before .loop .row) (c .place .ensures)
 
 by-requires : tie.Need-by-requires Inv-loop μ-loop
 by-requires c κs = tt
@@ -77,9 +69,9 @@ returns c =
     let at-loop = at-by .before .before .before .before in
     let args = at-loop .before .args in
     record {
-      means = λ m gathers rows steps took.
-          lines-all rows steps (args .text) (at-loop .loop .row) (at-loop .loop .lines) (at-loop .loop .inv m gathers rows steps took)
-          (past-rows rows steps (at-loop .loop .row) (took-reads rows steps m took (at-loop .loop .row) _
+      means = λ m gathers rows steps stands.
+          lines-all rows steps (args .text) (at-loop .loop .row) (at-loop .loop .lines) (at-loop .loop .inv m gathers rows steps stands)
+          (past-rows rows steps (at-loop .loop .row) (stands-reads rows steps m stands (at-loop .loop .row) _
           (rw (c .enum-told .given .1) at (reads at-by m gathers))));
     }
 
@@ -95,19 +87,19 @@ loop-again c =
     let at-by = known .before .before in
     let at-loop = at-by .before .before .before .before in
     let args = at-loop .before .args in
-    λ m gathers rows steps took.
+    λ m gathers rows steps stands.
     rw (c .row-line .ensures)
-    (lines-more rows steps (args .text) (at-loop .loop .row) (at-loop .loop .lines) (at-loop .loop .inv m gathers rows steps took) _
-    (took-reads rows steps m took (at-loop .loop .row) _ (rw (known .verdict .given .1) at (reads at-by m gathers))))
+    (lines-more rows steps (args .text) (at-loop .loop .row) (at-loop .loop .lines) (at-loop .loop .inv m gathers rows steps stands) _
+    (stands-reads rows steps m stands (at-loop .loop .row) _ (rw (known .verdict .given .1) at (reads at-by m gathers))))
 
 returns-2 : tie.Need-returns-2 Inv-loop μ-loop
 returns-2 c =
     let at-loop = c .before in
     let args = at-loop .before .args in
     record {
-      means = λ m gathers rows steps took.
-          lines-all rows steps (args .text) (at-loop .loop .row) (at-loop .loop .lines) (at-loop .loop .inv m gathers rows steps took)
-          (omega (arith, gathers .len-is, took-follows rows steps m took .len-is));
+      means = λ m gathers rows steps stands.
+          lines-all rows steps (args .text) (at-loop .loop .row) (at-loop .loop .lines) (at-loop .loop .inv m gathers rows steps stands)
+          (omega (arith, gathers .len-is, stands-follows rows steps m stands .len-is));
     }
 
 pub row-lines-spec : {M : Type 1} → statement M

@@ -1,9 +1,9 @@
 // The monitor lent to a host in C: functions on numbers, bytes and references alone. The numbers are those of specs/Lent.antt.
-use constraint::Call;
 use constraint::Verdict;
-use inplace::index;
-use inplace::index::Indexed;
-use monitor::Monitor;
+use lent::Words;
+use lent::calls;
+use lent::fresh;
+use machine::words;
 use monitor::RowVerdict;
 use monitor::verdicts;
 ghost use mathlib.Core.Path.{_≡_};
@@ -11,14 +11,14 @@ ghost use Rattle.constraint.specs.declared.Call.{Call};
 ghost use Rattle.monitor.specs.Contract.{verdictIn, stepIn};
 ghost use Rattle.monitor.specs.Parts.{verdictBy};
 ghost use Rattle.constraint.specs.Run.{asks, withdraws};
-ghost use Rattle.inplace.specs.Index.{Takes};
-ghost use Rattle.opening.specs.Begins.{Begins};
+ghost use Rattle.lent.specs.Contract.{Takes, ReadOff};
+ghost use Rattle.lent.specs.Fresh.{Begins};
 ghost use Rattle.delkuthi.specs.Lent.{wordOf, WordOfVerdict, StepOfVerdict, NumberOfRows, version, monitorSize};
 
 // The version of the library: 0.5.0 as major * 1,000,000 + minor * 1,000 + patch.
 pub const VERSION: u32 = 5000;
-// The bytes of a monitor with its index.
-pub const MONITOR_SIZE: u64 = 28768;
+// The bytes of a monitor.
+pub const MONITOR_SIZE: u64 = 35840;
 
 // The version of the library, for a host to compare with that of its header.
 #[no_mangle]
@@ -36,12 +36,13 @@ pub extern "C" fn delkuthi_monitor_size() -> u64
     MONITOR_SIZE
 }
 
-// Makes the monitor fresh over a table's bytes and answers 0; on a refusal answers 256 times its place and its number, and leaves the monitor as it was.
+// Makes the monitor fresh over a table's bytes and answers 0; on a refusal answers 256 times its place and its number, and leaves the monitor as it
+// was.
 #[no_mangle]
-pub extern "C" fn delkuthi_fresh(m: &mut Indexed, table: &[u8]) -> u64
+pub extern "C" fn delkuthi_fresh(m: &mut Words, table: &[u8]) -> u64
     ensures { λ r. ⌜ Begins (now (table .entry)) (now (m .entry)) r (now (m .exit)) ⌝ }
 {
-    opening::fresh(m, table)
+    fresh::fresh(m, table)
 }
 
 // The word for each verdict, and the one for "there is no row of that number".
@@ -83,68 +84,68 @@ fn step_by(row: u64, len: usize, closed: u64, broken: u64) -> u64
 
 // An event of a kind at a time: 0 if it is taken, else the number of its refusal.
 #[no_mangle]
-pub extern "C" fn delkuthi_event(m: &mut Indexed, kind: u8, time: u64) -> u8
+pub extern "C" fn delkuthi_event(m: &mut Words, kind: u8, time: u64) -> u8
     ensures { λ r. ⌜ Takes (now (m .entry)) (asks (Call.Event kind time)) r (now (m .exit)) ⌝ }
 {
-    index::take(m, Call::Event { kind, time })
+    calls::event(m, kind, time)
 }
 
 // An event of a coloured kind and a colour at a time: 0 if it is taken, else the number of its refusal.
 #[no_mangle]
-pub extern "C" fn delkuthi_coloured_event(m: &mut Indexed, kind: u8, colour: u8, time: u64) -> u8
+pub extern "C" fn delkuthi_coloured_event(m: &mut Words, kind: u8, colour: u8, time: u64) -> u8
     ensures { λ r. ⌜ Takes (now (m .entry)) (asks (Call.ColouredEvent kind colour time)) r (now (m .exit)) ⌝ }
 {
-    index::take(m, Call::ColouredEvent { kind, colour, time })
+    calls::coloured_event(m, kind, colour, time)
 }
 
 // A tick to a time: 0 if it is taken, else the number of its refusal.
 #[no_mangle]
-pub extern "C" fn delkuthi_tick(m: &mut Indexed, time: u64) -> u8
+pub extern "C" fn delkuthi_tick(m: &mut Words, time: u64) -> u8
     ensures { λ r. ⌜ Takes (now (m .entry)) (asks (Call.Tick time)) r (now (m .exit)) ⌝ }
 {
-    index::take(m, Call::Tick { time })
+    calls::tick(m, time)
 }
 
 // The close: 0 if it is taken, else the number of its refusal.
 #[no_mangle]
-pub extern "C" fn delkuthi_close(m: &mut Indexed) -> u8
+pub extern "C" fn delkuthi_close(m: &mut Words) -> u8
     ensures { λ r. ⌜ Takes (now (m .entry)) (asks Call.Close) r (now (m .exit)) ⌝ }
 {
-    index::take(m, Call::Close)
+    calls::close(m)
 }
 
 // The last step is withdrawn: 0, or 21 where nothing may be withdrawn.
 #[no_mangle]
-pub extern "C" fn delkuthi_withdraw(m: &mut Indexed) -> u8
+pub extern "C" fn delkuthi_withdraw(m: &mut Words) -> u8
     ensures { λ r. ⌜ Takes (now (m .entry)) withdraws r (now (m .exit)) ⌝ }
 {
-    index::withdraw(m)
+    calls::withdraw(m)
 }
 
 // The word for what a row reads: OPEN, KEPT, BROKEN, or NO_ROW.
 #[no_mangle]
-pub extern "C" fn delkuthi_row_verdict(m: &Monitor, row: u64) -> u8
-    ensures { λ r. ⌜ WordOfVerdict (now (m .entry)) row r ⌝ }
+pub extern "C" fn delkuthi_row_verdict(m: &Words, row: u64) -> u8
+    ensures { λ r. ⌜ ReadOff (now (m .entry)) (λ n. WordOfVerdict n row) r ⌝ }
 {
     let at = verdicts::place(row);
-    let broken = m.rows[at].now.broken;
-    word_by(row, m.len, m.closed, broken)
+    let broken = m[at][1][words::BROKEN];
+    word_by(row, lent::held(m), lent::closed(m), broken)
 }
 
 // The step that broke a row: 0 where none did, and where there is no row of that number.
 #[no_mangle]
-pub extern "C" fn delkuthi_row_step(m: &Monitor, row: u64) -> u64
-    ensures { λ r. ⌜ StepOfVerdict (now (m .entry)) row r ⌝ }
+pub extern "C" fn delkuthi_row_step(m: &Words, row: u64) -> u64
+    ensures { λ r. ⌜ ReadOff (now (m .entry)) (λ n. StepOfVerdict n row) r ⌝ }
 {
     let at = verdicts::place(row);
-    let broken = m.rows[at].now.broken;
-    step_by(row, m.len, m.closed, broken)
+    let broken = m[at][1][words::BROKEN];
+    step_by(row, lent::held(m), lent::closed(m), broken)
 }
 
 // The number of rows.
 #[no_mangle]
-pub extern "C" fn delkuthi_rows(m: &Monitor) -> u64
-    ensures { λ r. ⌜ NumberOfRows (now (m .entry)) r ⌝ }
+pub extern "C" fn delkuthi_rows(m: &Words) -> u64
+    ensures { λ r. ⌜ ReadOff (now (m .entry)) NumberOfRows r ⌝ }
 {
-    m.len as u64
+    lent::held(m) as u64
 }

@@ -1,7 +1,7 @@
 -- By cases on the verdict.
 use borrow.Author.Needs.{needs}
-use Rattle.delkuthi.proofs.lent.step_by.Statement.{statement}
-use Rattle.delkuthi.proofs.lent.step_by.Tie as tie
+use Rattle.delkuthi.proofs.host.word_by.Statement.{statement}
+use Rattle.delkuthi.proofs.host.word_by.Tie as tie
 
 by-requires : tie.Need-by-requires
 by-requires c κs = search needs
@@ -18,8 +18,8 @@ enum-told-2 c = search needs
 enum-told-3 : tie.Need-enum-told-3
 enum-told-3 c = search needs
 
-enum-known-v-2 : tie.Need-enum-known-v-2
-enum-known-v-2 c = search needs
+enum-told-4 : tie.Need-enum-told-4
+enum-told-4 c = search needs
 
 returns : tie.Need-returns
 returns c = rw (← c .before .before .by .ensures, c .enum-told .given .1)
@@ -31,7 +31,7 @@ returns-3 : tie.Need-returns-3
 returns-3 c = let reads = c .before .before .before in rw (← reads .before .before .by .ensures, reads .v .given .1, c .enum-told3 .given .1)
 
 returns-4 : tie.Need-returns-4
-returns-4 c = let reads = c .before .before .before .before in rw (← reads .before .before .by .ensures, reads .v .given .1, c .before .v2 .given .1)
+returns-4 c = let reads = c .before .before .before in rw (← reads .before .before .by .ensures, reads .v .given .1, c .enum-told4 .given .1)
 
-pub step-by-spec : {M : Type 1} → statement M
-step-by-spec = tie.close (tie.spec by-requires enum-told enum-known-v enum-told-2 enum-told-3 enum-known-v-2 returns returns-2 returns-3 returns-4)
+pub word-by-spec : {M : Type 1} → statement M
+word-by-spec = tie.close (tie.spec by-requires enum-told enum-known-v enum-told-2 enum-told-3 enum-told-4 returns returns-2 returns-3 returns-4)

@@ -1,0 +1,102 @@
+-- What is read of the words of a lent monitor is what the monitor that lies there says: each of its numbers has a place of its own.
+use Prim.Native.Nat.{ℕ, _-_, _<_, min}
+use mathlib.Core.Path.{_≡_, refl, sym, ap, subst, _∙_}
+use mathlib.Core.List.{List, []}
+use native.Mathlib.Omega.{arith}
+use lib.ListN.{length, getD}
+use Rattle.constraint.specs.Limits.{rowLimit}
+use Rattle.machine.specs.Words.{rowWords, numberWords}
+use Rattle.row.specs.Stored as Stored
+use Rattle.constraint.specs.Run.{Request}
+use Rattle.monitor.specs.Machine.{noRow}
+use Rattle.monitor.specs.Parts.{placeOf, verdictBy}
+use Rattle.monitor.specs.Contract.{resultOf, Steps}
+use Rattle.monitor.specs.declared.Stepped.{Stepped}
+use Rattle.monitor.specs.declared.Monitor.{Monitor}
+use Rattle.monitor.proofs.RowVerdicts.{place-small}
+use Rattle.lent.specs.Layout.{Lent, Words, wordsOf, Shaped, heldRows, rowAt, keptAt}
+use Rattle.lent.specs.Steps.{leaves}
+use Rattle.lent.specs.Contract.{answerFrom, steppedFrom, Takes, Holds}
+use Rattle.lent.proofs.Blocks.{row-lies}
+use Rattle.lent.proofs.Parts.{number-at}
+
+-- what crate lent says of the words, whatever monitor they are
+abbrev pub Said : Words → (Lent → Type 0) → Type 0
+Said words Says = (x : Lent) → words ≡ wordsOf x → Shaped x → Says x
+
+module _ (words : Words) (m : Monitor) (holds : Holds words m) where
+  abbrev h : Lent
+  h = holds .lent
+
+  is : h .monitor ≡ m
+  is = holds .monitor-is
+
+  pub rows-there : length (m .rows) ≡ rowLimit
+  rows-there = ap (λ (x : Monitor). length (x .rows)) (sym is) ∙ holds .indexes .shaped .rows-there
+
+  pub len-read : (n : ℕ) → Said words (λ x. n ≡ heldRows (x .monitor)) → n ≡ m .len
+  len-read n says =
+      let here : n ≡ min (h .monitor .len) rowLimit = says h (holds .words-are) (holds .indexes .shaped) in
+      subst (λ (x : Monitor). n ≡ x .len) is (omega (arith, here, holds .indexes .sound .rows-few))
+
+  pub held-read : (n : ℕ) → Said words (λ x. n ≡ heldRows (x .monitor)) → n ≡ heldRows m
+  held-read n says = subst (λ (x : Monitor). n ≡ heldRows x) is (says h (holds .words-are) (holds .indexes .shaped))
+
+  pub closed-read : (n : ℕ) → Said words (λ x. n ≡ 1 - (1 - x .monitor .closed)) → n ≡ m .closed
+  closed-read n says =
+      let here : n ≡ 1 - (1 - h .monitor .closed) = says h (holds .words-are) (holds .indexes .shaped) in
+      subst (λ (x : Monitor). n ≡ x .closed) is (omega (arith, here, holds .indexes .sound .closed-mark))
+
+  pub count-read : getD (getD (getD words 32 []) 0 []) 1 0 ≡ m .count
+  count-read = number-at h (holds .indexes .shaped) words (holds .words-are) 1 ∙ ap (λ (x : Monitor). x .count) is
+
+  module _ (i : ℕ) (small : i < 32) where
+    number-read : (k : ℕ) → getD (getD (getD words i []) 1 []) k 0
+        ≡ getD (getD (Stored.wordsOf (rowAt (h .monitor) i) (keptAt (h .monitor) i)) 1 []) k 0
+    number-read k = ap (λ (w : List (List ℕ)). getD (getD w 1 []) k 0) (row-lies h (holds .indexes .shaped) words (holds .words-are) i small)
+
+    pub broken-read : getD (getD (getD words i []) 1 []) 19 0 ≡ getD (m .rows) i noRow .now .broken
+    unfolding Stored.wordsOf rowWords numberWords
+    broken-read = number-read 19 ∙ ap (λ (x : Monitor). getD (x .rows) i noRow .now .broken) is
+
+    pub form-read : getD (getD (getD words i []) 1 []) 0 0 ≡ getD (m .rows) i noRow .rule .form
+    unfolding Stored.wordsOf rowWords numberWords
+    form-read = number-read 0 ∙ ap (λ (x : Monitor). getD (x .rows) i noRow .rule .form) is
+
+-- ---- a row's verdict
+
+-- the place of a row is one of 32
+pub placed : (at row : ℕ) → at ≡ placeOf row → at < rowLimit
+placed at row e = subst (λ (k : ℕ). k < rowLimit) (sym e) (place-small row)
+
+-- what it is read off
+pub verdict-read : (words : Words) (m : Monitor) → Holds words m → (row at len closed : ℕ) → at ≡ placeOf row
+    → Said words (λ x. len ≡ heldRows (x .monitor)) → Said words (λ x. closed ≡ 1 - (1 - x .monitor .closed))
+    → verdictBy row len closed (getD (getD (getD words at []) 1 []) 19 0)
+    ≡ verdictBy row (m .len) (m .closed) (getD (m .rows) (placeOf row) noRow .now .broken)
+verdict-read words m holds row at len closed there counted marked =
+    let broken : ℕ = getD (getD (getD words at []) 1 []) 19 0 in
+    ap (λ (n : ℕ). verdictBy row n closed broken) (len-read words m holds len counted)
+    ∙ ap (λ (n : ℕ). verdictBy row (m .len) n broken) (closed-read words m holds closed marked)
+    ∙ ap (verdictBy row (m .len) (m .closed))
+    (broken-read words m holds at (placed at row there) ∙ ap (λ (k : ℕ). getD (m .rows) k noRow .now .broken) there)
+
+-- ---- a call on them
+
+-- what a call on the words answers and leaves there is what the machine gives
+pub call-steps : {entry exit : Words} {r : Request} {number : ℕ} (m : Monitor) → Holds entry m → Takes entry r number exit
+    → (m′ : Monitor) × Steps m r (steppedFrom number m′) × Holds exit m′
+call-steps {r = r} {number = number} m holds takes =
+    let h = holds .lent in
+    let one = takes .steps h (holds .words-are) (holds .indexes) in
+    (
+      leaves h r .monitor,
+      subst (λ (x : Monitor). Steps x r (steppedFrom number (leaves h r .monitor))) (holds .monitor-is) (one .0),
+      record { lent = leaves h r; words-are = takes .stores h (holds .words-are) (holds .indexes .shaped) .1; indexes = one .1; monitor-is = refl },
+    )
+
+pub call-holds : {entry exit : Words} {r : Request} {number : ℕ} (m : Monitor) → Holds entry m → Takes entry r number exit
+    → (answerFrom number ≡ resultOf m r .answer) × Holds exit (resultOf m r .monitor)
+call-holds {exit = exit} m holds takes =
+    let one = call-steps m holds takes in
+    (ap (λ (s : Stepped). s .answer) (one .1 .equals), subst (Holds exit) (ap (λ (s : Stepped). s .monitor) (one .1 .equals)) (one .2))

@@ -1,0 +1,13 @@
+-- No monitor has more than 32 rows, at which their number is cut.
+use borrow.Author.Needs.{needs}
+use denote.Ref.{now}
+use Rattle.delkuthi.proofs.Lying.{len-read}
+use Rattle.delkuthi.proofs.Numbers.{rows-kept}
+use Rattle.delkuthi.proofs.host.delkuthi_rows.Statement.{statement}
+use Rattle.delkuthi.proofs.host.delkuthi_rows.Tie as tie
+
+returns : tie.Need-returns
+returns c m holds = rows-kept m (c .held .result) (len-read (now (c .before .args .m)) m holds (c .held .result) (c .held .ensures .1))
+
+pub delkuthi-rows-spec : {M : Type 1} → statement M
+delkuthi-rows-spec = tie.close (tie.spec (λ c κs. search needs) returns)

@@ -372,6 +372,11 @@ fn the_header_in_cpp() {
     assert_eq!(cpp_host("header.cpp").run_in_valgrind::<&str>(&[]), Ran::new(0, ""));
 }
 
+#[test]
+fn the_classes_in_cpp() {
+    assert_eq!(cpp17_host("classes.cpp").run_in_valgrind::<&str>(&[]), Ran::new(0, ""));
+}
+
 /// A longer drive than the examples', in both directions of the interface: the loop and the report agree.
 #[test]
 fn loop_and_report_agree() {

@@ -1,9 +1,7 @@
 //! `docs/CONTRACT.md` as data: its clauses, and its examples to be executed.
 
 use crate::places::root;
-use model::types::{
-    Burst, Delay, ExecutionTime, Order, Reaction, Repeat, Repetition, Sporadic, StrongDelay, StrongSynchronization,
-};
+use model::types::Given;
 use model::{Constraint, NO_LIMIT, Step};
 use std::collections::HashMap;
 use std::fs;
@@ -73,72 +71,37 @@ fn example(lines: &[&str]) -> Example {
     Example { rows, recordings }
 }
 
-/// The row that a line names, if it begins with the name of a type.
+/// The row that a line names, if it begins with the name of a type: "Repeat event 0 span 1 lower 4 upper none".
 fn row(line: &str) -> Option<Constraint> {
     let (name, rest) = line.split_once(' ').filter(|(name, _)| name.starts_with(char::is_uppercase))?;
-    if name == "StrongSynchronization" {
-        return Some(synchronization(rest));
-    }
-    let words: Vec<&str> = rest.split(' ').collect();
-    let fields: HashMap<&str, u64> = words.chunks(2).map(|pair| (pair[0], number(pair[1]))).collect();
-    let time = |name: &str| *fields.get(name).unwrap_or_else(|| panic!("no {name} in {line}"));
-    let byte = |name: &str| u8::try_from(time(name)).unwrap_or_else(|_| panic!("{name} in {line}"));
-    let kinds = || (byte("source"), byte("target"));
-    let bounds = || (time("lower"), time("upper"));
-    Some(match name {
-        "Delay" => {
-            let ((source, target), (lower, upper)) = (kinds(), bounds());
-            Constraint::Delay(Delay { source, target, lower, upper })
-        }
-        "StrongDelay" => {
-            let ((source, target), (lower, upper)) = (kinds(), bounds());
-            Constraint::StrongDelay(StrongDelay { source, target, lower, upper })
-        }
-        "Repeat" => {
-            let (lower, upper) = bounds();
-            Constraint::Repeat(Repeat { event: byte("event"), span: byte("span"), lower, upper })
-        }
-        "Sporadic" => {
-            let (lower, upper) = bounds();
-            let (jitter, minimum) = (time("jitter"), time("minimum"));
-            Constraint::Sporadic(Sporadic { event: byte("event"), lower, upper, jitter, minimum })
-        }
-        "Burst" => {
-            let (length, minimum) = (time("length"), time("minimum"));
-            Constraint::Burst(Burst { event: byte("event"), maximum: byte("maximum"), length, minimum })
-        }
-        "Reaction" => Constraint::Reaction(Reaction {
-            stimulus: byte("stimulus"),
-            response: byte("response"),
-            minimum: time("minimum"),
-            maximum: time("maximum"),
-        }),
-        "Order" => Constraint::Order(Order { source: byte("source"), target: byte("target") }),
-        "ExecutionTime" => {
-            let (start, stop, preempt, resume) = (byte("start"), byte("stop"), byte("preempt"), byte("resume"));
-            let (lower, upper) = bounds();
-            Constraint::ExecutionTime(ExecutionTime { start, stop, preempt, resume, lower, upper })
-        }
-        "Repetition" => {
-            let (lower, upper) = bounds();
-            Constraint::Repetition(Repetition {
-                event: byte("event"),
-                span: byte("span"),
-                lower,
-                upper,
-                jitter: time("jitter"),
-            })
-        }
-        _ => panic!("no type: {line}"),
-    })
+    let number = Constraint::number_of(name).unwrap_or_else(|| panic!("no type: {line}"));
+    Some(Constraint::read(number, &mut Words::of(rest)).unwrap_or_else(|| panic!("not its fields: {line}")))
 }
 
-/// "kinds 0 1 2 tolerance 5".
-fn synchronization(text: &str) -> Constraint {
-    let (kinds, tolerance) = text.split_once(" tolerance ").expect("a tolerance");
-    let kinds = kinds.strip_prefix("kinds ").expect("kinds");
-    let kinds = kinds.split(' ').map(|kind| kind.parse().expect("a kind")).collect();
-    Constraint::StrongSynchronization(StrongSynchronization { kinds, tolerance: number(tolerance) })
+/// The numbers behind each field's name.
+struct Words<'a>(HashMap<&'a str, Vec<u64>>);
+
+impl Words<'_> {
+    fn of(text: &str) -> Words<'_> {
+        let is_name = |word: &str| word != "none" && word.starts_with(char::is_alphabetic);
+        let words: Vec<&str> = text.split(' ').collect();
+        let groups = words.chunk_by(|_, next| !is_name(next));
+        Words(groups.map(|group| (group[0], group[1..].iter().map(|word| number(word)).collect())).collect())
+    }
+}
+
+impl Given for Words<'_> {
+    fn byte(&mut self, name: &str) -> Option<u8> {
+        self.time(name).and_then(|value| u8::try_from(value).ok())
+    }
+
+    fn time(&mut self, name: &str) -> Option<u64> {
+        self.0.get(name).filter(|values| values.len() == 1).map(|values| values[0])
+    }
+
+    fn kinds(&mut self, name: &str) -> Option<Vec<u8>> {
+        self.0.get(name)?.iter().map(|kind| u8::try_from(*kind).ok()).collect()
+    }
 }
 
 fn number(word: &str) -> u64 {

@@ -2,7 +2,7 @@
 
 use crate::limits::ROW_LIMIT;
 use crate::questions::{Refusal, ask, fields_questions, rows_questions};
-use crate::types::{Constraint, Field};
+use crate::types::{Constraint, Field, Given};
 
 /// A row's bytes (§4.3), whatever stands in the fields.
 fn row_bytes(row: &Constraint) -> Vec<u8> {
@@ -70,28 +70,25 @@ pub(crate) fn body_at_start(bytes: &[u8]) -> Option<&[u8]> {
 
 /// Question 4 (§8.4): the row that a body stands for, if it is one of a type's, neither shorter nor longer.
 fn row_of(body: &[u8]) -> Option<Constraint> {
-    let mut bytes = Reader { left: body };
-    let number = bytes.byte()?;
-    let row = Constraint::read(number, &mut bytes)?;
-    (bytes.left.is_empty() && row.fields().iter().all(Field::number_of_kinds_fits)).then_some(row)
+    let (number, mut left) = body.split_first()?;
+    let row = Constraint::read(*number, &mut left)?;
+    (left.is_empty() && row.fields().iter().all(Field::number_of_kinds_fits)).then_some(row)
 }
 
-/// Bytes from which a row's fields are read, one after the other.
-pub struct Reader<'a> {
-    left: &'a [u8],
-}
-
-impl Reader<'_> {
-    /// The next byte, if there is one.
-    pub fn byte(&mut self) -> Option<u8> {
-        self.left.split_off_first().copied()
+/// The bytes of a row's fields, one after the other (§4.4).
+impl Given for &[u8] {
+    fn byte(&mut self, _name: &str) -> Option<u8> {
+        self.split_off_first().copied()
     }
 
-    /// The time in the next eight bytes, if they are there (§4.4).
-    pub fn time(&mut self) -> Option<u64> {
-        let (bytes, left) = self.left.split_first_chunk::<8>()?;
-        self.left = left;
+    fn time(&mut self, _name: &str) -> Option<u64> {
+        let (bytes, left) = self.split_first_chunk::<8>()?;
+        *self = left;
         Some(u64::from_be_bytes(*bytes))
+    }
+
+    fn kinds(&mut self, name: &str) -> Option<Vec<u8>> {
+        (0..self.byte("n")?).map(|_| self.byte(name)).collect()
     }
 }
 

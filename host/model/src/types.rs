@@ -27,13 +27,12 @@ use crate::limits::{FIRST_COLOURED, LAST_COLOUR, LAST_TIME, NO_LIMIT, stream};
 use crate::random::Random;
 use crate::random::tables::Draw;
 use crate::steps::{Events, History};
-use crate::table::Reader;
 
 /// What the model says of a row of one type. The functions but [`RowType::fields`] and those on bytes and random rows are for
 /// rows that pass questions 4 to 7 and 18.
 pub trait RowType {
-    /// The row whose fields stand at the start of the bytes, if they do (§4.5).
-    fn read(bytes: &mut Reader) -> Option<Self>
+    /// The row of the fields that are given, if they are, asked for in the order of the bytes (§4.5).
+    fn read(given: &mut dyn Given) -> Option<Self>
     where
         Self: Sized;
 
@@ -87,6 +86,16 @@ pub trait RowType {
 
     /// Puts something odd in one field.
     fn damage(&mut self, random: &mut Random);
+}
+
+/// What the fields of a row are read from: bytes, or words with the fields' names.
+pub trait Given {
+    /// The field of this name, of one byte.
+    fn byte(&mut self, name: &str) -> Option<u8>;
+    /// The time of this name.
+    fn time(&mut self, name: &str) -> Option<u64>;
+    /// The kinds of this name, any number of them.
+    fn kinds(&mut self, name: &str) -> Option<Vec<u8>>;
 }
 
 /// Streams, and whether events of theirs are as is asked.
@@ -210,12 +219,17 @@ macro_rules! row_types {
                 match self { $(Constraint::$name(row) => row,)* }
             }
 
-            /// The row of the type of this number whose fields stand at the start of the bytes, if it is a type's and they do.
-            pub fn read(number: u8, bytes: &mut Reader) -> Option<Constraint> {
+            /// The row of the type of this number with the fields that are given, if it is a type's and they are.
+            pub fn read(number: u8, given: &mut dyn Given) -> Option<Constraint> {
                 match number {
-                    $($number => $name::read(bytes).map(Constraint::$name),)*
+                    $($number => $name::read(given).map(Constraint::$name),)*
                     _ => None,
                 }
+            }
+
+            /// The number of the type of this name.
+            pub fn number_of(name: &str) -> Option<u8> {
+                [$((stringify!($name), $number)),*].into_iter().find(|(one, _)| *one == name).map(|(_, number)| number)
             }
 
             /// An accepted row of the type of this number, if it is a type's.

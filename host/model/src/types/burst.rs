@@ -1,12 +1,11 @@
 //! Burst (§5.5): at most maximum events in each length.
 
-use super::{Constraint, Field, RowType};
+use super::{Constraint, Field, Given, RowType};
 use crate::limits::{NO_LIMIT, SPAN_LIMIT};
 use crate::meets::{at_least_apart, spans_apart};
 use crate::random::Random;
 use crate::random::tables::{Draw, odd_kind, odd_span, odd_time};
 use crate::steps::Events;
-use crate::table::Reader;
 
 /// A row of type 5.
 #[derive(Clone, Debug, PartialEq, Eq)]
@@ -18,8 +17,13 @@ pub struct Burst {
 }
 
 impl RowType for Burst {
-    fn read(bytes: &mut Reader) -> Option<Burst> {
-        Some(Burst { event: bytes.byte()?, maximum: bytes.byte()?, length: bytes.time()?, minimum: bytes.time()? })
+    fn read(given: &mut dyn Given) -> Option<Burst> {
+        Some(Burst {
+            event: given.byte("event")?,
+            maximum: given.byte("maximum")?,
+            length: given.time("length")?,
+            minimum: given.time("minimum")?,
+        })
     }
 
     fn fields(&self) -> Vec<Field> {

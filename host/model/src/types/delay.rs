@@ -1,6 +1,6 @@
 //! Delay (§5.1): after each source a target.
 
-use super::{Constraint, Field, RowType};
+use super::{Constraint, Field, Given, RowType};
 use crate::continuation::Event;
 use crate::limits::NO_LIMIT;
 use crate::meets::apart;
@@ -8,7 +8,6 @@ use crate::open::earliest;
 use crate::random::Random;
 use crate::random::tables::{Draw, odd_kind, odd_time};
 use crate::steps::{Events, History};
-use crate::table::Reader;
 
 /// A row of type 1.
 #[derive(Clone, Debug, PartialEq, Eq)]
@@ -35,8 +34,13 @@ impl Delay {
 }
 
 impl RowType for Delay {
-    fn read(bytes: &mut Reader) -> Option<Delay> {
-        Some(Delay { source: bytes.byte()?, target: bytes.byte()?, lower: bytes.time()?, upper: bytes.time()? })
+    fn read(given: &mut dyn Given) -> Option<Delay> {
+        Some(Delay {
+            source: given.byte("source")?,
+            target: given.byte("target")?,
+            lower: given.time("lower")?,
+            upper: given.time("upper")?,
+        })
     }
 
     fn fields(&self) -> Vec<Field> {

@@ -1,11 +1,10 @@
 //! ExecutionTime (§5.8): from each start to its stop, without what lies from preempt to resume.
 
-use super::{Constraint, Field, RowType};
+use super::{Constraint, Field, Given, RowType};
 use crate::continuation::Event;
 use crate::random::Random;
 use crate::random::tables::{Draw, odd_kind, odd_time};
 use crate::steps::{Events, History};
-use crate::table::Reader;
 
 /// A row of type 8.
 #[derive(Clone, Debug, PartialEq, Eq)]
@@ -27,9 +26,15 @@ impl ExecutionTime {
 }
 
 impl RowType for ExecutionTime {
-    fn read(bytes: &mut Reader) -> Option<ExecutionTime> {
-        let (start, stop, preempt, resume) = (bytes.byte()?, bytes.byte()?, bytes.byte()?, bytes.byte()?);
-        Some(ExecutionTime { start, stop, preempt, resume, lower: bytes.time()?, upper: bytes.time()? })
+    fn read(given: &mut dyn Given) -> Option<ExecutionTime> {
+        Some(ExecutionTime {
+            start: given.byte("start")?,
+            stop: given.byte("stop")?,
+            preempt: given.byte("preempt")?,
+            resume: given.byte("resume")?,
+            lower: given.time("lower")?,
+            upper: given.time("upper")?,
+        })
     }
 
     fn fields(&self) -> Vec<Field> {

@@ -1,12 +1,11 @@
 //! Order (§5.6): as many targets as sources, none before its source.
 
-use super::{Constraint, Field, RowType};
+use super::{Constraint, Field, Given, RowType};
 use crate::continuation::Event;
 use crate::open::partners;
 use crate::random::Random;
 use crate::random::tables::{Draw, odd_kind};
 use crate::steps::{Events, History};
-use crate::table::Reader;
 
 /// A row of type 6.
 #[derive(Clone, Debug, PartialEq, Eq)]
@@ -16,8 +15,8 @@ pub struct Order {
 }
 
 impl RowType for Order {
-    fn read(bytes: &mut Reader) -> Option<Order> {
-        Some(Order { source: bytes.byte()?, target: bytes.byte()? })
+    fn read(given: &mut dyn Given) -> Option<Order> {
+        Some(Order { source: given.byte("source")?, target: given.byte("target")? })
     }
 
     fn fields(&self) -> Vec<Field> {

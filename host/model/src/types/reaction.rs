@@ -1,13 +1,12 @@
 //! Reaction (§5.9): after each stimulus the first response of its colour.
 
-use super::{Constraint, Demand, Field, RowType};
+use super::{Constraint, Demand, Field, Given, RowType};
 use crate::continuation::Event;
 use crate::limits::{FIRST_COLOURED, LAST_COLOUR, LAST_KIND, stream};
 use crate::meets::between;
 use crate::random::Random;
 use crate::random::tables::{Draw, different, odd_kind, odd_time};
 use crate::steps::{Events, History};
-use crate::table::Reader;
 
 /// A row of type 9.
 #[derive(Clone, Debug, PartialEq, Eq)]
@@ -36,9 +35,13 @@ impl Reaction {
 }
 
 impl RowType for Reaction {
-    fn read(bytes: &mut Reader) -> Option<Reaction> {
-        let (stimulus, response) = (bytes.byte()?, bytes.byte()?);
-        Some(Reaction { stimulus, response, minimum: bytes.time()?, maximum: bytes.time()? })
+    fn read(given: &mut dyn Given) -> Option<Reaction> {
+        Some(Reaction {
+            stimulus: given.byte("stimulus")?,
+            response: given.byte("response")?,
+            minimum: given.time("minimum")?,
+            maximum: given.time("maximum")?,
+        })
     }
 
     fn fields(&self) -> Vec<Field> {

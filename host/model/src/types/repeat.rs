@@ -1,12 +1,11 @@
 //! Repeat (§5.3): from each event to the one span places on.
 
-use super::{Constraint, Field, RowType};
+use super::{Constraint, Field, Given, RowType};
 use crate::limits::SPAN_LIMIT;
 use crate::meets::{not_later, spans_apart};
 use crate::random::Random;
 use crate::random::tables::{Draw, odd_kind, odd_span, odd_time};
 use crate::steps::Events;
-use crate::table::Reader;
 
 /// A row of type 3.
 #[derive(Clone, Debug, PartialEq, Eq)]
@@ -26,8 +25,13 @@ impl Repeat {
 }
 
 impl RowType for Repeat {
-    fn read(bytes: &mut Reader) -> Option<Repeat> {
-        Some(Repeat { event: bytes.byte()?, span: bytes.byte()?, lower: bytes.time()?, upper: bytes.time()? })
+    fn read(given: &mut dyn Given) -> Option<Repeat> {
+        Some(Repeat {
+            event: given.byte("event")?,
+            span: given.byte("span")?,
+            lower: given.time("lower")?,
+            upper: given.time("upper")?,
+        })
     }
 
     fn fields(&self) -> Vec<Field> {

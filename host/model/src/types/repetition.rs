@@ -1,12 +1,11 @@
 //! Repetition (§5.10): each event at most jitter after its point, the points span places apart so far apart.
 
-use super::{Constraint, Field, RowType};
+use super::{Constraint, Field, Given, RowType};
 use crate::hidden_points::Spacing;
 use crate::limits::{NO_LIMIT, REPETITION_SPAN_LIMIT, SPAN_LIMIT};
 use crate::random::Random;
 use crate::random::tables::{Draw, odd_kind, odd_time};
 use crate::steps::Events;
-use crate::table::Reader;
 
 /// A row of type 10.
 #[derive(Clone, Debug, PartialEq, Eq)]
@@ -26,9 +25,14 @@ impl Repetition {
 }
 
 impl RowType for Repetition {
-    fn read(bytes: &mut Reader) -> Option<Repetition> {
-        let (event, span) = (bytes.byte()?, bytes.byte()?);
-        Some(Repetition { event, span, lower: bytes.time()?, upper: bytes.time()?, jitter: bytes.time()? })
+    fn read(given: &mut dyn Given) -> Option<Repetition> {
+        Some(Repetition {
+            event: given.byte("event")?,
+            span: given.byte("span")?,
+            lower: given.time("lower")?,
+            upper: given.time("upper")?,
+            jitter: given.time("jitter")?,
+        })
     }
 
     fn fields(&self) -> Vec<Field> {

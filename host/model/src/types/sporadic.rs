@@ -1,12 +1,11 @@
 //! Sporadic (§5.4): each event at most jitter after its point, the points so far apart.
 
-use super::{Constraint, Field, RowType};
+use super::{Constraint, Field, Given, RowType};
 use crate::hidden_points::Spacing;
 use crate::meets::at_least_apart;
 use crate::random::Random;
 use crate::random::tables::{Draw, odd_kind, odd_time};
 use crate::steps::Events;
-use crate::table::Reader;
 
 /// A row of type 4.
 #[derive(Clone, Debug, PartialEq, Eq)]
@@ -19,10 +18,14 @@ pub struct Sporadic {
 }
 
 impl RowType for Sporadic {
-    fn read(bytes: &mut Reader) -> Option<Sporadic> {
-        let event = bytes.byte()?;
-        let (lower, upper) = (bytes.time()?, bytes.time()?);
-        Some(Sporadic { event, lower, upper, jitter: bytes.time()?, minimum: bytes.time()? })
+    fn read(given: &mut dyn Given) -> Option<Sporadic> {
+        Some(Sporadic {
+            event: given.byte("event")?,
+            lower: given.time("lower")?,
+            upper: given.time("upper")?,
+            jitter: given.time("jitter")?,
+            minimum: given.time("minimum")?,
+        })
     }
 
     fn fields(&self) -> Vec<Field> {

@@ -1,13 +1,12 @@
 //! StrongDelay (§5.2): after each source its own target.
 
-use super::{Constraint, Field, RowType};
+use super::{Constraint, Field, Given, RowType};
 use crate::continuation::Event;
 use crate::meets::between;
 use crate::open::partners;
 use crate::random::Random;
 use crate::random::tables::{Draw, odd_kind, odd_time};
 use crate::steps::{Events, History};
-use crate::table::Reader;
 
 /// A row of type 2.
 #[derive(Clone, Debug, PartialEq, Eq)]
@@ -19,8 +18,13 @@ pub struct StrongDelay {
 }
 
 impl RowType for StrongDelay {
-    fn read(bytes: &mut Reader) -> Option<StrongDelay> {
-        Some(StrongDelay { source: bytes.byte()?, target: bytes.byte()?, lower: bytes.time()?, upper: bytes.time()? })
+    fn read(given: &mut dyn Given) -> Option<StrongDelay> {
+        Some(StrongDelay {
+            source: given.byte("source")?,
+            target: given.byte("target")?,
+            lower: given.time("lower")?,
+            upper: given.time("upper")?,
+        })
     }
 
     fn fields(&self) -> Vec<Field> {

@@ -1,12 +1,11 @@
 //! StrongSynchronization (§5.7): the events of all kinds in groups within tolerance.
 
-use super::{Constraint, Field, RowType};
+use super::{Constraint, Field, Given, RowType};
 use crate::continuation::Event;
 use crate::open::earliest;
 use crate::random::Random;
 use crate::random::tables::{Draw, odd_kind, odd_time};
 use crate::steps::{Events, History};
-use crate::table::Reader;
 
 /// A row of type 7. The n is the number of kinds.
 #[derive(Clone, Debug, PartialEq, Eq)]
@@ -16,10 +15,8 @@ pub struct StrongSynchronization {
 }
 
 impl RowType for StrongSynchronization {
-    fn read(bytes: &mut Reader) -> Option<StrongSynchronization> {
-        let n = bytes.byte()?;
-        let kinds = (0..n).map(|_| bytes.byte()).collect::<Option<Vec<u8>>>()?;
-        Some(StrongSynchronization { kinds, tolerance: bytes.time()? })
+    fn read(given: &mut dyn Given) -> Option<StrongSynchronization> {
+        Some(StrongSynchronization { kinds: given.kinds("kinds")?, tolerance: given.time("tolerance")? })
     }
 
     fn fields(&self) -> Vec<Field> {

@@ -28,6 +28,7 @@ use Rattle.delkuthi.specs.Reporting.{LeftBy, unused, used, ReportsOn, Re
 use Rattle.delkuthi.specs.LentExact.{Memory, Host, over, asked, Untouched, ReadsAs, ReadsRecorded, whole, cut, Reported, LentExact}
 use Rattle.delkuthi.proofs.Lying.{call-holds}
 use Rattle.delkuthi.proofs.Outcome.{begun-over}
+use Rattle.delkuthi.proofs.Telling.{told-reports}
 
 -- ---- what is read
 
@@ -118,13 +119,17 @@ lent-is-exact bytes before {h = h} {end = end} {requests = requests} {numbers = 
     let accepted = read-accepted bytes rows (fresh .1) in
     let f = follows (monitorOf rows) (fresh .2) host in
     let exact = monitor-is-exact .exact rows accepted requests in
+    let read = readers end (play step (monitorOf rows) requests .monitor) (f .left-there) rows requests _ (exact .0) accepted refl (exact .1) in
     record {
       rows = rows;
       read = fresh .1;
       left = exact .0;
       run = subst (λ (l : List Answer). Run rows noneLeft requests l (exact .0)) (sym (f .answers-are)) (exact .1);
       untouched = untouched-all host;
-      reads = readers end (play step (monitorOf rows) requests .monitor) (f .left-there) rows requests _ (exact .0) accepted refl (exact .1);
+      reads = read;
+      recorded = λ recording steps taken same buffer number written told.
+          told-reports bytes recording rows steps buffer number written (fresh .1) taken
+          (subst (λ (l : List Step). ReportsSteps rows l buffer number written) same (read .told buffer number written told));
       reported = λ table recording buffer number written after on. reported-as end table recording buffer number written after on;
       refused = λ table number after anew above. fresh-refused anew above;
     }

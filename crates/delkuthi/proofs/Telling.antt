@@ -11,6 +11,7 @@ use Rattle.constraint.specs.Accepted.{Accepted as Accepted-rows}
 use Rattle.constraint.specs.Run.{Request, Left}
 use Rattle.constraint.specs.Table.{ReadsTable, table-of}
 use Rattle.constraint.specs.Report.{rowLines, closedText, refusedText, EachReads, ReportOf, Reports, no-table, no-recording, all-taken}
+use Rattle.constraint.specs.Recording.{ReadsRecording, recording-of}
 use Rattle.constraint.specs.declared.Constraint.{Constraint}
 use Rattle.constraint.specs.declared.Verdict.{Verdict}
 use Rattle.text.specs.Content.{emptyText, extended, Holds as Contains, Copied}
@@ -18,6 +19,8 @@ use Rattle.text.specs.Lines.{closedLine}
 use Rattle.text.specs.declared.Text.{Text}
 use Rattle.text.proofs.Texts.{extended-append, holds-all}
 use Rattle.constraint.proofs.Accepted.{rows-room}
+use Rattle.constraint.proofs.History.{closed-close}
+use Rattle.constraint.proofs.Judged.{never}
 use Rattle.table.proofs.AcceptedRows.{read-accepted}
 use Rattle.text.proofs.Reports.{closed-append, reportLimit, closed-length, refused-length, copied-reports}
 use Rattle.row.proofs.Engine.{engine}
@@ -26,7 +29,7 @@ use Rattle.monitor.specs.declared.Monitor.{Monitor}
 use Rattle.monitor.proofs.Withdrawing.{after-follows}
 use Rattle.lent.specs.Layout.{Words}
 use Rattle.delkuthi.specs.Taking.{Stands, RecordingTakenAs}
-use Rattle.delkuthi.specs.Reporting.{LeftBy, unused, used, ReportsOn, unclosed, told, ReportsOf}
+use Rattle.delkuthi.specs.Reporting.{LeftBy, unused, used, ReportsOn, ReportsSteps, unclosed, told, ReportsOf}
 use Rattle.delkuthi.specs.Telling.{Gathers, GathersFrom, SummaryOn, Tells, TellsRows, TellsClosed, TellsAs, TellsSummary, WritesSummary}
 use Rattle.delkuthi.specs.declared.report.Summary.{Summary}
 use Rattle.table.specs.declared.ReadAnswer.{ReadAnswer}
@@ -136,6 +139,15 @@ module _ (m : Monitor) (before : List ℕ) where
                   (subst (λ (l : List ℕ). Copied l before answer written) (lines .2 .held) (writes .copied)),
             );
       }
+
+-- which is that of a recording of the same steps
+pub told-reports : (table recording : List ℕ) (rows : List Constraint) (steps : List Step) (buffer : List ℕ) (number : ℕ) (written : List ℕ)
+    → ReadsTable table (table-of rows) → ReadsRecording rows recording (recording-of steps)
+    → ReportsSteps rows (steps ++ (close ∷ [])) buffer number written → Reports table recording buffer number written
+told-reports table recording rows steps buffer number written read taken (unclosed still) = let shut = closed-close steps in never (cc)
+told-reports table recording rows steps buffer number written read taken (told verdicts shut each copied) =
+    copied-reports table recording (closedText (length (steps ++ (close ∷ []))) verdicts) buffer number written
+    (all-taken rows steps verdicts read taken each) copied
 
 -- a report has at most 1,024 bytes
 pub report-length : (table recording text : List ℕ) → ReportOf table recording text → length text ≤ reportLimit

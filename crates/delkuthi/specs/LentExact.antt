@@ -73,7 +73,8 @@ pub record Reported (before : Memory) (table recording buffer : List ℕ) (numbe
 
 -- §3.6, §3.8 and §3.13 for the exported calls, over a table's bytes and any list of calls and withdrawals: the numbers are the answers of the
 -- questions, a refused call leaves the memory as it was, and the readers answer what the rows read after the steps that are left. After the
--- list a report is as §7.22 says, and a `delkuthi_fresh` that is refused leaves the memory as it was
+-- list the report of the monitor is that of the table and a recording of the steps that are left, a report on the memory is as §7.22 says, and a
+-- `delkuthi_fresh` that is refused leaves the memory as it was
 pub record LentExact (bytes : List ℕ) {h end : Memory} {requests : List Request} {numbers : List ℕ} (host : Host h requests numbers end)
     : Type 0 where
   pub rows : List Constraint
@@ -82,6 +83,9 @@ pub record LentExact (bytes : List ℕ) {h end : Memory} {requests : List Reques
   pub run : Run rows noneLeft requests (map answerFrom numbers) left
   pub untouched : Untouched host
   pub reads : ReadsAs end rows (left .steps)
+  pub recorded : (recording : List ℕ) (steps : List Step) → ReadsRecording rows recording (recording-of steps) → left .steps ≡ steps ++ (close ∷ [])
+      → (buffer : List ℕ) (number : ℕ) (written : List ℕ) → ReadOff end (λ m answer. ReportsOf m buffer answer written) number
+      → Reports bytes recording buffer number written
   pub reported : (table recording buffer : List ℕ) (number : ℕ) (written : List ℕ) (after : Memory)
       → ReportsOn end table recording buffer number written after → Reported end table recording buffer number written after
   pub refused : (table : List ℕ) (number : ℕ) (after : Memory) → Begins table end number after → 0 < number → after ≡ end

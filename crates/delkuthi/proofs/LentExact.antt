@@ -67,12 +67,14 @@ recorded h m holds rows recording (ReadAnswer.Refused n place) taken =
     cut n place (taken .0) (taken .3) (taken .1) (readers-after h m holds rows (taken .0) (taken .2))
 
 module _ (before : Memory) (table recording : List ℕ) where
-  left-refused : {answer : ReadAnswer} {h : Memory} → LeftBy before table recording answer h → (n place : ℕ) → ReadsTable table (table-refused n place)
+  left-refused : {answer : ReadAnswer} {h : Memory} → LeftBy before table recording answer h → (n place : ℕ)
+      → ReadsTable table (table-refused n place)
       → h ≡ before
   left-refused (unused m at reads) n place r = refl
   left-refused (used rows answer h m reads taken holds) n place r = let same = reads-once table reads r in never (cc)
 
-  left-used : {answer : ReadAnswer} {h : Memory} → LeftBy before table recording answer h → (rows : List Constraint) → ReadsTable table (table-of rows)
+  left-used : {answer : ReadAnswer} {h : Memory} → LeftBy before table recording answer h → (rows : List Constraint)
+      → ReadsTable table (table-of rows)
       → ReadsRecorded h rows recording
   left-used (unused m at reads) rows r = let same = reads-once table reads r in never (cc)
   left-used (used others answer h m reads taken holds) rows r =

@@ -109,4 +109,7 @@ step-kept m i step full made =
 
 pub rows-kept : (m : Monitor) (number : ℕ) → number ≡ m .len → NumberOfRows m number
 rows-kept m number so =
-    record { equals = so; means = λ rows requests accepted e. so ∙ ap (λ (x : Monitor). x .len) e ∙ after-follows engine rows requests accepted .2 .len-is }
+    record {
+      equals = so;
+      means = λ rows requests accepted e. so ∙ ap (λ (x : Monitor). x .len) e ∙ after-follows engine rows requests accepted .2 .len-is;
+    }

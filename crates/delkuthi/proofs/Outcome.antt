@@ -33,7 +33,12 @@ module _ (table : List ℕ) (before : Words) where
         let over = begun-over number words begins e in
         let taken = takes (after (over .0) []) (over .2) in
         used (over .0) answer last (taken .0) (over .1)
-        (taken .1 .means (over .0) (record { accepted = read-accepted table (over .0) (over .1); calls = []; all-taken = (false, done); made = refl }))
+        (taken .1 .means (over .0) (record {
+          accepted = read-accepted table (over .0) (over .1);
+          calls = [];
+          all-taken = (false, done);
+          made = refl;
+        }))
         (taken .2)
 
     -- another number is the refusal's

@@ -226,7 +226,8 @@ printed-alike rows others requests more accepted accepted′ e =
     let m = after rows requests in
     let n = after others more in
     let alike = equal-pages (typeIn m) (typeIn n) (v rows requests accepted) (v others more accepted′) (printedRows m) (printedRows n)
-    (printed-few rows requests accepted) (printed-few others more accepted′) (printed-fits rows requests accepted) (printed-fits others more accepted′) e in
+    (printed-few rows requests accepted) (printed-few others more accepted′) (printed-fits rows requests accepted)
+    (printed-fits others more accepted′) e in
     let one = count-is rows requests accepted in
     let other = count-is others more accepted′ in (
       omega (arith, alike .0, one, other),

@@ -38,15 +38,18 @@ step-untouched m s result n e f =
     ap (λ (r : Stepped). r .monitor) e ∙ monitor-is-exact .untouched m (asks s) n (sym (ap (λ (r : Stepped). r .answer) e) ∙ f)
 
 -- the answer to a record that stands for a step, which the monitor was given
-step-judged : (rows : List Constraint) (steps : List Step) (m : Monitor) (bytes : List ℕ) (place : ℕ) (s : Call) (size : ℕ) (result : Stepped) → CallAt (at bytes 0) bytes place s size → Steps m (asks s) result → Took rows steps m
+step-judged : (rows : List Constraint) (steps : List Step) (m : Monitor) (bytes : List ℕ) (place : ℕ) (s : Call) (size : ℕ) (result : Stepped)
+    → CallAt (at bytes 0) bytes place s size → Steps m (asks s) result → Took rows steps m
     → Judged (recordQuestions rows steps bytes place) (result .answer)
-step-judged rows steps m bytes place s size result read kept took = record-judged rows steps bytes place s size (result .answer) read (took-judged rows steps m took s result kept)
+step-judged rows steps m bytes place s size result read kept took =
+    record-judged rows steps bytes place s size (result .answer) read (took-judged rows steps m took s result kept)
 
 -- Record by record
 
 module _ (rows : List Constraint) (bytes : List ℕ) where
   -- each record has ten bytes at least, all of them among these
-  records-few : {place : ℕ} {steps : List Step} → StepsBefore rows bytes place steps → (10 * length steps ≤ place) × (10 * length steps ≤ length bytes)
+  records-few : {place : ℕ} {steps : List Step} → StepsBefore rows bytes place steps
+      → (10 * length steps ≤ place) × (10 * length steps ≤ length bytes)
   unfolding recordQuestions
   records-few at-version = (omega arith, omega arith)
   records-few at-first = (omega arith, omega arith)
@@ -71,7 +74,8 @@ module _ (rows : List Constraint) (bytes : List ℕ) where
         -- the record is taken
         pub up-to-more : result .answer ≡ Taken → TakenUpTo rows bytes (result .monitor) (place + size)
         up-to-more e =
-            let judged : Judged (recordQuestions rows (before .steps) bytes place) Taken = subst (Judged _) e (step-judged rows (before .steps) m bytes place s size result read kept (before .took)) in
+            let judged : Judged (recordQuestions rows (before .steps) bytes place) Taken =
+            subst (Judged _) e (step-judged rows (before .steps) m bytes place s size result read kept (before .took)) in
             let next-is : place + size ≡ place + 2 + lengthAt bytes place = omega (arith, read .size-read) in
             record {
               steps = before .steps ++ (stepFor (callAt bytes place) ∷ []);
@@ -83,16 +87,19 @@ module _ (rows : List Constraint) (bytes : List ℕ) where
               not-closed = unclosed-more (at bytes 0) (bodyAt bytes place) (before .steps) (before .not-closed);
               whole = λ read reads.
                   before .whole read
-                  (record-taken there judged (subst (λ (next : ℕ). ReadsRecords rows bytes (before .steps ++ (stepFor (callAt bytes place) ∷ [])) next read) next-is reads));
+                  (record-taken there judged
+                  (subst (λ (next : ℕ). ReadsRecords rows bytes (before .steps ++ (stepFor (callAt bytes place) ∷ [])) next read) next-is reads));
             }
 
         -- it is refused, and the monitor is as it was
-        pub up-to-refused : (n : ℕ) → VersionKnown bytes → result .answer ≡ Refused n → RecordingTakenAs rows bytes (ReadAnswer.Refused n place) (result .monitor)
+        pub up-to-refused : (n : ℕ) → VersionKnown bytes → result .answer ≡ Refused n
+            → RecordingTakenAs rows bytes (ReadAnswer.Refused n place) (result .monitor)
         up-to-refused n one e = (
           before .steps,
           before .steps-before,
           subst (Took rows (before .steps)) (sym (step-untouched m s result n (kept .equals) e)) (before .took),
-          version-taken one (before .whole (recording-refused n place) (record-refused n there (subst (Judged _) e (step-judged rows (before .steps) m bytes place s size result read kept (before .took))))),
+          version-taken one (before .whole (recording-refused n place)
+          (record-refused n there (subst (Judged _) e (step-judged rows (before .steps) m bytes place s size result read kept (before .took))))),
         )
 
       -- question 14 is answered "no"
@@ -101,18 +108,21 @@ module _ (rows : List Constraint) (bytes : List ℕ) where
         before .steps,
         before .steps-before,
         before .took,
-        version-taken one (before .whole (recording-refused 14 place) (record-refused 14 there (record-not-there rows (before .steps) bytes place not-there))),
+        version-taken one (before .whole (recording-refused 14 place)
+        (record-refused 14 there (record-not-there rows (before .steps) bytes place not-there))),
       )
 
     -- the close is taken: the count has room, as each record has ten bytes at least
-    pub up-to-end : (result : Stepped) → VersionKnown bytes → length bytes ≤ lastCount → length bytes ≤ place → Steps m (asks Call.Close) result → RecordingTakenAs rows bytes ReadAnswer.Accepted (result .monitor)
+    pub up-to-end : (result : Stepped) → VersionKnown bytes → length bytes ≤ lastCount → length bytes ≤ place → Steps m (asks Call.Close) result
+        → RecordingTakenAs rows bytes ReadAnswer.Accepted (result .monitor)
     unfolding questions Judged
     up-to-end result one fits end kept =
         let asked = took-judged rows (before .steps) m (before .took) Call.Close result kept in
         let room = count-left fits (before .steps-before) in
         let taken = judged-once (questions rows (before .steps) Call.Close) (result .answer) Taken asked
         (judged-yes 8 _ ((24, length (before .steps) < lastCount) ∷ []) Taken (before .not-closed) (judged-yes 24 _ [] Taken room refl)) in
-        (before .steps, version-taken one (before .whole (recording-of (before .steps)) (no-more end)), took-more rows (before .steps) m (before .took) Call.Close result kept taken)
+        (before .steps, version-taken one (before .whole (recording-of (before .steps)) (no-more end)),
+        took-more rows (before .steps) m (before .took) Call.Close result kept taken)
 
 -- Turn by turn
 
@@ -125,36 +135,48 @@ module _ (fresh : Monitor) (bytes : List ℕ) where
   turn-version refused = over {answer = ReadAnswer.Refused 13 0} (record { means = λ rows took. ([], at-version, took, version-refused refused) })
 
   module _ (m : Monitor) (place : ℕ) (before : UpTo fresh bytes place m) where
-    pub turn-record : (call : Call) (size : ℕ) → place < length bytes → CallAt (at bytes 0) bytes place call size → Turns fresh bytes (goesOn call place (place + size)) m
+    pub turn-record : (call : Call) (size : ℕ) → place < length bytes → CallAt (at bytes 0) bytes place call size
+        → Turns fresh bytes (goesOn call place (place + size)) m
     turn-record call size there read = on (of-record call size there read) before
 
     pub turn-close : length bytes ≤ place → Turns fresh bytes (goesOn Call.Close place place) m
     turn-close end = on (of-close end) before
 
     pub turn-none : place < length bytes → ¬ RecordAt bytes place → Turns fresh bytes (endsWith (ReadAnswer.Refused 14 place)) m
-    turn-none there not-there = over {answer = ReadAnswer.Refused 14 place} (record { means = λ rows took. up-to-none rows bytes m place (before .taken rows took) there (before .version) not-there })
+    turn-none there not-there =
+        over {answer = ReadAnswer.Refused 14 place}
+        (record { means = λ rows took. up-to-none rows bytes m place (before .taken rows took) there (before .version) not-there })
 
   -- what follows a turn whose call was answered with a number: the close was taken; a record was refused; or a record was taken
-  pub next-closed : (turn : Turn) (m m′ : Monitor) (number : ℕ) → length bytes ≤ lastCount → length bytes ≤ turn .place → turn .more ≡ true → Turns fresh bytes turn m → Steps m (asks (turn .call)) (steppedFrom number m′)
+  pub next-closed : (turn : Turn) (m m′ : Monitor) (number : ℕ) → length bytes ≤ lastCount → length bytes ≤ turn .place → turn .more ≡ true
+      → Turns fresh bytes turn m → Steps m (asks (turn .call)) (steppedFrom number m′)
       → Turns fresh bytes (endsWith ReadAnswer.Accepted) m′ × (left bytes (endsWith ReadAnswer.Accepted) < left bytes turn)
   next-closed turn m m′ number fits end e (on (of-record {place} call size there read) before) kept = never (omega (arith, there, end))
   next-closed turn m m′ number fits end e (on (of-close {place} end′) before) kept =
-      (over {answer = ReadAnswer.Accepted} (record { means = λ rows took. up-to-end rows bytes m place (before .taken rows took) (steppedFrom number m′) (before .version) fits end kept }), omega arith)
+      (over {answer = ReadAnswer.Accepted}
+      (record { means = λ rows took. up-to-end rows bytes m place (before .taken rows took) (steppedFrom number m′)
+      (before .version) fits end kept }), omega arith)
   next-closed turn m m′ number fits end e (over taken) kept = never (cc)
 
-  pub next-refused : (turn : Turn) (m m′ : Monitor) (number : ℕ) → 0 < number → turn .place < length bytes → turn .more ≡ true → Turns fresh bytes turn m → Steps m (asks (turn .call)) (steppedFrom number m′)
-      → Turns fresh bytes (endsWith (ReadAnswer.Refused number (turn .place))) m′ × (left bytes (endsWith (ReadAnswer.Refused number (turn .place))) < left bytes turn)
+  pub next-refused : (turn : Turn) (m m′ : Monitor) (number : ℕ) → 0 < number → turn .place < length bytes → turn .more ≡ true
+      → Turns fresh bytes turn m → Steps m (asks (turn .call)) (steppedFrom number m′)
+      → Turns fresh bytes (endsWith (ReadAnswer.Refused number (turn .place))) m′ ×
+      (left bytes (endsWith (ReadAnswer.Refused number (turn .place))) < left bytes turn)
   next-refused turn m m′ zero above there e turns kept = never (omega (arith, above))
   next-refused turn m m′ (suc n) above there e (on (of-record {place} call size there′ read) before) kept =
-      (over {answer = ReadAnswer.Refused (suc n) place} (record { means = λ rows took. up-to-refused rows bytes m place (before .taken rows took) there call size read (steppedFrom (suc n) m′) kept (suc n) (before .version) refl }), omega arith)
+      (over {answer = ReadAnswer.Refused (suc n) place}
+      (record { means = λ rows took. up-to-refused rows bytes m place (before .taken rows took) there call size read (steppedFrom (suc n) m′) kept
+      (suc n) (before .version) refl }), omega arith)
   next-refused turn m m′ (suc n) above there e (on (of-close end) before) kept = never (omega (arith, there, end))
   next-refused turn m m′ (suc n) above there e (over taken) kept = never (cc)
 
-  pub next-taken : (turn : Turn) (m m′ : Monitor) (number : ℕ) → number ≤ 0 → turn .place < length bytes → turn .more ≡ true → Turns fresh bytes turn m → Steps m (asks (turn .call)) (steppedFrom number m′)
+  pub next-taken : (turn : Turn) (m m′ : Monitor) (number : ℕ) → number ≤ 0 → turn .place < length bytes → turn .more ≡ true
+      → Turns fresh bytes turn m → Steps m (asks (turn .call)) (steppedFrom number m′)
       → UpTo fresh bytes (turn .next) m′ × (left bytes (goesOn Call.Close (turn .next) (turn .next)) < left bytes turn)
   next-taken turn m m′ (suc n) none there e turns kept = never (omega (arith, none))
   next-taken turn m m′ zero none there e (on (of-record {place} call size there′ read) before) kept =
-      (record { version = before .version; taken = λ rows took. up-to-more rows bytes m place (before .taken rows took) there call size read (steppedFrom 0 m′) kept refl }, omega (arith, there, read .size-read))
+      (record { version = before .version; taken = λ rows took. up-to-more rows bytes m place (before .taken rows took) there call size read
+      (steppedFrom 0 m′) kept refl }, omega (arith, there, read .size-read))
   next-taken turn m m′ zero none there e (on (of-close end) before) kept = never (omega (arith, there, end))
   next-taken turn m m′ zero none there e (over taken) kept = never (cc)
 

@@ -32,7 +32,8 @@ two-above : (m n : ℕ) (asked also : Type 0) → 0 < m → 0 < n → AllAbove (
 unfolding AllAbove
 two-above m n asked also first second = (first, one-above n also second)
 
-writer-number : (rows : List Constraint) (before after : List ℕ) (r : WriteAnswer) (n : ℕ) → r ≡ WriteAnswer.Refused n → Writes rows before r after → 0 < n
+writer-number : (rows : List Constraint) (before after : List ℕ) (r : WriteAnswer) (n : ℕ) → r ≡ WriteAnswer.Refused n → Writes rows before r after
+    → 0 < n
 writer-number rows before after r n e writes =
     number-above (writerQuestions rows before) n (rows-above 0 rows _ (one-above 16 _ (omega arith)))
     (subst (λ (w : WriteAnswer). Judged (writerQuestions rows before) (answerIn w)) e (writes .judged))
@@ -52,7 +53,8 @@ table-short : (rows : List Constraint) → length (tableBytes rows) ≤ 1 + 40 *
 unfolding tableBytes
 table-short rows = omega (arith, rows-short rows)
 
-writer-short : (rows : List Constraint) (before after : List ℕ) (r : WriteAnswer) (n : ℕ) → r ≡ WriteAnswer.Written n → Writes rows before r after → n ≤ 1281
+writer-short : (rows : List Constraint) (before after : List ℕ) (r : WriteAnswer) (n : ℕ) → r ≡ WriteAnswer.Written n → Writes rows before r after
+    → n ≤ 1281
 writer-short rows before after r n e writes =
     let judged = subst (λ (w : WriteAnswer). Judged (writerQuestions rows before) (answerIn w)) e (writes .judged) in
     let parts = judged-parts (rowsQuestions 0 rows []) _ (subst (λ (qs : List Question). Judged qs Taken) (rows-then 0 rows _) judged) in
@@ -76,7 +78,8 @@ makes-written bytes before after r n e writes =
     }
 
 pub makes-refused : (bytes before after : List ℕ) (r : WriteAnswer) (n row number : ℕ) → n < 256 → r ≡ WriteAnswer.Refused n
-    → WritesRaw bytes before r after → FirstRefused bytes row → number ≡ tableNumber (WriteAnswer.Refused n) row → MakesTable bytes before number after
+    → WritesRaw bytes before r after → FirstRefused bytes row → number ≡ tableNumber (WriteAnswer.Refused n) row
+    → MakesTable bytes before number after
 makes-refused bytes before after r n row number small e writes first is =
     record {
       answer = WriteAnswer.Refused n;

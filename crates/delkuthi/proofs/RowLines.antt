@@ -21,11 +21,13 @@ use Rattle.text.proofs.Texts.{extended-append}
 use Rattle.text.proofs.Reports.{rows-append}
 
 -- each row has a verdict
-pub each-length : {steps : List Step} {rows : List Constraint} {verdicts : List Verdict} → EachReads steps rows verdicts → length verdicts ≡ length rows
+pub each-length : {steps : List Step} {rows : List Constraint} {verdicts : List Verdict} → EachReads steps rows verdicts
+    → length verdicts ≡ length rows
 each-length no-row = refl
 each-length (row-reads reads later) = ap suc (each-length later)
 
-each-more : {steps : List Step} {rows : List Constraint} {verdicts : List Verdict} (c : Constraint) (v : Verdict) → EachReads steps rows verdicts → Reads c steps v
+each-more : {steps : List Step} {rows : List Constraint} {verdicts : List Verdict} (c : Constraint) (v : Verdict) → EachReads steps rows verdicts
+    → Reads c steps v
     → EachReads steps (rows ++ (c ∷ [])) (verdicts ++ (v ∷ []))
 each-more c v no-row reads = row-reads reads no-row
 each-more c v (row-reads first later) reads = row-reads first (each-more c v later reads)
@@ -70,8 +72,10 @@ module _ (rows : List Constraint) (steps : List Step) (text : Text) where
           counted = omega (arith, length-append (before .verdicts) (v ∷ []), before .counted);
           held =
               let next : 0 + length (before .verdicts) ≡ i = omega (arith, before .counted) in
-              rw (before .held, ← extended-append (rowLines 0 (before .verdicts)) (rowLine i v) text, rows-append 0 (before .verdicts) (v ∷ []), next, line-alone i v);
+              rw (before .held, ← extended-append (rowLines 0 (before .verdicts)) (rowLine i v) text, rows-append 0 (before .verdicts)
+              (v ∷ []), next, line-alone i v);
         }
 
     pub lines-all : length rows ≤ i → (verdicts : List Verdict) × EachReads steps rows verdicts × (lines ≡ extended (rowLines 0 verdicts) text)
-    lines-all end = (before .verdicts, subst (λ (l : List Constraint). EachReads steps l (before .verdicts)) (take-all i rows end) (before .each), before .held)
+    lines-all end =
+        (before .verdicts, subst (λ (l : List Constraint). EachReads steps l (before .verdicts)) (take-all i rows end) (before .each), before .held)

@@ -40,13 +40,16 @@ stamps-as-the-monitor table recording rows m i k lower upper word number read ta
     let steps = taken .0 in
     let took = taken .2 in
     let says = verdict .says .means rows (map asks (took .calls)) (took .accepted) (took .made) in
-    of-row (says .2) (subst (λ (left : Left). ReadsRow rows (left .steps) i (says .2)) (run-once rows (says .1 .1) (took .all-taken .1) .1) (says .3)) (says .4)
+    of-row (says .2) (subst (λ (left : Left). ReadsRow rows (left .steps) i (says .2)) (run-once rows (says .1 .1) (took .all-taken .1) .1) (says .3))
+    (says .4)
   where
     of-row : (o : Option Verdict) → ReadsRow rows (taken .0 ++ (close ∷ [])) i o → word ≡ wordOf o → number ≡ word * 256
     of-row o (row c v e r) w =
         let same : c ≡ Repeat k 1 lower upper = cc in
-        let reading : Reads (Repeat k 1 lower upper) (taken .0 ++ (close ∷ [])) v = subst (λ (x : Constraint). Reads x (taken .0 ++ (close ∷ [])) v) same r in
+        let reading : Reads (Repeat k 1 lower upper) (taken .0 ++ (close ∷ [])) v =
+        subst (λ (x : Constraint). Reads x (taken .0 ++ (close ∷ [])) v) same r in
         let closes = run-valid (taken .2 .all-taken .1) valid-none in
-        let agrees = stamps-agree table recording rows (taken .0) i k lower upper v (numbers .answer) read (taken .1) closes there reading (numbers .answers) in
+        let agrees = stamps-agree table recording rows (taken .0) i k lower upper v (numbers .answer) read (taken .1) closes there reading
+        (numbers .answers) in
         numbers .equals ∙ ap stampedNumber agrees ∙ numbers-agree (Repeat k 1 lower upper) (taken .0) v reading ∙ ap (λ (x : ℕ). x * 256) (sym w)
     of-row o (no-row e) w = never (cc)

@@ -33,7 +33,8 @@ returns-2 : tie.Need-returns-2
 returns-2 c =
     let at-summary = c .before in
     let alone = at-summary .summary-alone .ensures in
-    let tells = tells-summary (alone .before) _ _ (at-summary .summary-alone .result) (alone .after) (c .text-of .result) (alone .summary-on) (c .text-of .ensures) in
+    let tells = tells-summary (alone .before) _ _ (at-summary .summary-alone .result) (alone .after) (c .text-of .result) (alone .summary-on)
+    (c .text-of .ensures) in
     record { bytes = tells .bytes; said = fits (omega arith) (omega (arith, ltb-false)) (tells .said); holds = tells .holds }
 
 pub program-text-spec : {M : Type 1} → statement M

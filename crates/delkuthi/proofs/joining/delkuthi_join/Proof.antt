@@ -85,5 +85,6 @@ pub delkuthi-join-spec : {M : Type 1} → statement M
 delkuthi-join-spec =
     tie.close
     (tie.spec
-    free enum-known-answer free enum-known-answer-2 free cast-result add-result enum-known-answer-3 free cast-result-2 add-result-2 add-result-3 enum-told
+    free enum-known-answer free enum-known-answer-2 free cast-result add-result enum-known-answer-3 free cast-result-2 add-result-2 add-result-3
+    enum-told
     same-length returns same-length-2 returns-2 same-length-3 returns-3 same-length-4 returns-4)

@@ -77,5 +77,6 @@ returns c n holds =
 pub delkuthi-page-spec : {M : Type 1} → statement M
 delkuthi-page-spec =
     tie.close (tie.spec Inv-loop μ-loop (λ c κs. search needs) (λ c κs. search needs) (λ c κs. search needs) loop-holds mul-with-row index-1-with-row
-    (λ c. search needs) (λ c. search needs) mul-with-row-2 index-1-with-row-2 (λ c. search needs) (λ c. search needs) (λ c κs. search needs) add-i loop-less
+    (λ c. search needs) (λ c. search needs) mul-with-row-2 index-1-with-row-2 (λ c. search needs) (λ c. search needs)
+    (λ c κs. search needs) add-i loop-less
     loop-again (λ c κs. search needs) (λ c. search needs) returns)

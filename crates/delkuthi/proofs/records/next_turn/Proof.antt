@@ -9,13 +9,15 @@ use Rattle.delkuthi.proofs.records.next_turn.Tie as tie
 returns : tie.Need-returns
 returns c fresh m m′ e turns kept =
     let args = c .before .before .before .args in
-    rw (c .ending-with .ensures) (next-closed fresh (now (args .bytes)) (args .turn) m m′ (args .number) (omega arith) (c .before .if1 .taken) e turns kept)
+    rw (c .ending-with .ensures) (next-closed fresh (now (args .bytes)) (args .turn) m m′ (args .number) (omega arith)
+    (c .before .if1 .taken) e turns kept)
 
 returns-2 : tie.Need-returns-2
 returns-2 c fresh m m′ e turns kept =
     let here = c .before .before in
     let args = here .before .before .args in
-    rw (c .ending-with2 .ensures) (next-refused fresh (now (args .bytes)) (args .turn) m m′ (args .number) (c .before .if2 .taken) (here .if1 .left) e turns kept)
+    rw (c .ending-with2 .ensures) (next-refused fresh (now (args .bytes)) (args .turn) m m′ (args .number) (c .before .if2 .taken)
+    (here .if1 .left) e turns kept)
 
 returns-3 : tie.Need-returns-3
 returns-3 c fresh m m′ e turns kept =

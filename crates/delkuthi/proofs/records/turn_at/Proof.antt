@@ -18,7 +18,8 @@ read : (c : tie.After-read-record) (r : Record) → c .read-record .result ≡ r
     (c .before .before .before .before .before .args .place) r
 read c r e =
     let args = c .before .before .before .before .before .args in
-    read-of-stretch (at (now (args .bytes)) 0) (now (args .bytes)) (args .place) r (rw (e, c .before .before .version .ensures) at (c .read-record .ensures))
+    read-of-stretch (at (now (args .bytes)) 0) (now (args .bytes)) (args .place) r
+    (rw (e, c .before .before .version .ensures) at (c .read-record .ensures))
 
 returns : tie.Need-returns
 returns c =
@@ -71,7 +72,8 @@ returns-2 c =
     let behind = at-record .before .before .before in
     let args = behind .before .before .args in
     rw (c .going-on2 .ensures)
-    ((λ fresh m before. turn-record fresh (now (args .bytes)) m (args .place) before _ _ (behind .if1 .left) (read at-record _ (at-kind .kind .given .1))), omega arith)
+    ((λ fresh m before. turn-record fresh (now (args .bytes)) m (args .place) before _ _ (behind .if1 .left)
+    (read at-record _ (at-kind .kind .given .1))), omega arith)
 
 returns-3 : tie.Need-returns-3
 returns-3 c =
@@ -80,7 +82,8 @@ returns-3 c =
     let behind = at-record .before .before .before in
     let args = behind .before .before .args in
     rw (c .going-on3 .ensures)
-    ((λ fresh m before. turn-record fresh (now (args .bytes)) m (args .place) before _ _ (behind .if1 .left) (read at-record _ (at-kind .kind2 .given .1))), omega arith)
+    ((λ fresh m before. turn-record fresh (now (args .bytes)) m (args .place) before _ _ (behind .if1 .left)
+    (read at-record _ (at-kind .kind2 .given .1))), omega arith)
 
 returns-4 : tie.Need-returns-4
 returns-4 c =
@@ -89,7 +92,8 @@ returns-4 c =
     let behind = at-record .before .before .before in
     let args = behind .before .before .args in
     rw (c .going-on4 .ensures)
-    ((λ fresh m before. turn-record fresh (now (args .bytes)) m (args .place) before _ _ (behind .if1 .left) (read at-record _ (at-time .time .given .1))), omega arith)
+    ((λ fresh m before. turn-record fresh (now (args .bytes)) m (args .place) before _ _ (behind .if1 .left)
+    (read at-record _ (at-time .time .given .1))), omega arith)
 
 returns-5 : tie.Need-returns-5
 returns-5 c =
@@ -105,5 +109,6 @@ pub turn-at-spec : {M : Type 1} → statement M
 turn-at-spec =
     tie.close
     (tie.spec
-    free returns free sub-read-record part-read-record-start part-read-record-end free enum-known-kind add-going-on free enum-known-kind-2 add-going-on-2 free
+    free returns free sub-read-record part-read-record-start part-read-record-end free enum-known-kind add-going-on free enum-known-kind-2
+    add-going-on-2 free
     enum-known-time add-going-on-3 free enum-known-number free returns-2 returns-3 returns-4 returns-5)

@@ -36,7 +36,8 @@ returns c =
     let accepted = sym (at-answer .enum-told .given .1) in
     subst (λ (answer : ReadAnswer). TellsAs answer summary (c .row-lines .result)) accepted
     (λ m gathers. tells-closed summary (at-line .closed-line .result) (c .row-lines .result)
-    (rw (← at-line .before .new .ensures) (at-line .closed-line .ensures)) (c .row-lines .ensures) m (subst (λ (answer : ReadAnswer). Gathers m answer summary) accepted gathers))
+    (rw (← at-line .before .new .ensures) (at-line .closed-line .ensures)) (c .row-lines .ensures) m
+    (subst (λ (answer : ReadAnswer). Gathers m answer summary) accepted gathers))
 
 returns-2 : tie.Need-returns-2
 returns-2 c =

@@ -43,7 +43,8 @@ returns-2 c =
     let at-answer = c .before .before in
     let args = at-answer .before .before .before .before .before .args in
     let given = at-answer .answer2 .given in
-    let says : AnswersStamps (now (args .table)) (now (args .recording)) (args .row) (args .late) (StampedAnswer.Refused (given .0 .0) (given .0 .1 .0)) =
+    let says : AnswersStamps (now (args .table)) (now (args .recording)) (args .row) (args .late)
+    (StampedAnswer.Refused (given .0 .0) (given .0 .1 .0)) =
     rw (given .1) at (at-answer .before .before .read .ensures) in
     record {
       answer = StampedAnswer.Refused (given .0 .0) (given .0 .1 .0);

@@ -10,13 +10,15 @@ mul-length : tie.Need-mul-length
 mul-length c =
     let w = c .before .before .before .before .before .write in
     let a = c .before .before .before .before .before .before .before .before .before .args in
-    omega (arith, raw-short (now (a .rows)) (now (a .table)) (w .last .1 .0) (w .result) (c .before .count .given .0 .0) (c .before .count .given .1) (w .ensures))
+    omega (arith, raw-short (now (a .rows)) (now (a .table)) (w .last .1 .0) (w .result) (c .before .count .given .0 .0) (c .before .count .given .1)
+    (w .ensures))
 
 returns : tie.Need-returns
 returns c =
     let w = c .before .before .before .before .before .write in
     let a = c .before .before .before .before .before .before .before .before .before .args in
-    makes-written (now (a .rows)) (now (a .table)) (w .last .1 .0) (w .result) (c .before .count .given .0 .0) (c .before .count .given .1) (w .ensures)
+    makes-written (now (a .rows)) (now (a .table)) (w .last .1 .0) (w .result) (c .before .count .given .0 .0) (c .before .count .given .1)
+    (w .ensures)
 
 returns-2 : tie.Need-returns-2
 returns-2 c =
@@ -24,11 +26,13 @@ returns-2 c =
     let at-write = at-number .before .before .before .before in
     let w = at-write .write in
     let a = at-write .before .before .before .before .args in
-    makes-refused (now (a .rows)) (now (a .table)) (w .last .1 .0) (w .result) (at-number .number .given .0 .0) (c .before .refused-row .result) (c .row-number .result)
+    makes-refused (now (a .rows)) (now (a .table)) (w .last .1 .0) (w .result) (at-number .number .given .0 .0) (c .before .refused-row .result)
+    (c .row-number .result)
     (omega arith) (at-number .number .given .1) (w .ensures) (c .before .refused-row .ensures) (c .row-number .ensures)
 
 pub delkuthi-table-spec : {M : Type 1} → statement M
 delkuthi-table-spec =
     tie.close
-    (tie.spec (λ c κs. search needs) (λ c. search needs) mul-length (λ c. search needs) (λ c κs. search needs) (λ c κs. search needs) (λ c. search needs)
+    (tie.spec (λ c κs. search needs) (λ c. search needs) mul-length (λ c. search needs) (λ c κs. search needs) (λ c κs. search needs)
+    (λ c. search needs)
     returns (λ c. search needs) returns-2)

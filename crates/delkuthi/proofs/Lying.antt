@@ -88,8 +88,7 @@ pub call-steps : {entry exit : Words} {r : Request} {number : ℕ} (m : Monitor)
     → (m′ : Monitor) × Steps m r (steppedFrom number m′) × Holds exit m′
 call-steps {r = r} {number = number} m holds takes =
     let h = holds .lent in
-    let one = takes .steps h (holds .words-are) (holds .indexes) in
-    (
+    let one = takes .steps h (holds .words-are) (holds .indexes) in (
       leaves h r .monitor,
       subst (λ (x : Monitor). Steps x r (steppedFrom number (leaves h r .monitor))) (holds .monitor-is) (one .0),
       record { lent = leaves h r; words-are = takes .stores h (holds .words-are) (holds .indexes .shaped) .1; indexes = one .1; monitor-is = refl },

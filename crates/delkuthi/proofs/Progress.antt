@@ -99,7 +99,7 @@ module _ (rows : List Constraint) (bytes : List ℕ) where
           before .steps-before,
           subst (Took rows (before .steps)) (sym (step-untouched m s result n (kept .equals) e)) (before .took),
           version-taken one (before .whole (recording-refused n place)
-          (record-refused n there (subst (Judged _) e (step-judged rows (before .steps) m bytes place s size result read kept (before .took))))),
+              (record-refused n there (subst (Judged _) e (step-judged rows (before .steps) m bytes place s size result read kept (before .took))))),
         )
 
       -- question 14 is answered "no"
@@ -109,7 +109,7 @@ module _ (rows : List Constraint) (bytes : List ℕ) where
         before .steps-before,
         before .took,
         version-taken one (before .whole (recording-refused 14 place)
-        (record-refused 14 there (record-not-there rows (before .steps) bytes place not-there))),
+            (record-refused 14 there (record-not-there rows (before .steps) bytes place not-there))),
       )
 
     -- the close is taken: the count has room, as each record has ten bytes at least
@@ -120,9 +120,11 @@ module _ (rows : List Constraint) (bytes : List ℕ) where
         let asked = took-judged rows (before .steps) m (before .took) Call.Close result kept in
         let room = count-left fits (before .steps-before) in
         let taken = judged-once (questions rows (before .steps) Call.Close) (result .answer) Taken asked
-        (judged-yes 8 _ ((24, length (before .steps) < lastCount) ∷ []) Taken (before .not-closed) (judged-yes 24 _ [] Taken room refl)) in
-        (before .steps, version-taken one (before .whole (recording-of (before .steps)) (no-more end)),
-        took-more rows (before .steps) m (before .took) Call.Close result kept taken)
+        (judged-yes 8 _ ((24, length (before .steps) < lastCount) ∷ []) Taken (before .not-closed) (judged-yes 24 _ [] Taken room refl)) in (
+          before .steps,
+          version-taken one (before .whole (recording-of (before .steps)) (no-more end)),
+          took-more rows (before .steps) m (before .took) Call.Close result kept taken,
+        )
 
 -- Turn by turn
 
@@ -152,10 +154,14 @@ module _ (fresh : Monitor) (bytes : List ℕ) where
       → Turns fresh bytes turn m → Steps m (asks (turn .call)) (steppedFrom number m′)
       → Turns fresh bytes (endsWith ReadAnswer.Accepted) m′ × (left bytes (endsWith ReadAnswer.Accepted) < left bytes turn)
   next-closed turn m m′ number fits end e (on (of-record {place} call size there read) before) kept = never (omega (arith, there, end))
-  next-closed turn m m′ number fits end e (on (of-close {place} end′) before) kept =
-      (over {answer = ReadAnswer.Accepted}
-      (record { means = λ rows took. up-to-end rows bytes m place (before .taken rows took) (steppedFrom number m′)
-      (before .version) fits end kept }), omega arith)
+  next-closed turn m m′ number fits end e (on (of-close {place} end′) before) kept = (
+    over {answer = ReadAnswer.Accepted}
+        (record {
+          means = λ rows took. up-to-end rows bytes m place (before .taken rows took) (steppedFrom number m′)
+              (before .version) fits end kept;
+        }),
+    omega arith,
+  )
   next-closed turn m m′ number fits end e (over taken) kept = never (cc)
 
   pub next-refused : (turn : Turn) (m m′ : Monitor) (number : ℕ) → 0 < number → turn .place < length bytes → turn .more ≡ true
@@ -163,10 +169,14 @@ module _ (fresh : Monitor) (bytes : List ℕ) where
       → Turns fresh bytes (endsWith (ReadAnswer.Refused number (turn .place))) m′ ×
       (left bytes (endsWith (ReadAnswer.Refused number (turn .place))) < left bytes turn)
   next-refused turn m m′ zero above there e turns kept = never (omega (arith, above))
-  next-refused turn m m′ (suc n) above there e (on (of-record {place} call size there′ read) before) kept =
-      (over {answer = ReadAnswer.Refused (suc n) place}
-      (record { means = λ rows took. up-to-refused rows bytes m place (before .taken rows took) there call size read (steppedFrom (suc n) m′) kept
-      (suc n) (before .version) refl }), omega arith)
+  next-refused turn m m′ (suc n) above there e (on (of-record {place} call size there′ read) before) kept = (
+    over {answer = ReadAnswer.Refused (suc n) place}
+        (record {
+          means = λ rows took. up-to-refused rows bytes m place (before .taken rows took) there call size read (steppedFrom (suc n) m′) kept
+              (suc n) (before .version) refl;
+        }),
+    omega arith,
+  )
   next-refused turn m m′ (suc n) above there e (on (of-close end) before) kept = never (omega (arith, there, end))
   next-refused turn m m′ (suc n) above there e (over taken) kept = never (cc)
 
@@ -174,9 +184,14 @@ module _ (fresh : Monitor) (bytes : List ℕ) where
       → Turns fresh bytes turn m → Steps m (asks (turn .call)) (steppedFrom number m′)
       → UpTo fresh bytes (turn .next) m′ × (left bytes (goesOn Call.Close (turn .next) (turn .next)) < left bytes turn)
   next-taken turn m m′ (suc n) none there e turns kept = never (omega (arith, none))
-  next-taken turn m m′ zero none there e (on (of-record {place} call size there′ read) before) kept =
-      (record { version = before .version; taken = λ rows took. up-to-more rows bytes m place (before .taken rows took) there call size read
-      (steppedFrom 0 m′) kept refl }, omega (arith, there, read .size-read))
+  next-taken turn m m′ zero none there e (on (of-record {place} call size there′ read) before) kept = (
+    record {
+      version = before .version;
+      taken = λ rows took. up-to-more rows bytes m place (before .taken rows took) there call size read
+          (steppedFrom 0 m′) kept refl;
+    },
+    omega (arith, there, read .size-read),
+  )
   next-taken turn m m′ zero none there e (on (of-close end) before) kept = never (omega (arith, there, end))
   next-taken turn m m′ zero none there e (over taken) kept = never (cc)
 

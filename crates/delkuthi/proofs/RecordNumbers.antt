@@ -55,9 +55,13 @@ call-short steps (Call.ColouredEvent k c t) = (
     ),
   ),
 )
-call-short steps (Call.Tick t) =
-    ((omega arith, omega arith), ((omega arith, omega arith),
-    ((omega arith, omega arith), ((omega arith, omega arith), ((omega arith, omega arith), tt)))))
+call-short steps (Call.Tick t) = (
+  (omega arith, omega arith),
+  (
+    (omega arith, omega arith),
+    ((omega arith, omega arith), ((omega arith, omega arith), ((omega arith, omega arith), tt))),
+  ),
+)
 call-short steps Call.Close = ((omega arith, omega arith), ((omega arith, omega arith), tt))
 
 records-short : (bytes : List ℕ) {before : List Step} {place n last : ℕ} → ReadsRecords [] bytes before place (recording-refused n last) → Short n

@@ -72,8 +72,13 @@ module _ (rows : List Constraint) (steps : List Step) (text : Text) where
           counted = omega (arith, length-append (before .verdicts) (v ∷ []), before .counted);
           held =
               let next : 0 + length (before .verdicts) ≡ i = omega (arith, before .counted) in
-              rw (before .held, ← extended-append (rowLines 0 (before .verdicts)) (rowLine i v) text, rows-append 0 (before .verdicts)
-              (v ∷ []), next, line-alone i v);
+              rw (
+                before .held,
+                ← extended-append (rowLines 0 (before .verdicts)) (rowLine i v) text,
+                rows-append 0 (before .verdicts) (v ∷ []),
+                next,
+                line-alone i v,
+              );
         }
 
     pub lines-all : length rows ≤ i → (verdicts : List Verdict) × EachReads steps rows verdicts × (lines ≡ extended (rowLines 0 verdicts) text)

@@ -49,8 +49,13 @@ closed-holds : (m : Monitor) (before text : Text) → before ≡ extended (close
 closed-holds m before text line rows steps stands verdicts each lines =
     let follows = stands-follows rows steps m stands in
     let whole : text ≡ extended (closedText (length steps) verdicts) emptyText =
-    rw (lines, line, ← extended-append (closedLine (m .count)) (rowLines 0 verdicts) emptyText,
-    ← closed-append (m .count) verdicts, follows .count-is) in
+    rw (
+      lines,
+      line,
+      ← extended-append (closedLine (m .count)) (rowLines 0 verdicts) emptyText,
+      ← closed-append (m .count) verdicts,
+      follows .count-is,
+    ) in
     let short = closed-length (length steps) verdicts (omega (arith, each-length each, follows .few)) in
     subst (λ (t : Text). Contains t (closedText (length steps) verdicts)) (sym whole)
     (holds-all (closedText (length steps) verdicts) (omega (arith, short)))

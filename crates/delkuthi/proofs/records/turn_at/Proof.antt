@@ -71,9 +71,11 @@ returns-2 c =
     let at-record = at-kind .before .before in
     let behind = at-record .before .before .before in
     let args = behind .before .before .args in
-    rw (c .going-on2 .ensures)
-    ((λ fresh m before. turn-record fresh (now (args .bytes)) m (args .place) before _ _ (behind .if1 .left)
-    (read at-record _ (at-kind .kind .given .1))), omega arith)
+    rw (c .going-on2 .ensures) (
+      (λ fresh m before. turn-record fresh (now (args .bytes)) m (args .place) before _ _ (behind .if1 .left)
+          (read at-record _ (at-kind .kind .given .1))),
+      omega arith,
+    )
 
 returns-3 : tie.Need-returns-3
 returns-3 c =
@@ -81,9 +83,11 @@ returns-3 c =
     let at-record = at-kind .before .before in
     let behind = at-record .before .before .before in
     let args = behind .before .before .args in
-    rw (c .going-on3 .ensures)
-    ((λ fresh m before. turn-record fresh (now (args .bytes)) m (args .place) before _ _ (behind .if1 .left)
-    (read at-record _ (at-kind .kind2 .given .1))), omega arith)
+    rw (c .going-on3 .ensures) (
+      (λ fresh m before. turn-record fresh (now (args .bytes)) m (args .place) before _ _ (behind .if1 .left)
+          (read at-record _ (at-kind .kind2 .given .1))),
+      omega arith,
+    )
 
 returns-4 : tie.Need-returns-4
 returns-4 c =
@@ -91,9 +95,11 @@ returns-4 c =
     let at-record = at-time .before .before in
     let behind = at-record .before .before .before in
     let args = behind .before .before .args in
-    rw (c .going-on4 .ensures)
-    ((λ fresh m before. turn-record fresh (now (args .bytes)) m (args .place) before _ _ (behind .if1 .left)
-    (read at-record _ (at-time .time .given .1))), omega arith)
+    rw (c .going-on4 .ensures) (
+      (λ fresh m before. turn-record fresh (now (args .bytes)) m (args .place) before _ _ (behind .if1 .left)
+          (read at-record _ (at-time .time .given .1))),
+      omega arith,
+    )
 
 returns-5 : tie.Need-returns-5
 returns-5 c =

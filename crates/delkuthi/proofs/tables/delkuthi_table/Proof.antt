@@ -10,8 +10,11 @@ mul-length : tie.Need-mul-length
 mul-length c =
     let w = c .before .before .before .before .before .write in
     let a = c .before .before .before .before .before .before .before .before .before .args in
-    omega (arith, raw-short (now (a .rows)) (now (a .table)) (w .last .1 .0) (w .result) (c .before .count .given .0 .0) (c .before .count .given .1)
-    (w .ensures))
+    omega (
+      arith,
+      raw-short (now (a .rows)) (now (a .table)) (w .last .1 .0) (w .result) (c .before .count .given .0 .0) (c .before .count .given .1)
+          (w .ensures),
+    )
 
 returns : tie.Need-returns
 returns c =

@@ -5,9 +5,11 @@
  * the texts are the same exactly when all answers are. Behind a call on the
  * monitor stands what each row reads: o open, k kept, b and a step broken; how
  * many wait in it and its deadline; and then the numbers of the monitor; behind
- * a close the report. A buffer that a call writes is printed whole. With `words`, for machines with
- * sizes of 64 bits, a sum of the monitor's bytes stands there too. A call that
- * is refused and yet changed the monitor or a buffer is an exit status of 1.
+ * an event that is refused with 12 the row that is crowded, behind a close the
+ * report. A buffer that a call writes is printed whole. With `words`, for
+ * machines with sizes of 64 bits, a sum of the monitor's bytes stands there too.
+ * A call that is refused and yet changed the monitor or a buffer is an exit
+ * status of 1.
  *
  * A line of the script is a call and its arguments: numbers, bytes in
  * hexadecimal, and for a buffer its length. An empty stretch of bytes is a "-".
@@ -148,15 +150,15 @@ static void stepped(uint64_t answer)
     rows();
 }
 
-/* An event of a plain kind: the row that it crowds is known beforehand. */
+/* An event of a plain kind. Where it is refused with 12, and only there, a row is crowded, which is known beforehand. */
 static void event(uint8_t kind, uint64_t time)
 {
     uint8_t row = delkuthi_crowded_row(&monitor, kind, time), answer = delkuthi_event(&monitor, kind, time);
 
-    well &= (row < DELKUTHI_ROW_LIMIT) == (answer == DELKUTHI_CROWDED);
-    if (row < DELKUTHI_ROW_LIMIT)
-        printf(" crowds %d", row);
     stepped(answer);
+    well &= (row < DELKUTHI_ROW_LIMIT) == (answer == DELKUTHI_CROWDED);
+    if (answer == DELKUTHI_CROWDED)
+        printf(" row %d", row);
 }
 
 /* The close, and the report of the monitor, which there is not before. */

@@ -1,12 +1,8 @@
 // Reaction: two words for each colour. Both 0: nothing yet; a second word above 0: the first response has to come from the first word on and
 // before the second; else it came at one less than the first word.
 use constraint::NO_LIMIT;
-use machine::Change;
-use machine::Marks;
-use machine::Rule;
 use machine::parts;
 use machine::words;
-use queue::Edit;
 use queue::SIZE;
 use queue::time_at;
 ghost use mathlib.Core.Path.{_≡_};
@@ -126,30 +122,6 @@ fn due_but(times: &[u64; SIZE], head: usize, len: usize, colour: usize, high: u6
     due
 }
 
-// The change that new words of a colour make.
-fn paired(
-    marks: Marks,
-    times: &[u64; SIZE],
-    head: usize,
-    len: usize,
-    colour: usize,
-    pair: Pair,
-) -> Change
-    requires { ⌜ colour < 8 ⌝ }
-    ensures { λ r. ⌜ r ≡ paired marks (ring (now (times .entry)) head len) colour pair ⌝ }
-{
-    if pair.breaks {
-        return parts::breaking();
-    }
-    let due = due_but(times, head, len, colour, pair.high);
-    let edit = Edit::Store {
-        place: 2 * colour,
-        first: pair.low,
-        second: pair.high,
-    };
-    parts::goes_on(edit, marks, due, due == NO_LIMIT)
-}
-
 // What an event of one of the row's streams makes of it, where it lies.
 pub fn apply(row: &mut [[u64; SIZE]; 2], stream: u64, t: u64, number: u64)
     ensures { λ _. ⌜ Applies decideReaction (now (row .entry)) stream t number (now (row .exit)) ⌝ }
@@ -181,27 +153,4 @@ fn store(row: &mut [[u64; SIZE]; 2], colour: usize, pair: Pair, number: u64)
     let due = due_but(&row[0], head, len, colour, pair.high);
     words::put_two(row, 2 * colour, pair.low, pair.high, number);
     words::settle(&mut row[1], due, words::one_if(due == NO_LIMIT));
-}
-
-// What an event of one of the row's streams makes of it.
-pub fn decide(
-    rule: Rule,
-    marks: Marks,
-    times: &[u64; SIZE],
-    head: usize,
-    len: usize,
-    stream: u64,
-    t: u64,
-) -> Change
-    ensures { λ r. ⌜ r ≡ decideReaction rule marks (ring (now (times .entry)) head len) stream t ⌝ }
-{
-    let colour = (stream % 8) as usize;
-    let low = word(times, head, len, 2 * colour);
-    let high = word(times, head, len, 2 * colour + 1);
-    if parts::kind_of(stream) == rule.first {
-        let pair = after_stimulus(rule.lower, rule.upper, low, high, t);
-        return paired(marks, times, head, len, colour, pair);
-    }
-    let pair = after_response(low, high, t);
-    paired(marks, times, head, len, colour, pair)
 }

@@ -1,6 +1,5 @@
 // StrongSynchronization: the times are the first times of the groups begun and not complete; first to fourth say how
 // many of these groups have an event of that kind.
-use machine::Change;
 use machine::Marks;
 use machine::Rule;
 use machine::numbers::NO_KIND;
@@ -10,7 +9,6 @@ use queue::SIZE;
 use queue::minus;
 ghost use mathlib.Core.Path.{_≡_};
 ghost use Prim.Native.Nat.{ℕ};
-ghost use Rattle.queue.specs.Ring.{ring};
 ghost use Rattle.machine.specs.Words.{Past, numberWords, withMarks, ruleAt, marksAt, Applies};
 ghost use Rattle.machine.specs.declared.Rule.{Rule};
 ghost use Rattle.machine.specs.declared.State.{State};
@@ -88,28 +86,6 @@ fn forget(w: &mut [u64; SIZE])
     w[words::FOUR] = minus(w[words::FOUR], 1);
 }
 
-// What an event makes of the row.
-pub fn decide(
-    rule: Rule,
-    marks: Marks,
-    times: &[u64; SIZE],
-    head: usize,
-    len: usize,
-    kind: u64,
-    t: u64,
-) -> Change
-    ensures { λ r. ⌜ r ≡ decideStrongSynchronization rule marks (ring (now (times .entry)) head len) kind t ⌝ }
-{
-    let now = counted(rule, marks, kind);
-    if count_of(rule, marks, kind) < len as u64 {
-        if complete(rule, now) {
-            return parts::fewer_wait(rule.upper, without_oldest(now), times, head, len, 1);
-        }
-        return parts::fewer_wait(rule.upper, now, times, head, len, 0);
-    }
-    parts::one_more_waits(rule.upper, now, times, head, len, t)
-}
-
 // Whether an event begins one more group, where there is no room.
 pub fn fills(rule: Rule, marks: Marks, len: usize, kind: u64) -> bool
     ensures { λ r. ⌜ ((t : ℕ) → r ≡ fillsStrongSynchronization rule marks len kind t) ⌝ }
@@ -149,42 +125,9 @@ fn one_more(kind: u64, of: u64, count: u64) -> u64
     count
 }
 
-// The marks with one more of the kind.
-fn counted(rule: Rule, marks: Marks, kind: u64) -> Marks
-    ensures { λ r. ⌜ r ≡ counted rule marks kind ⌝ }
-{
-    let mut m = marks;
-    m.first = one_more(kind, rule.first, marks.first);
-    m.second = one_more(kind, rule.second, marks.second);
-    m.third = one_more(kind, rule.third, marks.third);
-    m.fourth = one_more(kind, rule.fourth, marks.fourth);
-    m
-}
-
 // Whether the oldest group has an event of the kind, or there is no such kind.
 fn has(kind: u64, count: u64) -> bool
     ensures { λ r. ⌜ r ≡ has kind count ⌝ }
 {
     kind == NO_KIND as u64 || 0 < count
-}
-
-// Whether the oldest group has an event of each kind.
-fn complete(rule: Rule, marks: Marks) -> bool
-    ensures { λ r. ⌜ r ≡ complete rule marks ⌝ }
-{
-    has(rule.first, marks.first)
-        && (has(rule.second, marks.second)
-            && (has(rule.third, marks.third) && has(rule.fourth, marks.fourth)))
-}
-
-// The counts without the oldest group.
-fn without_oldest(marks: Marks) -> Marks
-    ensures { λ r. ⌜ r ≡ withoutOldest marks ⌝ }
-{
-    let mut m = marks;
-    m.first = minus(marks.first, 1);
-    m.second = minus(marks.second, 1);
-    m.third = minus(marks.third, 1);
-    m.fourth = minus(marks.fourth, 1);
-    m
 }

@@ -3,51 +3,24 @@
 use Prim.Native.Nat.{ℕ, _<_}
 use native.Mathlib.Omega.{arith}
 use mathlib.Core.Path.{_≡_, refl, sym, _∙_, ap, subst}
-use mathlib.Core.Bool.{Bool, true, false, cond, _&&_}
+use mathlib.Core.Bool.{Bool, true, false, cond}
 use mathlib.Core.Logic.{_⊎_, inl, inr, ⊎-elim}
-use lib.ListN.{length}
 use lib.Dec.{ltb, eqb}
 use borrow.Author.Tests.{lt-ltb, ltb-true, ltb-false, eq-eqb, ne-eqb}
-use Rattle.constraint.specs.Limits.{waitingLimit}
 use Rattle.constraint.proofs.Lists.{split, both}
-use Rattle.queue.specs.Ring.{changed}
 use Rattle.machine.specs.declared.Rule.{Rule}
-use Rattle.machine.specs.declared.Change.{Change}
-use Rattle.row.specs.Machine.{decide, concerns, rowFrom, itemsOf, brokenState, brokenRow, applied, stays, crowding, changedRow, rowStep}
+use Rattle.row.specs.Machine.{concerns, rowFrom, brokenState, brokenRow, rowStep}
 use Rattle.row.specs.Undo.{movesBy, savedAt, savedRow, savedBy}
 use Rattle.row.specs.Apart.{endsBy, endedState, heardRow, heardBefore}
 use Rattle.row.specs.Stored.{eventRow, eventSaves, endedRow, endedSaves}
 use Rattle.row.specs.declared.Before.{Before}
 use Rattle.row.specs.declared.Occurrence.{Occurrence}
 use Rattle.row.specs.declared.Row.{Row}
-use Rattle.row.specs.declared.RowStep.{RowStep}
 use Rattle.row.proofs.Undo.{still}
 use Rattle.row.proofs.Crowding.{crowds, step-crowds}
-use Rattle.row.proofs.Apart.{step-heard, saved-heard, step-ended, saved-ended}
+use Rattle.row.proofs.Apart.{rule-stays, step-heard, saved-heard, step-ended, saved-ended}
 
 -- ---- what a step makes of a row
-
-same-rule : (R : Rule) (b : Bool) (x y : RowStep) → x .row .rule ≡ R → y .row .rule ≡ R → cond {A = RowStep} b x y .row .rule ≡ R
-same-rule R true x y e f = e
-same-rule R false x y e f = f
-
-changed-rule : (r : Row) (change : Change) (number : ℕ) → changedRow r change number .row .rule ≡ r .rule
-unfolding changedRow brokenRow applied
-changed-rule r change number =
-    same-rule (r .rule) (change .breaks) (stays (brokenRow r number))
-    (cond (ltb waitingLimit (length (changed (change .edit) (itemsOf r)))) (crowding r) (stays (applied r change))) refl
-    (same-rule (r .rule) (ltb waitingLimit (length (changed (change .edit) (itemsOf r)))) (crowding r) (stays (applied r change)) refl refl)
-
-pub rule-stays : (r : Row) (o : Occurrence) (number : ℕ) → rowStep r o number .row .rule ≡ r .rule
-unfolding rowStep brokenRow
-rule-stays r o number =
-    let change : Change = decide (r .rule) (r .now .marks) (itemsOf r) (o .stream) (o .time) in
-    let ends : RowStep = cond (o .closes && eqb (r .now .kept) 0) (stays (brokenRow r number)) (stays r) in
-    let own : RowStep = cond (concerns (r .rule) (o .kind)) (changedRow r change number) ends in
-    same-rule (r .rule) (ltb 0 (r .now .broken)) (stays r) (cond (ltb (r .now .due) (o .time)) (stays (brokenRow r number)) own) refl
-    (same-rule (r .rule) (ltb (r .now .due) (o .time)) (stays (brokenRow r number)) own refl
-    (same-rule (r .rule) (concerns (r .rule) (o .kind)) (changedRow r change number) ends (changed-rule r change number)
-    (same-rule (r .rule) (o .closes && eqb (r .now .kept) 0) (stays (brokenRow r number)) (stays r) refl refl)))
 
 -- a broken row is left as it is
 broken-stays : (r : Row) (o : Occurrence) (number : ℕ) → ltb 0 (r .now .broken) ≡ true → rowStep r o number .row ≡ r

@@ -19,7 +19,7 @@ use Rattle.row.specs.declared.Occurrence.{Occurrence}
 use Rattle.row.specs.declared.Row.{Row}
 use Rattle.row.proofs.Undo.{still}
 use Rattle.row.proofs.Crowding.{crowds}
-use Rattle.row.proofs.Apart.{step-few, saved-few, saved-state}
+use Rattle.row.proofs.Apart.{rule-stays, step-few, saved-few, saved-state}
 use Rattle.monitor.specs.Machine.{noRow, mapFirst, zipFirst}
 use Rattle.monitor.specs.Parts.{withRows}
 use Rattle.monitor.proofs.First.{zip-length}
@@ -30,7 +30,7 @@ use Rattle.lent.specs.Contract.{namedRows, rowsOf, numbers, isOf, takenI
 use Rattle.lent.proofs.Following as Following
 use Rattle.lent.proofs.Following.{mapped, map-length, map-twice, zipped, zip-twice, row-none, row-more, visits, visits-last, visits-beside}
 use Rattle.lent.proofs.Following.{visits-same, Beside, same-beside}
-use Rattle.lent.proofs.Hearing.{rule-stays, unconcerned, no-ends, moved, late, saves, late-saves, ended-late, saved-late, late-first}
+use Rattle.lent.proofs.Hearing.{unconcerned, no-ends, moved, late, saves, late-saves, ended-late, saved-late, late-first}
 use Rattle.lent.proofs.Hearing.{late-saves-first, late-still, unsaved, late-unsaved, heard-moved, heard-late}
 
 -- ---- the rows that are listed

@@ -7,4 +7,3 @@ pub mod Sums
 pub mod Oldest
 pub mod Spans
 pub mod Tests
-pub mod Stored

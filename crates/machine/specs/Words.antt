@@ -117,11 +117,6 @@ Edits entry edit number exit =
     (withRing state (edited edit (ringOf times (state .head) (state .len))))
     (pastOf times state (editPlace edit (ringOf times (state .head) (state .len))) number)
 
-abbrev pub Changes : List (List ℕ) → Change → ℕ → List (List ℕ) → Type 0
-Changes entry change number exit =
-    (rule : Rule) (times : List ℕ) (state : State) (past : Past) → entry ≡ rowWords rule times state past
-    → exit ≡ changedWords rule times state change number
-
 -- a change that the row's own numbers, marks and times give is made where the words lie
 abbrev pub Makes : List (List ℕ) → (Rule → Marks → List ℕ → Change) → ℕ → List (List ℕ) → Type 0
 Makes entry change number exit =

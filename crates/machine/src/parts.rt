@@ -1,9 +1,7 @@
 // What row types share: sums and tests that do not wrap, the oldest time, and the parts of a change.
-use crate::Change;
 use crate::Marks;
 use constraint::FIRST_COLOURED;
 use constraint::NO_LIMIT;
-use queue::Edit;
 use queue::SIZE;
 use queue::time_at;
 ghost use mathlib.Core.Path.{_≡_};
@@ -12,8 +10,7 @@ ghost use lib.Dec.{leb};
 ghost use lib.ListN.{drop};
 ghost use Rattle.constraint.specs.Streams.{kindOf};
 ghost use Rattle.queue.specs.Ring.{ring};
-ghost use Rattle.queue.specs.declared.Edit.the-variants.{Drop, Push};
-ghost use Rattle.machine.specs.Parts.{plus, farEnough, front, dueOr, noMarks, withLast, continuesWith, breaking, waits};
+ghost use Rattle.machine.specs.Parts.{plus, farEnough, front, dueOr, noMarks};
 
 // a + b, or the largest number where that is more.
 pub fn plus(a: u64, b: u64) -> u64
@@ -99,77 +96,4 @@ pub fn no_marks() -> Marks
         third: 0,
         fourth: 0,
     }
-}
-
-// The marks with another last time, of which this is one more; 0 for none.
-pub fn with_last(marks: Marks, last: u64) -> Marks
-    ensures { λ r. ⌜ r ≡ withLast marks last ⌝ }
-{
-    let mut m = marks;
-    m.last = last;
-    m
-}
-
-// The change of a row that goes on.
-pub fn goes_on(edit: Edit, marks: Marks, due: u64, kept: bool) -> Change
-    ensures { λ r. ⌜ r ≡ continuesWith edit marks due kept ⌝ }
-{
-    Change {
-        breaks: false,
-        edit,
-        marks,
-        due,
-        kept,
-    }
-}
-
-// The change of a row that breaks.
-pub fn breaking() -> Change
-    ensures { λ r. ⌜ r ≡ breaking ⌝ }
-{
-    Change {
-        breaks: true,
-        edit: Edit::Drop { dropped: 0 },
-        marks: no_marks(),
-        due: 0,
-        kept: false,
-    }
-}
-
-// The change of a row whose times wait: the oldest leave.
-pub fn fewer_wait(
-    upper: u64,
-    marks: Marks,
-    times: &[u64; SIZE],
-    head: usize,
-    len: usize,
-    dropped: usize,
-) -> Change
-    ensures { λ r. ⌜ r ≡ waits upper (ring (now (times .entry)) head len) (Drop dropped) marks ⌝ }
-{
-    let due = due_after(upper, times, head, len, dropped, NO_LIMIT);
-    goes_on(Edit::Drop { dropped }, marks, due, len <= dropped)
-}
-
-// The change of a row whose times wait: t waits too.
-pub fn one_more_waits(
-    upper: u64,
-    marks: Marks,
-    times: &[u64; SIZE],
-    head: usize,
-    len: usize,
-    t: u64,
-) -> Change
-    ensures { λ r. ⌜ r ≡ waits upper (ring (now (times .entry)) head len) (Push 0 t) marks ⌝ }
-{
-    let due = due_after(upper, times, head, len, 0, plus(t, upper));
-    goes_on(
-        Edit::Push {
-            dropped: 0,
-            word: t,
-        },
-        marks,
-        due,
-        false,
-    )
 }

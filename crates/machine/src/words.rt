@@ -1,27 +1,22 @@
 // A row where it lies, in two arrays of 64 words: the ring of its times, and its numbers. What every row type does to them.
-use crate::Change;
 use crate::Marks;
 use crate::Rule;
 use crate::parts::due_after;
 use crate::parts::plus;
 use constraint::NO_LIMIT;
 use queue::SIZE;
-use queue::edit_place;
-use queue::edit_ring;
 use queue::left;
 use queue::place_of;
 use queue::push;
-use queue::put;
+use queue::put_pair;
 use queue::time_at;
-ghost use Prim.Native.Nat.{ℕ, _<_};
+ghost use Prim.Native.Nat.{_<_};
 ghost use mathlib.Core.Path.{_≡_};
-ghost use mathlib.Core.List.{List};
 ghost use mathlib.Core.Bool.{cond};
-ghost use Rattle.queue.specs.Ring.{ringOf};
 ghost use Rattle.machine.specs.declared.Rule.{Rule};
 ghost use Rattle.machine.specs.declared.Marks.{Marks};
 ghost use Rattle.machine.specs.declared.State.{State};
-ghost use Rattle.machine.specs.Words.{Past, numberWords, ruleAt, marksAt, brokenAt, withMarks, goingOn, settled, Keeps, Breaks, Edits, Changes, Waits};
+ghost use Rattle.machine.specs.Words.{Past, numberWords, ruleAt, marksAt, brokenAt, settled, Keeps, Breaks, Edits, Waits};
 ghost use Rattle.queue.specs.declared.Edit.the-variants.{Drop, Push, PushTwo, Store};
 
 // The constraint's numbers.
@@ -152,29 +147,6 @@ fn break_numbers(w: &mut [u64; SIZE], number: u64)
     w[BROKEN] = number;
 }
 
-// A row's state is that of one that goes on, with these marks.
-fn mark_numbers(w: &mut [u64; SIZE], marks: Marks)
-    ensures { λ _. ⌜ ((rule : Rule) (state : State) (past : Past) → now (w .entry) ≡ numberWords rule state past → now (w .exit) ≡ numberWords rule (withMarks state marks) past) ⌝ }
-{
-    w[LAST] = marks.last;
-    w[ONE] = marks.first;
-    w[TWO] = marks.second;
-    w[THREE] = marks.third;
-    w[FOUR] = marks.fourth;
-}
-
-// A row's state is that of one that goes on, its marks being new: where its ring begins and how many times it holds, its due time, and whether it is
-// kept if the recording is closed now.
-pub fn go_on(w: &mut [u64; SIZE], head: usize, len: usize, due: u64, kept: bool)
-    ensures { λ _. ⌜ ((rule : Rule) (state : State) (past : Past) → now (w .entry) ≡ numberWords rule state past → (times : List ℕ) → now (w .exit) ≡ numberWords rule (goingOn (ringOf times head len) (state .marks) due kept) past) ⌝ }
-{
-    w[HEAD] = head as u64;
-    w[LEN] = len as u64;
-    w[DUE] = due;
-    w[KEPT] = one_if(kept);
-    w[BROKEN] = 0;
-}
-
 // What the row is becomes its past, before the step of that number, which overwrites two words from a place on.
 pub fn keep(row: &mut [[u64; SIZE]; 2], place: usize, number: u64)
     ensures { λ _. ⌜ Keeps (now (row .entry)) place number (now (row .exit)) ⌝ }
@@ -236,14 +208,12 @@ pub fn push_two(row: &mut [[u64; SIZE]; 2], dropped: usize, first: u64, second: 
 
 // None leaves: two words are put at a place of their own and the next.
 pub fn put_two(row: &mut [[u64; SIZE]; 2], place: usize, first: u64, second: u64, number: u64)
-    requires { ⌜ place < 64 ⌝ }
     ensures { λ _. ⌜ Edits (now (row .entry)) (Store place first second) number (now (row .exit)) ⌝ }
 {
     let head = row[1][HEAD] as usize;
     let len = row[1][LEN] as usize;
     keep(row, place_of(head, place), number);
-    put(&mut row[0], head, len, place, first);
-    put(&mut row[0], head, len, place + 1, second);
+    put_pair(&mut row[0], head, len, place, first, second);
 }
 
 // The times of the row wait: the oldest leave by the step of that number, and the oldest that is left gives the due time.
@@ -271,25 +241,6 @@ pub fn one_more_waits(row: &mut [[u64; SIZE]; 2], dropped: usize, t: u64, number
     row[1][DUE] = due;
     row[1][KEPT] = 0;
     row[1][BROKEN] = 0;
-}
-
-// A change is made where the row lies, by the step of that number.
-pub fn apply(row: &mut [[u64; SIZE]; 2], change: Change, number: u64)
-    ensures { λ _. ⌜ Changes (now (row .entry)) change number (now (row .exit)) ⌝ }
-{
-    let head = row[1][HEAD] as usize;
-    let len = row[1][LEN] as usize;
-    let edit = change.edit;
-    let place = edit_place(head, len, edit);
-    if change.breaks {
-        break_at(row, place, number);
-        return;
-    }
-    keep(row, place, number);
-    let ends = edit_ring(&mut row[0], head, len, edit);
-    let marks = change.marks;
-    mark_numbers(&mut row[1], marks);
-    go_on(&mut row[1], ends.head, ends.len, change.due, change.kept);
 }
 
 // A row's state is that of one that goes on with its marks and its ring: its due time, and 1 where it is kept if the recording is closed now.

@@ -1,5 +1,4 @@
 // Delay: the times are the waiting sources; last is one more than the last target's time.
-use machine::Change;
 use machine::Marks;
 use machine::Rule;
 use machine::parts;
@@ -29,29 +28,6 @@ pub fn apply(row: &mut [[u64; SIZE]; 2], stream: u64, t: u64, number: u64)
     let dropped = answered(lower, t, &row[0], head, len);
     words::fewer_wait(row, dropped, number);
     row[1][words::LAST] = parts::plus(t, 1);
-}
-
-// What an event makes of the row.
-pub fn decide(
-    rule: Rule,
-    marks: Marks,
-    times: &[u64; SIZE],
-    head: usize,
-    len: usize,
-    kind: u64,
-    t: u64,
-) -> Change
-    ensures { λ r. ⌜ r ≡ decideDelay rule marks (ring (now (times .entry)) head len) kind t ⌝ }
-{
-    if kind == rule.first {
-        if answered_at_once(rule.lower, marks.last, t) {
-            return parts::fewer_wait(rule.upper, marks, times, head, len, 0);
-        }
-        return parts::one_more_waits(rule.upper, marks, times, head, len, t);
-    }
-    let dropped = answered(rule.lower, t, times, head, len);
-    let marks = parts::with_last(marks, parts::plus(t, 1));
-    parts::fewer_wait(rule.upper, marks, times, head, len, dropped)
 }
 
 // Whether an event lets one more wait, where there is no room.

@@ -1,17 +1,14 @@
 // StrongDelay: the times are the sources beyond the number of targets; last is one more than the time of a target beyond
 // the number of sources.
-use machine::Change;
 use machine::Marks;
 use machine::Rule;
 use machine::parts;
 use machine::words;
-use queue::Edit;
 use queue::SIZE;
 ghost use mathlib.Core.Path.{_≡_};
 ghost use Prim.Native.Nat.{ℕ};
-ghost use Rattle.queue.specs.Ring.{ring};
 ghost use Rattle.machine.specs.Words.{Applies};
-ghost use Rattle.pairs.specs.StrongDelay.{fillsStrongDelay, sourceStrongDelay, targetStrongDelay, decideStrongDelay};
+ghost use Rattle.pairs.specs.StrongDelay.{fillsStrongDelay, decideStrongDelay};
 
 // One more than the time of a target beyond the number of sources.
 const EARLY: usize = words::LAST;
@@ -50,24 +47,6 @@ pub fn apply(row: &mut [[u64; SIZE]; 2], stream: u64, t: u64, number: u64)
     words::break_at(row, 0, number);
 }
 
-// What an event makes of the row.
-pub fn decide(
-    rule: Rule,
-    marks: Marks,
-    times: &[u64; SIZE],
-    head: usize,
-    len: usize,
-    kind: u64,
-    t: u64,
-) -> Change
-    ensures { λ r. ⌜ r ≡ decideStrongDelay rule marks (ring (now (times .entry)) head len) kind t ⌝ }
-{
-    if kind == rule.first {
-        return source(rule, marks, times, head, len, t);
-    }
-    target(rule, marks, times, head, len, t)
-}
-
 // Whether an event lets one more wait, where there is no room.
 pub fn fills(rule: Rule, marks: Marks, len: usize, kind: u64) -> bool
     ensures { λ r. ⌜ ((t : ℕ) → r ≡ fillsStrongDelay rule marks len kind t) ⌝ }
@@ -79,32 +58,4 @@ pub fn fills(rule: Rule, marks: Marks, len: usize, kind: u64) -> bool
         return marks.last == 0;
     }
     false
-}
-
-// What a source makes of the row: it waits, or it is the partner of the target beyond.
-fn source(rule: Rule, marks: Marks, times: &[u64; SIZE], head: usize, len: usize, t: u64) -> Change
-    ensures { λ r. ⌜ r ≡ sourceStrongDelay rule marks (ring (now (times .entry)) head len) t ⌝ }
-{
-    let none = parts::with_last(marks, 0);
-    if marks.last == 0 {
-        return parts::one_more_waits(rule.upper, none, times, head, len, t);
-    }
-    parts::fewer_wait(rule.upper, none, times, head, len, 0)
-}
-
-// What a target makes of the row: it is the partner of the oldest source that waits, or one beyond.
-fn target(rule: Rule, marks: Marks, times: &[u64; SIZE], head: usize, len: usize, t: u64) -> Change
-    ensures { λ r. ⌜ r ≡ targetStrongDelay rule marks (ring (now (times .entry)) head len) t ⌝ }
-{
-    if len == 0 {
-        if rule.lower == 0 {
-            let beyond = parts::with_last(marks, parts::plus(t, 1));
-            return parts::goes_on(Edit::Drop { dropped: 0 }, beyond, t, false);
-        }
-        return parts::breaking();
-    }
-    if parts::reaches(parts::front(times, head, len), rule.lower, t) {
-        return parts::fewer_wait(rule.upper, marks, times, head, len, 1);
-    }
-    parts::breaking()
 }

@@ -1,17 +1,11 @@
-// The ring of at most 64 times that every row keeps: functions on the 64 words where they lie.
+// The ring of at most 64 times that every row keeps: functions on the 64 words where they lie. Its times stand from the place head on, round at the
+// end, the oldest first.
 ghost use mathlib.Core.Path.{_≡_};
-ghost use mathlib.Core.List.{List};
-ghost use Prim.Native.Nat.{ℕ, _-_};
-ghost use Rattle.queue.specs.Ring.{ringPlace, timeAt, ringOf, pushRing, putRing, edited, editPlace, putBack};
+ghost use Prim.Native.Nat.{_+_, _-_};
+ghost use Rattle.queue.specs.Ring.{ringPlace, timeAt, ringOf, pushRing, putRing, putBack};
 
 // How many times a ring holds at most.
 pub const SIZE: usize = 64;
-
-// Where a ring begins, and how many times it holds: they stand from the place head on, round at the end, the oldest first.
-pub struct Ends {
-    pub head: usize,
-    pub len: usize,
-}
 
 // What is done to the times of a ring.
 pub enum Edit {
@@ -80,7 +74,7 @@ pub fn push(times: &mut [u64; SIZE], head: usize, len: usize, word: u64) -> usiz
 }
 
 // The ring with a word at one of its places.
-pub fn put(times: &mut [u64; SIZE], head: usize, len: usize, i: usize, word: u64)
+fn put(times: &mut [u64; SIZE], head: usize, len: usize, i: usize, word: u64)
     ensures { λ r. ⌜ ringOf (now (times .exit)) head len ≡ putRing i word (ringOf (now (times .entry)) head len) ⌝ }
 {
     let at = place_of(head, i);
@@ -89,82 +83,20 @@ pub fn put(times: &mut [u64; SIZE], head: usize, len: usize, i: usize, word: u64
     }
 }
 
-// The ring with what is done to it: where it begins and how many times it holds then.
-pub fn edit_ring(times: &mut [u64; SIZE], head: usize, len: usize, e: Edit) -> Ends
-    ensures { λ r. ⌜ ringOf (now (times .exit)) (r .head) (r .len) ≡ edited e (ringOf (now (times .entry)) head len) ⌝ }
+// The ring with two words at a place of their own and the next.
+pub fn put_pair(
+    times: &mut [u64; SIZE],
+    head: usize,
+    len: usize,
+    place: usize,
+    first: u64,
+    second: u64,
+)
+    ensures { λ r. ⌜ ringOf (now (times .exit)) head len ≡ putRing (place + 1) second (putRing place first (ringOf (now (times .entry)) head len)) ⌝ }
 {
-    match e {
-        Edit::Drop { dropped } => dropped_ends(head, len, dropped),
-        Edit::Push { dropped, word } => {
-            let ends = dropped_ends(head, len, dropped);
-            let head = ends.head;
-            Ends {
-                head,
-                len: push(times, head, ends.len, word),
-            }
-        }
-        Edit::PushTwo {
-            dropped,
-            first,
-            second,
-        } => {
-            let ends = dropped_ends(head, len, dropped);
-            let head = ends.head;
-            let more = push(times, head, ends.len, first);
-            Ends {
-                head,
-                len: push(times, head, more, second),
-            }
-        }
-        Edit::Store {
-            place,
-            first,
-            second,
-        } => {
-            if place < len {
-                put(times, head, len, place, first);
-                put(times, head, len, place + 1, second);
-            }
-            Ends { head, len }
-        }
-    }
-}
-
-// Where the ring begins and how many times it holds without its oldest.
-fn dropped_ends(head: usize, len: usize, dropped: usize) -> Ends
-    ensures { λ r. ⌜ (r .head ≡ ringPlace head dropped) × (r .len ≡ len - dropped) ⌝ }
-{
-    Ends {
-        head: place_of(head, dropped),
-        len: left(len, dropped),
-    }
-}
-
-// The place of the first word that is pushed, once the oldest have left.
-fn push_place(head: usize, len: usize, dropped: usize) -> usize
-    ensures { λ r. ⌜ r ≡ ringPlace (ringPlace head dropped) (len - dropped) ⌝ }
-{
-    let ends = dropped_ends(head, len, dropped);
-    place_of(ends.head, ends.len)
-}
-
-// Where an edit writes first; what it writes lies there and at the next place.
-pub fn edit_place(head: usize, len: usize, e: Edit) -> usize
-    ensures { λ r. ⌜ ((times : List ℕ) → r ≡ editPlace e (ringOf times head len)) ⌝ }
-{
-    match e {
-        Edit::Drop { dropped } => 0,
-        Edit::Push { dropped, word } => push_place(head, len, dropped),
-        Edit::PushTwo {
-            dropped,
-            first,
-            second,
-        } => push_place(head, len, dropped),
-        Edit::Store {
-            place,
-            first,
-            second,
-        } => place_of(head, place),
+    if place < len {
+        put(times, head, len, place, first);
+        put(times, head, len, place + 1, second);
     }
 }
 

@@ -1,12 +1,10 @@
 // Repetition: for the hidden point of each of the last span events, or of all while they are fewer, the places where it can be, from
 // a low to a high. These stand in turn, the oldest first, and an event puts in two numbers.
 use constraint::NO_LIMIT;
-use machine::Change;
 use machine::Marks;
 use machine::Rule;
 use machine::parts;
 use machine::words;
-use queue::Edit;
 use queue::SIZE;
 use queue::minus;
 use queue::time_at;
@@ -15,9 +13,10 @@ ghost use Prim.Native.Nat.{ℕ};
 ghost use Rattle.queue.specs.Ring.{ring};
 ghost use Rattle.machine.specs.Words.{Applies};
 ghost use Rattle.machine.specs.declared.Marks.{Marks};
-ghost use Rattle.repetition.specs.Repetition.{fillsRepetition, firstHigh, lowestPoint, highestPoint, placed, decideRepetition};
+ghost use Rattle.repetition.specs.Repetition.{fillsRepetition, firstHigh, decideRepetition};
 
-// What an event makes of the row, where it lies.
+// What an event makes of the row, where it lies. Its point comes at most upper behind the oldest that is kept, less one place for each point that is
+// still to come before the span is over; one of the first span is tied to no earlier one from below; with a later one the oldest leaves.
 pub fn apply(row: &mut [[u64; SIZE]; 2], t: u64, number: u64)
     ensures { λ _. ⌜ ((stream : ℕ) → Applies decideRepetition (now (row .entry)) stream t number (now (row .exit))) ⌝ }
 {
@@ -44,23 +43,6 @@ pub fn apply(row: &mut [[u64; SIZE]; 2], t: u64, number: u64)
     words::break_at(row, 0, number);
 }
 
-// What an event makes of the row.
-pub fn decide(
-    rule: Rule,
-    marks: Marks,
-    times: &[u64; SIZE],
-    head: usize,
-    len: usize,
-    t: u64,
-) -> Change
-    ensures { λ r. ⌜ ((kind : ℕ) → r ≡ decideRepetition rule marks (ring (now (times .entry)) head len) kind t) ⌝ }
-{
-    let n = (len / 2) as u64;
-    let low = lowest(rule, n, parts::front(times, head, len), t);
-    let high = highest(rule, n, first_high(times, head, len, t), t);
-    placed(rule, marks, n, low, high)
-}
-
 // Whether an event lets two more numbers come, where there is no room for two.
 pub fn fills(rule: Rule, len: usize) -> bool
     ensures { λ r. ⌜ ((marks : Marks) (kind t : ℕ) → r ≡ fillsRepetition rule marks len kind t) ⌝ }
@@ -76,49 +58,4 @@ fn first_high(times: &[u64; SIZE], head: usize, len: usize, t: u64) -> u64
         return t;
     }
     time_at(times, head, 1)
-}
-
-// The first place where the point of an event at t can be, n points being kept and the oldest at low or later: one of the first
-// span is tied to no earlier one from below.
-fn lowest(rule: Rule, n: u64, low: u64, t: u64) -> u64
-    ensures { λ r. ⌜ r ≡ lowestPoint rule n low t ⌝ }
-{
-    let near = minus(t, rule.jitter);
-    if n < rule.span {
-        return near;
-    }
-    parts::larger(near, parts::plus(low, rule.lower))
-}
-
-// The last place where the point of an event at t can be, n points being kept and the oldest at high or earlier: upper behind
-// that, less one place for each point that is still to come before the span is over.
-fn highest(rule: Rule, n: u64, high: u64, t: u64) -> u64
-    ensures { λ r. ⌜ r ≡ highestPoint rule n high t ⌝ }
-{
-    let start = parts::plus(high, minus(rule.upper, rule.span));
-    parts::smaller(t, parts::plus(start, n))
-}
-
-// The row goes on with a point that can be from low to high, n points being kept: with each of the first span; with a later one
-// where there is such a place, and then the oldest leaves.
-fn placed(rule: Rule, marks: Marks, n: u64, low: u64, high: u64) -> Change
-    ensures { λ r. ⌜ r ≡ placed rule marks n low high ⌝ }
-{
-    if n < rule.span {
-        let edit = Edit::PushTwo {
-            dropped: 0,
-            first: low,
-            second: high,
-        };
-        return parts::goes_on(edit, marks, NO_LIMIT, true);
-    }
-    if rule.span <= rule.upper && low <= high {
-        let edit = Edit::PushTwo {
-            dropped: 2,
-            first: low,
-            second: high,
-        };
-        return parts::goes_on(edit, marks, NO_LIMIT, true);
-    }
-    parts::breaking()
 }

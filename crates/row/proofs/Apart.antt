@@ -13,37 +13,24 @@ use Rattle.queue.specs.Ring.{Ring, ringOf, ringPlace, pushRing, putRing, dropRi
 use Rattle.queue.specs.declared.Edit.{Edit}
 use Rattle.queue.specs.declared.Edit.the-variants.{Drop, Push, PushTwo, Store}
 use Rattle.machine.specs.declared.Change.{Change}
+use Rattle.machine.specs.declared.Rule.{Rule}
 use Rattle.machine.specs.declared.State.{State}
 use Rattle.row.specs.Machine.{concerns, rowFrom, itemsOf, brokenState, brokenRow, applied, stays, crowding, changedRow, rowStep}
 use Rattle.row.specs.Undo.{movesBy, stepPlace, savedAt, savedRow, savedBy, backRow, rowWithout, keptWithout, noBefore, noState}
-use Rattle.row.specs.Apart.{endsBy, endedState, changeBy, withChange, heardRow, heardBefore}
+use Rattle.row.specs.Apart.{endsBy, endedState, changeBy, heardRow, heardBefore, steppedRow}
 use Rattle.row.specs.declared.Before.{Before}
 use Rattle.row.specs.declared.Occurrence.{Occurrence}
 use Rattle.row.specs.declared.Row.{Row}
 use Rattle.row.specs.declared.RowStep.{RowStep}
+use Rattle.row.proofs.Crowding.{step-by}
 
 -- ---- a row that hears an event
 
 module _ (r : Row) (o : Occurrence) (number : ℕ) (unbroken : ltb 0 (r .now .broken) ≡ false) (in-time : ltb (r .now .due) (o .time) ≡ false)
     (concerned : concerns (r .rule) (o .kind) ≡ true) where
-  own-step : rowStep r o number ≡ changedRow r (changeBy r o) number
-  unfolding rowStep
-  own-step = rw (unbroken, in-time, concerned)
-
-  by-room : (a b : Bool) (x y z : Row) → cond {A = RowStep} a (stays x) (cond b (crowding y) (stays z)) .crowded ≡ false
-      → cond {A = RowStep} a (stays x) (cond b (crowding y) (stays z)) .row ≡ cond a x z
-  by-room true b x y z e = refl
-  by-room false true x y z e = both e
-  by-room false false x y z e = refl
-
-  changed-heard : changedRow r (changeBy r o) number .crowded ≡ false → changedRow r (changeBy r o) number .row ≡ heardRow r o number
-  unfolding changedRow withChange
-  changed-heard e =
-      by-room (changeBy r o .breaks) (ltb waitingLimit (length (changed (changeBy r o .edit) (itemsOf r)))) (brokenRow r number) r
-      (applied r (changeBy r o)) e
-
   pub step-heard : rowStep r o number .crowded ≡ false → rowStep r o number .row ≡ heardRow r o number
-  step-heard room = ap (λ (s : RowStep). s .row) own-step ∙ changed-heard (ap (λ (s : RowStep). s .crowded) (sym own-step) ∙ room)
+  unfolding steppedRow
+  step-heard room = ap (λ (s : RowStep). s .row) (step-by r o number false room) ∙ rw (unbroken, in-time, concerned)
 
   always : (b : Bool) → cond b true true ≡ true
   always true = refl
@@ -94,6 +81,27 @@ module _ (r : Row) (o : Occurrence) (number : ℕ) where
       by-saves (ltb 0 (r .now .broken)) (ltb (r .now .due) (o .time)) (o .closes) (concerns (r .rule) (o .kind))
       (editPlace (changeBy r o .edit) (ringOf (r .times) (r .now .head) (r .now .len))) b e
 
+-- ---- a row's rule stays as it is
+
+same-rule : (rule : Rule) (b : Bool) (x y : RowStep) → x .row .rule ≡ rule → y .row .rule ≡ rule → cond {A = RowStep} b x y .row .rule ≡ rule
+same-rule rule true x y p q = p
+same-rule rule false x y p q = q
+
+changed-rule : (r : Row) (change : Change) (number : ℕ) → changedRow r change number .row .rule ≡ r .rule
+unfolding changedRow brokenRow applied
+changed-rule r change number =
+    same-rule (r .rule) (ltb waitingLimit (r .now .len)) _ _ refl
+    (same-rule (r .rule) (change .breaks) _ _ refl
+    (same-rule (r .rule) (ltb waitingLimit (length (changed (change .edit) (itemsOf r)))) _ _ refl refl))
+
+pub rule-stays : (r : Row) (o : Occurrence) (number : ℕ) → rowStep r o number .row .rule ≡ r .rule
+unfolding rowStep brokenRow
+rule-stays r o number =
+    same-rule (r .rule) (ltb 0 (r .now .broken)) _ _ refl
+    (same-rule (r .rule) (ltb (r .now .due) (o .time)) _ _ refl
+    (same-rule (r .rule) (concerns (r .rule) (o .kind)) _ _ (changed-rule r (changeBy r o) number)
+    (same-rule (r .rule) (o .closes && eqb (r .now .kept) 0) _ _ refl refl)))
+
 -- ---- what is kept of a row is what it was, now or before; and so is what it keeps without a step
 
 module _ (P : State → Type 0) where
@@ -140,10 +148,11 @@ few-by false x y p q = q
 changed-few : (r : Row) (change : Change) (number : ℕ) → Roomy (r .now) → Roomy (changedRow r change number .row .now)
 unfolding changedRow brokenRow applied
 changed-few r change number few =
-    few-by (change .breaks) (stays (brokenRow r number))
-    (cond (ltb waitingLimit (length (changed (change .edit) (itemsOf r)))) (crowding r) (stays (applied r change))) (omega arith)
-    (few-by (ltb waitingLimit (length (changed (change .edit) (itemsOf r)))) (crowding r) (stays (applied r change)) few
-    (edited-few (change .edit) (ringOf (r .times) (r .now .head) (r .now .len)) few))
+    let more : Bool = ltb waitingLimit (length (changed (change .edit) (itemsOf r))) in
+    let goes : RowStep = cond more (crowding r) (stays (applied r change)) in
+    few-by (ltb waitingLimit (r .now .len)) (crowding r) (cond (change .breaks) (stays (brokenRow r number)) goes) few
+    (few-by (change .breaks) (stays (brokenRow r number)) goes (omega arith)
+    (few-by more (crowding r) (stays (applied r change)) few (edited-few (change .edit) (ringOf (r .times) (r .now .head) (r .now .len)) few)))
 
 pub step-few : (r : Row) (o : Occurrence) (number : ℕ) → Roomy (r .now) → Roomy (rowStep r o number .row .now)
 unfolding rowStep brokenRow
@@ -157,9 +166,6 @@ step-few r o number few =
 
 pub saved-few : (r : Row) (o : Occurrence) (number : ℕ) (b : Before) → Roomy (r .now) → Roomy (b .state) → Roomy (savedBy o number r b .state)
 saved-few r o number b few kept = saved-state Roomy r o number b few kept
-
-pub without-few : (number : ℕ) (r : Row) (b : Before) → Roomy (r .now) → Roomy (b .state) → Roomy (rowWithout number r b .now)
-without-few number r b few kept = without-state Roomy number r b few kept
 
 pub kept-few : (number : ℕ) (b : Before) → Roomy (b .state) → Roomy (keptWithout number b .state)
 kept-few number b kept = kept-state Roomy number b kept (omega arith)

@@ -18,12 +18,11 @@ use Rattle.queue.proofs.Laws.{ring-length}
 use Rattle.machine.specs.Parts.{plus, farEnough, front, none-left, dueOr, earlyOf, withLast, continuesWith, breaking, waits}
 use Rattle.machine.specs.declared.Rule.{Rule}
 use Rattle.machine.specs.declared.Marks.{Marks}
-use Rattle.machine.specs.declared.State.{State}
 use Rattle.machine.specs.declared.Change.{Change}
 use Rattle.pairs.specs.Delay.{answeredBy, answeredAtOnce, fillsDelay, decideDelay}
 use Rattle.pairs.specs.StrongDelay.{fillsStrongDelay, sourceStrongDelay, targetStrongDelay, decideStrongDelay}
 use Rattle.pairs.specs.Order.{aheadOf, changesTo, decideOrder}
-use Rattle.spans.specs.Repeat.{leaving, fillsRepeat, decideRepeat}
+use Rattle.spans.specs.Repeat.{fillsRepeat, decideRepeat}
 use Rattle.points.specs.Sporadic.{pointAt, stride, lowest, highest, laterSporadic, decideSporadic}
 use Rattle.groups.specs.StrongSynchronization.{countOf, counted, complete, withoutOldest, fillsStrongSynchronization, decideStrongSynchronization}
 use Rattle.phases.specs.ExecutionTime.{phaseOf, ranOf, ranTo, idleFrom, runningFrom, preemptedFrom, whileIdle, whileRunning, whilePreempted, decideExecutionTime}
@@ -31,7 +30,7 @@ use Rattle.chains.specs.declared.reaction.Pair.{Pair}
 use Rattle.chains.specs.Reaction.{afterStimulus, afterResponse, dueBut, paired, decideReaction}
 use Rattle.repetition.specs.Repetition.{hasPlace, placed, fillsRepetition, decideRepetition}
 use Rattle.row.specs.Machine.{decide, concerns, itemsOf, brokenRow, applied, stays, crowding, changedRow, rowStep}
-use Rattle.row.specs.Apart.{fills, fillsNever, crowdedBy, changeBy}
+use Rattle.row.specs.Apart.{fills, crowdedBy, changeBy, withChange, steppedRow}
 use Rattle.row.specs.declared.Occurrence.{Occurrence}
 use Rattle.row.specs.declared.Row.{Row}
 use Rattle.row.specs.declared.RowStep.{RowStep}
@@ -47,33 +46,42 @@ abbrev pub crowds : Occurrence → Row → Bool
 crowds o r =
     cond (ltb 0 (r .now .broken)) false
     (cond (ltb (r .now .due) (o .time)) false
-    (cond (concerns (r .rule) (o .kind)) (crowds-of (changeBy r o) (itemsOf r)) false))
+    (cond (concerns (r .rule) (o .kind)) (cond (ltb waitingLimit (r .now .len)) true (crowds-of (changeBy r o) (itemsOf r))) false))
 
-by-change : (a b : Bool) (x y z : Row) → (cond a (stays x) (cond b (crowding y) (stays z))) .crowded ≡ cond a false b
-by-change true b x y z = refl
-by-change false true x y z = refl
-by-change false false x y z = refl
+-- it is crowded and stays as it is, or it takes the step
+by-tests : (broken late own full breaks more unkept : Bool) (r x y : Row)
+    → cond broken (stays r) (cond late (stays x)
+    (cond own (cond full (crowding r) (cond breaks (stays x) (cond more (crowding r) (stays y)))) (cond unkept (stays x) (stays r))))
+    ≡ cond (cond broken false (cond late false (cond own (cond full true (cond breaks false more)) false))) (crowding r)
+    (stays (cond broken r (cond late x (cond own (cond breaks x y) (cond unkept x r)))))
+by-tests true late own full breaks more unkept r x y = refl
+by-tests false true own full breaks more unkept r x y = refl
+by-tests false false true true breaks more unkept r x y = refl
+by-tests false false true false true more unkept r x y = refl
+by-tests false false true false false true unkept r x y = refl
+by-tests false false true false false false unkept r x y = refl
+by-tests false false false full breaks more true r x y = refl
+by-tests false false false full breaks more false r x y = refl
 
-by-tests : (a b c d : Bool) (v w x y : Row) (s : RowStep)
-    → (cond a (stays v) (cond b (stays w) (cond c s (cond d (stays x) (stays y))))) .crowded ≡ cond a false (cond b false (cond c (s .crowded) false))
-by-tests true b c d v w x y s = refl
-by-tests false true c d v w x y s = refl
-by-tests false false true d v w x y s = refl
-by-tests false false false true v w x y s = refl
-by-tests false false false false v w x y s = refl
-
-changed-crowds : (r : Row) (change : Change) (number : ℕ) → changedRow r change number .crowded ≡ crowds-of change (itemsOf r)
-unfolding changedRow
-changed-crowds r change number =
-    by-change (change .breaks) (ltb waitingLimit (length (changed (change .edit) (itemsOf r)))) (brokenRow r number) r (applied r change)
+step-either : (r : Row) (o : Occurrence) (number : ℕ) → rowStep r o number ≡ cond (crowds o r) (crowding r) (stays (steppedRow o number r))
+unfolding rowStep changedRow steppedRow withChange
+step-either r o number =
+    by-tests (ltb 0 (r .now .broken)) (ltb (r .now .due) (o .time)) (concerns (r .rule) (o .kind)) (ltb waitingLimit (r .now .len))
+    (changeBy r o .breaks) (ltb waitingLimit (length (changed (changeBy r o .edit) (itemsOf r)))) (o .closes && eqb (r .now .kept) 0) r
+    (brokenRow r number) (applied r (changeBy r o))
 
 pub step-crowds : (r : Row) (o : Occurrence) (number : ℕ) → rowStep r o number .crowded ≡ crowds o r
-unfolding rowStep
-step-crowds r o number =
-    by-tests (ltb 0 (r .now .broken)) (ltb (r .now .due) (o .time)) (concerns (r .rule) (o .kind)) (o .closes && eqb (r .now .kept) 0) r
-    (brokenRow r number) (brokenRow r number) r (changedRow r (changeBy r o) number)
-    ∙ ap (λ (b : Bool). cond (ltb 0 (r .now .broken)) false (cond (ltb (r .now .due) (o .time)) false (cond (concerns (r .rule) (o .kind)) b false)))
-    (changed-crowds r (changeBy r o) number)
+step-crowds r o number = ap (λ (s : RowStep). s .crowded) (step-either r o number) ∙ by-crowds (crowds o r) r (steppedRow o number r)
+  where
+    by-crowds : (b : Bool) (x y : Row) → cond b (crowding x) (stays y) .crowded ≡ b
+    by-crowds true x y = refl
+    by-crowds false x y = refl
+
+-- by whether it is crowded
+pub step-by : (r : Row) (o : Occurrence) (number : ℕ) (b : Bool) → rowStep r o number .crowded ≡ b
+    → rowStep r o number ≡ cond b (crowding r) (stays (steppedRow o number r))
+step-by r o number b e =
+    step-either r o number ∙ ap (λ (z : Bool). cond z (crowding r) (stays (steppedRow o number r))) (sym (step-crowds r o number) ∙ e)
 
 -- ---- room for two more
 
@@ -95,7 +103,10 @@ all-false false false false d = refl
 room-left : (r : Row) (o : Occurrence) → length (itemsOf r) < 63 → crowds o r ≡ false
 room-left r o h =
     let change = changeBy r o in
-    rw (le-ltb 64 (length (changed (change .edit) (itemsOf r))) (two-more (change .edit) (itemsOf r) h))
+    rw (
+      le-ltb 64 (r .now .len) (omega (arith, h, ring-length (r .times) (r .now .head) (r .now .len))),
+      le-ltb 64 (length (changed (change .edit) (itemsOf r))) (two-more (change .edit) (itemsOf r) h),
+    )
     (all-false (ltb 0 (r .now .broken)) (ltb (r .now .due) (o .time)) (concerns (r .rule) (o .kind)) (change .breaks))
 
 -- ---- 63 or 64 waiting, type by type
@@ -301,6 +312,6 @@ crowded-known r o few =
     let own : Bool → Bool = λ b. cond (ltb 0 (r .now .broken)) false (cond (ltb (r .now .due) (o .time)) false (cond (concerns (r .rule) (o .kind)) b false)) in
     split (ltb (r .now .len) 63) (λ b. ltb (r .now .len) 63 ≡ b → cond b false (own (fills (r .rule) (r .now .marks) (r .now .len) (o .stream) (o .time))) ≡ crowds o r)
     (λ _ e. sym (room-left r o (omega (arith, size, ltb-true (r .now .len) 63 e))))
-    (λ _ e. ap own (ap (λ (k : ℕ). fills (r .rule) (r .now .marks) k (o .stream) (o .time)) (sym size)
-    ∙ fills-known (itemsOf r) (omega (arith, size, ltb-false (r .now .len) 63 e)) (omega (arith, size, few)) (r .rule) (r .now .marks) (o .stream) (o .time)))
+    (λ _ e. rw (le-ltb waitingLimit (r .now .len) few) (ap own (ap (λ (k : ℕ). fills (r .rule) (r .now .marks) k (o .stream) (o .time)) (sym size)
+    ∙ fills-known (itemsOf r) (omega (arith, size, ltb-false (r .now .len) 63 e)) (omega (arith, size, few)) (r .rule) (r .now .marks) (o .stream) (o .time))))
     refl

@@ -229,11 +229,12 @@ module _ (r : Row) (o : Occurrence) (number : ℕ) where
   changed-taken : taken (r .rule) (changedRow r (changeBy r o) number .row .now) ≤ was + 1
   unfolding changedRow applied
   changed-taken =
-      let full : Bool = ltb waitingLimit (length (changed (changeBy r o .edit) (itemsOf r))) in
-      at-most (was + 1) (changeBy r o .breaks) (stays (brokenRow r number)) (cond full (crowding r) (stays (applied r (changeBy r o))))
-      (omega (arith, emptied))
-      (at-most (was + 1) full (crowding r) (stays (applied r (changeBy r o))) (omega arith)
-      (one-more (r .rule) (r .now .marks) (itemsOf r) (o .stream) (o .time) (ringOf (r .times) (r .now .head) (r .now .len)) (r .rule .form)))
+      let more : Bool = ltb waitingLimit (length (changed (changeBy r o .edit) (itemsOf r))) in
+      let goes : RowStep = cond more (crowding r) (stays (applied r (changeBy r o))) in
+      at-most (was + 1) (ltb waitingLimit (r .now .len)) (crowding r) (cond (changeBy r o .breaks) (stays (brokenRow r number)) goes) (omega arith)
+      (at-most (was + 1) (changeBy r o .breaks) (stays (brokenRow r number)) goes (omega (arith, emptied))
+      (at-most (was + 1) more (crowding r) (stays (applied r (changeBy r o))) (omega arith)
+      (one-more (r .rule) (r .now .marks) (itemsOf r) (o .stream) (o .time) (ringOf (r .times) (r .now .head) (r .now .len)) (r .rule .form))))
 
   abbrev ends : RowStep
   ends = cond (o .closes && eqb (r .now .kept) 0) (stays (brokenRow r number)) (stays r)

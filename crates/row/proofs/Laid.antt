@@ -1,19 +1,23 @@
--- A row's words with a change are those of the row with the change: either way of the change computes.
+-- A row's words with a change are those of the row with the change, as either way of the change computes; and what occurs makes of a row what the
+-- clock or the close alone make of it, or what the event does.
 use Prim.Native.Nat.{ℕ}
-use mathlib.Core.Path.{_≡_, refl, ap}
-use mathlib.Core.Bool.{Bool, cond}
-use mathlib.Core.List.{List, []}
-use lib.ListN.{getD, set}
-use Rattle.constraint.proofs.Lists.{split}
-use Rattle.queue.specs.Ring.{ringOf, edited, editPlace}
+use native.Mathlib.Omega.{arith}
+use mathlib.Core.Path.{_≡_, refl}
+use mathlib.Core.Bool.{Bool, true, false, cond, _&&_}
+use lib.Dec.{ltb, eqb}
+use borrow.Author.Tests.{ltb-true, ltb-false, eq-eqb, ne-eqb}
+use Rattle.constraint.proofs.Lists.{split, both}
+use Rattle.queue.specs.Ring.{ringOf, editPlace}
 use Rattle.machine.specs.declared.Change.{Change}
-use Rattle.machine.specs.Words.{rowWords, numberWords, changedWords}
+use Rattle.machine.specs.declared.State.{State}
+use Rattle.machine.specs.Words.{changedWords}
 use Rattle.row.specs.declared.Before.{Before}
+use Rattle.row.specs.declared.Occurrence.{Occurrence}
 use Rattle.row.specs.declared.Row.{Row}
-use Rattle.row.specs.Machine.{brokenRow, applied}
-use Rattle.row.specs.Undo.{savedAt}
-use Rattle.row.specs.Apart.{withChange}
-use Rattle.row.specs.Stored.{pastOf, wordsOf}
+use Rattle.row.specs.Machine.{concerns, rowFrom, brokenState, brokenRow, applied, eventAt}
+use Rattle.row.specs.Undo.{movesBy, stepPlace, savedAt, savedBy}
+use Rattle.row.specs.Apart.{endsBy, endedState, withChange, heardRow, writesAt, steppedRow}
+use Rattle.row.specs.Stored.{wordsOf, eventRow, eventSaves, endedRow, endedSaves}
 
 module _ (r : Row) (change : Change) (number : ℕ) where
   pub changed-words : changedWords (r .rule) (r .times) (r .now) change number
@@ -25,3 +29,63 @@ module _ (r : Row) (change : Change) (number : ℕ) where
       (wordsOf (applied r change) (savedAt r (editPlace (change .edit) (ringOf (r .times) (r .now .head) (r .now .len))) number))
       ≡ wordsOf (cond b (brokenRow r number) (applied r change)) (savedAt r (editPlace (change .edit) (ringOf (r .times) (r .now .head) (r .now .len))) number))
       (λ _. refl) (λ _. refl)
+
+-- ---- what occurs
+
+not-zero : (n : ℕ) → eqb n 0 ≡ cond (ltb 0 n) false true
+not-zero n =
+    split (ltb 0 n) (λ b. ltb 0 n ≡ b → eqb n 0 ≡ cond b false true)
+    (λ _ e. ne-eqb n 0 (λ z. absurd (omega (arith, z, ltb-true 0 n e)))) (λ _ e. eq-eqb n 0 (omega (arith, ltb-false 0 n e)))
+    refl
+
+module _ (r : Row) (o : Occurrence) (number : ℕ) (b : Before) where
+  abbrev with-state : State → Row
+  with-state = rowFrom (r .rule) (r .times)
+
+  ended-row : (broken late own closes unkept : Bool) (heard : Row) (x y : State) → cond late false own ≡ false
+      → cond (cond broken false (cond late true (cond closes (cond own false true) false))) (with-state (cond late x (cond unkept x y))) (with-state y)
+      ≡ cond broken (with-state y) (cond late (with-state x) (cond own heard (cond (closes && unkept) (with-state x) (with-state y))))
+  ended-row true late own closes unkept heard x y e = refl
+  ended-row false true own closes unkept heard x y e = refl
+  ended-row false false true closes unkept heard x y e = both e
+  ended-row false false false true true heard x y e = refl
+  ended-row false false false true false heard x y e = refl
+  ended-row false false false false unkept heard x y e = refl
+
+  ended-saves : (broken late own closes : Bool) (place : ℕ) → cond late false own ≡ false
+      → cond (cond broken false (cond late true (cond closes (cond own false true) false))) (savedAt r 0 number) b
+      ≡ cond (cond broken false (cond late true (cond closes true own))) (savedAt r (cond broken 0 (cond late 0 (cond own place 0))) number) b
+  ended-saves true late own closes place e = refl
+  ended-saves false true own closes place e = refl
+  ended-saves false false true closes place e = both e
+  ended-saves false false false true place e = refl
+  ended-saves false false false false place e = refl
+
+  -- an overdue row, and one that is not concerned
+  pub stepped-ended : cond (ltb (r .now .due) (o .time)) false (concerns (r .rule) (o .kind)) ≡ false
+      → wordsOf (endedRow o number r) (endedSaves o number r b) ≡ wordsOf (steppedRow o number r) (savedBy o number r b)
+  unfolding endsBy endedState brokenRow steppedRow savedBy movesBy stepPlace
+  stepped-ended e i =
+      wordsOf
+      (ended-row (ltb 0 (r .now .broken)) (ltb (r .now .due) (o .time)) (concerns (r .rule) (o .kind)) (o .closes) (eqb (r .now .kept) 0)
+      (heardRow r o number) (brokenState number) (r .now) e i)
+      (ended-saves (ltb 0 (r .now .broken)) (ltb (r .now .due) (o .time)) (concerns (r .rule) (o .kind)) (o .closes) (writesAt r o) e i)
+
+  heard-row : (broken : Bool) (heard : Row) → cond (cond broken false true) heard r ≡ cond broken r heard
+  heard-row true heard = refl
+  heard-row false heard = refl
+
+  heard-saves : (broken closes : Bool) (place : ℕ) → cond (cond broken false true) (savedAt r place number) b
+      ≡ cond (cond broken false (cond closes true true)) (savedAt r (cond broken 0 place) number) b
+  heard-saves true closes place = refl
+  heard-saves false true place = refl
+  heard-saves false false place = refl
+
+  -- any other
+  pub stepped-heard : ltb (r .now .due) (o .time) ≡ false → concerns (r .rule) (o .kind) ≡ true
+      → wordsOf (eventRow (eventAt (o .stream) (o .time)) number r) (eventSaves (eventAt (o .stream) (o .time)) number r b)
+      ≡ wordsOf (steppedRow o number r) (savedBy o number r b)
+  unfolding steppedRow savedBy movesBy stepPlace
+  stepped-heard early own =
+      rw (early, own, not-zero (r .now .broken))
+      (λ i. wordsOf (heard-row (ltb 0 (r .now .broken)) (heardRow r o number) i) (heard-saves (ltb 0 (r .now .broken)) (o .closes) (writesAt r o) i))

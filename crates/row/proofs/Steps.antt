@@ -19,18 +19,17 @@ use Rattle.constraint.proofs.Streams.{streams}
 use Rattle.constraint.specs.declared.Constraint.{Constraint}
 use Rattle.constraint.specs.declared.Verdict.{Verdict}
 use Rattle.constraint.proofs.Lists.{split, both}
-use Rattle.constraint.proofs.History.{own-append, own-other, own-tick, own-close, clock-event, clock-tick, clock-close}
+use Rattle.constraint.proofs.History.{own-other, own-tick, own-close, clock-event, clock-tick, clock-close}
 use Rattle.constraint.proofs.History.{closed-event, closed-tick, closed-close, Accepts, Valid, valid-more, Past, past-of}
 use Rattle.constraint.proofs.Continuations.{meets-same, continues-closed, open-at-tick}
 use Rattle.constraint.proofs.Verdicts.{broken-now, broken-later, broken-shut, open-of-meets}
-use Rattle.queue.specs.Ring.{Ring, ringOf, ring, items, changed, edited}
+use Rattle.queue.specs.Ring.{ringOf, ring, items, changed, edited}
 use Rattle.queue.proofs.Laws.{ring-length, ring-zeros, items-edited, times-edited}
 use Rattle.machine.specs.Rule.{ruleOf, waitsIn, wordsOf}
-use Rattle.machine.specs.Parts.{noMarks}
 use Rattle.machine.specs.declared.Rule.{Rule}
 use Rattle.machine.specs.declared.Change.{Change}
 use Rattle.machine.specs.declared.State.{State}
-use Rattle.row.specs.Machine.{decide, concerns, rowFrom, itemsOf, mark, rowOf, brokenRow, applied, stays, crowding, changedRow}
+use Rattle.row.specs.Machine.{decide, rowFrom, itemsOf, mark, rowOf, brokenRow, applied, stays, crowding, changedRow}
 use Rattle.row.specs.Machine.{noEvent, eventAt, tickAt, closeAt, rowStep, rowVerdict}
 use Rattle.row.specs.declared.Occurrence.{Occurrence}
 use Rattle.row.specs.declared.Row.{Row}
@@ -264,13 +263,14 @@ module _ (c : Constraint) (exact : Exact c) (steps : List Step) (valid : Valid s
           → ByOutcome (¬ Open c (steps ++ (event k t ∷ []))) Goes change
           → Holds (changedRow row-was change (length steps + 1))
       unfolding changedRow
-      changed-after change =
-          split (change .breaks)
+      changed-after change by =
+          rw (le-ltb waitingLimit (was .len) (g .room))
+          (split (change .breaks)
           (λ x. cond x (¬ Open c (steps ++ (event k t ∷ []))) (Goes change)
           → Holds (cond x (stays (brokenRow row-was (length steps + 1)))
           (cond (ltb waitingLimit (length (changed (change .edit) (itemsOf row-was)))) (crowding row-was) (stays (applied row-was change)))))
           (λ e shut. broken-fits (event k t) words was whole (going-open words was (accepts .not-closed) g) shut)
-          (λ e goes. goes-after change goes)
+          (λ e goes. goes-after change goes) by)
 
       event-going : KindsSuit c → ltb 0 (was .broken) ≡ false → Holds (rowStep row-was (eventAt k t) (length steps + 1))
       unfolding rowStep

@@ -1,7 +1,7 @@
 -- A row that a step may change is put back word for word: an edit writes at its own place and the next, and a break writes no word. A row that it
 -- may not change stays as it is.
 use Prim.Native.Nat.{ℕ}
-use mathlib.Core.Path.{_≡_, refl, sym, ap, _∙_}
+use mathlib.Core.Path.{_≡_, refl, ap}
 use mathlib.Core.Bool.{Bool, true, false, cond, _&&_}
 use mathlib.Core.List.{List}
 use lib.ListN.{length}
@@ -13,7 +13,7 @@ use Rattle.queue.specs.Ring.{ringOf, timeAt, changed, editPlace, putBack}
 use Rattle.queue.proofs.Laws.{near-same, near-back, edit-back}
 use Rattle.machine.specs.declared.Change.{Change}
 use Rattle.row.specs.Machine.{decide, concerns, rowFrom, itemsOf, brokenRow, applied, stays, crowding, changedRow, rowStep}
-use Rattle.row.specs.Undo.{movesBy, stepPlace, savedAt, savedRow, savedBy, backRow, rowWithout, keptWithout, noBefore}
+use Rattle.row.specs.Undo.{movesBy, stepPlace, savedAt, savedRow, savedBy, backRow, rowWithout}
 use Rattle.row.specs.declared.Before.{Before}
 use Rattle.row.specs.declared.Occurrence.{Occurrence}
 use Rattle.row.specs.declared.Row.{Row}
@@ -48,12 +48,16 @@ module _ (r : Row) (whole : length (r .times) ≡ 64) where
   back-changed : (change : Change) (n : ℕ) → Back (at change) (changedRow r change n .row)
   unfolding changedRow
   back-changed change n =
-      split (change .breaks) (λ x. Back (at change) (cond x (stays (brokenRow r n)) (cond full (crowding r) (stays (applied r change))) .row))
-      (λ e. back-broken (at change) n)
-      (λ e. split full (λ x. Back (at change) (cond x (crowding r) (stays (applied r change)) .row)) (λ f. back-same (at change)) (λ f. back-applied change))
+      split (ltb waitingLimit (r .now .len)) (λ x. Back (at change) (cond x (crowding r) (cond (change .breaks) (stays (brokenRow r n)) goes) .row))
+      (λ e. back-same (at change))
+      (λ e. split (change .breaks) (λ x. Back (at change) (cond x (stays (brokenRow r n)) goes .row)) (λ f. back-broken (at change) n)
+      (λ f. split more (λ x. Back (at change) (cond x (crowding r) (stays (applied r change)) .row)) (λ g. back-same (at change)) (λ g. back-applied change)))
     where
-      full : Bool
-      full = ltb waitingLimit (length (changed (change .edit) (itemsOf r)))
+      more : Bool
+      more = ltb waitingLimit (length (changed (change .edit) (itemsOf r)))
+
+      goes : RowStep
+      goes = cond more (crowding r) (stays (applied r change))
 
   -- what a step makes of the row is put back
   pub step-back : (o : Occurrence) (n : ℕ) → Back (stepPlace r o) (rowStep r o n .row)

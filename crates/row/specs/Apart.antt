@@ -1,11 +1,9 @@
 -- The step of a row taken apart, as a monitor that is lent takes it: whether an event crowds a row, what the clock or the close alone makes of a
 -- row, and what an event makes of a row that it concerns.
 use Prim.Native.Nat.{ℕ}
-use mathlib.Core.Path.{_≡_}
-use mathlib.Core.Bool.{Bool, true, false, cond, _||_}
-use mathlib.Core.List.{List}
+use mathlib.Core.Bool.{Bool, true, false, cond, _&&_, _||_}
 use lib.Dec.{ltb, eqb}
-use Rattle.queue.specs.Ring.{ringOf, timeAt, editPlace}
+use Rattle.queue.specs.Ring.{ringOf, editPlace}
 use Rattle.machine.specs.declared.Rule.{Rule}
 use Rattle.machine.specs.declared.Marks.{Marks}
 use Rattle.machine.specs.declared.State.{State}
@@ -16,12 +14,10 @@ use Rattle.spans.specs.Repeat.{fillsRepeat}
 use Rattle.groups.specs.StrongSynchronization.{fillsStrongSynchronization}
 use Rattle.repetition.specs.Repetition.{fillsRepetition}
 use Rattle.row.specs.declared.Before.{Before}
-use Rattle.row.specs.declared.Moved.{Moved}
 use Rattle.row.specs.declared.Occurrence.{Occurrence}
 use Rattle.row.specs.declared.Row.{Row}
-use Rattle.row.specs.declared.Seen.{Seen}
 use Rattle.row.specs.Machine.{decide, concerns, itemsOf, brokenState, brokenRow, applied}
-use Rattle.row.specs.Undo.{savedFrom, savedAt}
+use Rattle.row.specs.Undo.{savedAt}
 
 -- ---- the question for 64 (§8.12)
 
@@ -62,11 +58,6 @@ endsBy rule now o =
 unfoldable pub endedState : State → Occurrence → ℕ → State
 endedState now o number = cond (ltb (now .due) (o .time)) (brokenState number) (cond (eqb (now .kept) 0) (brokenState number) now)
 
--- what the row's function promises of what it keeps then, and of what it was
-pub record Ends (old : State) (times : List ℕ) (o : Occurrence) (number : ℕ) (result : Moved) : Type 0 where
-  pub ends : result .now ≡ endedState old o number
-  pub saves : result .before ≡ savedFrom old times 0 number
-
 -- ---- an event
 
 -- what an event makes of the row
@@ -81,21 +72,20 @@ withChange r change number = cond (change .breaks) (brokenRow r number) (applied
 abbrev pub heardRow : Row → Occurrence → ℕ → Row
 heardRow r o number = withChange r (changeBy r o) number
 
--- where the event writes into the row's ring, and what an event sees of the row: the change, and the two words from there on
+-- where the event writes into the row's ring, and what the row was before it
 abbrev pub writesAt : Row → Occurrence → ℕ
 writesAt r o = editPlace (changeBy r o .edit) (ringOf (r .times) (r .now .head) (r .now .len))
 
-abbrev pub seenBy : Row → Occurrence → Seen
-seenBy r o =
-    record { change = changeBy r o; place = writesAt r o; first = timeAt (r .times) (writesAt r o) 0; second = timeAt (r .times) (writesAt r o) 1 }
-
--- what is kept of the row beside it: what it keeps, and then the words
-abbrev pub keptOf : State → ℕ → Before
-keptOf now number = record { state = now; place = 0; first = 0; second = 0; stamp = number }
-
-abbrev pub withWords : Before → Seen → Before
-withWords b seen = record { state = b .state; place = seen .place; first = seen .first; second = seen .second; stamp = b .stamp }
-
--- what it was before the event
 abbrev pub heardBefore : Row → Occurrence → ℕ → Before
 heardBefore r o number = savedAt r (writesAt r o) number
+
+-- ---- what occurs
+
+-- the row after what occurs, where that does not crowd it
+unfoldable pub steppedRow : Occurrence → ℕ → Row → Row
+steppedRow o number r =
+    cond (ltb 0 (r .now .broken)) r
+    (cond (ltb (r .now .due) (o .time)) (brokenRow r number)
+    (cond (concerns (r .rule) (o .kind)) (heardRow r o number)
+    (cond (o .closes && eqb (r .now .kept) 0) (brokenRow r number)
+    r)))

@@ -88,12 +88,14 @@ stays r = record { crowded = false; row = r }
 abbrev pub crowding : Row → RowStep
 crowding r = record { crowded = true; row = r }
 
--- a change that breaks the row, one that crowds it (it would go on with more than 64 waiting), or one that it goes on with
+-- a change that breaks the row, one that crowds it (it would go on with more than 64 waiting), or one that it goes on with; more than 64 times, which
+-- no step leaves, are crowded as they are
 unfoldable pub changedRow : Row → Change → ℕ → RowStep
 changedRow r change number =
-    cond (change .breaks) (stays (brokenRow r number))
+    cond (ltb waitingLimit (r .now .len)) (crowding r)
+    (cond (change .breaks) (stays (brokenRow r number))
     (cond (ltb waitingLimit (length (changed (change .edit) (itemsOf r)))) (crowding r)
-    (stays (applied r change)))
+    (stays (applied r change))))
 
 -- no event
 abbrev pub noEvent : ℕ

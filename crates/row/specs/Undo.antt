@@ -1,19 +1,16 @@
 -- What is kept of a row beside it, so that the last step can be withdrawn (§3.13), and the row put back.
 use Prim.Native.Nat.{ℕ}
-use mathlib.Core.Path.{_≡_}
 use mathlib.Core.List.{List}
 use mathlib.Core.Bool.{Bool, true, false, cond}
 use lib.Dec.{ltb, eqb}
-use Rattle.queue.specs.Ring.{ringOf, ring, timeAt, editPlace, putBack}
+use Rattle.queue.specs.Ring.{ringOf, timeAt, editPlace, putBack}
 use Rattle.machine.specs.Parts.{noMarks}
 use Rattle.machine.specs.declared.Rule.{Rule}
 use Rattle.machine.specs.declared.State.{State}
-use Rattle.machine.specs.declared.Change.{Change}
 use Rattle.row.specs.declared.Before.{Before}
-use Rattle.row.specs.declared.Moved.{Moved}
 use Rattle.row.specs.declared.Occurrence.{Occurrence}
 use Rattle.row.specs.declared.Row.{Row}
-use Rattle.row.specs.Machine.{decide, concerns, rowFrom, itemsOf, changedRow, rowStep}
+use Rattle.row.specs.Machine.{decide, concerns, rowFrom, itemsOf}
 
 -- nothing is kept
 abbrev pub noState : State
@@ -46,15 +43,6 @@ savedAt r = savedFrom (r .now) (r .times)
 
 abbrev pub savedRow : Row → Occurrence → ℕ → Before
 savedRow r o number = savedAt r (stepPlace r o) number
-
--- what the row's functions promise of its words, before and after, what it keeps then, and what it was
-pub record Moves (rule : Rule) (old : State) (entry : List ℕ) (o : Occurrence) (number : ℕ) (exit : List ℕ) (result : Moved) : Type 0 where
-  pub steps : rowFrom rule exit (result .now) ≡ rowStep (rowFrom rule entry old) o number .row
-  pub saves : result .before ≡ savedRow (rowFrom rule entry old) o number
-
-pub record Edited (rule : Rule) (old : State) (entry : List ℕ) (change : Change) (number : ℕ) (exit : List ℕ) (result : Moved) : Type 0 where
-  pub changes : rowFrom rule exit (result .now) ≡ changedRow (rowFrom rule entry old) change number .row
-  pub saves : result .before ≡ savedAt (rowFrom rule entry old) (editPlace (change .edit) (ringOf entry (old .head) (old .len))) number
 
 -- so kept where the step may change the row
 unfoldable pub savedBy : Occurrence → ℕ → Row → Before → Before

@@ -1,15 +1,15 @@
 // A row where it lies: its two arrays of words after an event, the clock, the close and a withdrawal, and before any step.
+use crate::Before;
 use crate::Occurrence;
+use crate::Row;
 use crate::concerns;
 use crate::crowded_by;
 use chains::reaction;
 use constraint::Constraint;
-use constraint::NO_LIMIT;
 use groups::strong_synchronization;
+use machine::Marks;
 use machine::Rule;
 use machine::State;
-use machine::numbers::rule_of;
-use machine::numbers::words_of;
 use machine::words;
 use machine::words::marks_at;
 use machine::words::rule_at;
@@ -21,17 +21,17 @@ use points::sporadic;
 use queue::SIZE;
 use queue::put_back;
 use spans::repeat;
-ghost use Prim.Native.Nat.{ℕ};
 ghost use mathlib.Core.Path.{_≡_};
+ghost use lib.ListN.{replicate};
 ghost use Rattle.machine.specs.Words.{Applies, Past, numberWords};
 ghost use Rattle.machine.specs.declared.Rule.{Rule};
 ghost use Rattle.machine.specs.declared.State.{State};
-ghost use Rattle.row.specs.Undo.{noBefore, rowWithout, keptWithout};
-ghost use Rattle.row.specs.Apart.{crowdedBy};
-ghost use Rattle.row.specs.Machine.{decide, eventAt, freshState, rowOf};
+ghost use Rattle.row.specs.Undo.{noState, noBefore, savedBy, rowWithout, keptWithout};
+ghost use Rattle.row.specs.Apart.{crowdedBy, steppedRow};
+ghost use Rattle.row.specs.Machine.{decide, eventAt, rowOf};
 ghost use Rattle.row.specs.declared.Before.{Before};
 ghost use Rattle.row.specs.declared.Row.{Row};
-ghost use Rattle.row.specs.Stored.{wordsOf, eventRow, eventSaves, endedRow, endedSaves, larger, beyond, filledBy, filledIn, Becomes, stateAt, nothing};
+ghost use Rattle.row.specs.Stored.{pastOf, wordsOf, eventRow, eventSaves, endedRow, endedSaves, larger, beyond, filledBy, filledIn, Becomes, stateAt, nothing};
 
 // What the row keeps.
 fn state_at(w: &[u64; SIZE]) -> State
@@ -98,51 +98,141 @@ pub fn end(row: &mut [[u64; SIZE]; 2], o: Occurrence, number: u64)
     words::keep(row, 0, number);
 }
 
+// The row after what occurs, which does not crowd it and is the step of that number.
+pub fn step(row: &mut [[u64; SIZE]; 2], o: Occurrence, number: u64)
+    ensures { λ _. ⌜ Becomes (now (row .entry)) (steppedRow o number) (savedBy o number) (now (row .exit)) ⌝ }
+{
+    if row[1][words::DUE] < o.time {
+        end(row, o, number);
+        return;
+    }
+    if concerns(rule_at(&row[1]), o.kind) {
+        event(row, o.stream, o.time, number);
+        return;
+    }
+    end(row, o, number);
+}
+
+// The numbers of a constraint are put over zeros.
+fn put_rule(w: &mut [u64; SIZE], rule: Rule)
+    ensures { λ _. ⌜ (now (w .entry) ≡ replicate 64 0 → now (w .exit) ≡ numberWords rule noState nothing) ⌝ }
+{
+    w[words::FORM] = rule.form;
+    w[words::FIRST] = rule.first;
+    w[words::SECOND] = rule.second;
+    w[words::THIRD] = rule.third;
+    w[words::FOURTH] = rule.fourth;
+    w[words::SPAN] = rule.span;
+    w[words::LOWER] = rule.lower;
+    w[words::UPPER] = rule.upper;
+    w[words::JITTER] = rule.jitter;
+    w[words::MINIMUM] = rule.minimum;
+}
+
+// What a row keeps is put into its numbers.
+fn put_state(w: &mut [u64; SIZE], state: State)
+    ensures { λ _. ⌜ ((rule : Rule) (old : State) (past : Past) → now (w .entry) ≡ numberWords rule old past → now (w .exit) ≡ numberWords rule state past) ⌝ }
+{
+    let marks = state.marks;
+    w[words::LAST] = marks.last;
+    w[words::ONE] = marks.first;
+    w[words::TWO] = marks.second;
+    w[words::THREE] = marks.third;
+    w[words::FOUR] = marks.fourth;
+    w[words::HEAD] = state.head as u64;
+    w[words::LEN] = state.len as u64;
+    w[words::DUE] = state.due;
+    w[words::KEPT] = state.kept;
+    w[words::BROKEN] = state.broken;
+}
+
+// So is what is kept of it.
+fn put_before(w: &mut [u64; SIZE], before: Before)
+    ensures { λ _. ⌜ ((rule : Rule) (state : State) (past : Past) → now (w .entry) ≡ numberWords rule state past → now (w .exit) ≡ numberWords rule state (pastOf before)) ⌝ }
+{
+    let state = before.state;
+    let marks = state.marks;
+    w[20] = marks.last;
+    w[21] = marks.first;
+    w[22] = marks.second;
+    w[23] = marks.third;
+    w[24] = marks.fourth;
+    w[25] = state.head as u64;
+    w[26] = state.len as u64;
+    w[27] = state.due;
+    w[28] = state.kept;
+    w[29] = state.broken;
+    w[words::PLACE] = before.place as u64;
+    w[words::OLD] = before.first;
+    w[words::OTHER] = before.second;
+    w[words::STAMP] = before.stamp;
+}
+
+// The words that a row is, with what is kept of it.
+pub fn laid(row: Row, before: Before) -> [[u64; SIZE]; 2]
+    ensures { λ r. ⌜ r ≡ wordsOf row before ⌝ }
+{
+    let mut words = [[0u64; SIZE]; 2];
+    let times = row.times;
+    words[0] = times;
+    put_rule(&mut words[1], row.rule);
+    put_state(&mut words[1], row.now);
+    put_before(&mut words[1], before);
+    words
+}
+
+// The row that lies in the words.
+pub fn row_at(row: &[[u64; SIZE]; 2]) -> Row
+    ensures { λ r. ⌜ ((w : Row) (b : Before) → now (row .entry) ≡ wordsOf w b → r ≡ w) ⌝ }
+{
+    Row {
+        rule: rule_at(&row[1]),
+        times: row[0],
+        now: state_at(&row[1]),
+    }
+}
+
+// What it kept before its last step.
+fn past_state(w: &[u64; SIZE]) -> State
+    ensures { λ r. ⌜ ((rule : Rule) (state : State) (past : Past) → now (w .entry) ≡ numberWords rule state past → r ≡ past .state) ⌝ }
+{
+    let marks = Marks {
+        last: w[20],
+        first: w[21],
+        second: w[22],
+        third: w[23],
+        fourth: w[24],
+    };
+    State {
+        marks,
+        head: w[25] as usize,
+        len: w[26] as usize,
+        due: w[27],
+        kept: w[28],
+        broken: w[29],
+    }
+}
+
+// What is kept of it.
+pub fn before_at(row: &[[u64; SIZE]; 2]) -> Before
+    ensures { λ r. ⌜ ((w : Row) (b : Before) → now (row .entry) ≡ wordsOf w b → r ≡ b) ⌝ }
+{
+    Before {
+        state: past_state(&row[1]),
+        place: row[1][words::PLACE] as usize,
+        first: row[1][words::OLD],
+        second: row[1][words::OTHER],
+        stamp: row[1][words::STAMP],
+    }
+}
+
 // The state of a row is that of its past, and it has no past.
 fn restore(w: &mut [u64; SIZE])
     ensures { λ _. ⌜ ((rule : Rule) (state : State) (past : Past) → now (w .entry) ≡ numberWords rule state past → now (w .exit) ≡ numberWords rule (past .state) nothing) ⌝ }
 {
-    let last = w[20];
-    let one = w[21];
-    let two = w[22];
-    let three = w[23];
-    let four = w[24];
-    let head = w[25];
-    let len = w[26];
-    let due = w[27];
-    let kept = w[28];
-    let broken = w[29];
-    w[words::LAST] = last;
-    w[words::ONE] = one;
-    w[words::TWO] = two;
-    w[words::THREE] = three;
-    w[words::FOUR] = four;
-    w[words::HEAD] = head;
-    w[words::LEN] = len;
-    w[words::DUE] = due;
-    w[words::KEPT] = kept;
-    w[words::BROKEN] = broken;
-    forget(w);
-}
-
-// A row has no past.
-fn forget(w: &mut [u64; SIZE])
-    ensures { λ _. ⌜ ((rule : Rule) (state : State) (past : Past) → now (w .entry) ≡ numberWords rule state past → now (w .exit) ≡ numberWords rule state nothing) ⌝ }
-{
-    w[20] = 0;
-    w[21] = 0;
-    w[22] = 0;
-    w[23] = 0;
-    w[24] = 0;
-    w[25] = 0;
-    w[26] = 0;
-    w[27] = 0;
-    w[28] = 0;
-    w[29] = 0;
-    w[words::PLACE] = 0;
-    w[words::OLD] = 0;
-    w[words::OTHER] = 0;
-    w[words::STAMP] = 0;
+    let state = past_state(w);
+    put_state(w, state);
+    put_before(w, Before::none());
 }
 
 // The row without the step of that number, by what is kept of it.
@@ -168,34 +258,11 @@ pub fn crowds(row: &[[u64; SIZE]; 2], o: Occurrence) -> bool
     crowded_by(rule, state, o)
 }
 
-// The numbers of a row before any step.
-fn start(w: &mut [u64; SIZE], rule: Rule)
-    ensures { λ _. ⌜ now (w .exit) ≡ numberWords rule (freshState rule) nothing ⌝ }
-{
-    let len = words_of(rule);
-    *w = [0u64; SIZE];
-    w[words::FORM] = rule.form;
-    w[words::FIRST] = rule.first;
-    w[words::SECOND] = rule.second;
-    w[words::THIRD] = rule.third;
-    w[words::FOURTH] = rule.fourth;
-    w[words::SPAN] = rule.span;
-    w[words::LOWER] = rule.lower;
-    w[words::UPPER] = rule.upper;
-    w[words::JITTER] = rule.jitter;
-    w[words::MINIMUM] = rule.minimum;
-    w[words::LEN] = len as u64;
-    w[words::DUE] = NO_LIMIT;
-    w[words::KEPT] = 1;
-}
-
 // The row is that of a constraint before any step.
 pub fn begin(row: &mut [[u64; SIZE]; 2], c: Constraint)
     ensures { λ _. ⌜ now (row .exit) ≡ wordsOf (rowOf c) noBefore ⌝ }
 {
-    let rule = rule_of(c);
-    *row = [[0u64; SIZE]; 2];
-    start(&mut row[1], rule);
+    *row = laid(Row::begin(c), Before::none());
 }
 
 // The larger of two numbers.

@@ -1,17 +1,14 @@
 // Repeat and Burst: the times are those of the last span events, or of all while they are fewer; last is one more than
 // the last event's time. A Repeat has minimum 0, a Burst no upper.
-use machine::Change;
 use machine::Marks;
 use machine::Rule;
 use machine::parts;
 use machine::words;
-use queue::Edit;
 use queue::SIZE;
 ghost use mathlib.Core.Path.{_≡_};
 ghost use Prim.Native.Nat.{ℕ};
-ghost use Rattle.queue.specs.Ring.{ring};
 ghost use Rattle.machine.specs.Words.{Applies};
-ghost use Rattle.spans.specs.Repeat.{spanReached, leaving, fillsRepeat, decideRepeat};
+ghost use Rattle.spans.specs.Repeat.{fillsRepeat, decideRepeat};
 
 // What an event makes of the row, where it lies.
 pub fn apply(row: &mut [[u64; SIZE]; 2], t: u64, number: u64)
@@ -36,27 +33,6 @@ pub fn apply(row: &mut [[u64; SIZE]; 2], t: u64, number: u64)
     row[1][words::KEPT] = 1;
 }
 
-// What an event makes of the row.
-pub fn decide(
-    rule: Rule,
-    marks: Marks,
-    times: &[u64; SIZE],
-    head: usize,
-    len: usize,
-    t: u64,
-) -> Change
-    ensures { λ r. ⌜ ((kind : ℕ) → r ≡ decideRepeat rule marks (ring (now (times .entry)) head len) kind t) ⌝ }
-{
-    if parts::far_enough(rule.minimum, marks.last, t) && span_reached(rule, times, head, len, t) {
-        let dropped = leaving(rule, len);
-        let newest = parts::plus(t, rule.upper);
-        let due = parts::due_after(rule.upper, times, head, len, dropped, newest);
-        let marks = parts::with_last(marks, parts::plus(t, 1));
-        return parts::goes_on(Edit::Push { dropped, word: t }, marks, due, true);
-    }
-    parts::breaking()
-}
-
 // Whether an event lets one more be kept, where there is no room.
 pub fn fills(rule: Rule, marks: Marks, len: usize, t: u64) -> bool
     ensures { λ r. ⌜ ((kind : ℕ) → r ≡ fillsRepeat rule marks len kind t) ⌝ }
@@ -68,21 +44,4 @@ pub fn fills(rule: Rule, marks: Marks, len: usize, t: u64) -> bool
         return parts::far_enough(rule.minimum, marks.last, t);
     }
     false
-}
-
-// How many times leave as one more comes: the oldest, where there are span of them.
-fn leaving(rule: Rule, len: usize) -> usize
-    ensures { λ r. ⌜ r ≡ leaving rule len ⌝ }
-{
-    if (len as u64) < rule.span { 0 } else { 1 }
-}
-
-// Whether t is at least lower after the first of span events before it, where there are so many.
-fn span_reached(rule: Rule, times: &[u64; SIZE], head: usize, len: usize, t: u64) -> bool
-    ensures { λ r. ⌜ r ≡ spanReached rule (ring (now (times .entry)) head len) t ⌝ }
-{
-    if (len as u64) < rule.span {
-        return true;
-    }
-    parts::reaches(parts::front(times, head, len), rule.lower, t)
 }

@@ -6,19 +6,20 @@ use mathlib.Core.Bool.{true, false}
 use mathlib.Core.List.{List, [], _∷_}
 use mathlib.Core.Logic.{by-cases}
 use native.Mathlib.Decide.{ℕ-discrete}
-use lib.ListN.{length, drop, set, replicate, length-set}
+use lib.ListN.{length, set, replicate, length-set}
 use lib.Seq.{getD-set-same, getD-set-other}
 use Rattle.constraint.specs.Steps.{Step, at}
 use Rattle.constraint.specs.Accepted.{Accepted}
 use Rattle.constraint.specs.declared.Constraint.{Constraint}
 use Rattle.machine.specs.Rule.{ruleOf}
 use Rattle.machine.specs.declared.Rule.{Rule}
-use Rattle.machine.specs.declared.State.{State}
 use Rattle.row.specs.Machine.{rowFrom, freshState, rowOf, rowStep}
 use Rattle.row.specs.declared.Row.{Row}
+use Rattle.row.specs.declared.RowStep.{RowStep}
+use Rattle.row.proofs.Apart.{rule-stays}
 use Rattle.row.proofs.Exact.{Sound}
 use Rattle.monitor.proofs.Demand.{accepted-sound}
-use Rattle.stretch.specs.Machine.{seenAs, RunOf, Needs, NeedsFrom}
+use Rattle.stretch.specs.Machine.{seenAs, RunOf, NeedsFrom}
 use Rattle.stretch.proofs.Starts.{Running, run-start, run-end, run-crowded, run-broken, run-on}
 
 pub sound-of : (c : Constraint) → Accepted (c ∷ []) → Sound c
@@ -42,65 +43,63 @@ module _ (streams times : List ℕ) (count start : ℕ) (small : count ≤ 256) 
       (steps : List Step) (run : RunOf steps streams times count) (accepted : Accepted (c ∷ [])) → start < count
       → Running c (sound-of c accepted) steps (run .taken) streams times (run .kept) (few-of steps streams times count run small) start size r
 
-  pub record RunningTo (rule : Rule) (waiting : List ℕ) (state : State) (size place : ℕ) : Type 0 where
+  -- so for each constraint of the rule with which the run began
+  pub record RunningTo (rule : Rule) (r : Row) (size place : ℕ) : Type 0 where
     pub placed : place ≡ start + size
-    pub running : (c : Constraint) → rule ≡ ruleOf c → RunningOver c (rowFrom rule waiting state) size
+    pub same : r .rule ≡ rule
+    pub running : (c : Constraint) → rule ≡ ruleOf c → RunningOver c r size
 
-  pub to-start : (c : Constraint) (fresh : Row) → fresh ≡ rowOf c → RunningTo (fresh .rule) (fresh .times) (fresh .now) 0 start
+  pub to-start : (c : Constraint) (fresh : Row) → fresh ≡ rowOf c → RunningTo (fresh .rule) fresh 0 start
   to-start c fresh is =
       record {
         placed = omega arith;
+        same = refl;
         running = λ d e steps run accepted h.
             subst (λ (r : Row). Running d (sound-of d accepted) steps (run .taken) streams times (run .kept) (few-of steps streams times count run small) start 0 r)
             (sym (is ∙ same-row c d (sym (ap (λ (r : Row). r .rule) is ∙ rule-of c) ∙ e)))
             (run-start d (sound-of d accepted) steps (run .taken) streams times (run .kept) (few-of steps streams times count run small) start (omega (arith, run .counted, h)));
       }
 
-  module _ (rule : Rule) (waiting : List ℕ) (state : State) (size place : ℕ) (to : RunningTo rule waiting state size place) where
+  module _ (rule : Rule) (r : Row) (size place : ℕ) (to : RunningTo rule r size place) where
     pub to-end : count ≤ place → (c : Constraint) → rule ≡ ruleOf c → NeedsFrom c streams times count start 257
     to-end end c e steps run accepted h =
-        run-end c (sound-of c accepted) steps (run .taken) streams times (run .kept) (few-of steps streams times count run small) start size (rowFrom rule waiting state)
+        run-end c (sound-of c accepted) steps (run .taken) streams times (run .kept) (few-of steps streams times count run small) start size r
         (to .running c e steps run accepted h) (omega (arith, end, to .placed, run .counted))
 
-    module _ (more : place < count) where
-      -- what the row sees
-      seen-here : seenAs (at streams place) (at times place) ≡ seenAs (at streams (start + size)) (at times (start + size))
-      seen-here = ap (λ (i : ℕ). seenAs (at streams i) (at times i)) (to .placed)
-
+    -- a step of the row
+    module _ (more : place < count) (stepped : RowStep) (is : stepped ≡ rowStep r (seenAs (at streams place) (at times place)) (size + 1)) where
       there : (steps : List Step) → RunOf steps streams times count → start + size < length steps
       there steps run = omega (arith, more, to .placed, run .counted)
 
-      pub to-crowded : ((number : ℕ) → true ≡ rowStep (rowFrom rule waiting state) (seenAs (at streams place) (at times place)) number .crowded)
-          → (c : Constraint) → rule ≡ ruleOf c → NeedsFrom c streams times count start 257
+      here : stepped ≡ rowStep r (seenAs (at streams (start + size)) (at times (start + size))) (size + 1)
+      here = is ∙ ap (λ (i : ℕ). rowStep r (seenAs (at streams i) (at times i)) (size + 1)) (to .placed)
+
+      pub to-crowded : stepped .crowded ≡ true → (c : Constraint) → rule ≡ ruleOf c → NeedsFrom c streams times count start 257
       to-crowded crowded c e steps run accepted h =
-          run-crowded c (sound-of c accepted) steps (run .taken) streams times (run .kept) (few-of steps streams times count run small) start size (rowFrom rule waiting state)
-          (to .running c e steps run accepted h) (there steps run)
-          (ap (λ o. rowStep (rowFrom rule waiting state) o (size + 1) .crowded) (sym seen-here) ∙ sym (crowded (size + 1)))
+          run-crowded c (sound-of c accepted) steps (run .taken) streams times (run .kept) (few-of steps streams times count run small) start size r
+          (to .running c e steps run accepted h) (there steps run) (ap (λ (s : RowStep). s .crowded) (sym here) ∙ crowded)
 
-      module _ (calm : (number : ℕ) → false ≡ rowStep (rowFrom rule waiting state) (seenAs (at streams place) (at times place)) number .crowded)
-          (waiting′ : List ℕ) (state′ : State)
-          (moved : rowFrom rule waiting′ state′ ≡ rowStep (rowFrom rule waiting state) (seenAs (at streams place) (at times place)) (size + 1) .row) where
-        calm-here : rowStep (rowFrom rule waiting state) (seenAs (at streams (start + size)) (at times (start + size))) (size + 1) .crowded ≡ false
-        calm-here = ap (λ o. rowStep (rowFrom rule waiting state) o (size + 1) .crowded) (sym seen-here) ∙ sym (calm (size + 1))
+      module _ (calm : stepped .crowded ≡ false) where
+        calm-here : rowStep r (seenAs (at streams (start + size)) (at times (start + size))) (size + 1) .crowded ≡ false
+        calm-here = ap (λ (s : RowStep). s .crowded) (sym here) ∙ calm
 
-        moved-here : rowFrom rule waiting′ state′ ≡ rowStep (rowFrom rule waiting state) (seenAs (at streams (start + size)) (at times (start + size))) (size + 1) .row
-        moved-here = moved ∙ ap (λ o. rowStep (rowFrom rule waiting state) o (size + 1) .row) seen-here
-
-        pub to-broken : 0 < state′ .broken → (c : Constraint) → rule ≡ ruleOf c → NeedsFrom c streams times count start (size + 1)
+        pub to-broken : 0 < stepped .row .now .broken → (c : Constraint) → rule ≡ ruleOf c → NeedsFrom c streams times count start (size + 1)
         to-broken broken c e steps run accepted h =
-            run-broken c (sound-of c accepted) steps (run .taken) streams times (run .kept) (few-of steps streams times count run small) start size (rowFrom rule waiting state)
-            (to .running c e steps run accepted h) (there steps run) calm-here (subst (λ (r : Row). 0 < r .now .broken) moved-here broken)
+            run-broken c (sound-of c accepted) steps (run .taken) streams times (run .kept) (few-of steps streams times count run small) start size r
+            (to .running c e steps run accepted h) (there steps run) calm-here (subst (λ (s : RowStep). 0 < s .row .now .broken) here broken)
 
-        pub to-next : state′ .broken ≤ 0 → RunningTo rule waiting′ state′ (size + 1) (place + 1)
+        pub to-next : stepped .row .now .broken ≤ 0 → RunningTo rule (stepped .row) (size + 1) (place + 1)
         to-next unbroken =
             record {
               placed = omega (arith, to .placed);
+              same = ap (λ (s : RowStep). s .row .rule) is ∙ rule-stays r (seenAs (at streams place) (at times place)) (size + 1) ∙ to .same;
               running = λ c e steps run accepted h.
                   let one-more : suc size ≡ size + 1 = omega arith in
-                  subst (λ (r : Row). Running c (sound-of c accepted) steps (run .taken) streams times (run .kept) (few-of steps streams times count run small) start (size + 1) r) (sym moved-here)
-                  (subst (λ (n : ℕ). Running c (sound-of c accepted) steps (run .taken) streams times (run .kept) (few-of steps streams times count run small) start n (rowStep (rowFrom rule waiting state) (seenAs (at streams (start + size)) (at times (start + size))) (size + 1) .row)) one-more
-                  (run-on c (sound-of c accepted) steps (run .taken) streams times (run .kept) (few-of steps streams times count run small) start size (rowFrom rule waiting state)
-                  (to .running c e steps run accepted h) (there steps run) calm-here (subst (λ (r : Row). r .now .broken ≡ 0) moved-here (omega (arith, unbroken)))));
+                  subst (λ (s : RowStep). Running c (sound-of c accepted) steps (run .taken) streams times (run .kept) (few-of steps streams times count run small) start (size + 1) (s .row)) (sym here)
+                  (subst (λ (n : ℕ). Running c (sound-of c accepted) steps (run .taken) streams times (run .kept) (few-of steps streams times count run small) start n
+                  (rowStep r (seenAs (at streams (start + size)) (at times (start + size))) (size + 1) .row)) one-more
+                  (run-on c (sound-of c accepted) steps (run .taken) streams times (run .kept) (few-of steps streams times count run small) start size r
+                  (to .running c e steps run accepted h) (there steps run) calm-here (subst (λ (s : RowStep). s .row .now .broken ≡ 0) here (omega (arith, unbroken)))));
             }
 
 -- ---- each start

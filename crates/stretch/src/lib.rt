@@ -122,20 +122,20 @@ fn need_from(
     requires { ⌜ count ≤ 256 ⌝ }
     ensures { λ r. ⌜ NeedsFrom constraint (now (streams .entry)) (now (times .entry)) count start r ⌝ }
 {
-    let fresh = Row::begin(constraint);
-    let rule = fresh.rule;
-    let mut waiting = fresh.times;
-    let mut state = fresh.now;
+    let mut row = Row::begin(constraint);
     let mut size: usize = 0;
     let mut at = start;
     while at < count {
         let o = seen(streams[at], times[at]);
-        if row::crowded(rule, state, &waiting, o) {
-            return NEVER;
-        }
         at = at + 1;
         size = size + 1;
-        state = row::step(rule, state, &mut waiting, o, size as u64);
+        let stepped = row.step(o, size as u64);
+        if stepped.crowded {
+            return NEVER;
+        }
+        let next = stepped.row;
+        row = next;
+        let state = next.now;
         if 0 < state.broken {
             return size;
         }

@@ -1,6 +1,6 @@
 -- What the row is becomes its past, the place being that of the first word; the ring is the one that both words are put into.
 use Prim.Native.Nat.{_+_}
-use mathlib.Core.Path.{_≡_, refl, ap, _∙_}
+use mathlib.Core.Path.{_≡_, refl}
 use Rattle.queue.specs.Ring.{ringOf, putRing}
 use Rattle.machine.specs.Words.{rowWords, numberWords}
 use borrow.Author.Needs.{needs}
@@ -10,18 +10,15 @@ use Rattle.machine.proofs.words.put_two.Tie as tie
 returns : tie.Need-returns
 unfolding rowWords numberWords
 returns c rule times state past e =
-    let f = c .before .before in
-    let k = f .before .before in
+    let k = c .before .before in
     let o = k .before in
     let a = o .before .before .before .before .args in
     let kept = k .keep .ensures rule times state past e in
-    let one : ringOf (f .put .last .0) (state .head) (state .len) ≡ putRing (a .place) (a .first) (ringOf times (state .head) (state .len)) =
-    rw (e, kept) at (f .put .ensures) in
-    let both : ringOf (c .put2 .last .0) (state .head) (state .len) ≡ putRing (a .place + 1) (a .second) (putRing (a .place) (a .first) (ringOf times (state .head) (state .len))) =
-    rw (e, kept) at (c .put2 .ensures) ∙ ap (putRing (a .place + 1) (a .second)) one in
+    let both : ringOf (c .put-pair .last .0) (state .head) (state .len)
+    ≡ putRing (a .place + 1) (a .second) (putRing (a .place) (a .first) (ringOf times (state .head) (state .len))) = rw (e, kept) at (c .put-pair .ensures) in
     rw (← both, kept, o .place-of .ensures, e) refl
 
 pub put-two-spec : {M : Type 1} → statement M
 put-two-spec =
     tie.close (tie.spec (λ c. search needs) (λ c. search needs) (λ c. search needs) (λ c. search needs) (λ c κs. search needs) (λ c κs. search
-    needs) (λ c. search needs) (λ c κs. search needs) (λ c. search needs) (λ c. search needs) (λ c κs. search needs) returns)
+    needs) (λ c. search needs) (λ c κs. search needs) returns)

@@ -1,19 +1,15 @@
--- Where the row may change, what it is before is kept; where not, what was kept stays.
-use borrow.Author.Tests.{not-true, not-false}
-use Rattle.queue.proofs.Shared.{free}
-use Rattle.row.specs.Undo.{savedBy}
+-- The row takes the step where it lies, and what is kept of it is read off there.
+use mathlib.Core.Path.{_≡_}
+use borrow.Author.Needs.{needs}
 use Rattle.row.proofs.Row.saved.Statement.{statement}
 use Rattle.row.proofs.Row.saved.Tie as tie
 
 returns : tie.Need-returns
-unfolding savedBy
-returns c = rw (← c .before .moves .ensures, not-true (c .before .moves .result) (c .if1 .taken))
-
-returns-2 : tie.Need-returns-2
-unfolding savedBy
-returns-2 c =
-    let b = c .before .before .before in
-    rw (← b .before .moves .ensures, not-false (b .before .moves .result) (b .if1 .left)) (c .before .advance .ensures .saves)
+returns c =
+    let w = c .before .before in
+    let l = w .before .before in
+    let a = l .before .args in
+    c .before-at .ensures _ _ (w .step .ensures (a .self) (a .before) (l .laid .ensures))
 
 pub saved-spec : {M : Type 1} → statement M
-saved-spec = tie.close (tie.spec free returns free returns-2)
+saved-spec = tie.close (tie.spec (λ c κs. search needs) (λ c κs. search needs) (λ c κs. search needs) returns)

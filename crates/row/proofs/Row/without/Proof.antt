@@ -1,17 +1,16 @@
--- The test is that of `rowWithout`.
-use borrow.Author.Tests.{eq-eqb, ne-eqb}
-use Rattle.queue.proofs.Shared.{free}
-use Rattle.row.specs.Undo.{rowWithout}
+-- The words that the row is are put back where they lie.
+use mathlib.Core.Path.{_≡_}
+use Rattle.row.specs.Undo.{rowWithout, keptWithout}
+use borrow.Author.Needs.{needs}
 use Rattle.row.proofs.Row.without.Statement.{statement}
 use Rattle.row.proofs.Row.without.Tie as tie
 
 returns : tie.Need-returns
-unfolding rowWithout
-returns c = rw (eq-eqb _ _ (c .before .if1 .taken)) (c .back .ensures)
-
-returns-2 : tie.Need-returns-2
-unfolding rowWithout
-returns-2 c = rw (ne-eqb _ _ (c .if1 .left))
+returns c =
+    let w = c .before .before in
+    let l = w .before .before in
+    let a = l .before .args in
+    c .row-at .ensures _ _ (w .without .ensures (a .self) (a .before) (l .laid .ensures))
 
 pub without-spec : {M : Type 1} → statement M
-without-spec = tie.close (tie.spec free returns returns-2)
+without-spec = tie.close (tie.spec (λ c κs. search needs) (λ c κs. search needs) (λ c κs. search needs) returns)

@@ -1,17 +1,21 @@
--- The ten numbers of the past are read before the first is stored, and the past is cleared after.
-use mathlib.Core.Path.{refl}
+-- What is read off the past is put in the place of the state, and nothing in that of the past.
+use mathlib.Core.Path.{_≡_, ap, _∙_}
 use Rattle.machine.specs.Words.{numberWords}
+use Rattle.row.specs.declared.Before.{Before}
+use Rattle.row.specs.Stored.{pastOf}
 use borrow.Author.Needs.{needs}
 use Rattle.row.proofs.stored.restore.Statement.{statement}
 use Rattle.row.proofs.stored.restore.Tie as tie
 
 returns : tie.Need-returns
 unfolding numberWords
-returns c rule state past e = c .forget .ensures rule (past .state) past (rw e refl)
+returns c rule state past e =
+    let n = c .before in
+    let s = n .before .before in
+    let p = s .before .before in
+    let stored = s .put-state .ensures rule state past e in
+    rw (c .put-before .ensures rule (p .past-state .result) past stored, n .none .ensures, p .past-state .ensures rule state past e)
 
 pub restore-spec : {M : Type 1} → statement M
 restore-spec =
-    tie.close (tie.spec (λ c. search needs) (λ c. search needs) (λ c. search needs) (λ c. search needs) (λ c. search needs) (λ c. search needs) (λ
-    c. search needs) (λ c. search needs) (λ c. search needs) (λ c. search needs) (λ c. search needs) (λ c. search needs) (λ c. search needs) (λ c.
-    search needs) (λ c. search needs) (λ c. search needs) (λ c. search needs) (λ c. search needs) (λ c. search needs) (λ c. search needs) (λ c κs.
-    search needs) returns)
+    tie.close (tie.spec (λ c κs. search needs) (λ c κs. search needs) (λ c κs. search needs) (λ c κs. search needs) returns)

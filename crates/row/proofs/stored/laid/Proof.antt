@@ -1,0 +1,25 @@
+-- The times are the first array; the numbers are put into the second, part after part.
+use mathlib.Core.Path.{_≡_, refl, ap, _∙_}
+use Prim.Native.Nat.{ℕ}
+use mathlib.Core.List.{List, [], _∷_}
+use Rattle.machine.specs.Words.{rowWords}
+use Rattle.row.specs.Stored.{nothing, wordsOf}
+use Rattle.row.specs.Undo.{noState}
+use borrow.Author.Needs.{needs}
+use Rattle.row.proofs.stored.laid.Statement.{statement}
+use Rattle.row.proofs.stored.laid.Tie as tie
+
+returns : tie.Need-returns
+unfolding wordsOf rowWords
+returns c =
+    let s = c .before .before in
+    let p = s .before .before in
+    let a = p .before .before .before .args in
+    let rule = a .row .rule in
+    ap (λ (w : List ℕ). a .row .times ∷ w ∷ [])
+    (c .put-before .ensures rule (a .row .now) nothing (s .put-state .ensures rule noState nothing (p .put-rule .ensures refl)))
+
+pub laid-spec : {M : Type 1} → statement M
+laid-spec =
+    tie.close (tie.spec (λ c. search needs) (λ c. search needs) (λ c κs. search needs) (λ c. search needs) (λ c κs. search needs)
+    (λ c. search needs) (λ c κs. search needs) returns)

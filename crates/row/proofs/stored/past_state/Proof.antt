@@ -1,0 +1,15 @@
+-- The state is read off the places of the past.
+use mathlib.Core.Path.{refl}
+use Rattle.machine.specs.Words.{numberWords}
+use borrow.Author.Needs.{needs}
+use Rattle.row.proofs.stored.past_state.Statement.{statement}
+use Rattle.row.proofs.stored.past_state.Tie as tie
+
+returns : tie.Need-returns
+unfolding numberWords
+returns c rule state past e = rw e refl
+
+pub past-state-spec : {M : Type 1} → statement M
+past-state-spec =
+    tie.close (tie.spec (λ c. search needs) (λ c. search needs) (λ c. search needs) (λ c. search needs) (λ c. search needs) (λ c. search needs)
+    (λ c. search needs) (λ c. search needs) (λ c. search needs) (λ c. search needs) returns)

@@ -1,0 +1,15 @@
+-- Each number of the constraint is stored in its place, and the rest are zeros.
+use mathlib.Core.Path.{refl}
+use Rattle.machine.specs.Words.{numberWords}
+use borrow.Author.Needs.{needs}
+use Rattle.row.proofs.stored.put_rule.Statement.{statement}
+use Rattle.row.proofs.stored.put_rule.Tie as tie
+
+returns : tie.Need-returns
+unfolding numberWords
+returns c e = rw e refl
+
+pub put-rule-spec : {M : Type 1} → statement M
+put-rule-spec =
+    tie.close (tie.spec (λ c. search needs) (λ c. search needs) (λ c. search needs) (λ c. search needs) (λ c. search needs) (λ c. search needs)
+    (λ c. search needs) (λ c. search needs) (λ c. search needs) (λ c. search needs) returns)

@@ -1,0 +1,15 @@
+-- Each number of the state is stored in its place.
+use mathlib.Core.Path.{refl}
+use Rattle.machine.specs.Words.{numberWords}
+use borrow.Author.Needs.{needs}
+use Rattle.row.proofs.stored.put_state.Statement.{statement}
+use Rattle.row.proofs.stored.put_state.Tie as tie
+
+returns : tie.Need-returns
+unfolding numberWords
+returns c rule old past e = rw e refl
+
+pub put-state-spec : {M : Type 1} → statement M
+put-state-spec =
+    tie.close (tie.spec (λ c. search needs) (λ c. search needs) (λ c. search needs) (λ c. search needs) (λ c. search needs) (λ c. search needs)
+    (λ c. search needs) (λ c. search needs) (λ c. search needs) (λ c. search needs) returns)

@@ -34,9 +34,6 @@ returns-3 c =
     answer-common (now (args .first)) (now (args .second)) (now (args .joined)) (one .pass .result) (one .pass .ensures) (omega (arith, kept .if1 .left))
     (two .pass2 .result) (two .pass2 .ensures) (omega (arith, taken .if2 .left)) (c .if3 .taken)
 
-slice-aggregate-walk : tie.Need-slice-aggregate-walk
-slice-aggregate-walk c = search needs
-
 returns-4 : tie.Need-returns-4
 returns-4 c =
     let measured = c .before .before .before in
@@ -49,9 +46,6 @@ returns-4 c =
     answer-short (now (args .first)) (now (args .second)) (now (args .joined)) (one .pass .result) (one .pass .ensures) (omega (arith, kept .if1 .left))
     (two .pass2 .result) (two .pass2 .ensures) (omega (arith, taken .if2 .left)) (omega (arith, apart .if3 .left)) _ _ (measured .walk .result) (measured .walk .ensures)
     (not-true _ (c .if4 .taken))
-
-same-length : tie.Need-same-length
-same-length c = search needs
 
 returns-5 : tie.Need-returns-5
 returns-5 c =
@@ -69,4 +63,5 @@ returns-5 c =
     (not-false _ (fits .if4 .left)) (written .walk2 .result) _ (written .walk2 .ensures)
 
 pub join-spec : {M : Type 1} → statement M
-join-spec = tie.close (tie.spec free returns free returns-2 returns-3 slice-aggregate-walk free returns-4 free same-length returns-5)
+join-spec =
+    tie.close (tie.spec free returns free returns-2 returns-3 (λ c. search needs) free returns-4 free (λ c. search needs) returns-5)

@@ -9,11 +9,6 @@ use Rattle.join.proofs.mark.Tie as tie
 returns : tie.Need-returns
 returns c = sym (set-out _ _ 1 (omega arith))
 
-array-write-marks : tie.Need-array-write-marks
-array-write-marks c = search needs
-
-returns-2 : tie.Need-returns-2
-returns-2 c = search needs
-
 pub mark-spec : {M : Type 1} → statement M
-mark-spec = tie.close (tie.spec returns array-write-marks returns-2)
+mark-spec =
+    tie.close (tie.spec returns (λ c. search needs) (λ c. search needs))

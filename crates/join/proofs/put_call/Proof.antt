@@ -10,24 +10,12 @@ use Rattle.join.proofs.Walking.{stored-behind}
 use Rattle.join.proofs.put_call.Statement.{statement}
 use Rattle.join.proofs.put_call.Tie as tie
 
-enum-known-call : tie.Need-enum-known-call
-enum-known-call c = search needs
-
-slice-aggregate-put : tie.Need-slice-aggregate-put
-slice-aggregate-put c = search needs
-
 add-put-eight : tie.Need-add-put-eight
 unfolding bytesOf
 add-put-eight c =
     let told = c .before .before .before .before .before .before .before in
     let room = rw (told .call .given .1) at (told .before .before .before .pre) in
     omega (arith, room)
-
-enum-known-call-2 : tie.Need-enum-known-call-2
-enum-known-call-2 c = search needs
-
-slice-aggregate-put-2 : tie.Need-slice-aggregate-put-2
-slice-aggregate-put-2 c = search needs
 
 add-put-eight-2 : tie.Need-add-put-eight-2
 unfolding bytesOf
@@ -36,24 +24,12 @@ add-put-eight-2 c =
     let room = rw (told .call2 .given .1) at (told .before .before .before .pre) in
     omega (arith, room)
 
-enum-known-call-3 : tie.Need-enum-known-call-3
-enum-known-call-3 c = search needs
-
-slice-aggregate-put-3 : tie.Need-slice-aggregate-put-3
-slice-aggregate-put-3 c = search needs
-
 add-put-eight-3 : tie.Need-add-put-eight-3
 unfolding bytesOf
 add-put-eight-3 c =
     let told = c .before .before .before .before .before .before .before in
     let room = rw (told .call3 .given .1) at (told .before .before .before .pre) in
     omega (arith, room)
-
-enum-told : tie.Need-enum-told
-enum-told c = search needs
-
-same-length : tie.Need-same-length
-same-length c = search needs
 
 returns : tie.Need-returns
 returns c =
@@ -64,9 +40,6 @@ returns c =
     rw (told .call .given .1) (stored-behind (now (args .buffer)) (first .put .last .0) _ (args .place) 3 (0 ∷ 9 ∷ told .call .given .0 .0 ∷ []) (bytesOf 8 (told .call .given .0 .1 .0)) refl
     (first .put .ensures) (last .put-eight .ensures))
 
-same-length-2 : tie.Need-same-length-2
-same-length-2 c = search needs
-
 returns-2 : tie.Need-returns-2
 returns-2 c =
     let last = c .before .before in
@@ -75,9 +48,6 @@ returns-2 c =
     let args = told .before .before .before .args in
     rw (told .call2 .given .1) (stored-behind (now (args .buffer)) (first .put2 .last .0) _ (args .place) 4 (0 ∷ 10 ∷ told .call2 .given .0 .0 ∷ told .call2 .given .0 .1 .0 ∷ []) (bytesOf 8 (told .call2 .given .0 .1 .1 .0)) refl
     (first .put2 .ensures) (last .put-eight2 .ensures))
-
-same-length-3 : tie.Need-same-length-3
-same-length-3 c = search needs
 
 returns-3 : tie.Need-returns-3
 returns-3 c =
@@ -88,11 +58,8 @@ returns-3 c =
     rw (told .call3 .given .1) (stored-behind (now (args .buffer)) (first .put3 .last .0) _ (args .place) 2 (0 ∷ 8 ∷ []) (bytesOf 8 (told .call3 .given .0 .0)) refl
     (first .put3 .ensures) (last .put-eight3 .ensures))
 
-returns-4 : tie.Need-returns-4
-returns-4 c = search needs
-
 pub put-call-spec : {M : Type 1} → statement M
 put-call-spec =
-    tie.close
-    (tie.spec
-    enum-known-call slice-aggregate-put free add-put-eight free enum-known-call-2 slice-aggregate-put-2 free add-put-eight-2 free enum-known-call-3 slice-aggregate-put-3 free add-put-eight-3 free enum-told same-length returns same-length-2 returns-2 same-length-3 returns-3 returns-4)
+    tie.close (tie.spec (λ c. search needs) (λ c. search needs) free add-put-eight free (λ c. search needs) (λ c. search needs) free add-put-eight-2
+    free (λ c. search needs) (λ c. search needs) free add-put-eight-3 free (λ c. search needs) (λ c. search needs) returns (λ c. search needs)
+    returns-2 (λ c. search needs) returns-3 (λ c. search needs))

@@ -14,9 +14,6 @@ put-call-requires c κs =
     let tested = c .before .before in
     rw (sym (tested .falls-away .ensures) ∙ c .before .if1 .left) at (tested .before .before .pre)
 
-same-length : tie.Need-same-length
-same-length c = search needs
-
 returns-2 : tie.Need-returns-2
 returns-2 c =
     let put = c .before .before in
@@ -24,4 +21,5 @@ returns-2 c =
     rw (sym (kept .before .falls-away .ensures) ∙ kept .if1 .left) (put .put-call .ensures)
 
 pub put-left-spec : {M : Type 1} → statement M
-put-left-spec = tie.close (tie.spec free returns put-call-requires same-length returns-2)
+put-left-spec =
+    tie.close (tie.spec free returns put-call-requires (λ c. search needs) returns-2)

@@ -25,26 +25,11 @@ returns c =
     let args = c .before .before .before .args in
     rw (c .nothing .ensures) (head-none (now (args .bytes)) (args .place) (λ within. absurd (omega (arith, within, c .before .if1 .taken))))
 
-sub-read-record : tie.Need-sub-read-record
-sub-read-record c = search needs
-
-part-read-record-start : tie.Need-part-read-record-start
-part-read-record-start c = search needs
-
-part-read-record-end : tie.Need-part-read-record-end
-part-read-record-end c = search needs
-
-enum-known-kind : tie.Need-enum-known-kind
-enum-known-kind c = search needs
-
 add-found : tie.Need-add-found
 add-found c =
     let at-kind = c .before in
     let there = read-here (at-kind .before .before) _ (at-kind .kind .given .1) in
     omega (arith, there .size-read, there .there .0 .1)
-
-enum-known-kind-2 : tie.Need-enum-known-kind-2
-enum-known-kind-2 c = search needs
 
 add-found-2 : tie.Need-add-found-2
 add-found-2 c =
@@ -52,17 +37,11 @@ add-found-2 c =
     let there = read-here (at-kind .before .before) _ (at-kind .kind2 .given .1) in
     omega (arith, there .size-read, there .there .0 .1)
 
-enum-known-time : tie.Need-enum-known-time
-enum-known-time c = search needs
-
 add-found-3 : tie.Need-add-found-3
 add-found-3 c =
     let at-time = c .before in
     let there = read-here (at-time .before .before) _ (at-time .time .given .1) in
     omega (arith, there .size-read, there .there .0 .1)
-
-enum-told : tie.Need-enum-told
-enum-told c = search needs
 
 returns-2 : tie.Need-returns-2
 returns-2 c =
@@ -98,7 +77,5 @@ returns-5 c =
 
 pub record-at-spec : {M : Type 1} → statement M
 record-at-spec =
-    tie.close
-    (tie.spec
-    free returns free sub-read-record part-read-record-start part-read-record-end free enum-known-kind add-found free enum-known-kind-2 add-found-2 free
-    enum-known-time add-found-3 free enum-told free returns-2 returns-3 returns-4 returns-5)
+    tie.close (tie.spec free returns free (λ c. search needs) (λ c. search needs) (λ c. search needs) free (λ c. search needs) add-found free (λ c.
+    search needs) add-found-2 free (λ c. search needs) add-found-3 free (λ c. search needs) free returns-2 returns-3 returns-4 returns-5)

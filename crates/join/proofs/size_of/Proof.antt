@@ -4,18 +4,6 @@ use Rattle.constraint.specs.Bytes.{bytesOf}
 use Rattle.join.proofs.size_of.Statement.{statement}
 use Rattle.join.proofs.size_of.Tie as tie
 
-enum-told : tie.Need-enum-told
-enum-told c = search needs
-
-enum-told-2 : tie.Need-enum-told-2
-enum-told-2 c = search needs
-
-enum-told-3 : tie.Need-enum-told-3
-enum-told-3 c = search needs
-
-enum-told-4 : tie.Need-enum-told-4
-enum-told-4 c = search needs
-
 returns : tie.Need-returns
 unfolding bytesOf
 returns c = rw (c .enum-told .given .1)
@@ -28,8 +16,7 @@ returns-3 : tie.Need-returns-3
 unfolding bytesOf
 returns-3 c = rw (c .enum-told3 .given .1)
 
-returns-4 : tie.Need-returns-4
-returns-4 c = search needs
-
 pub size-of-spec : {M : Type 1} → statement M
-size-of-spec = tie.close (tie.spec enum-told enum-told-2 enum-told-3 enum-told-4 returns returns-2 returns-3 returns-4)
+size-of-spec =
+    tie.close (tie.spec (λ c. search needs) (λ c. search needs) (λ c. search needs) (λ c. search needs) returns returns-2 returns-3 (λ c. search
+    needs))

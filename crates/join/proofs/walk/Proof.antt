@@ -63,9 +63,6 @@ returns-2 c =
       short = λ e. both e;
     }
 
-sub-if3 : tie.Need-sub-if3 Inv-loop μ-loop
-sub-if3 c = omega arith
-
 same-length-2 : tie.Need-same-length-2 Inv-loop μ-loop
 same-length-2 c =
     let at-loop = c .before .before .before .before .before in
@@ -118,7 +115,5 @@ loop-again c =
 
 pub walk-spec : {M : Type 1} → statement M
 walk-spec =
-    tie.close
-    (tie.spec
-    Inv-loop μ-loop returns free free loop-holds free same-length returns-2 free sub-if3 same-length-2 returns-3 put-left-requires add-size free loop-less
-    loop-again)
+    tie.close (tie.spec Inv-loop μ-loop returns free free loop-holds free same-length returns-2 free (λ c. omega arith) same-length-2 returns-3
+    put-left-requires add-size free loop-less loop-again)

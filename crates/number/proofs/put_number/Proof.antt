@@ -29,27 +29,6 @@ returns c =
     let loop = c .before .before .loop in
     sym (stores-past (loop .buffer) (loop .next) (bytesOf (loop .left) (c .before .before .before .before .args .x)) (c .if1 .taken)) ∙ loop .inv .2
 
-sub-left : tie.Need-sub-left Inv-loop μ-loop
-sub-left c = omega arith
-
-mul-low-byte : tie.Need-mul-low-byte Inv-loop μ-loop
-mul-low-byte c = omega arith
-
-shr-low-byte : tie.Need-shr-low-byte Inv-loop μ-loop
-shr-low-byte c = omega arith
-
-low-byte-requires : tie.Need-low-byte-requires Inv-loop μ-loop
-low-byte-requires c κs = tt
-
-slice-write-buffer : tie.Need-slice-write-buffer Inv-loop μ-loop
-slice-write-buffer c = omega arith
-
-add-next : tie.Need-add-next Inv-loop μ-loop
-add-next c = omega arith
-
-loop-less : tie.Need-loop-less Inv-loop μ-loop
-loop-less c = omega arith
-
 loop-again : tie.Need-loop-again Inv-loop μ-loop
 loop-again c =
     let loop = c .before .before .before .loop in
@@ -72,20 +51,5 @@ returns-2 c =
 
 pub put-number-spec : {M : Type 1} → statement M
 put-number-spec =
-    tie.close
-    (tie.spec
-    Inv-loop
-    μ-loop
-    loop-holds
-    same-length
-    returns
-    sub-left
-    mul-low-byte
-    shr-low-byte
-    low-byte-requires
-    slice-write-buffer
-    add-next
-    loop-less
-    loop-again
-    same-length-2
-    returns-2)
+    tie.close (tie.spec Inv-loop μ-loop loop-holds same-length returns (λ c. omega arith) (λ c. omega arith) (λ c. omega arith) (λ c κs. tt) (λ c.
+    omega arith) (λ c. omega arith) (λ c. omega arith) loop-again same-length-2 returns-2)

@@ -25,26 +25,11 @@ returns c =
     let args = c .before .before .before .args in
     rw (c .refused .ensures) (read-none (now (args .bytes)) (args .place) (args .order) (λ there. omega (arith, there .0 .0, c .before .if1 .taken)))
 
-sub-read-record : tie.Need-sub-read-record
-sub-read-record c = search needs
-
-part-read-record-start : tie.Need-part-read-record-start
-part-read-record-start c = search needs
-
-part-read-record-end : tie.Need-part-read-record-end
-part-read-record-end c = search needs
-
-enum-known-kind : tie.Need-enum-known-kind
-enum-known-kind c = search needs
-
 add-asked : tie.Need-add-asked
 add-asked c =
     let at-kind = c .before in
     let there = found (at-kind .before .before) _ (at-kind .kind .given .1) in
     omega (arith, there .size-read, there .there .0 .1)
-
-enum-known-kind-2 : tie.Need-enum-known-kind-2
-enum-known-kind-2 c = search needs
 
 add-asked-2 : tie.Need-add-asked-2
 add-asked-2 c =
@@ -52,17 +37,11 @@ add-asked-2 c =
     let there = found (at-kind .before .before) _ (at-kind .kind2 .given .1) in
     omega (arith, there .size-read, there .there .0 .1)
 
-enum-known-time : tie.Need-enum-known-time
-enum-known-time c = search needs
-
 add-asked-3 : tie.Need-add-asked-3
 add-asked-3 c =
     let at-time = c .before in
     let there = found (at-time .before .before) _ (at-time .time .given .1) in
     omega (arith, there .size-read, there .there .0 .1)
-
-enum-known-number : tie.Need-enum-known-number
-enum-known-number c = search needs
 
 returns-2 : tie.Need-returns-2
 returns-2 c =
@@ -95,7 +74,5 @@ returns-5 c =
 
 pub read-spec : {M : Type 1} → statement M
 read-spec =
-    tie.close
-    (tie.spec
-    free returns free sub-read-record part-read-record-start part-read-record-end free enum-known-kind add-asked free enum-known-kind-2 add-asked-2 free
-    enum-known-time add-asked-3 free enum-known-number free returns-2 returns-3 returns-4 returns-5)
+    tie.close (tie.spec free returns free (λ c. search needs) (λ c. search needs) (λ c. search needs) free (λ c. search needs) add-asked free (λ c.
+    search needs) add-asked-2 free (λ c. search needs) add-asked-3 free (λ c. search needs) free returns-2 returns-3 returns-4 returns-5)

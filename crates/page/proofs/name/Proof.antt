@@ -13,21 +13,12 @@ use Rattle.page.proofs.name.Tie as tie
 named : (form : ℕ) → form < 11 → (other : List ℕ) → getD (map (leftIn 24) typeNames) form other ≡ leftIn 24 (nameOf form)
 named form known other = getD-within (map (leftIn 24) typeNames) form other _ known ∙ List·getD-map (leftIn 24) typeNames form synchronizationName
 
-mul-result : tie.Need-mul-result
-mul-result c = search needs
-
-array-copy-out-result : tie.Need-array-copy-out-result
-array-copy-out-result c = search needs
-
 returns : tie.Need-returns
 returns c = named (c .before .before .args .form) (c .before .if1 .taken) _
-
-array-copy-out-result-2 : tie.Need-array-copy-out-result-2
-array-copy-out-result-2 c = search needs
 
 returns-2 : tie.Need-returns-2
 returns-2 c = rw (List·getD-eq-default typeNames synchronizationName {n = c .before .before .args .form} (c .before .if1 .left))
 
 pub name-spec : {M : Type 1} → statement M
 name-spec =
-    tie.close (tie.spec mul-result array-copy-out-result returns array-copy-out-result-2 returns-2)
+    tie.close (tie.spec (λ c. search needs) (λ c. search needs) returns (λ c. search needs) returns-2)

@@ -17,18 +17,6 @@ returns c =
     let plain : eqb (args .row % 16) 0 ≡ false = ne-eqb (args .row % 16) 0 (c .if1 .taken) in
     record { stored = rw plain; behind = rw (plain, add-zero) }
 
-slice-aggregate-put : tie.Need-slice-aggregate-put
-slice-aggregate-put c = search needs
-
-put-requires : tie.Need-put-requires
-put-requires c κs = search needs
-
-add-result : tie.Need-add-result
-add-result c = search needs
-
-same-length : tie.Need-same-length
-same-length c = search needs
-
 returns-2 : tie.Need-returns-2
 unfolding hyphens
 returns-2 c =
@@ -39,4 +27,4 @@ returns-2 c =
 
 pub put-heading-spec : {M : Type 1} → statement M
 put-heading-spec =
-    tie.close (tie.spec returns slice-aggregate-put put-requires add-result same-length returns-2)
+    tie.close (tie.spec returns (λ c. search needs) (λ c κs. search needs) (λ c. search needs) (λ c. search needs) returns-2)

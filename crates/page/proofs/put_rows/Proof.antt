@@ -25,35 +25,11 @@ loop-holds : tie.Need-loop-holds Inv-loop μ-loop
 unfolding pageLines
 loop-holds c = (omega arith, refl, refl, refl)
 
-put-heading-requires : tie.Need-put-heading-requires Inv-loop μ-loop
-put-heading-requires c κs = omega arith
-
-mul-put-line : tie.Need-mul-put-line Inv-loop μ-loop
-mul-put-line c = omega arith
-
-element-copy-out-put-line : tie.Need-element-copy-out-put-line Inv-loop μ-loop
-element-copy-out-put-line c = omega arith
-
-mul-verdict : tie.Need-mul-verdict Inv-loop μ-loop
-mul-verdict c = omega arith
-
-element-copy-out-verdict : tie.Need-element-copy-out-verdict Inv-loop μ-loop
-element-copy-out-verdict c = omega arith
-
-verdict-requires : tie.Need-verdict-requires Inv-loop μ-loop
-verdict-requires c κs = search needs
-
 put-line-requires : tie.Need-put-line-requires Inv-loop μ-loop
 put-line-requires c κs = let h = c .before .before .before .before .before .before in (omega (arith, h .put-heading .ensures .behind, heading-length (h .before .before .before .loop .row)), omega arith)
 
 add-place : tie.Need-add-place Inv-loop μ-loop
 add-place c = let h = c .before .before .before .before .before .before .before .before .before in omega (arith, h .put-heading .ensures .behind, heading-length (h .before .before .before .loop .row))
-
-add-row : tie.Need-add-row Inv-loop μ-loop
-add-row c = omega arith
-
-loop-less : tie.Need-loop-less Inv-loop μ-loop
-loop-less c = omega arith
 
 loop-again : tie.Need-loop-again Inv-loop μ-loop
 loop-again c =
@@ -84,21 +60,5 @@ returns c =
 
 pub put-rows-spec : {M : Type 1} → statement M
 put-rows-spec =
-    tie.close
-    (tie.spec
-    Inv-loop
-    μ-loop
-    loop-holds
-    put-heading-requires
-    mul-put-line
-    element-copy-out-put-line
-    mul-verdict
-    element-copy-out-verdict
-    verdict-requires
-    put-line-requires
-    add-place
-    add-row
-    loop-less
-    loop-again
-    same-length
-    returns)
+    tie.close (tie.spec Inv-loop μ-loop loop-holds (λ c κs. omega arith) (λ c. omega arith) (λ c. omega arith) (λ c. omega arith) (λ c. omega arith)
+    (λ c κs. search needs) put-line-requires add-place (λ c. omega arith) (λ c. omega arith) loop-again same-length returns)

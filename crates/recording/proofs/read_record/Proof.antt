@@ -11,40 +11,16 @@ use Rattle.recording.proofs.Records.{event-read, coloured-read, tick-re
 use Rattle.recording.proofs.read_record.Statement.{statement}
 use Rattle.recording.proofs.read_record.Tie as tie
 
-two-at-requires : tie.Need-two-at-requires
-two-at-requires c κs = search needs
-
-byte-at-requires : tie.Need-byte-at-requires
-byte-at-requires c κs = search needs
-
-eight-at-requires : tie.Need-eight-at-requires
-eight-at-requires c κs = search needs
-
 returns : tie.Need-returns
 returns c =
     let a = c .before .before .before .before .before .before .args in
     rw (c .before .byte-at .ensures, c .eight-at .ensures) (event-read (a .version) (now (a .bytes)) (omega arith) (omega (arith, leb-true)))
-
-byte-at-requires-2 : tie.Need-byte-at-requires-2
-byte-at-requires-2 c κs = search needs
-
-byte-at-requires-3 : tie.Need-byte-at-requires-3
-byte-at-requires-3 c κs = search needs
-
-colour-in-requires : tie.Need-colour-in-requires
-colour-in-requires c κs = search needs
-
-eight-at-requires-2 : tie.Need-eight-at-requires-2
-eight-at-requires-2 c κs = search needs
 
 returns-2 : tie.Need-returns-2
 returns-2 c =
     let a = c .before .before .before .before .before .before .before .before .before .args in
     rw (c .before .before .before .byte-at2 .ensures, c .before .colour-in .ensures, c .before .before .byte-at3 .ensures, c .eight-at2 .ensures)
     (coloured-read (a .version) (now (a .bytes)) (omega arith) (omega (arith, leb-true)))
-
-eight-at-requires-3 : tie.Need-eight-at-requires-3
-eight-at-requires-3 c κs = search needs
 
 returns-3 : tie.Need-returns-3
 returns-3 c =
@@ -65,17 +41,5 @@ returns-4 c = (
 
 pub read-record-spec : {M : Type 1} → statement M
 read-record-spec =
-    tie.close
-    (tie.spec
-    two-at-requires
-    byte-at-requires
-    eight-at-requires
-    returns
-    byte-at-requires-2
-    byte-at-requires-3
-    colour-in-requires
-    eight-at-requires-2
-    returns-2
-    eight-at-requires-3
-    returns-3
-    returns-4)
+    tie.close (tie.spec (λ c κs. search needs) (λ c κs. search needs) (λ c κs. search needs) returns (λ c κs. search needs) (λ c κs. search needs)
+    (λ c κs. search needs) (λ c κs. search needs) returns-2 (λ c κs. search needs) returns-3 returns-4)

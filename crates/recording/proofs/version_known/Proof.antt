@@ -26,9 +26,6 @@ second bytes other = go (eqb (at bytes 0) 2) refl
     go true e = known bytes (omega (arith, eqb-true (at bytes 0) 2 e)) (omega (arith, eqb-true (at bytes 0) 2 e))
     go false e = λ version. eqb-false (at bytes 0) 2 e (omega (arith, version .1, version .2, other))
 
-version-requires : tie.Need-version-requires
-version-requires c κs = search needs
-
 returns : tie.Need-returns
 returns c = rw (eq-eqb _ _ (c .if1 .taken)) (known (now (c .before .before .before .args .bytes)) (omega (arith, c .before .version .ensures, c .if1 .taken)) (omega (arith, c .before .version .ensures, c .if1 .taken)))
 
@@ -36,4 +33,5 @@ returns-2 : tie.Need-returns-2
 returns-2 c = rw (c .before .version .ensures) (second (now (c .before .before .before .args .bytes)) (λ one. c .if1 .left (c .before .version .ensures ∙ one)))
 
 pub version-known-spec : {M : Type 1} → statement M
-version-known-spec = tie.close (tie.spec version-requires returns returns-2)
+version-known-spec =
+    tie.close (tie.spec (λ c κs. search needs) returns returns-2)

@@ -22,14 +22,8 @@ rows-read c = rw (c .enum-told .given .1) at (c .before .before .read .ensures .
 rows-held : (c : tie.After-enum-told) → c .before .before .read .result .table ≡ tableOf (rowsOf (c .before .before .read .result .table))
 rows-held c = rw (c .enum-told .given .1) at (c .before .before .read .ensures .holds)
 
-enum-known-answer : tie.Need-enum-known-answer
-enum-known-answer c = search needs
-
 returns : tie.Need-returns
 returns c = no-table _ _ (refusal (c .before))
-
-enum-told : tie.Need-enum-told
-enum-told c = search needs
 
 returns-2 : tie.Need-returns-2
 returns-2 c =
@@ -68,4 +62,5 @@ returns-5 c =
     (at-pass .pass .result) (at-pass .pass .ensures) (omega (arith, c .before .before .before .if1 .left)) (omega (arith, c .before .if2 .left)) (c .if3 .left)
 
 pub read-spec : {M : Type 1} → statement M
-read-spec = tie.close (tie.spec free enum-known-answer returns enum-told free free returns-2 returns-3 returns-4 returns-5)
+read-spec =
+    tie.close (tie.spec free (λ c. search needs) returns (λ c. search needs) free free returns-2 returns-3 returns-4 returns-5)

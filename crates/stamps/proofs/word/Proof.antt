@@ -3,15 +3,6 @@ use borrow.Author.Needs.{needs}
 use Rattle.stamps.proofs.word.Statement.{statement}
 use Rattle.stamps.proofs.word.Tie as tie
 
-enum-told : tie.Need-enum-told
-enum-told c = search needs
-
-enum-told-2 : tie.Need-enum-told-2
-enum-told-2 c = search needs
-
-enum-told-3 : tie.Need-enum-told-3
-enum-told-3 c = search needs
-
 returns : tie.Need-returns
 returns c = rw (c .before .before .enum-told .given .1)
 
@@ -22,4 +13,5 @@ returns-3 : tie.Need-returns-3
 returns-3 c = rw (c .before .before .enum-told3 .given .1)
 
 pub word-spec : {M : Type 1} → statement M
-word-spec = tie.close (tie.spec enum-told enum-told-2 enum-told-3 returns returns-2 returns-3)
+word-spec =
+    tie.close (tie.spec (λ c. search needs) (λ c. search needs) (λ c. search needs) returns returns-2 returns-3)

@@ -22,15 +22,6 @@ returns-2 c =
     asks-none (args .t1) (args .row) (args .streams .now) (args .times .now) (args .count) (begun .pre)
     (λ rows e accepted. omega (arith, record-count (args .t1) rows e, c .if2 .taken))
 
-mul-entry : tie.Need-mul-entry
-mul-entry c = search needs
-
-element-copy-out-entry : tie.Need-element-copy-out-entry
-element-copy-out-entry c = search needs
-
-try-row-requires : tie.Need-try-row-requires
-try-row-requires c κs = search needs
-
 returns-3 : tie.Need-returns-3
 returns-3 c =
     let begun = c .before .before .before .before in
@@ -38,4 +29,5 @@ returns-3 c =
     asks-row (args .t1) (args .row) (args .streams .now) (args .times .now) (args .count) (begun .pre) _ (omega (arith, c .before .before .if2 .left)) _ (c .try-row .ensures)
 
 pub ask-row-spec : {M : Type 1} → statement M
-ask-row-spec = tie.close (tie.spec returns returns-2 mul-entry element-copy-out-entry try-row-requires returns-3)
+ask-row-spec =
+    tie.close (tie.spec returns returns-2 (λ c. search needs) (λ c. search needs) (λ c κs. search needs) returns-3)

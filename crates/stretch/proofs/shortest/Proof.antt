@@ -23,14 +23,8 @@ rows-read c = rw (c .enum-told .given .1) at (c .before .before .read .ensures .
 rows-held : (c : tie.After-enum-told) → c .before .before .read .result .table ≡ tableOf (rowsOf (c .before .before .read .result .table))
 rows-held c = rw (c .enum-told .given .1) at (c .before .before .read .ensures .holds)
 
-enum-known-answer : tie.Need-enum-known-answer
-enum-known-answer c = search needs
-
 returns : tie.Need-returns
 returns c = no-table _ _ (refusal (c .before))
-
-enum-told : tie.Need-enum-told
-enum-told c = search needs
 
 gather-requires : tie.Need-gather-requires
 gather-requires c κs = (refl, refl)
@@ -48,9 +42,6 @@ returns-3 c =
     let taken = at-gather .gather .ensures .taken (omega (arith, c .before .if1 .left)) in
     answers _ (taken .0) (rows-read told) (taken .1) (too-many _ (taken .0) _ _ (taken .2) (c .if2 .taken))
 
-ask-row-requires : tie.Need-ask-row-requires
-ask-row-requires c κs = search needs
-
 returns-4 : tie.Need-returns-4
 returns-4 c =
     let passed = c .before .before .before .before in
@@ -64,4 +55,5 @@ returns-4 c =
     (run-of (now (begun .args .recording)) _ _ (taken .0) _ (taken .1) (taken .2) (taken .3) (passed .if2 .left)))
 
 pub shortest-spec : {M : Type 1} → statement M
-shortest-spec = tie.close (tie.spec free enum-known-answer returns enum-told gather-requires returns-2 returns-3 ask-row-requires returns-4)
+shortest-spec =
+    tie.close (tie.spec free (λ c. search needs) returns (λ c. search needs) gather-requires returns-2 returns-3 (λ c κs. search needs) returns-4)

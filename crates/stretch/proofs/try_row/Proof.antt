@@ -7,12 +7,6 @@ use Rattle.stretch.proofs.Answers.{tries-first, tries-none}
 use Rattle.stretch.proofs.try_row.Statement.{statement}
 use Rattle.stretch.proofs.try_row.Tie as tie
 
-needs-requires : tie.Need-needs-requires
-needs-requires c κs = search needs
-
-search-requires : tie.Need-search-requires
-search-requires c κs = search needs
-
 returns : tie.Need-returns
 returns c steps run accepted =
     let at-search = c .before .before in
@@ -24,15 +18,6 @@ returns c steps run accepted =
           (at-search .search .result) (at-search .search .ensures) (c .if1 .taken),
     )
 
-cast-t10 : tie.Need-cast-t10
-cast-t10 c = search needs
-
-cast-t11 : tie.Need-cast-t11
-cast-t11 c = search needs
-
-cast-t12 : tie.Need-cast-t12
-cast-t12 c = search needs
-
 returns-2 : tie.Need-returns-2
 returns-2 c steps run accepted =
     let at-search = c .before .before .before .before .before in
@@ -42,4 +27,5 @@ returns-2 c steps run accepted =
     (at-search .search .result) (at-search .search .ensures) (omega (arith, c .before .before .before .if1 .left))
 
 pub try-row-spec : {M : Type 1} → statement M
-try-row-spec = tie.close (tie.spec needs-requires search-requires returns cast-t10 cast-t11 cast-t12 returns-2)
+try-row-spec =
+    tie.close (tie.spec (λ c κs. search needs) (λ c κs. search needs) returns (λ c. search needs) (λ c. search needs) (λ c. search needs) returns-2)

@@ -25,42 +25,6 @@ stretch-parts first size tried a b c one two three e =
     let tried-is : tried ≡ c = cc in
     (omega (arith, one, first-is), omega (arith, two, size-is), omega (arith, three, tried-is))
 
-enum-known-answer : tie.Need-enum-known-answer
-enum-known-answer c = search needs
-
-cast-result : tie.Need-cast-result
-cast-result c = search needs
-
-mul-result : tie.Need-mul-result
-mul-result c = search needs
-
-cast-result-2 : tie.Need-cast-result-2
-cast-result-2 c = search needs
-
-mul-result-2 : tie.Need-mul-result-2
-mul-result-2 c = search needs
-
-add-result : tie.Need-add-result
-add-result c = search needs
-
-cast-result-3 : tie.Need-cast-result-3
-cast-result-3 c = search needs
-
-mul-result-3 : tie.Need-mul-result-3
-mul-result-3 c = search needs
-
-add-result-2 : tie.Need-add-result-2
-add-result-2 c = search needs
-
-enum-known-answer-2 : tie.Need-enum-known-answer-2
-enum-known-answer-2 c = search needs
-
-cast-result-4 : tie.Need-cast-result-4
-cast-result-4 c = search needs
-
-add-result-3 : tie.Need-add-result-3
-add-result-3 c = search needs
-
 returns : tie.Need-returns
 returns c =
     let at-answer = c .before in
@@ -90,6 +54,5 @@ returns-2 c =
 
 pub delkuthi-shortest-stretch-spec : {M : Type 1} → statement M
 delkuthi-shortest-stretch-spec =
-    tie.close
-    (tie.spec free enum-known-answer cast-result mul-result cast-result-2 mul-result-2 add-result cast-result-3 mul-result-3 add-result-2
-    enum-known-answer-2 free cast-result-4 add-result-3 returns returns-2)
+    tie.close (tie.spec free (λ c. search needs) (λ c. search needs) (λ c. search needs) (λ c. search needs) (λ c. search needs) (λ c. search needs)
+    (λ c. search needs) (λ c. search needs) (λ c. search needs) (λ c. search needs) free (λ c. search needs) (λ c. search needs) returns returns-2)

@@ -10,12 +10,6 @@ use Rattle.table.proofs.read.Tie as tie
 version : (c : tie.Else1) → VersionOne (now (c .before .before .before .args .bytes))
 version c = version-one (now (c .before .before .before .args .bytes)) (sym (c .before .byte-at .ensures) ∙ c .if1 .left)
 
-byte-at-requires : tie.Need-byte-at-requires
-byte-at-requires c κs = search needs
-
-refused-requires : tie.Need-refused-requires
-refused-requires c κs = search needs
-
 returns : tie.Need-returns
 returns c =
     let refused = c .refused .ensures in
@@ -32,4 +26,4 @@ returns-2 c = record { reads = version-taken (version (c .before)) (c .read-rows
 
 pub read-spec : {M : Type 1} → statement M
 read-spec =
-    tie.close (tie.spec byte-at-requires refused-requires returns read-rows-requires returns-2)
+    tie.close (tie.spec (λ c κs. search needs) (λ c κs. search needs) returns read-rows-requires returns-2)

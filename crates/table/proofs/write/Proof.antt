@@ -23,20 +23,11 @@ few c =
     let table = c .before .before .before .before .args .table in
     omega (arith, rows-length table, rows-room 0 (rowsOf table) (omega arith) (taken c))
 
-judge-requires : tie.Need-judge-requires
-judge-requires c κs = search needs
-
-enum-known-number : tie.Need-enum-known-number
-enum-known-number c = search needs
-
 returns : tie.Need-returns
 returns c =
     let at-judge = c .before .before .before in
     let a = at-judge .before .before .args in
     written-refused (rowsOf (a .table)) (now (a .buffer)) _ (rw (c .before .number .given .1) at (at-judge .judge .ensures))
-
-enum-told : tie.Need-enum-told
-enum-told c = search needs
 
 size-of-requires : tie.Need-size-of-requires
 size-of-requires c κs = few c
@@ -47,17 +38,11 @@ returns-2 c =
     let a = at-taken .before .before .before .before .args in
     written-short (rowsOf (a .table)) (now (a .buffer)) (taken at-taken) (omega (arith, c .before .size-of .ensures))
 
-put-byte-requires : tie.Need-put-byte-requires
-put-byte-requires c κs = search needs
-
 put-rows-requires : tie.Need-put-rows-requires
 put-rows-requires c κs =
     let at-room = c .before .before .before .before .before in
     let at-size = at-room .before in
     (few (at-size .before), omega (arith, at-room .if1 .left, at-size .size-of .ensures, c .before .before .before .put-byte .kept .0))
-
-same-length : tie.Need-same-length
-same-length c = search needs
 
 returns-3 : tie.Need-returns-3
 returns-3 c =
@@ -69,15 +54,5 @@ returns-3 c =
 
 pub write-spec : {M : Type 1} → statement M
 write-spec =
-    tie.close
-    (tie.spec
-    judge-requires
-    enum-known-number
-    returns
-    enum-told
-    size-of-requires
-    returns-2
-    put-byte-requires
-    put-rows-requires
-    same-length
-    returns-3)
+    tie.close (tie.spec (λ c κs. search needs) (λ c. search needs) returns (λ c. search needs) size-of-requires returns-2 (λ c κs. search needs)
+    put-rows-requires (λ c. search needs) returns-3)

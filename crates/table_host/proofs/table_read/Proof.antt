@@ -7,18 +7,6 @@ use Rattle.table.proofs.Answers.{reads-as}
 use Rattle.table_host.proofs.table_read.Statement.{statement}
 use Rattle.table_host.proofs.table_read.Tie as tie
 
-read-requires : tie.Need-read-requires
-read-requires c κs = search needs
-
-enum-told : tie.Need-enum-told
-enum-told c = search needs
-
-enum-known-answer : tie.Need-enum-known-answer
-enum-known-answer c = search needs
-
-refusal-code-requires : tie.Need-refusal-code-requires
-refusal-code-requires c κs = search needs
-
 returns : tie.Need-returns
 returns c =
     let at-read = c .before .before .before in
@@ -33,5 +21,4 @@ returns-2 c =
 
 pub table-read-spec : {M : Type 1} → statement M
 table-read-spec =
-    tie.close
-    (tie.spec read-requires enum-told enum-known-answer refusal-code-requires returns returns-2)
+    tie.close (tie.spec (λ c κs. search needs) (λ c. search needs) (λ c. search needs) (λ c κs. search needs) returns returns-2)

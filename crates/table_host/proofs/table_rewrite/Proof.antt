@@ -6,27 +6,6 @@ use Rattle.table_host.specs.Codes.{not-read, rewritten}
 use Rattle.table_host.proofs.table_rewrite.Statement.{statement}
 use Rattle.table_host.proofs.table_rewrite.Tie as tie
 
-read-requires : tie.Need-read-requires
-read-requires c κs = search needs
-
-enum-told : tie.Need-enum-told
-enum-told c = search needs
-
-write-requires : tie.Need-write-requires
-write-requires c κs = search needs
-
-write-code-requires : tie.Need-write-code-requires
-write-code-requires c κs = search needs
-
-enum-known-answer : tie.Need-enum-known-answer
-enum-known-answer c = search needs
-
-refusal-code-requires : tie.Need-refusal-code-requires
-refusal-code-requires c κs = search needs
-
-same-length : tie.Need-same-length
-same-length c = search needs
-
 returns : tie.Need-returns
 returns c =
     let at-write = c .before .before .before in
@@ -45,14 +24,5 @@ returns-2 c =
 
 pub table-rewrite-spec : {M : Type 1} → statement M
 table-rewrite-spec =
-    tie.close
-    (tie.spec
-    read-requires
-    enum-told
-    write-requires
-    write-code-requires
-    enum-known-answer
-    refusal-code-requires
-    same-length
-    returns
-    returns-2)
+    tie.close (tie.spec (λ c κs. search needs) (λ c. search needs) (λ c κs. search needs) (λ c κs. search needs) (λ c. search needs) (λ c κs. search
+    needs) (λ c. search needs) returns returns-2)

@@ -22,21 +22,6 @@ abbrev μ-loop : tie.MeasureT-loop
 loop-holds : tie.Need-loop-holds Inv-loop μ-loop
 loop-holds c = (omega arith, omega arith, omega arith, refl, append-nil (decimal (c .args .x)), λ k h. getD-replicate 20 k blank 0 h)
 
-sub-start : tie.Need-sub-start Inv-loop μ-loop
-sub-start c = omega arith
-
-add-bytes : tie.Need-add-bytes Inv-loop μ-loop
-add-bytes c = omega arith
-
-cast-bytes : tie.Need-cast-bytes Inv-loop μ-loop
-cast-bytes c = omega arith
-
-array-write-bytes : tie.Need-array-write-bytes Inv-loop μ-loop
-array-write-bytes c = omega arith
-
-loop-less : tie.Need-loop-less Inv-loop μ-loop
-loop-less c = omega arith
-
 loop-again : tie.Need-loop-again Inv-loop μ-loop
 loop-again c =
     let loop = c .before .loop in
@@ -50,18 +35,6 @@ loop-again c =
           (sym (digits-more (loop .start) (loop .left) (drop (loop .start) (loop .bytes)) (omega arith) (omega arith)) ∙ loop .inv .4),
       λ k h. getD-set-other (loop .bytes) (loop .start - 1) k digit 0 (λ e. omega arith) ∙ loop .inv .5 k (omega arith),
     )
-
-sub-start-2 : tie.Need-sub-start-2 Inv-loop μ-loop
-sub-start-2 c = omega arith
-
-add-bytes-2 : tie.Need-add-bytes-2 Inv-loop μ-loop
-add-bytes-2 c = omega arith
-
-cast-bytes-2 : tie.Need-cast-bytes-2 Inv-loop μ-loop
-cast-bytes-2 c = omega arith
-
-array-write-bytes-2 : tie.Need-array-write-bytes-2 Inv-loop μ-loop
-array-write-bytes-2 c = omega arith
 
 returns : tie.Need-returns Inv-loop μ-loop
 returns c =
@@ -84,19 +57,5 @@ returns c =
 
 pub digits-of-spec : {M : Type 1} → statement M
 digits-of-spec =
-    tie.close
-    (tie.spec
-    Inv-loop
-    μ-loop
-    loop-holds
-    sub-start
-    add-bytes
-    cast-bytes
-    array-write-bytes
-    loop-less
-    loop-again
-    sub-start-2
-    add-bytes-2
-    cast-bytes-2
-    array-write-bytes-2
-    returns)
+    tie.close (tie.spec Inv-loop μ-loop loop-holds (λ c. omega arith) (λ c. omega arith) (λ c. omega arith) (λ c. omega arith) (λ c. omega arith)
+    loop-again (λ c. omega arith) (λ c. omega arith) (λ c. omega arith) (λ c. omega arith) returns)

@@ -36,18 +36,6 @@ returns c =
     let loop = c .before .before .loop in
     loop .inv .1 _ (rows-full (loop .i) (rowsOf table) [] (omega (arith, rows-length table)) (c .if1 .taken))
 
-mul-entry : tie.Need-mul-entry Inv-loop μ-loop
-mul-entry c = omega arith
-
-element-copy-out-entry : tie.Need-element-copy-out-entry Inv-loop μ-loop
-element-copy-out-entry c = omega arith
-
-judge-requires : tie.Need-judge-requires Inv-loop μ-loop
-judge-requires c κs = tt
-
-enum-known-number : tie.Need-enum-known-number Inv-loop μ-loop
-enum-known-number c = search needs
-
 returns-2 : tie.Need-returns-2 Inv-loop μ-loop
 returns-2 c =
     let at-judge = c .before .before .before in
@@ -57,15 +45,6 @@ returns-2 c =
     at-loop .loop .inv .1 _
     (subst⁻¹ (λ rows. Judged (rowsQuestions i rows []) (Refused (c .before .number .given .0 .0))) (rows-from table i _ (omega arith) (omega (arith, size at-loop)))
     (rows-refused i _ (drop (i + 1) (rowsOf table)) [] _ (omega arith) (rw (c .before .number .given .1) at (at-judge .judge .ensures))))
-
-enum-told : tie.Need-enum-told Inv-loop μ-loop
-enum-told c = search needs
-
-add-i : tie.Need-add-i Inv-loop μ-loop
-add-i c = omega arith
-
-loop-less : tie.Need-loop-less Inv-loop μ-loop
-loop-less c = omega arith
 
 loop-again : tie.Need-loop-again Inv-loop μ-loop
 loop-again c =
@@ -90,19 +69,5 @@ returns-3 c =
 
 pub judge-spec : {M : Type 1} → statement M
 judge-spec =
-    tie.close
-    (tie.spec
-    Inv-loop
-    μ-loop
-    loop-holds
-    returns
-    mul-entry
-    element-copy-out-entry
-    judge-requires
-    enum-known-number
-    returns-2
-    enum-told
-    add-i
-    loop-less
-    loop-again
-    returns-3)
+    tie.close (tie.spec Inv-loop μ-loop loop-holds returns (λ c. omega arith) (λ c. omega arith) (λ c κs. tt) (λ c. search needs) returns-2 (λ c.
+    search needs) (λ c. omega arith) (λ c. omega arith) loop-again returns-3)

@@ -7,18 +7,6 @@ use Rattle.constraint.specs.Limits.{rowLimit}
 use Rattle.constraint.proofs.Table.with_row.Statement.{statement}
 use Rattle.constraint.proofs.Table.with_row.Tie as tie
 
-mul-entry : tie.Need-mul-entry
-mul-entry c = search needs
-
-element-set-from-entry : tie.Need-element-set-from-entry
-element-set-from-entry c = search needs
-
-add-self : tie.Need-add-self
-add-self c = search needs
-
-add-self-2 : tie.Need-add-self-2
-add-self-2 c = search needs
-
 returns : tie.Need-returns
 returns c = record { room = λ h. refl; full = λ h. absurd (omega arith) }
 
@@ -35,4 +23,5 @@ returns-3 c =
     record { room = λ h. absurd (omega arith); full = λ h i. record { rows = table .rows; count = counted i } }
 
 pub with-row-spec : {M : Type 1} → statement M
-with-row-spec = tie.close (tie.spec mul-entry element-set-from-entry add-self add-self-2 returns returns-2 returns-3)
+with-row-spec =
+    tie.close (tie.spec (λ c. search needs) (λ c. search needs) (λ c. search needs) (λ c. search needs) returns returns-2 returns-3)

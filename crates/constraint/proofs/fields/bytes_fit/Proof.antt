@@ -19,12 +19,6 @@ abbrev μ-loop : tie.MeasureT-loop
 loop-holds : tie.Need-loop-holds Inv-loop μ-loop
 loop-holds c = (omega arith, λ b h. h)
 
-array-read-byte-fits : tie.Need-array-read-byte-fits Inv-loop μ-loop
-array-read-byte-fits c = omega arith
-
-array-read-byte-fits-2 : tie.Need-array-read-byte-fits-2 Inv-loop μ-loop
-array-read-byte-fits-2 c = omega arith
-
 returns : tie.Need-returns Inv-loop μ-loop
 returns c =
     let at-loop = c .before .before .before in
@@ -32,12 +26,6 @@ returns c =
     let test = c .before .byte-fits in
     at-loop .loop .inv .1 false
     (field-missed range-wise byteField (a .t1) (a .t2) (at-loop .loop .i) (omega arith) (omega arith) (failed (test .result) (test .ensures) (c .if1 .taken)))
-
-add-i : tie.Need-add-i Inv-loop μ-loop
-add-i c = omega arith
-
-loop-less : tie.Need-loop-less Inv-loop μ-loop
-loop-less c = omega arith
 
 loop-again : tie.Need-loop-again Inv-loop μ-loop
 loop-again c =
@@ -54,16 +42,5 @@ returns-2 c =
 
 pub bytes-fit-spec : {M : Type 1} → statement M
 bytes-fit-spec =
-    tie.close
-    (tie.spec
-    Inv-loop
-    μ-loop
-    loop-holds
-    array-read-byte-fits
-    array-read-byte-fits-2
-    free
-    returns
-    add-i
-    loop-less
-    loop-again
-    returns-2)
+    tie.close (tie.spec Inv-loop μ-loop loop-holds (λ c. omega arith) (λ c. omega arith) free returns (λ c. omega arith) (λ c. omega arith)
+    loop-again returns-2)

@@ -21,12 +21,6 @@ abbrev μ-loop : tie.MeasureT-loop
 loop-holds : tie.Need-loop-holds Inv-loop μ-loop
 loop-holds c = (omega arith, λ b h. h)
 
-array-read-is-kind : tie.Need-array-read-is-kind Inv-loop μ-loop
-array-read-is-kind c = omega arith
-
-array-read-if2 : tie.Need-array-read-if2 Inv-loop μ-loop
-array-read-if2 c = omega arith
-
 returns : tie.Need-returns Inv-loop μ-loop
 returns c =
     let at-loop = c .before .before .before .before in
@@ -34,12 +28,6 @@ returns c =
     let is = sym (c .before .before .is-kind .ensures) ∙ c .before .if1 .taken in
     at-loop .loop .inv .1 false
     (λ absent. (rw (kind-here (a .t2) (a .t3) (at-loop .loop .i) (omega arith) (omega arith) is) at absent) .0 (sym (c .if2 .taken)))
-
-add-i : tie.Need-add-i Inv-loop μ-loop
-add-i c = omega arith
-
-loop-less : tie.Need-loop-less Inv-loop μ-loop
-loop-less c = omega arith
 
 loop-again : tie.Need-loop-again Inv-loop μ-loop
 loop-again c =
@@ -63,16 +51,5 @@ returns-2 c =
 
 pub is-new-spec : {M : Type 1} → statement M
 is-new-spec =
-    tie.close
-    (tie.spec
-    Inv-loop
-    μ-loop
-    loop-holds
-    array-read-is-kind
-    free
-    array-read-if2
-    returns
-    add-i
-    loop-less
-    loop-again
-    returns-2)
+    tie.close (tie.spec Inv-loop μ-loop loop-holds (λ c. omega arith) free (λ c. omega arith) returns (λ c. omega arith) (λ c. omega arith)
+    loop-again returns-2)

@@ -23,12 +23,6 @@ abbrev μ-loop : tie.MeasureT-loop
 loop-holds : tie.Need-loop-holds Inv-loop μ-loop
 loop-holds c = (omega arith, λ b h. h)
 
-array-read-is-kind : tie.Need-array-read-is-kind Inv-loop μ-loop
-array-read-is-kind c = omega arith
-
-array-read-kind : tie.Need-array-read-kind Inv-loop μ-loop
-array-read-kind c = omega arith
-
 returns : tie.Need-returns Inv-loop μ-loop
 returns c =
     let at-loop = c .before .before .before .before in
@@ -36,12 +30,6 @@ returns c =
     let is = sym (c .before .before .is-kind .ensures) ∙ c .before .if1 .taken in
     at-loop .loop .inv .1 false
     (λ fit. let first = kinds-first _ _ (rw (kind-here (a .t1) (a .t2) (at-loop .loop .i) (omega arith) (omega arith) is) at fit) in omega arith)
-
-add-is-new : tie.Need-add-is-new Inv-loop μ-loop
-add-is-new c = omega arith
-
-is-new-requires : tie.Need-is-new-requires Inv-loop μ-loop
-is-new-requires c κs = omega arith
 
 returns-2 : tie.Need-returns-2 Inv-loop μ-loop
 returns-2 c =
@@ -53,12 +41,6 @@ returns-2 c =
     at-loop .loop .inv .1 false
     (λ fit. failed (test .result) (test .ensures) (c .if3 .taken)
     (kinds-first _ _ (rw (kind-here (a .t1) (a .t2) (at-loop .loop .i) (omega arith) (omega arith) is) at fit) .1))
-
-add-i : tie.Need-add-i Inv-loop μ-loop
-add-i c = omega arith
-
-loop-less : tie.Need-loop-less Inv-loop μ-loop
-loop-less c = omega arith
 
 loop-again : tie.Need-loop-again Inv-loop μ-loop
 loop-again c =
@@ -83,19 +65,5 @@ returns-3 c =
 
 pub kinds-fit-spec : {M : Type 1} → statement M
 kinds-fit-spec =
-    tie.close
-    (tie.spec
-    Inv-loop
-    μ-loop
-    loop-holds
-    array-read-is-kind
-    free
-    array-read-kind
-    returns
-    add-is-new
-    is-new-requires
-    returns-2
-    add-i
-    loop-less
-    loop-again
-    returns-3)
+    tie.close (tie.spec Inv-loop μ-loop loop-holds (λ c. omega arith) free (λ c. omega arith) returns (λ c. omega arith) (λ c κs. omega arith)
+    returns-2 (λ c. omega arith) (λ c. omega arith) loop-again returns-3)

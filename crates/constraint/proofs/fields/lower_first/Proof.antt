@@ -22,27 +22,6 @@ abbrev μ-loop : tie.MeasureT-loop
 loop-holds : tie.Need-loop-holds Inv-loop μ-loop
 loop-holds c = (omega arith, λ b h. h)
 
-array-read-role : tie.Need-array-read-role Inv-loop μ-loop
-array-read-role c = omega arith
-
-mul-result : tie.Need-mul-result Inv-loop μ-loop
-mul-result c = omega arith
-
-array-read-result : tie.Need-array-read-result Inv-loop μ-loop
-array-read-result c = omega arith
-
-mul-result-2 : tie.Need-mul-result-2 Inv-loop μ-loop
-mul-result-2 c = omega arith
-
-array-read-result-2 : tie.Need-array-read-result-2 Inv-loop μ-loop
-array-read-result-2 c = omega arith
-
-mul-low : tie.Need-mul-low Inv-loop μ-loop
-mul-low c = omega arith
-
-array-read-low : tie.Need-array-read-low Inv-loop μ-loop
-array-read-low c = omega arith
-
 returns : tie.Need-returns Inv-loop μ-loop
 returns c =
     let at-loop = c .before .before in
@@ -58,12 +37,6 @@ returns-2 c =
     let low = at-loop .loop .low in
     let i = at-loop .loop .i in
     at-loop .loop .inv .1 (leb low (at (a .t2) i)) (rw (bounds-upper-or-none low (a .t1) (a .t2) i (omega arith) (omega arith) (c .if2 .taken)) (test-le low (at (a .t2) i)))
-
-add-i : tie.Need-add-i Inv-loop μ-loop
-add-i c = omega arith
-
-loop-less : tie.Need-loop-less Inv-loop μ-loop
-loop-less c = omega arith
 
 loop-again : tie.Need-loop-again Inv-loop μ-loop
 loop-again c =
@@ -87,21 +60,5 @@ returns-3 c =
 
 pub lower-first-spec : {M : Type 1} → statement M
 lower-first-spec =
-    tie.close
-    (tie.spec
-    Inv-loop
-    μ-loop
-    loop-holds
-    array-read-role
-    mul-result
-    array-read-result
-    returns
-    mul-result-2
-    array-read-result-2
-    returns-2
-    mul-low
-    array-read-low
-    add-i
-    loop-less
-    loop-again
-    returns-3)
+    tie.close (tie.spec Inv-loop μ-loop loop-holds (λ c. omega arith) (λ c. omega arith) (λ c. omega arith) returns (λ c. omega arith) (λ c. omega
+    arith) returns-2 (λ c. omega arith) (λ c. omega arith) (λ c. omega arith) (λ c. omega arith) loop-again returns-3)

@@ -19,15 +19,6 @@ abbrev μ-loop : tie.MeasureT-loop
 loop-holds : tie.Need-loop-holds Inv-loop μ-loop
 loop-holds c = (omega arith, λ b h. h)
 
-array-read-time-fits : tie.Need-array-read-time-fits Inv-loop μ-loop
-array-read-time-fits c = omega arith
-
-mul-time-fits : tie.Need-mul-time-fits Inv-loop μ-loop
-mul-time-fits c = omega arith
-
-array-read-time-fits-2 : tie.Need-array-read-time-fits-2 Inv-loop μ-loop
-array-read-time-fits-2 c = omega arith
-
 returns : tie.Need-returns Inv-loop μ-loop
 returns c =
     let at-loop = c .before .before .before in
@@ -35,12 +26,6 @@ returns c =
     let test = c .before .time-fits in
     at-loop .loop .inv .1 false
     (field-missed range-wise timeField (a .t1) (a .t2) (at-loop .loop .i) (omega arith) (omega arith) (failed (test .result) (test .ensures) (c .if1 .taken)))
-
-add-i : tie.Need-add-i Inv-loop μ-loop
-add-i c = omega arith
-
-loop-less : tie.Need-loop-less Inv-loop μ-loop
-loop-less c = omega arith
 
 loop-again : tie.Need-loop-again Inv-loop μ-loop
 loop-again c =
@@ -57,17 +42,5 @@ returns-2 c =
 
 pub times-fit-spec : {M : Type 1} → statement M
 times-fit-spec =
-    tie.close
-    (tie.spec
-    Inv-loop
-    μ-loop
-    loop-holds
-    array-read-time-fits
-    mul-time-fits
-    array-read-time-fits-2
-    free
-    returns
-    add-i
-    loop-less
-    loop-again
-    returns-2)
+    tie.close (tie.spec Inv-loop μ-loop loop-holds (λ c. omega arith) (λ c. omega arith) (λ c. omega arith) free returns (λ c. omega arith) (λ c.
+    omega arith) loop-again returns-2)

@@ -14,18 +14,6 @@ use Rattle.monitor.proofs.Demand.{accepted-few}
 use Rattle.monitor.proofs.Monitor.fresh.Statement.{statement}
 use Rattle.monitor.proofs.Monitor.fresh.Tie as tie
 
-judge-requires : tie.Need-judge-requires
-judge-requires c κs = search needs
-
-enum-known-number : tie.Need-enum-known-number
-enum-known-number c = search needs
-
-over-requires : tie.Need-over-requires
-over-requires c κs = search needs
-
-enum-told : tie.Need-enum-told
-enum-told c = search needs
-
 -- the answer is "taken"
 taken : (c : tie.After-enum-told) → Accepted (rowsOf (c .before .before .before .args .table))
 taken c = rw (c .enum-told .given .1) at (c .before .before .judge .ensures)
@@ -56,4 +44,5 @@ returns-2 c =
     }
 
 pub fresh-spec : {M : Type 1} → statement M
-fresh-spec = tie.close (tie.spec judge-requires enum-known-number over-requires enum-told over-requires-2 returns returns-2)
+fresh-spec =
+    tie.close (tie.spec (λ c κs. search needs) (λ c. search needs) (λ c κs. search needs) (λ c. search needs) over-requires-2 returns returns-2)

@@ -27,38 +27,17 @@ module _ (c : tie.After-step) where
   crowds-is : crowds (start asked .args .t1) (start asked .args .call) ≡ c .step .result .crowded
   crowds-is = rw (c .before .plus .ensures, c .before .before .occurrence .ensures) at (sym (c .step .ensures .crowded-is))
 
-place-requires : tie.Need-place-requires
-place-requires c κs = search needs
-
 mul-next : tie.Need-mul-next
 mul-next c = omega (arith, c .place .ensures, place-small (c .before .args .call))
 
 element-copy-out-next : tie.Need-element-copy-out-next
 element-copy-out-next c = omega (arith, c .place .ensures, place-small (c .before .args .call))
 
-refusal-requires : tie.Need-refusal-requires
-refusal-requires c κs = search needs
-
-refused-requires : tie.Need-refused-requires
-refused-requires c κs = search needs
-
 returns : tie.Need-returns
 returns c =
     let asked = c .before .before in
     let args = start asked .args in
     step-kept (args .t1) (asks (args .call)) (c .refused .ensures ∙ refused-by (args .t1) (args .call) (asked .refusal .result) (c .before .if1 .taken) ∙ by-number asked)
-
-occurrence-requires : tie.Need-occurrence-requires
-occurrence-requires c κs = search needs
-
-plus-requires : tie.Need-plus-requires
-plus-requires c κs = search needs
-
-step-requires : tie.Need-step-requires
-step-requires c κs = search needs
-
-refused-requires-2 : tie.Need-refused-requires-2
-refused-requires-2 c κs = search needs
 
 returns-2 : tie.Need-returns-2
 returns-2 c =
@@ -69,24 +48,12 @@ returns-2 c =
     (c .refused2 .ensures ∙ crowded-by (args .t1) (args .call) number (stepped .before .before .before .if1 .left) (crowds-is stepped ∙ c .before .if2 .taken)
     ∙ by-number (asked stepped))
 
-free-requires : tie.Need-free-requires
-free-requires c κs = search needs
-
 mul-after : tie.Need-mul-after
 mul-after c = let placed = asked (c .before .before .before) .before .before in omega (arith, placed .place .ensures, place-small (placed .before .args .call))
 
 element-write-after : tie.Need-element-write-after
 element-write-after c =
     let placed = asked (c .before .before .before) .before .before in omega (arith, placed .place .ensures, place-small (placed .before .args .call))
-
-closed-requires : tie.Need-closed-requires
-closed-requires c κs = search needs
-
-undo-of-requires : tie.Need-undo-of-requires
-undo-of-requires c κs = search needs
-
-taken-requires : tie.Need-taken-requires
-taken-requires c κs = search needs
 
 returns-3 : tie.Need-returns-3
 unfolding takenCall
@@ -112,23 +79,6 @@ returns-3 c =
 
 pub step-spec : {M : Type 1} → statement M
 step-spec =
-    tie.close
-    (tie.spec
-    place-requires
-    mul-next
-    element-copy-out-next
-    refusal-requires
-    refused-requires
-    returns
-    occurrence-requires
-    plus-requires
-    step-requires
-    refused-requires-2
-    returns-2
-    free-requires
-    mul-after
-    element-write-after
-    closed-requires
-    undo-of-requires
-    taken-requires
-    returns-3)
+    tie.close (tie.spec (λ c κs. search needs) mul-next element-copy-out-next (λ c κs. search needs) (λ c κs. search needs) returns (λ c κs. search
+    needs) (λ c κs. search needs) (λ c κs. search needs) (λ c κs. search needs) returns-2 (λ c κs. search needs) mul-after element-write-after (λ c
+    κs. search needs) (λ c κs. search needs) (λ c κs. search needs) returns-3)

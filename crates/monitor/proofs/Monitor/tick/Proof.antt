@@ -2,11 +2,9 @@
 use Rattle.monitor.proofs.Monitor.tick.Statement.{statement}
 use Rattle.monitor.proofs.Monitor.tick.Tie as tie
 
-step-requires : tie.Need-step-requires
-step-requires c κs = tt
-
 returns : tie.Need-returns
 returns c = c .step .ensures
 
 pub tick-spec : {M : Type 1} → statement M
-tick-spec = tie.close (tie.spec step-requires returns)
+tick-spec =
+    tie.close (tie.spec (λ c κs. tt) returns)

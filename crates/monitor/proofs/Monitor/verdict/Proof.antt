@@ -11,17 +11,11 @@ use Rattle.monitor.proofs.Monitor.verdict.Tie as tie
 size : (c : tie.Start) → length (c .args .t1 .rows) ≡ 32
 size c = sym (length-map (c .args .t1 .rows) _) ∙ c .good .0 .1 .1 .0 .1 .0 .1
 
-place-requires : tie.Need-place-requires
-place-requires c κs = search needs
-
 mul-found : tie.Need-mul-found
 mul-found c = omega (arith, c .place .ensures, place-small (c .before .args .row))
 
 element-copy-out-found : tie.Need-element-copy-out-found
 element-copy-out-found c = omega (arith, c .place .ensures, place-small (c .before .args .row))
-
-by-requires : tie.Need-by-requires
-by-requires c κs = search needs
 
 returns : tie.Need-returns
 returns c =
@@ -29,4 +23,5 @@ returns c =
     verdict-kept (start .args .t1) (size start) (start .args .row) _ _ (rw (c .before .before .before .place .ensures) at (c .by .ensures))
 
 pub verdict-spec : {M : Type 1} → statement M
-verdict-spec = tie.close (tie.spec place-requires mul-found element-copy-out-found by-requires returns)
+verdict-spec =
+    tie.close (tie.spec (λ c κs. search needs) mul-found element-copy-out-found (λ c κs. search needs) returns)

@@ -13,32 +13,17 @@ use Rattle.monitor.proofs.Theorem.{step-kept}
 use Rattle.monitor.proofs.Monitor.withdraw.Statement.{statement}
 use Rattle.monitor.proofs.Monitor.withdraw.Tie as tie
 
-refused-requires : tie.Need-refused-requires
-refused-requires c κs = search needs
-
 returns : tie.Need-returns
 unfolding withdrawOf
 returns c =
     let m = c .before .before .before .before .args .self in
     step-kept m withdraws (c .refused .ensures ∙ sym (cond-false (ltb 0 (m .undo .may)) (takes (withdrawn m)) (refuses 21 m) (le-ltb 0 (m .undo .may) (omega (arith, c .before .if1 .taken)))))
 
-place-in-requires : tie.Need-place-in-requires
-place-in-requires c κs = search needs
-
-back-requires : tie.Need-back-requires
-back-requires c κs = search needs
-
 mul-after : tie.Need-mul-after
 mul-after c = omega (arith, c .before .place-in .ensures, place-in-small (c .before .before .before .before .before .args .self .undo .place))
 
 element-write-after : tie.Need-element-write-after
 element-write-after c = omega (arith, c .before .place-in .ensures, place-in-small (c .before .before .before .before .before .args .self .undo .place))
-
-no-undo-requires : tie.Need-no-undo-requires
-no-undo-requires c κs = search needs
-
-taken-requires : tie.Need-taken-requires
-taken-requires c κs = search needs
 
 returns-2 : tie.Need-returns-2
 unfolding withdrawOf withdrawn
@@ -52,14 +37,5 @@ returns-2 c =
 
 pub withdraw-spec : {M : Type 1} → statement M
 withdraw-spec =
-    tie.close
-    (tie.spec
-    refused-requires
-    returns
-    place-in-requires
-    back-requires
-    mul-after
-    element-write-after
-    no-undo-requires
-    taken-requires
-    returns-2)
+    tie.close (tie.spec (λ c κs. search needs) returns (λ c κs. search needs) (λ c κs. search needs) mul-after element-write-after (λ c κs. search
+    needs) (λ c κs. search needs) returns-2)

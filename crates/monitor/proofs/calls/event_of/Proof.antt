@@ -3,11 +3,9 @@ use borrow.Author.Needs.{needs}
 use Rattle.monitor.proofs.calls.event_of.Statement.{statement}
 use Rattle.monitor.proofs.calls.event_of.Tie as tie
 
-kind-of-requires : tie.Need-kind-of-requires
-kind-of-requires c κs = search needs
-
 returns : tie.Need-returns
 returns c = rw (c .kind-of .ensures)
 
 pub event-of-spec : {M : Type 1} → statement M
-event-of-spec = tie.close (tie.spec kind-of-requires returns)
+event-of-spec =
+    tie.close (tie.spec (λ c κs. search needs) returns)

@@ -4,9 +4,6 @@ use borrow.Author.Tests.{lt-ltb, le-ltb}
 use Rattle.monitor.proofs.calls.place.Statement.{statement}
 use Rattle.monitor.proofs.calls.place.Tie as tie
 
-stream-requires : tie.Need-stream-requires
-stream-requires c κs = search needs
-
 returns : tie.Need-returns
 returns c = rw (← c .before .stream .ensures, lt-ltb _ _ (c .if1 .taken))
 
@@ -14,4 +11,5 @@ returns-2 : tie.Need-returns-2
 returns-2 c = rw (← c .before .stream .ensures, le-ltb _ _ (c .if1 .left))
 
 pub place-spec : {M : Type 1} → statement M
-place-spec = tie.close (tie.spec stream-requires returns returns-2)
+place-spec =
+    tie.close (tie.spec (λ c κs. search needs) returns returns-2)

@@ -10,11 +10,9 @@ returns c = rw (lt-ltb _ _ (c .if1 .taken))
 returns-2 : tie.Need-returns-2
 returns-2 c = rw (le-ltb _ _ (c .before .if1 .left), le-leb _ _ (c .if2 .taken))
 
-own-refusal-requires : tie.Need-own-refusal-requires
-own-refusal-requires c κs = search needs
-
 returns-3 : tie.Need-returns-3
 returns-3 c = rw (le-ltb _ _ (c .before .before .if1 .left), lt-leb _ _ (c .before .if2 .left)) (c .own-refusal .ensures)
 
 pub refusal-spec : {M : Type 1} → statement M
-refusal-spec = tie.close (tie.spec returns returns-2 own-refusal-requires returns-3)
+refusal-spec =
+    tie.close (tie.spec returns returns-2 (λ c κs. search needs) returns-3)

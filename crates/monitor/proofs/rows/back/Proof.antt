@@ -22,47 +22,8 @@ size c = sym (length-map (c .args .m .rows) _) ∙ c .good .0 .1 .1 .0 .1 .0 .1
 wide : (c : tie.Start Inv-loop μ-loop) → length (c .args .m .before) ≡ 32
 wide c = sym (length-map (c .args .m .before) _) ∙ c .good .0 .1 .1 .1 .1 .1 .1 .1 .1 .0 .1 .0 .1
 
-held-requires : tie.Need-held-requires Inv-loop μ-loop
-held-requires c κs = search needs
-
 loop-holds : tie.Need-loop-holds Inv-loop μ-loop
 loop-holds c = let start = c .before in (omega arith, sym (without-none (start .args .number) (start .args .m) (size start) (wide start)))
-
-mul-row : tie.Need-mul-row Inv-loop μ-loop
-mul-row c = omega arith
-
-element-copy-out-row : tie.Need-element-copy-out-row Inv-loop μ-loop
-element-copy-out-row c = omega arith
-
-mul-kept : tie.Need-mul-kept Inv-loop μ-loop
-mul-kept c = omega arith
-
-element-copy-out-kept : tie.Need-element-copy-out-kept Inv-loop μ-loop
-element-copy-out-kept c = omega arith
-
-without-requires : tie.Need-without-requires Inv-loop μ-loop
-without-requires c κs = search needs
-
-mul-before : tie.Need-mul-before Inv-loop μ-loop
-mul-before c = omega arith
-
-element-set-from-before : tie.Need-element-set-from-before Inv-loop μ-loop
-element-set-from-before c = omega arith
-
-without-requires-2 : tie.Need-without-requires-2 Inv-loop μ-loop
-without-requires-2 c κs = search needs
-
-mul-t10 : tie.Need-mul-t10 Inv-loop μ-loop
-mul-t10 c = omega arith
-
-element-set-from-after : tie.Need-element-set-from-after Inv-loop μ-loop
-element-set-from-after c = omega arith
-
-add-i : tie.Need-add-i Inv-loop μ-loop
-add-i c = omega arith
-
-loop-less : tie.Need-loop-less Inv-loop μ-loop
-loop-less c = omega arith
 
 loop-again : tie.Need-loop-again Inv-loop μ-loop
 loop-again c =
@@ -82,23 +43,6 @@ returns c =
 
 pub back-spec : {M : Type 1} → statement M
 back-spec =
-    tie.close
-    (tie.spec
-    Inv-loop
-    μ-loop
-    held-requires
-    loop-holds
-    mul-row
-    element-copy-out-row
-    mul-kept
-    element-copy-out-kept
-    without-requires
-    mul-before
-    element-set-from-before
-    without-requires-2
-    mul-t10
-    element-set-from-after
-    add-i
-    loop-less
-    loop-again
-    returns)
+    tie.close (tie.spec Inv-loop μ-loop (λ c κs. search needs) loop-holds (λ c. omega arith) (λ c. omega arith) (λ c. omega arith) (λ c. omega
+    arith) (λ c κs. search needs) (λ c. omega arith) (λ c. omega arith) (λ c κs. search needs) (λ c. omega arith) (λ c. omega arith) (λ c. omega
+    arith) (λ c. omega arith) loop-again returns)

@@ -29,32 +29,8 @@ size c = sym (length-map (c .args .t1 .rows) _) ∙ c .good .0 .1 .1 .0 .1 .0 .1
 row-at : (table : Table) (i : ℕ) (other : Entry) → i < table .count → i < length (table .rows) → getD (rowsOf table) i filler ≡ getD (table .rows) i other .constraint
 row-at table i other counted there = cc (drop-cons (rowsOf table) i filler (omega (arith, rows-length table)), rows-from table i other counted there)
 
-begin-requires : tie.Need-begin-requires Inv-loop μ-loop
-begin-requires c κs = search needs
-
 loop-holds : tie.Need-loop-holds Inv-loop μ-loop
 loop-holds c = (omega arith, rw (c .begin .ensures))
-
-mul-entry : tie.Need-mul-entry Inv-loop μ-loop
-mul-entry c = omega arith
-
-element-copy-out-entry : tie.Need-element-copy-out-entry Inv-loop μ-loop
-element-copy-out-entry c = omega arith
-
-begin-requires-2 : tie.Need-begin-requires-2 Inv-loop μ-loop
-begin-requires-2 c κs = search needs
-
-mul-rows : tie.Need-mul-rows Inv-loop μ-loop
-mul-rows c = omega arith
-
-array-set-from-rows : tie.Need-array-set-from-rows Inv-loop μ-loop
-array-set-from-rows c = omega arith
-
-add-i : tie.Need-add-i Inv-loop μ-loop
-add-i c = omega arith
-
-loop-less : tie.Need-loop-less Inv-loop μ-loop
-loop-less c = omega arith
 
 loop-again : tie.Need-loop-again Inv-loop μ-loop
 loop-again c =
@@ -64,12 +40,6 @@ loop-again c =
     let i = at-loop .loop .i in
     let counted : i < table .count = omega arith in
     (omega arith, rw (at-loop .loop .inv .1, c .begin2 .ensures, ← row-at table i _ counted (omega (arith, size start))) (filled-next rowOf noRow (rowsOf table) 32 i filler (omega (arith, rows-length table)) (omega arith)))
-
-none-requires : tie.Need-none-requires Inv-loop μ-loop
-none-requires c κs = search needs
-
-no-undo-requires : tie.Need-no-undo-requires Inv-loop μ-loop
-no-undo-requires c κs = search needs
 
 returns : tie.Need-returns Inv-loop μ-loop
 unfolding monitorOf
@@ -81,20 +51,5 @@ returns c =
 
 pub over-spec : {M : Type 1} → statement M
 over-spec =
-    tie.close
-    (tie.spec
-    Inv-loop
-    μ-loop
-    begin-requires
-    loop-holds
-    mul-entry
-    element-copy-out-entry
-    begin-requires-2
-    mul-rows
-    array-set-from-rows
-    add-i
-    loop-less
-    loop-again
-    none-requires
-    no-undo-requires
-    returns)
+    tie.close (tie.spec Inv-loop μ-loop (λ c κs. search needs) loop-holds (λ c. omega arith) (λ c. omega arith) (λ c κs. search needs) (λ c. omega
+    arith) (λ c. omega arith) (λ c. omega arith) (λ c. omega arith) loop-again (λ c κs. search needs) (λ c κs. search needs) returns)

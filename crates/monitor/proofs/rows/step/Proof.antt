@@ -22,20 +22,8 @@ size c = sym (length-map (c .args .m .rows) _) ∙ c .good .0 .1 .1 .0 .1 .0 .1
 wide : (c : tie.Start Inv-loop μ-loop) → length (c .args .m .before) ≡ 32
 wide c = sym (length-map (c .args .m .before) _) ∙ c .good .0 .1 .1 .1 .1 .1 .1 .1 .1 .0 .1 .0 .1
 
-held-requires : tie.Need-held-requires Inv-loop μ-loop
-held-requires c κs = search needs
-
 loop-holds : tie.Need-loop-holds Inv-loop μ-loop
 loop-holds c = let args = c .before .args in (omega arith, moved-none (args .o) (args .number) (args .m))
-
-mul-row : tie.Need-mul-row Inv-loop μ-loop
-mul-row c = omega arith
-
-element-copy-out-row : tie.Need-element-copy-out-row Inv-loop μ-loop
-element-copy-out-row c = omega arith
-
-step-requires : tie.Need-step-requires Inv-loop μ-loop
-step-requires c κs = search needs
 
 returns : tie.Need-returns Inv-loop μ-loop
 returns c =
@@ -44,33 +32,6 @@ returns c =
     let args = start .args in
     moved-full (args .o) (args .number) (args .m) (size start) (at-loop .loop .after) (at-loop .loop .i) (at-loop .loop .inv .1) _ _
     (omega (arith, at-loop .before .held .ensures)) (c .before .step .ensures) (c .if1 .taken)
-
-mul-kept : tie.Need-mul-kept Inv-loop μ-loop
-mul-kept c = omega arith
-
-element-copy-out-kept : tie.Need-element-copy-out-kept Inv-loop μ-loop
-element-copy-out-kept c = omega arith
-
-saved-requires : tie.Need-saved-requires Inv-loop μ-loop
-saved-requires c κs = search needs
-
-mul-next : tie.Need-mul-next Inv-loop μ-loop
-mul-next c = omega arith
-
-element-set-from-next : tie.Need-element-set-from-next Inv-loop μ-loop
-element-set-from-next c = omega arith
-
-mul-saved : tie.Need-mul-saved Inv-loop μ-loop
-mul-saved c = omega arith
-
-element-set-from-saved : tie.Need-element-set-from-saved Inv-loop μ-loop
-element-set-from-saved c = omega arith
-
-add-i : tie.Need-add-i Inv-loop μ-loop
-add-i c = omega arith
-
-loop-less : tie.Need-loop-less Inv-loop μ-loop
-loop-less c = omega arith
 
 loop-again : tie.Need-loop-again Inv-loop μ-loop
 loop-again c =
@@ -92,24 +53,6 @@ returns-2 c =
 
 pub step-spec : {M : Type 1} → statement M
 step-spec =
-    tie.close
-    (tie.spec
-    Inv-loop
-    μ-loop
-    held-requires
-    loop-holds
-    mul-row
-    element-copy-out-row
-    step-requires
-    returns
-    mul-kept
-    element-copy-out-kept
-    saved-requires
-    mul-next
-    element-set-from-next
-    mul-saved
-    element-set-from-saved
-    add-i
-    loop-less
-    loop-again
-    returns-2)
+    tie.close (tie.spec Inv-loop μ-loop (λ c κs. search needs) loop-holds (λ c. omega arith) (λ c. omega arith) (λ c κs. search needs) returns (λ c.
+    omega arith) (λ c. omega arith) (λ c κs. search needs) (λ c. omega arith) (λ c. omega arith) (λ c. omega arith) (λ c. omega arith) (λ c. omega
+    arith) (λ c. omega arith) loop-again returns-2)

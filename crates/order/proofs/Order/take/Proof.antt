@@ -12,17 +12,11 @@ use Rattle.order.proofs.Order.take.Tie as tie
 number-is : (c : tie.After-refusal) → c .refusal .result ≡ refusalOf (c .before .before .before .args .t1) (c .before .before .before .args .call)
 number-is c = rw (c .before .before .place .ensures) at (c .refusal .ensures)
 
-place-requires : tie.Need-place-requires
-place-requires c κs = search needs
-
 mul-next : tie.Need-mul-next
 mul-next c = omega (arith, c .place .ensures, place-small (c .before .args .call))
 
 element-copy-out-next : tie.Need-element-copy-out-next
 element-copy-out-next c = omega (arith, c .place .ensures, place-small (c .before .args .call))
-
-refusal-requires : tie.Need-refusal-requires
-refusal-requires c κs = search needs
 
 returns : tie.Need-returns
 returns c =
@@ -30,23 +24,11 @@ returns c =
     let args = asked .before .before .before .args in
     takes-refused (args .t1) (args .call) (asked .refusal .result) (number-is asked) (c .if1 .taken)
 
-occurrence-requires : tie.Need-occurrence-requires
-occurrence-requires c κs = search needs
-
-free-requires : tie.Need-free-requires
-free-requires c κs = search needs
-
 mul-order : tie.Need-mul-order
 mul-order c = let placed = c .before .before .before .before .before in omega (arith, placed .place .ensures, place-small (placed .before .args .call))
 
 element-write-order : tie.Need-element-write-order
 element-write-order c = let placed = c .before .before .before .before .before in omega (arith, placed .place .ensures, place-small (placed .before .args .call))
-
-plus-requires : tie.Need-plus-requires
-plus-requires c κs = search needs
-
-closed-requires : tie.Need-closed-requires
-closed-requires c κs = search needs
 
 returns-2 : tie.Need-returns-2
 returns-2 c =
@@ -60,17 +42,5 @@ returns-2 c =
 
 pub take-spec : {M : Type 1} → statement M
 take-spec =
-    tie.close
-    (tie.spec
-    place-requires
-    mul-next
-    element-copy-out-next
-    refusal-requires
-    returns
-    occurrence-requires
-    free-requires
-    mul-order
-    element-write-order
-    plus-requires
-    closed-requires
-    returns-2)
+    tie.close (tie.spec (λ c κs. search needs) mul-next element-copy-out-next (λ c κs. search needs) returns (λ c κs. search needs) (λ c κs. search
+    needs) mul-order element-write-order (λ c κs. search needs) (λ c κs. search needs) returns-2)

@@ -22,23 +22,10 @@ returns c =
     let args = start .args in
     sym (with-none (args .t1) (args .row) (args .form) (args .step) (omega (arith, types-whole start)) (omega (arith, steps-whole start)))
 
-mul-self : tie.Need-mul-self
-mul-self c = search needs
-
-element-write-self : tie.Need-element-write-self
-element-write-self c = search needs
-
-mul-self-2 : tie.Need-mul-self-2
-mul-self-2 c = search needs
-
-element-write-self-2 : tie.Need-element-write-self-2
-element-write-self-2 c = search needs
-
 returns-2 : tie.Need-returns-2
 unfolding withLine
 returns-2 c = refl
 
 pub with-row-spec : {M : Type 1} → statement M
 with-row-spec =
-    tie.close
-    (tie.spec returns mul-self element-write-self mul-self-2 element-write-self-2 returns-2)
+    tie.close (tie.spec returns (λ c. search needs) (λ c. search needs) (λ c. search needs) (λ c. search needs) returns-2)

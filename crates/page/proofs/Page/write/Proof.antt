@@ -20,9 +20,6 @@ use Rattle.page.proofs.Page.write.Tie as tie
 counted : (c : tie.After-size) → c .size .result ≡ pageLength (min (c .before .before .before .args .t1 .rows) rowLimit)
 counted c = c .size .ensures ∙ ap pageLength (c .before .held .ensures)
 
-held-requires : tie.Need-held-requires
-held-requires c κs = search needs
-
 size-requires : tie.Need-size-requires
 size-requires c κs = omega (arith, c .held .ensures)
 
@@ -31,15 +28,6 @@ returns c =
     let size = c .before in
     let start = size .before .before .before .args in
     copied-nothing (start .t1) (now (start .buffer)) (size .size .result) (counted size) (c .if1 .taken)
-
-slice-aggregate-put : tie.Need-slice-aggregate-put
-slice-aggregate-put c = search needs
-
-put-requires : tie.Need-put-requires
-put-requires c κs = search needs
-
-same-length : tie.Need-same-length
-same-length c = search needs
 
 returns-2 : tie.Need-returns-2
 unfolding hyphens
@@ -53,9 +41,6 @@ returns-2 c =
 
 put-rows-requires : tie.Need-put-rows-requires
 put-rows-requires c κs = omega (arith, c .before .before .before .before .before .before .before .held .ensures)
-
-same-length-2 : tie.Need-same-length-2
-same-length-2 c = search needs
 
 returns-3 : tie.Need-returns-3
 returns-3 c =
@@ -75,15 +60,5 @@ returns-3 c =
 
 pub write-spec : {M : Type 1} → statement M
 write-spec =
-    tie.close
-    (tie.spec
-    held-requires
-    size-requires
-    returns
-    slice-aggregate-put
-    put-requires
-    same-length
-    returns-2
-    put-rows-requires
-    same-length-2
-    returns-3)
+    tie.close (tie.spec (λ c κs. search needs) size-requires returns (λ c. search needs) (λ c κs. search needs) (λ c. search needs) returns-2
+    put-rows-requires (λ c. search needs) returns-3)

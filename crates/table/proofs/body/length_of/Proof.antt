@@ -9,27 +9,15 @@ use Rattle.table.proofs.body.length_of.Tie as tie
 returns : tie.Need-returns
 returns c = let a = c .before .args in sym (length-unknown (a .form) (a .n) (c .if1 .taken))
 
-mul-result : tie.Need-mul-result
-mul-result c = search needs
-
-array-read-result : tie.Need-array-read-result
-array-read-result c = search needs
-
 add-result : tie.Need-add-result
 add-result c = rw (c .if2 .taken) (omega arith)
 
 returns-2 : tie.Need-returns-2
 returns-2 c = rw (c .if2 .taken)
 
-mul-result-2 : tie.Need-mul-result-2
-mul-result-2 c = search needs
-
-array-read-result-2 : tie.Need-array-read-result-2
-array-read-result-2 c = search needs
-
 returns-3 : tie.Need-returns-3
 returns-3 c = let a = c .before .before .args in sym (length-plain (a .form) (a .n) (c .if2 .left))
 
 pub length-of-spec : {M : Type 1} → statement M
 length-of-spec =
-    tie.close (tie.spec returns mul-result array-read-result add-result returns-2 mul-result-2 array-read-result-2 returns-3)
+    tie.close (tie.spec returns (λ c. search needs) (λ c. search needs) add-result returns-2 (λ c. search needs) (λ c. search needs) returns-3)

@@ -5,15 +5,6 @@ use Rattle.table.specs.Rows.{constraintOf}
 use Rattle.table.proofs.body.row_of.Statement.{statement}
 use Rattle.table.proofs.body.row_of.Tie as tie
 
-add-eight-at : tie.Need-add-eight-at
-add-eight-at c = search needs
-
-add-eight-at-2 : tie.Need-add-eight-at-2
-add-eight-at-2 c = search needs
-
-add-eight-at-3 : tie.Need-add-eight-at-3
-add-eight-at-3 c = search needs
-
 returns : tie.Need-returns
 unfolding constraintOf
 returns c =
@@ -38,5 +29,5 @@ returns c =
 
 pub row-of-spec : {M : Type 1} → statement M
 row-of-spec =
-    tie.close
-    (tie.spec free free free free free free free free free add-eight-at free add-eight-at-2 free add-eight-at-3 free free returns)
+    tie.close (tie.spec free free free free free free free free free (λ c. search needs) free (λ c. search needs) free (λ c. search needs) free free
+    returns)

@@ -8,9 +8,6 @@ use Rattle.table.proofs.Shapes.{shape-asked}
 use Rattle.table.proofs.body.shape_fits.Statement.{statement}
 use Rattle.table.proofs.body.shape_fits.Tie as tie
 
-returns : tie.Need-returns
-returns c = search needs
-
 returns-2 : tie.Need-returns-2
 returns-2 c = λ fits. omega (arith, fits .n-known (omega arith))
 
@@ -26,4 +23,5 @@ returns-4 c =
     (at-n .byte-at2 .ensures) (omega arith) (⊎-elim (λ came seven. (came .1 .left, came .2 .left)) (λ came seven. absurd (came .left seven)) (c .before .if2 .came)))
 
 pub shape-fits-spec : {M : Type 1} → statement M
-shape-fits-spec = tie.close (tie.spec free free returns returns-2 returns-3 free returns-4)
+shape-fits-spec =
+    tie.close (tie.spec free free (λ c. search needs) returns-2 returns-3 free returns-4)

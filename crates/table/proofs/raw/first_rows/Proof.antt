@@ -55,12 +55,6 @@ part-row-of-end c = omega (arith, ends c)
 add-start : tie.Need-add-start Inv-loop μ-loop
 add-start c = omega (arith, ends (c .before .before .before))
 
-add-i : tie.Need-add-i Inv-loop μ-loop
-add-i c = omega arith
-
-loop-less : tie.Need-loop-less Inv-loop μ-loop
-loop-less c = omega arith
-
 loop-again : tie.Need-loop-again Inv-loop μ-loop
 loop-again c =
     let at-length = c .before .before .before in
@@ -86,24 +80,5 @@ returns c =
 
 pub first-rows-spec : {M : Type 1} → statement M
 first-rows-spec =
-    tie.close
-    (tie.spec
-    Inv-loop
-    μ-loop
-    free
-    loop-holds
-    free
-    add-next
-    free
-    free
-    add-end
-    sub-row-of
-    part-row-of-start
-    part-row-of-end
-    free
-    free
-    add-start
-    add-i
-    loop-less
-    loop-again
-    returns)
+    tie.close (tie.spec Inv-loop μ-loop free loop-holds free add-next free free add-end sub-row-of part-row-of-start part-row-of-end free free
+    add-start (λ c. omega arith) (λ c. omega arith) loop-again returns)

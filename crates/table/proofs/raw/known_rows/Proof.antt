@@ -21,9 +21,6 @@ abbrev μ-loop : tie.MeasureT-loop
 loop-holds : tie.Need-loop-holds Inv-loop μ-loop
 loop-holds c = (omega arith, omega arith, omega arith, λ i below. absurd (omega arith))
 
-sub-if1 : tie.Need-sub-if1 Inv-loop μ-loop
-sub-if1 c = omega arith
-
 returns : tie.Need-returns Inv-loop μ-loop
 returns c =
     let loop = c .before .before .loop in
@@ -43,9 +40,6 @@ test c =
     known-test (now (at-loop .before .before .args .bytes)) (at-loop .loop .i) (at-loop .loop .start) (first .result) (second .result) (c .type-known .result)
     (at-loop .loop .inv .1) (first .ensures) (second .ensures) (c .type-known .ensures)
 
-add-next : tie.Need-add-next Inv-loop μ-loop
-add-next c = omega arith
-
 returns-2 : tie.Need-returns-2 Inv-loop μ-loop
 returns-2 c =
     let loop = c .before .before .before .before .before .before .loop in
@@ -55,15 +49,6 @@ returns-2 c =
       known = loop .inv .3;
       last = λ room whole. failed (c .before .type-known .result) (test (c .before)) (c .if2 .taken);
     }
-
-add-start : tie.Need-add-start Inv-loop μ-loop
-add-start c = omega arith
-
-add-i : tie.Need-add-i Inv-loop μ-loop
-add-i c = omega arith
-
-loop-less : tie.Need-loop-less Inv-loop μ-loop
-loop-less c = omega arith
 
 loop-again : tie.Need-loop-again Inv-loop μ-loop
 loop-again c =
@@ -82,20 +67,5 @@ returns-3 c =
 
 pub known-rows-spec : {M : Type 1} → statement M
 known-rows-spec =
-    tie.close
-    (tie.spec
-    Inv-loop
-    μ-loop
-    loop-holds
-    sub-if1
-    returns
-    free
-    add-next
-    free
-    free
-    returns-2
-    add-start
-    add-i
-    loop-less
-    loop-again
-    returns-3)
+    tie.close (tie.spec Inv-loop μ-loop loop-holds (λ c. omega arith) returns free (λ c. omega arith) free free returns-2 (λ c. omega arith) (λ c.
+    omega arith) (λ c. omega arith) loop-again returns-3)

@@ -6,24 +6,6 @@ use Rattle.table.proofs.RawRows.{all-written, before-refused, unknown-r
 use Rattle.table.proofs.raw.write.Statement.{statement}
 use Rattle.table.proofs.raw.write.Tie as tie
 
-known-rows-requires : tie.Need-known-rows-requires
-known-rows-requires c κs = search needs
-
-first-rows-requires : tie.Need-first-rows-requires
-first-rows-requires c κs = search needs
-
-mul-if1 : tie.Need-mul-if1
-mul-if1 c = search needs
-
-sub-if1 : tie.Need-sub-if1
-sub-if1 c = search needs
-
-write-requires : tie.Need-write-requires
-write-requires c κs = search needs
-
-same-length : tie.Need-same-length
-same-length c = search needs
-
 returns : tie.Need-returns
 returns c =
     let at-write = c .before .before in
@@ -33,12 +15,6 @@ returns c =
     all-written (now (a .rows)) (now (a .buffer)) _ (at-known .known-rows .result) (at-first .first-rows .result) (at-write .write .result)
     (at-first .first-rows .ensures) (omega (arith, at-write .before .before .if1 .taken, at-known .known-rows .ensures .whole)) (at-write .write .ensures)
 
-judge-requires : tie.Need-judge-requires
-judge-requires c κs = search needs
-
-enum-known-number : tie.Need-enum-known-number
-enum-known-number c = search needs
-
 returns-2 : tie.Need-returns-2
 returns-2 c =
     let at-judge = c .before .before .before in
@@ -47,9 +23,6 @@ returns-2 c =
     let a = at-known .before .before .before .args in
     before-refused (now (a .rows)) (now (a .buffer)) (at-known .known-rows .result) (at-first .first-rows .result) (at-first .first-rows .ensures)
     (omega (arith, at-judge .before .if1 .left, at-known .known-rows .ensures .whole)) _ (rw (c .before .number .given .1) at (at-judge .judge .ensures))
-
-enum-told : tie.Need-enum-told
-enum-told c = search needs
 
 returns-3 : tie.Need-returns-3
 returns-3 c =
@@ -75,18 +48,5 @@ returns-4 c =
 
 pub write-spec : {M : Type 1} → statement M
 write-spec =
-    tie.close
-    (tie.spec
-    known-rows-requires
-    first-rows-requires
-    mul-if1
-    sub-if1
-    write-requires
-    same-length
-    returns
-    judge-requires
-    enum-known-number
-    returns-2
-    enum-told
-    returns-3
-    returns-4)
+    tie.close (tie.spec (λ c κs. search needs) (λ c κs. search needs) (λ c. search needs) (λ c. search needs) (λ c κs. search needs) (λ c. search
+    needs) returns (λ c κs. search needs) (λ c. search needs) returns-2 (λ c. search needs) returns-3 returns-4)

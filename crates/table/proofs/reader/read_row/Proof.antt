@@ -51,9 +51,6 @@ answer c a e =
     place-row (now (start .bytes)) (start .before) (start .place) _ a (whole (at-shape .before .before .before .before)) (omega arith)
     (passed (at-shape .shape-fits .result) (shape at-shape) (c .before .before .if3 .left)) (rw e at (c .judge .ensures))
 
-whole-at-requires : tie.Need-whole-at-requires
-whole-at-requires c κs = search needs
-
 returns : tie.Need-returns
 returns c =
     let asked = c .before .whole-at in
@@ -65,26 +62,14 @@ returns-2 c =
     let a = c .before .before .before .before .args in
     (_, row (c .before .before .before), place-full (now (a .bytes)) (a .before) (a .place) _ (whole (c .before)) (c .if2 .taken))
 
-two-at-requires : tie.Need-two-at-requires
-two-at-requires c κs = search needs
-
 add-start : tie.Need-add-start
 add-start c = omega (arith, whole (c .before .before))
 
 add-next : tie.Need-add-next
 add-next c = omega (arith, whole (c .before .before))
 
-sub-body : tie.Need-sub-body
-sub-body c = search needs
-
-part-body-start : tie.Need-part-body-start
-part-body-start c = search needs
-
 part-body-end : tie.Need-part-body-end
 part-body-end c = omega (arith, whole (c .before .before))
-
-shape-fits-requires : tie.Need-shape-fits-requires
-shape-fits-requires c κs = search needs
 
 returns-3 : tie.Need-returns-3
 returns-3 c =
@@ -95,18 +80,6 @@ returns-3 c =
       place-misshapen (now (a .bytes)) (a .before) (a .place) _ (whole (at-shape .before .before .before .before)) (omega arith) (failed (at-shape .shape-fits .result) (shape at-shape) (c .if3 .taken)),
     )
 
-row-of-requires : tie.Need-row-of-requires
-row-of-requires c κs = search needs
-
-judge-requires : tie.Need-judge-requires
-judge-requires c κs = search needs
-
-enum-told : tie.Need-enum-told
-enum-told c = search needs
-
-enum-known-number : tie.Need-enum-known-number
-enum-known-number c = search needs
-
 returns-4 : tie.Need-returns-4
 returns-4 c = (judged (c .before .before .before), answer (c .before .before) _ (c .enum-told .given .1), omega arith)
 
@@ -115,22 +88,6 @@ returns-5 c = (_, judged (c .before .before .before .before), answer (c .before 
 
 pub read-row-spec : {M : Type 1} → statement M
 read-row-spec =
-    tie.close
-    (tie.spec
-    whole-at-requires
-    returns
-    returns-2
-    two-at-requires
-    add-start
-    add-next
-    sub-body
-    part-body-start
-    part-body-end
-    shape-fits-requires
-    returns-3
-    row-of-requires
-    judge-requires
-    enum-told
-    enum-known-number
-    returns-4
+    tie.close (tie.spec (λ c κs. search needs) returns returns-2 (λ c κs. search needs) add-start add-next (λ c. search needs) (λ c. search needs)
+    part-body-end (λ c κs. search needs) returns-3 (λ c κs. search needs) (λ c κs. search needs) (λ c. search needs) (λ c. search needs) returns-4
     returns-5)

@@ -23,20 +23,8 @@ row : (c : tie.After-row Inv-loop μ-loop)
     (c .before .before .before .before .loop .place) (RowRead.Row (c .row .given .0 .0) (c .row .given .0 .1 .0))
 row c = rw (c .row .given .1) at (c .before .before .read-row .ensures)
 
-new-requires : tie.Need-new-requires Inv-loop μ-loop
-new-requires c κs = tt
-
 loop-holds : tie.Need-loop-holds Inv-loop μ-loop
 loop-holds c = up-to-start (now (c .before .before .args .bytes)) (c .new .result) (omega arith) (c .new .ensures)
-
-read-row-requires : tie.Need-read-row-requires Inv-loop μ-loop
-read-row-requires c κs = tt
-
-enum-known-row : tie.Need-enum-known-row Inv-loop μ-loop
-enum-known-row c = search needs
-
-with-row-requires : tie.Need-with-row-requires Inv-loop μ-loop
-with-row-requires c κs = tt
 
 loop-less : tie.Need-loop-less Inv-loop μ-loop
 loop-less c =
@@ -51,12 +39,6 @@ loop-again c =
     let room = place-taken bytes (at-loop .loop .table .count) (at-loop .loop .place) _ (row (c .before .before) .1) .room in
     rw (c .with-row .ensures .room room)
     (up-to-more bytes (at-loop .loop .table) (at-loop .loop .place) _ _ (at-loop .loop .inv) (omega arith) (row (c .before .before)))
-
-enum-known-number : tie.Need-enum-known-number Inv-loop μ-loop
-enum-known-number c = search needs
-
-refused-requires : tie.Need-refused-requires Inv-loop μ-loop
-refused-requires c κs = tt
 
 returns : tie.Need-returns Inv-loop μ-loop
 returns c =
@@ -75,18 +57,5 @@ returns-2 c =
 
 pub read-rows-spec : {M : Type 1} → statement M
 read-rows-spec =
-    tie.close
-    (tie.spec
-    Inv-loop
-    μ-loop
-    new-requires
-    loop-holds
-    read-row-requires
-    enum-known-row
-    with-row-requires
-    loop-less
-    loop-again
-    enum-known-number
-    refused-requires
-    returns
-    returns-2)
+    tie.close (tie.spec Inv-loop μ-loop (λ c κs. tt) loop-holds (λ c κs. tt) (λ c. search needs) (λ c κs. tt) loop-less loop-again (λ c. search
+    needs) (λ c κs. tt) returns returns-2)

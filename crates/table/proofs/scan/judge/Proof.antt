@@ -11,9 +11,6 @@ use Rattle.table.proofs.scan.judge.Tie as tie
 version : (c : tie.Else1) → VersionOne (now (c .before .before .before .args .bytes))
 version c = version-one (now (c .before .before .before .args .bytes)) (sym (c .before .byte-at .ensures) ∙ c .if1 .left)
 
-byte-at-requires : tie.Need-byte-at-requires
-byte-at-requires c κs = search needs
-
 returns : tie.Need-returns
 returns c = (version-refused (λ one. c .if1 .taken (c .before .byte-at .ensures ∙ one .1)), refl)
 
@@ -27,4 +24,5 @@ returns-2 c =
     counted-behind (now (a .bytes)) (found .result .answer) (found .result .rows) (version (c .before)) (found .ensures)
 
 pub judge-spec : {M : Type 1} → statement M
-judge-spec = tie.close (tie.spec byte-at-requires returns judge-rows-requires returns-2)
+judge-spec =
+    tie.close (tie.spec (λ c κs. search needs) returns judge-rows-requires returns-2)

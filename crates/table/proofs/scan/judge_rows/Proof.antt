@@ -26,12 +26,6 @@ row c = rw (c .next .given .1) at (c .before .before .read-row .ensures)
 loop-holds : tie.Need-loop-holds Inv-loop μ-loop
 loop-holds c = counted-start (now (c .before .args .bytes)) (omega arith)
 
-read-row-requires : tie.Need-read-row-requires Inv-loop μ-loop
-read-row-requires c κs = tt
-
-enum-known-next : tie.Need-enum-known-next Inv-loop μ-loop
-enum-known-next c = search needs
-
 add-rows : tie.Need-add-rows Inv-loop μ-loop
 add-rows c = let at-loop = c .before .before .before .before .before in omega (arith, at-loop .loop .inv .room)
 
@@ -43,9 +37,6 @@ loop-again c =
     let at-loop = c .before .before .before .before .before in
     let bytes = now (at-loop .before .before .args .bytes) in
     counted-more bytes (at-loop .loop .rows) (at-loop .loop .place) _ _ (at-loop .loop .inv) (omega arith) (row (c .before))
-
-enum-known-number : tie.Need-enum-known-number Inv-loop μ-loop
-enum-known-number c = search needs
 
 returns : tie.Need-returns Inv-loop μ-loop
 returns c =
@@ -62,16 +53,5 @@ returns-2 c =
 
 pub judge-rows-spec : {M : Type 1} → statement M
 judge-rows-spec =
-    tie.close
-    (tie.spec
-    Inv-loop
-    μ-loop
-    loop-holds
-    read-row-requires
-    enum-known-next
-    add-rows
-    loop-less
-    loop-again
-    enum-known-number
-    returns
+    tie.close (tie.spec Inv-loop μ-loop loop-holds (λ c κs. tt) (λ c. search needs) add-rows loop-less loop-again (λ c. search needs) returns
     returns-2)

@@ -37,12 +37,6 @@ add-start c = omega (arith, whole c)
 add-next : tie.Need-add-next
 add-next c = omega (arith, whole (c .before))
 
-sub-row-of : tie.Need-sub-row-of
-sub-row-of c = search needs
-
-part-row-of-start : tie.Need-part-row-of-start
-part-row-of-start c = search needs
-
 part-row-of-end : tie.Need-part-row-of-end
 part-row-of-end c = omega (arith, whole (c .before))
 
@@ -60,15 +54,4 @@ returns-2 c =
 
 pub row-at-spec : {M : Type 1} → statement M
 row-at-spec =
-    tie.close
-    (tie.spec
-    free
-    returns
-    add-start
-    free
-    add-next
-    sub-row-of
-    part-row-of-start
-    part-row-of-end
-    free
-    returns-2)
+    tie.close (tie.spec free returns add-start free add-next (λ c. search needs) (λ c. search needs) part-row-of-end free returns-2)

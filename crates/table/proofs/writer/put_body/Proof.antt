@@ -33,9 +33,6 @@ times c =
 sub-count : tie.Need-sub-count
 sub-count c = omega (arith, start c)
 
-add-put : tie.Need-add-put
-add-put c = search needs
-
 array-share-prefix-bytes : tie.Need-array-share-prefix-bytes
 array-share-prefix-bytes c = there (c .before .before .before .before .before)
 
@@ -43,9 +40,6 @@ slice-aggregate-put : tie.Need-slice-aggregate-put
 slice-aggregate-put c =
     let at-start = c .before .before .before .before .before .before in
     sym (length-take-le _ (at-start .before .before .before .before .fields .result .bytes) (there at-start))
-
-add-put-times : tie.Need-add-put-times
-add-put-times c = search needs
 
 put-times-requires : tie.Need-put-times-requires
 put-times-requires c κs =
@@ -57,9 +51,6 @@ put-times-requires c κs =
     let row = begin .args .row in
     let kept = at-put .put .kept .0 ∙ at-byte .put-byte .kept .0 in
     (omega (arith, start at-start, body-length row, begin .pre, kept), omega (arith, times at-count, regular row .sized .few-times))
-
-same-length : tie.Need-same-length
-same-length c = search needs
 
 returns : tie.Need-returns
 returns c =
@@ -79,18 +70,5 @@ returns c =
 
 pub put-body-spec : {M : Type 1} → statement M
 put-body-spec =
-    tie.close
-    (tie.spec
-    free
-    free
-    sub-count
-    free
-    add-put
-    array-share-prefix-bytes
-    slice-aggregate-put
-    free
-    free
-    add-put-times
-    put-times-requires
-    same-length
-    returns)
+    tie.close (tie.spec free free sub-count free (λ c. search needs) array-share-prefix-bytes slice-aggregate-put free free (λ c. search needs)
+    put-times-requires (λ c. search needs) returns)

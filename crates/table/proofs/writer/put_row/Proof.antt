@@ -8,18 +8,12 @@ use Rattle.table.proofs.Stores.{row-stores}
 use Rattle.table.proofs.writer.put_row.Statement.{statement}
 use Rattle.table.proofs.writer.put_row.Tie as tie
 
-add-put-body : tie.Need-add-put-body
-add-put-body c = search needs
-
 put-body-requires : tie.Need-put-body-requires
 put-body-requires c κs =
     let at-size = c .before .before .before .before .before in
     let start = at-size .before .before in
     let size = at-size .row-length in
     (size .ensures, omega (arith, size .ensures, row-length (start .args .row), start .pre, c .before .before .before .put-two .kept .0))
-
-same-length : tie.Need-same-length
-same-length c = search needs
 
 returns : tie.Need-returns
 returns c =
@@ -29,4 +23,5 @@ returns c =
     row-stores (now (a .buffer)) _ _ (a .place) (a .row) _ (size .ensures) (at-two .put-two .ensures) (c .before .before .put-body .ensures)
 
 pub put-row-spec : {M : Type 1} → statement M
-put-row-spec = tie.close (tie.spec free free add-put-body put-body-requires same-length returns)
+put-row-spec =
+    tie.close (tie.spec free free (λ c. search needs) put-body-requires (λ c. search needs) returns)

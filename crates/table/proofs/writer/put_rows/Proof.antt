@@ -46,29 +46,14 @@ loop-holds : tie.Need-loop-holds Inv-loop μ-loop
 unfolding tableBytes
 loop-holds c = (omega arith, refl, omega arith, refl)
 
-mul-entry : tie.Need-mul-entry Inv-loop μ-loop
-mul-entry c = omega arith
-
-element-copy-out-entry : tie.Need-element-copy-out-entry Inv-loop μ-loop
-element-copy-out-entry c = omega arith
-
 put-row-requires : tie.Need-put-row-requires Inv-loop μ-loop
 put-row-requires c κs = let at-turn = c .before .before in omega (arith, size at-turn, row-length (row at-turn), at-turn .before .before .before .pre)
-
-row-length-requires : tie.Need-row-length-requires Inv-loop μ-loop
-row-length-requires c κs = tt
 
 add-place : tie.Need-add-place Inv-loop μ-loop
 add-place c = let at-turn = c .before .before .before .before .before .before in omega (arith, fits at-turn, c .row-length .ensures)
 
 add-place-2 : tie.Need-add-place-2 Inv-loop μ-loop
 add-place-2 c = let at-turn = c .before .before .before .before .before .before in omega (arith, fits at-turn, c .row-length .ensures)
-
-add-i : tie.Need-add-i Inv-loop μ-loop
-add-i c = omega arith
-
-loop-less : tie.Need-loop-less Inv-loop μ-loop
-loop-less c = omega arith
 
 loop-again : tie.Need-loop-again Inv-loop μ-loop
 loop-again c =
@@ -97,19 +82,5 @@ returns c =
 
 pub put-rows-spec : {M : Type 1} → statement M
 put-rows-spec =
-    tie.close
-    (tie.spec
-    Inv-loop
-    μ-loop
-    loop-holds
-    mul-entry
-    element-copy-out-entry
-    put-row-requires
-    row-length-requires
-    add-place
-    add-place-2
-    add-i
-    loop-less
-    loop-again
-    same-length
-    returns)
+    tie.close (tie.spec Inv-loop μ-loop loop-holds (λ c. omega arith) (λ c. omega arith) put-row-requires (λ c κs. tt) add-place add-place-2 (λ c.
+    omega arith) (λ c. omega arith) loop-again same-length returns)

@@ -25,24 +25,6 @@ long c = length-take-le (c .args .count) (c .args .t3) (omega arith)
 loop-holds : tie.Need-loop-holds Inv-loop μ-loop
 loop-holds c = (omega arith, refl, omega arith, refl)
 
-mul-time : tie.Need-mul-time Inv-loop μ-loop
-mul-time c = omega arith
-
-array-read-time : tie.Need-array-read-time Inv-loop μ-loop
-array-read-time c = omega arith
-
-put-eight-requires : tie.Need-put-eight-requires Inv-loop μ-loop
-put-eight-requires c κs = tt
-
-add-next : tie.Need-add-next Inv-loop μ-loop
-add-next c = omega arith
-
-add-i : tie.Need-add-i Inv-loop μ-loop
-add-i c = omega arith
-
-loop-less : tie.Need-loop-less Inv-loop μ-loop
-loop-less c = omega arith
-
 loop-again : tie.Need-loop-again Inv-loop μ-loop
 loop-again c =
     let at-put = c .before .before in
@@ -71,17 +53,5 @@ returns c =
 
 pub put-times-spec : {M : Type 1} → statement M
 put-times-spec =
-    tie.close
-    (tie.spec
-    Inv-loop
-    μ-loop
-    loop-holds
-    mul-time
-    array-read-time
-    put-eight-requires
-    add-next
-    add-i
-    loop-less
-    loop-again
-    same-length
-    returns)
+    tie.close (tie.spec Inv-loop μ-loop loop-holds (λ c. omega arith) (λ c. omega arith) (λ c κs. tt) (λ c. omega arith) (λ c. omega arith) (λ c.
+    omega arith) loop-again same-length returns)

@@ -6,13 +6,11 @@ use Rattle.table.proofs.Stores.{numbers-length}
 use Rattle.table.proofs.writer.row_length.Statement.{statement}
 use Rattle.table.proofs.writer.row_length.Tie as tie
 
-element-copy-out-length-of : tie.Need-element-copy-out-length-of
-element-copy-out-length-of c = search needs
-
 returns : tie.Need-returns
 returns c =
     let made = c .before .before .before .fields in
     c .length-of .ensures ∙ numbers-length _ (made .result) (made .ensures)
 
 pub row-length-spec : {M : Type 1} → statement M
-row-length-spec = tie.close (tie.spec free element-copy-out-length-of free returns)
+row-length-spec =
+    tie.close (tie.spec free (λ c. search needs) free returns)

@@ -46,12 +46,6 @@ array-share-prefix-bytes c = within (c .before .before)
 slice-aggregate-put : tie.Need-slice-aggregate-put
 slice-aggregate-put c = sym (length-take-le _ _ (within (c .before .before .before)))
 
-put-requires : tie.Need-put-requires
-put-requires c κs = search needs
-
-same-length : tie.Need-same-length
-same-length c = search needs
-
 returns-2 : tie.Need-returns-2
 returns-2 c =
     let joined = c .before .before .before .before .before .before in
@@ -61,11 +55,4 @@ returns-2 c =
 
 pub copy-to-spec : {M : Type 1} → statement M
 copy-to-spec =
-    tie.close
-    (tie.spec
-    returns
-    array-share-prefix-bytes
-    slice-aggregate-put
-    put-requires
-    same-length
-    returns-2)
+    tie.close (tie.spec returns array-share-prefix-bytes slice-aggregate-put (λ c κs. search needs) (λ c. search needs) returns-2)

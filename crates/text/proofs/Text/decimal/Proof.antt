@@ -7,20 +7,8 @@ use borrow.Author.Needs.{needs}
 use Rattle.text.proofs.Text.decimal.Statement.{statement}
 use Rattle.text.proofs.Text.decimal.Tie as tie
 
-digits-of-requires : tie.Need-digits-of-requires
-digits-of-requires c κs = search needs
-
-sub-word : tie.Need-sub-word
-sub-word c = search needs
-
-part-word-start : tie.Need-part-word-start
-part-word-start c = search needs
-
 part-word-end : tie.Need-part-word-end
 part-word-end c = omega (arith, c .before .before .digits-of .ensures .size)
-
-word-requires : tie.Need-word-requires
-word-requires c κs = search needs
 
 returns : tie.Need-returns
 returns c =
@@ -30,5 +18,4 @@ returns c =
 
 pub decimal-spec : {M : Type 1} → statement M
 decimal-spec =
-    tie.close
-    (tie.spec digits-of-requires sub-word part-word-start part-word-end word-requires returns)
+    tie.close (tie.spec (λ c κs. search needs) (λ c. search needs) (λ c. search needs) part-word-end (λ c κs. search needs) returns)

@@ -5,45 +5,6 @@ use Rattle.text.proofs.Texts.{extended-append}
 use Rattle.text.proofs.Text.row_line.Statement.{statement}
 use Rattle.text.proofs.Text.row_line.Tie as tie
 
-decimal-requires : tie.Need-decimal-requires
-decimal-requires c κs = search needs
-
-push-requires : tie.Need-push-requires
-push-requires c κs = search needs
-
-enum-told : tie.Need-enum-told
-enum-told c = search needs
-
-push-requires-2 : tie.Need-push-requires-2
-push-requires-2 c κs = search needs
-
-enum-told-2 : tie.Need-enum-told-2
-enum-told-2 c = search needs
-
-slice-aggregate-word : tie.Need-slice-aggregate-word
-slice-aggregate-word c = search needs
-
-word-requires : tie.Need-word-requires
-word-requires c κs = search needs
-
-push-requires-3 : tie.Need-push-requires-3
-push-requires-3 c κs = search needs
-
-enum-known-verdict : tie.Need-enum-known-verdict
-enum-known-verdict c = search needs
-
-slice-aggregate-word-2 : tie.Need-slice-aggregate-word-2
-slice-aggregate-word-2 c = search needs
-
-word-requires-2 : tie.Need-word-requires-2
-word-requires-2 c κs = search needs
-
-decimal-requires-2 : tie.Need-decimal-requires-2
-decimal-requires-2 c κs = search needs
-
-push-requires-4 : tie.Need-push-requires-4
-push-requires-4 c κs = search needs
-
 returns : tie.Need-returns
 unfolding extended
 returns c =
@@ -70,21 +31,6 @@ returns-3 c =
 
 pub row-line-spec : {M : Type 1} → statement M
 row-line-spec =
-    tie.close
-    (tie.spec
-    decimal-requires
-    push-requires
-    enum-told
-    push-requires-2
-    enum-told-2
-    slice-aggregate-word
-    word-requires
-    push-requires-3
-    enum-known-verdict
-    slice-aggregate-word-2
-    word-requires-2
-    decimal-requires-2
-    push-requires-4
-    returns
-    returns-2
-    returns-3)
+    tie.close (tie.spec (λ c κs. search needs) (λ c κs. search needs) (λ c. search needs) (λ c κs. search needs) (λ c. search needs) (λ c. search
+    needs) (λ c κs. search needs) (λ c κs. search needs) (λ c. search needs) (λ c. search needs) (λ c κs. search needs) (λ c κs. search needs) (λ c
+    κs. search needs) returns returns-2 returns-3)

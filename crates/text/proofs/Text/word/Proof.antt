@@ -23,21 +23,6 @@ returns c =
     let left = drop (at-loop .loop .i) (at-loop .before .args .word .now) in
     sym (extended-full left (at-loop .loop .self) (c .if1 .taken)) ∙ at-loop .loop .inv .1
 
-shared-slice-read-self : tie.Need-shared-slice-read-self Inv-loop μ-loop
-shared-slice-read-self c = omega arith
-
-element-write-self : tie.Need-element-write-self Inv-loop μ-loop
-element-write-self c = omega arith
-
-add-self : tie.Need-add-self Inv-loop μ-loop
-add-self c = omega arith
-
-add-i : tie.Need-add-i Inv-loop μ-loop
-add-i c = omega arith
-
-loop-less : tie.Need-loop-less Inv-loop μ-loop
-loop-less c = omega arith
-
 loop-again : tie.Need-loop-again Inv-loop μ-loop
 loop-again c =
     let at-loop = c .before .before .before in
@@ -52,16 +37,5 @@ returns-2 c =
 
 pub word-spec : {M : Type 1} → statement M
 word-spec =
-    tie.close
-    (tie.spec
-    Inv-loop
-    μ-loop
-    loop-holds
-    returns
-    shared-slice-read-self
-    element-write-self
-    add-self
-    add-i
-    loop-less
-    loop-again
-    returns-2)
+    tie.close (tie.spec Inv-loop μ-loop loop-holds returns (λ c. omega arith) (λ c. omega arith) (λ c. omega arith) (λ c. omega arith) (λ c. omega
+    arith) loop-again returns-2)

@@ -2,12 +2,12 @@
 -- is open just where it was over continuations of kinds 0 to 63, since of any continuation the row's own events alone will do.
 use Prim.Native.Nat.{ℕ, _≤_, _<_}
 use native.Mathlib.Omega.{arith}
-use mathlib.Core.Path.{_≡_, refl, sym, ap, _∙_, subst}
+use mathlib.Core.Path.{_≡_, refl, sym, ap, _∙_}
 use mathlib.Core.Bool.{true, false, cond}
 use mathlib.Core.List.{List, [], _∷_, _++_}
-use mathlib.Core.Logic.{_⊎_, inl, inr, _↔_}
+use mathlib.Core.Logic.{_↔_}
 use lib.ListN.{length}
-use Rattle.constraint.specs.Limits.{lastKind, firstColoured, streamCount, lastTime, lastCount}
+use Rattle.constraint.specs.Limits.{lastKind, firstColoured, lastTime, lastCount}
 use Rattle.constraint.specs.Steps.{Step, event, tick, close, at, times, among, own, clockFrom, clock, closed}
 use Rattle.constraint.specs.Meets.{Meets}
 use Rattle.constraint.specs.Continuation.{EventInOrder, Continues, stop, more, Open}

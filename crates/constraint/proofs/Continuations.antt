@@ -1,12 +1,11 @@
 -- What is true of continuations for every row type: a row's definition looks only at its own events and the clock, what is met at a clock is met at
 -- every earlier one, and what may still follow after a step might have followed before it, so a row that is open after a step was open before it.
-use Prim.Native.Nat.{ℕ, zero, suc, _+_, _≤_, _<_}
+use Prim.Native.Nat.{ℕ, _+_, _≤_, _<_}
 use native.Mathlib.Omega.{arith}
 use mathlib.Core.Path.{_≡_, refl, sym, ap, _∙_, subst, subst₂}
 use mathlib.Core.Bool.{true, false, cond}
 use mathlib.Core.List.{List, [], _∷_, _++_, map, append-nil, append-assoc}
 use mathlib.Core.Logic.{inl, inr}
-use lib.ListN.{length}
 use lib.Dec.{eqb}
 use borrow.Author.Tests.{eq-eqb, ne-eqb}
 use Rattle.constraint.specs.Limits.{streamCount, lastColour}
@@ -21,7 +20,7 @@ use Rattle.constraint.specs.declared.Constraint.the-variants.{Delay, Str
 use Rattle.constraint.specs.declared.Constraint.the-variants.{ExecutionTime, Reaction, Repetition}
 use Rattle.constraint.proofs.Lists.{split, both, Each, each-none, each-cons, each-left, each-right, Rising, rising-right, rising-across, rising-snoc}
 use Rattle.constraint.proofs.Streams.{colour-at, among-at}
-use Rattle.constraint.proofs.History.{times-append, times-own, times-tick, times-close, own-append, own-tick, own-close, clock-append, clock-later, clock-event, clock-tick, clock-close, closed-event, closed-tick, closed-close, Accepts, with-time}
+use Rattle.constraint.proofs.History.{times-append, times-own, times-tick, own-append, own-tick, own-close, clock-append, clock-later, clock-event, clock-tick, clock-close, closed-event, closed-tick, closed-close, Accepts, with-time}
 
 -- ---- a row looks only at its own events and the clock
 

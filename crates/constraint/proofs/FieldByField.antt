@@ -3,7 +3,7 @@ use Prim.Native.Nat.{ℕ, _+_, _≤_, _<_}
 use native.Mathlib.Numerals.{add-one}
 use native.Mathlib.Omega.{arith}
 use mathlib.Core.Path.{_≡_, refl, sym, ap, subst, subst⁻¹, _∙_}
-use mathlib.Core.Bool.{Bool, true, false, cond, _||_}
+use mathlib.Core.Bool.{Bool, true, false, cond}
 use mathlib.Core.List.{List, [], _∷_, _++_, append-nil}
 use mathlib.Core.Logic.{_≢_, ⊎-elim}
 use borrow.Author.Tests.{eqb-true, ne-eqb}
@@ -15,7 +15,7 @@ use Rattle.constraint.specs.Steps.{at}
 use Rattle.constraint.specs.Questions.{Judged}
 use Rattle.constraint.specs.Records.{Decides, isKind, byteField, timeField, fieldAt, fieldsAs, bytesFrom, timesFrom, HoldsRow}
 use Rattle.constraint.specs.Types.{kind, coloured, count, span, plain, lower, upper, upper-or-none, Field, byte, time}
-use Rattle.constraint.specs.Accepted.{kindsIn, kinds, KindsFit, SortFits, SortsFit, KindsSuit, FieldsInRange, InRange, NotBelow, LowerFirst, rowQuestions}
+use Rattle.constraint.specs.Accepted.{kindsIn, kinds, KindsFit, SortsFit, KindsSuit, FieldsInRange, InRange, NotBelow, LowerFirst, rowQuestions}
 use Rattle.constraint.specs.declared.Answer.{Answer}
 use Rattle.constraint.specs.declared.Answer.the-variants.{Refused}
 use Rattle.constraint.specs.declared.Constraint.{Constraint}

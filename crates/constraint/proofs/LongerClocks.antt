@@ -22,7 +22,7 @@ use Rattle.constraint.specs.declared.Answer.the-variants.{Taken, Refused
 use Rattle.constraint.specs.declared.Call.{Call}
 use Rattle.constraint.specs.declared.Constraint.{Constraint}
 use Rattle.constraint.proofs.Lists.{Each}
-use Rattle.constraint.proofs.Judged.{judged-none, judged-yes, judged-all, judged-parts, put-in, widened}
+use Rattle.constraint.proofs.Judged.{judged-yes, judged-all, put-in, widened}
 use Rattle.constraint.proofs.Counting.{nextFree, next-least, next-snoc}
 use Rattle.constraint.proofs.History.{times-own, times-other, times-tick, times-close, clock-event, clock-tick, clock-close, closed-event, closed-tick, closed-close, Accepts, Valid, valid-none, valid-more, Past, past-of}
 use Rattle.constraint.proofs.Runs.{accepts-taken}

@@ -1,13 +1,13 @@
 -- Streams and their kinds: the numbering is one to one, and a stream is one of a row's just where its kind is one of the row's.
-use Prim.Native.Nat.{ℕ, zero, suc, _+_, _*_, _-_, _/_, _≤_, _<_}
+use Prim.Native.Nat.{ℕ, zero, suc, _+_, _-_, _/_, _≤_, _<_}
 use native.Mathlib.Omega.{arith}
 use native.Mathlib.Decide.{decLt}
 use mathlib.Core.Path.{_≡_, refl, sym, ap, ap₂, _∙_, subst}
-use mathlib.Core.Bool.{Bool, true, false, _||_, or-true as either-true}
+use mathlib.Core.Bool.{true, false, _||_, or-true as either-true}
 use mathlib.Core.List.{List, [], _∷_, _++_}
 use mathlib.Core.Logic.{by-cases, ⊎-elim}
 use lib.ListN.{length}
-use lib.Dec.{ltb, eqb}
+use lib.Dec.{eqb}
 use borrow.Author.Tests.{eqb-true, eqb-false, eq-eqb, ne-eqb, lt-ltb, le-ltb}
 use Rattle.constraint.specs.Limits.{lastKind, firstColoured, lastColour, streamCount}
 use Rattle.constraint.specs.Streams.{stream, kindOf}

@@ -1,6 +1,5 @@
 -- The recording's format: bytes to accepted steps, or a refusal with its number and place (§7.1, §7.2, §9.4; 01, recording; CR 6).
 use Prim.Native.Nat.{ℕ, _+_, _≤_, _<_}
-use mathlib.Core.Path.{_≡_}
 use mathlib.Core.Bool.{cond}
 use mathlib.Core.List.{List, [], _∷_, _++_}
 use lib.ListN.{length}

@@ -10,7 +10,7 @@ use Rattle.constraint.specs.Meets.{Between, MeetsRepeat}
 use Rattle.constraint.specs.Questions.{Question, Judged}
 use Rattle.constraint.specs.Table.{ReadsTable, table-of, table-refused}
 use Rattle.constraint.specs.Recording.{ReadsInOrder, recording-of, recording-refused}
-use Rattle.constraint.specs.declared.Answer.the-variants.{Taken, Refused}
+use Rattle.constraint.specs.declared.Answer.the-variants.{Refused}
 use Rattle.constraint.specs.declared.Constraint.{Constraint}
 use Rattle.constraint.specs.declared.Constraint.the-variants.{Repeat}
 use Rattle.constraint.specs.declared.StampedVerdict.{StampedVerdict}

@@ -1,18 +1,17 @@
 -- The answer is put together in the order of the questions: the first recording's, the second's, 20 and 16.
-use Prim.Native.Nat.{ℕ, _≤_, _<_}
+use Prim.Native.Nat.{ℕ, _<_}
 use native.Mathlib.Omega.{arith}
-use mathlib.Core.Path.{_≡_, refl, sym, ap, subst, _∙_}
-use mathlib.Core.Bool.{Bool, true, false}
-use mathlib.Core.List.{List, [], _∷_, _++_}
-use mathlib.Core.Logic.{_⊎_, inl, inr, ⊎-elim}
-use lib.ListN.{length, drop, replicate}
-use lib.Seq.{sets}
-use Rattle.constraint.specs.Steps.{Step, at, among}
+use mathlib.Core.Path.{_≡_, sym, subst, _∙_}
+use mathlib.Core.Bool.{true, false}
+use mathlib.Core.List.{List}
+use mathlib.Core.Logic.{⊎-elim}
+use lib.ListN.{length, replicate}
+use Rattle.constraint.specs.Steps.{Step}
 use Rattle.constraint.specs.Recording.{ReadsInOrder, recording-of}
 use Rattle.constraint.proofs.Lists.{split, both}
 use Rattle.number.proofs.Stores.{stores-front}
 use Rattle.constraint.specs.Joined.{kindsOf, NoneInCommon, joinedBytes, AnswersJoin, no-first, no-second, in-common, too-short, written}
-use Rattle.join.specs.Walk.{Records, Walks, Passes, Marks, Found}
+use Rattle.join.specs.Walk.{Records, Walks, Passes, Found}
 use Rattle.constraint.specs.declared.JoinAnswer.{JoinAnswer}
 use Rattle.join.specs.declared.Passed.{Passed}
 use Rattle.join.specs.declared.Walked.{Walked}

@@ -1,30 +1,28 @@
 -- The bytes of a record read as its step, wherever they stand; so the bytes of steps each of which could be taken read as these steps.
-use Prim.Native.Nat.{ℕ, suc, _+_, _-_, _/_, _%_, _≤_, _<_}
+use Prim.Native.Nat.{ℕ, suc, _+_, _-_, _%_, _≤_, _<_}
 use native.Mathlib.Omega.{arith}
 use mathlib.Core.Path.{_≡_, refl, sym, ap, subst, _∙_}
-use mathlib.Core.Bool.{Bool, true, false, cond}
+use mathlib.Core.Bool.{cond}
 use mathlib.Core.List.{List, [], _∷_, _++_, append-nil, append-assoc}
-use lib.ListN.{length, take, drop, getElem?, length-append, length-drop}
-use mathlib.Core.Option.{some}
+use lib.ListN.{length, drop, length-append, length-drop}
 use lib.Seq.{append-snoc, take-all, drop-at}
-use lib.Dec.{eqb, ltb}
-use borrow.Author.Tests.{lt-ltb, le-ltb, ltb-true, ltb-false, ne-eqb}
-use Rattle.constraint.specs.Limits.{firstColoured, streamCount, lastTime}
+use lib.Dec.{ltb}
+use borrow.Author.Tests.{ltb-true, ltb-false, ne-eqb}
+use Rattle.constraint.specs.Limits.{firstColoured, lastTime}
 use Rattle.constraint.specs.Streams.{kindOf, stream}
-use Rattle.constraint.specs.Steps.{Step, event, tick, close, at, clock, closed}
+use Rattle.constraint.specs.Steps.{Step, event, tick, close}
 use Rattle.constraint.specs.Bytes.{bytesOf, numberBehind, number}
 use Rattle.constraint.specs.Questions.{Judged}
 use Rattle.constraint.specs.Run.{stepFor, Room, questions}
 use Rattle.constraint.specs.Table.{lengthAt}
-use Rattle.constraint.specs.Recording.{colourIn, callAt, recordQuestions, RecordingRead, recording-of, VersionKnown, ReadsRecords, no-more, record-taken, ReadsInOrder, version-taken}
+use Rattle.constraint.specs.Recording.{callAt, RecordingRead, recording-of, ReadsRecords, no-more, record-taken, ReadsInOrder, version-taken}
 use Rattle.constraint.specs.declared.Answer.the-variants.{Taken}
 use Rattle.constraint.specs.declared.Call.{Call}
-use Rattle.constraint.specs.declared.Constraint.{Constraint}
 use Rattle.constraint.proofs.Lists.{split}
-use Rattle.constraint.proofs.Streams.{plain-kind, coloured-kind, kind-small}
+use Rattle.constraint.proofs.Streams.{coloured-kind, kind-small}
 use Rattle.constraint.proofs.Judged.{never, judged-none, judged-yes}
 use Rattle.constraint.proofs.History.{Accepts, Valid, valid-none, valid-more}
-use Rattle.number.proofs.Numbers.{bytes-length, number-of-bytes}
+use Rattle.number.proofs.Numbers.{number-of-bytes}
 use Rattle.recording.specs.Record.{CallAt, ReadsRecord}
 use Rattle.recording.specs.declared.Record.{Record}
 use Rattle.recording.proofs.Records.{event-read, coloured-read, tick-read, read-of-stretch, record-judged}

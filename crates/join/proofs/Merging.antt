@@ -3,19 +3,19 @@
 use Prim.Native.Nat.{ℕ, _≤_, _<_}
 use native.Mathlib.Omega.{arith}
 use mathlib.Core.Path.{_≡_, refl, sym, ap, subst, _∙_}
-use mathlib.Core.Bool.{Bool, true, false, cond, _||_}
+use mathlib.Core.Bool.{false, cond}
 use mathlib.Core.List.{List, [], _∷_, _++_, append-nil}
 use lib.ListN.{length, length-append}
 use lib.Seq.{append-snoc}
 use lib.Dec.{leb, eqb}
-use borrow.Author.Tests.{leb-true, leb-false, eq-eqb, eqb-true, eqb-false}
+use borrow.Author.Tests.{leb-true, leb-false, eq-eqb, eqb-true}
 use Rattle.constraint.specs.Limits.{firstColoured, streamCount, lastTime, lastCount}
 use Rattle.constraint.specs.Streams.{kindOf}
 use Rattle.constraint.specs.Steps.{Step, event, tick, close, among, times, clockFrom, clock, closed}
-use Rattle.constraint.proofs.Lists.{split, both, or-false, Each, Rising, rising-across}
+use Rattle.constraint.proofs.Lists.{split, both, or-false, Rising, rising-across}
 use Rattle.constraint.proofs.Judged.{never}
-use Rattle.constraint.proofs.History.{times-append, times-tick, clock-event, clock-tick, closed-event, closed-tick, AcceptsEvent, Valid, valid-none, valid-more, past-of}
-use Rattle.constraint.specs.Joined.{timeOf, merged, isDropped, undropped, joined, kindsOf, NoneInCommon}
+use Rattle.constraint.proofs.History.{times-append, clock-event, clock-tick, closed-event, closed-tick, AcceptsEvent, Valid, valid-none, valid-more, past-of}
+use Rattle.constraint.specs.Joined.{timeOf, merged, undropped, joined, kindsOf, NoneInCommon}
 
 -- a step that a record of a version can hold: version 1 has no colours
 abbrev pub Fits : ℕ → Step → Type 0

@@ -5,20 +5,20 @@ use mathlib.Core.Path.{_≡_, refl, sym, ap, subst, _∙_}
 use mathlib.Core.Bool.{Bool, true, false, cond, _||_, or-true as either-true}
 use mathlib.Core.List.{List, [], _∷_, _++_, append-nil}
 use mathlib.Core.Logic.{_⊎_, inl, inr}
-use lib.ListN.{length, getD, set, replicate, length-set, length-replicate, getD-replicate, List·getD-eq-default}
+use lib.ListN.{length, set, replicate, length-set, length-replicate, getD-replicate, List·getD-eq-default}
 use lib.Seq.{set-out, getD-set-same, getD-set-other}
-use lib.Dec.{ltb, eqb}
+use lib.Dec.{eqb}
 use borrow.Author.Tests.{lt-ltb, eq-eqb, ne-eqb, eqb-true, eqb-false}
-use Rattle.constraint.specs.Limits.{firstColoured, lastKind, lastColour}
+use Rattle.constraint.specs.Limits.{lastKind}
 use Rattle.constraint.specs.Streams.{stream, kindOf}
 use Rattle.constraint.specs.Steps.{Step, event, tick, close, at, among}
 use Rattle.constraint.specs.Questions.{Judged}
 use Rattle.constraint.specs.Run.{stepFor, questions}
 use Rattle.constraint.specs.Table.{lengthAt}
 use Rattle.constraint.specs.Recording.{VersionKnown, callAt, recordQuestions, ReadsInOrder, recording-of, recording-refused}
-use Rattle.constraint.specs.declared.Answer.the-variants.{Taken, Refused}
+use Rattle.constraint.specs.declared.Answer.the-variants.{Taken}
 use Rattle.constraint.specs.declared.Call.{Call}
-use Rattle.constraint.proofs.Lists.{split, both, or-false}
+use Rattle.constraint.proofs.Lists.{split, both}
 use Rattle.constraint.proofs.Streams.{plain-kind, stream-kind}
 use Rattle.constraint.proofs.Judged.{judged-all}
 use Rattle.order.specs.Order.{After, ReadsNext}

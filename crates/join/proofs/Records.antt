@@ -1,7 +1,7 @@
 -- A recording that is read gives its records one after the other, and each is a step that could be taken after those before it.
 use Prim.Native.Nat.{ℕ, _+_, _-_, _/_, _%_, _≤_, _<_}
 use native.Mathlib.Omega.{arith}
-use mathlib.Core.Path.{_≡_, refl, sym, ap, subst, _∙_}
+use mathlib.Core.Path.{_≡_, refl, sym, subst, _∙_}
 use mathlib.Core.Bool.{Bool, true, false, cond}
 use mathlib.Core.List.{List, [], _∷_, _++_, append-nil}
 use lib.ListN.{length}
@@ -15,7 +15,7 @@ use Rattle.constraint.specs.Bytes.{numberAt}
 use Rattle.constraint.specs.Questions.{Judged}
 use Rattle.constraint.specs.Run.{stepFor, questions}
 use Rattle.constraint.specs.Table.{lengthAt, bodyAt}
-use Rattle.constraint.specs.Recording.{colourIn, callOf, callAt, RecordAt, recordQuestions, RecordingRead, recording-of, VersionKnown, ReadsRecords, no-more, record-taken, record-refused, ReadsInOrder, version-taken, version-refused}
+use Rattle.constraint.specs.Recording.{colourIn, callOf, callAt, recordQuestions, recording-of, VersionKnown, ReadsRecords, no-more, record-taken, ReadsInOrder, version-taken}
 use Rattle.constraint.specs.declared.Answer.the-variants.{Taken}
 use Rattle.constraint.specs.declared.Call.{Call}
 use Rattle.constraint.proofs.Judged.{judged-all}

@@ -1,5 +1,5 @@
 -- What the joined recording is: valid, of the higher version, and with the records of both.
-use Prim.Native.Nat.{ℕ, _≤_, _<_, _^_, max}
+use Prim.Native.Nat.{ℕ, _<_, _^_, max}
 use native.Mathlib.Omega.{arith}
 use mathlib.Core.Path.{_≡_, refl}
 use mathlib.Core.List.{List}

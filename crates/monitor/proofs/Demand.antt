@@ -4,15 +4,15 @@ use Prim.Native.Nat.{ℕ, zero, suc, _+_, _-_, _≤_, _<_}
 use native.Mathlib.Decide.{decLt}
 use native.Mathlib.Omega.{arith}
 use mathlib.Core.Path.{_≡_, refl, ap, subst}
-use mathlib.Core.Bool.{Bool, true, false, cond, _||_}
+use mathlib.Core.Bool.{Bool, true, false, cond}
 use mathlib.Core.List.{List, [], _∷_}
 use mathlib.Core.Logic.{_⊎_, inl, inr, ⊎-elim, by-cases}
 use mathlib.Core.Option.{Option, none, some}
 use lib.ListN.{length, getD, replicate, getElem?, getD-replicate, length-replicate}
-use lib.Dec.{leb, ltb}
+use lib.Dec.{ltb}
 use borrow.Author.Tests.{lt-ltb, le-ltb}
-use Rattle.constraint.specs.Limits.{lastKind, lastTime, rowLimit}
-use Rattle.constraint.specs.Steps.{Step, event, tick, close, times, clockFrom, clock, closed}
+use Rattle.constraint.specs.Limits.{rowLimit}
+use Rattle.constraint.specs.Steps.{Step, times, clockFrom, clock, closed}
 use Rattle.constraint.specs.Continuation.{BrokenAt, Reads, reads-broken}
 use Rattle.constraint.specs.Questions.{Judged}
 use Rattle.constraint.specs.Accepted.{rowsQuestions, Accepted}

@@ -7,7 +7,7 @@ use mathlib.Core.List.{List, [], _∷_, _++_, map}
 use mathlib.Core.Logic.{⊎-elim}
 use mathlib.Core.Option.{some}
 use lib.ListN.{length, getD, getElem?}
-use Rattle.constraint.specs.Limits.{lastKind, waitingLimit}
+use Rattle.constraint.specs.Limits.{waitingLimit}
 use Rattle.constraint.specs.Steps.{Step, clock, closed}
 use Rattle.constraint.specs.Continuation.{Open, Reads}
 use Rattle.constraint.specs.Waiting.{waiting}

@@ -1,5 +1,5 @@
 -- The monitor's machine: total functions on the records, which the contracts equal.
-use Prim.Native.Nat.{ℕ, zero, suc, _+_, _-_}
+use Prim.Native.Nat.{ℕ, zero, suc, _-_}
 use mathlib.Core.Path.{_≡_}
 use mathlib.Core.Bool.{Bool, false, cond, _&&_, _||_}
 use mathlib.Core.List.{List, [], _∷_, _++_, map}
@@ -16,7 +16,6 @@ use Rattle.constraint.specs.declared.Verdict.{Verdict}
 use Rattle.machine.specs.Parts.{plus}
 use Rattle.row.specs.Machine.{rowOf, eventAt, tickAt, closeAt, rowStep, rowVerdict}
 use Rattle.row.specs.Undo.{noBefore, savedBy, rowWithout, keptWithout}
-use Rattle.row.specs.declared.Before.{Before}
 use Rattle.row.specs.declared.Occurrence.{Occurrence}
 use Rattle.row.specs.declared.Row.{Row}
 use Rattle.monitor.specs.declared.Monitor.{Monitor}

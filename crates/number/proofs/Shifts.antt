@@ -1,6 +1,6 @@
 -- A shift by eight bits for each of n bytes divides by 256 ^ n, so it cuts a number where the definition cuts it.
 use Prim.Native.Nat.{ℕ, zero, suc, _+_, _*_, _/_, _%_, _-_, _^_, _≤_, _<_}
-use mathlib.Core.Path.{_≡_, refl, ap, _∙_}
+use mathlib.Core.Path.{_≡_, refl, ap}
 use mathlib.Core.List.{List, [], _∷_}
 use native.Mathlib.Nat.{div-one, mod-eq-of-lt, mul-suc, pow-suc}
 use native.Mathlib.Numerals.{add-one}

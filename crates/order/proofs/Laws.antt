@@ -3,11 +3,10 @@
 use Prim.Native.Nat.{ℕ, _+_, _≤_, _<_}
 use native.Mathlib.Omega.{arith}
 use mathlib.Core.Path.{_≡_, refl, sym, ap, subst, _∙_}
-use mathlib.Core.Bool.{Bool, true, false, cond}
+use mathlib.Core.Bool.{false}
 use mathlib.Core.List.{List, [], _∷_, _++_, map}
 use lib.ListN.{length, getD, set, replicate}
-use lib.Dec.{ltb}
-use borrow.Author.Tests.{lt-ltb, le-ltb}
+use borrow.Author.Tests.{lt-ltb}
 use Rattle.constraint.specs.Steps.{Step, at, clock}
 use Rattle.constraint.specs.Questions.{Judged}
 use Rattle.constraint.specs.Accepted.{rowsQuestions, Accepted}
@@ -25,7 +24,7 @@ use Rattle.constraint.proofs.Runs.{run-valid}
 use Rattle.constraint.proofs.Sanity.{run-once}
 use Rattle.machine.specs.Parts.{plus}
 use Rattle.row.proofs.Engine.{engine}
-use Rattle.monitor.specs.Machine.{monitorOf, anyFirst, refuses, takes, placeFor, refusalBy, occurrenceBy, freeAfter, closedAfter, crowds, takenCall, steppedBy, stepOf}
+use Rattle.monitor.specs.Machine.{monitorOf, anyFirst, refuses, takes, placeFor, refusalBy, occurrenceBy, freeAfter, closedAfter, takenCall, steppedBy, stepOf}
 use Rattle.monitor.specs.Contract.{after, Steps}
 use Rattle.monitor.specs.Beside.{allTaken}
 use Rattle.monitor.specs.declared.Monitor.{Monitor}

@@ -1,5 +1,5 @@
 -- A line of the page, column by column: each text fits its columns, whatever the type, the verdict and the step, and none has a blank or a line end in it.
-use Prim.Native.Nat.{ℕ, zero, suc, _+_, _-_, _^_, _≤_, _<_}
+use Prim.Native.Nat.{ℕ, zero, suc, _+_, _-_, _≤_, _<_}
 use native.Mathlib.Omega.{arith}
 use mathlib.Core.Path.{_≡_, refl, ap, _∙_}
 use mathlib.Core.Bool.{Bool, true, false, _&&_}
@@ -23,7 +23,7 @@ use Rattle.constraint.specs.Page.{
 }
 use Rattle.constraint.specs.declared.Verdict.{Verdict}
 use Rattle.constraint.specs.declared.Verdict.the-variants.{Open, Kept, Broken}
-use Rattle.constraint.proofs.Lists.{Each, each-none, each-cons, each-append, split}
+use Rattle.constraint.proofs.Lists.{Each, each-none, each-cons, each-append}
 use Rattle.number.proofs.Stores.{stores-append}
 use Rattle.text.proofs.Decimals.{decimal-length, decimal-few, decimal-each}
 

@@ -1,6 +1,6 @@
 -- The page line after line: row i's line stands behind i lines and a heading for each 16 of them, so its place and the page's length follow from the
 -- number of rows alone; and each line has 72 bytes, none of them a line end.
-use Prim.Native.Nat.{ℕ, zero, suc, _+_, _-_, _*_, _/_, _%_, _≤_, _<_, max}
+use Prim.Native.Nat.{ℕ, zero, suc, _+_, _-_, _*_, _/_, _%_, _≤_, _<_}
 use native.Mathlib.Decide.{decLt}
 use native.Mathlib.Nat.{suc-add, zero-add}
 use native.Mathlib.Numerals.{add-one}

@@ -1,22 +1,17 @@
 -- What is read off a page is what was put there: a row's line stands where the reader looks, each column holds its text between blanks, and neither a
 -- word nor a number has a blank in it. So two pages with the same bytes say the same verdicts.
-use Prim.Native.Nat.{ℕ, zero, suc, _+_, _-_, _*_, _/_, _^_, _≤_, _<_, max}
-use native.Mathlib.Decide.{decLt}
-use native.Mathlib.Nat.{add-zero}
+use Prim.Native.Nat.{ℕ, zero, suc, _+_, _-_, _^_, _≤_, _<_}
 use native.Mathlib.Omega.{arith}
 use mathlib.Core.Path.{_≡_, refl, sym, ap, _∙_}
-use mathlib.Core.Bool.{cond}
-use mathlib.Core.List.{List, [], _∷_, _++_, append-assoc, append-nil}
-use mathlib.Core.Logic.{by-cases}
-use mathlib.Core.Option.{Option, none, some}
+use mathlib.Core.List.{List, [], _∷_, _++_, append-assoc}
+use mathlib.Core.Option.{some}
 use lib.ListN.{length, take, drop, replicate, length-append}
 use lib.Seq.{take-at, drop-at, drop-append-add}
-use lib.Dec.{eqb}
 use borrow.Author.Tests.{ne-eqb}
 use Rattle.constraint.specs.Report.{decimal, blank, lineEnd}
-use Rattle.constraint.specs.Page.{leftIn, rightIn, nameOf, verdictWord, stepText, pageLine, pageText}
+use Rattle.constraint.specs.Page.{leftIn, rightIn, nameOf, verdictWord, stepText, pageText}
 use Rattle.text.specs.Content.{numberFrom}
-use Rattle.page.specs.ReadBack.{pageLength, lineStart, columns, wordFrom, same, verdictFrom, LineRead, lineRead}
+use Rattle.page.specs.ReadBack.{lineStart, columns, wordFrom, same, verdictFrom, LineRead, lineRead}
 use Rattle.constraint.specs.declared.Verdict.{Verdict}
 use Rattle.constraint.specs.declared.Verdict.the-variants.{Open, Kept, Broken}
 use Rattle.constraint.proofs.Lists.{Each, each-tail}
@@ -43,7 +38,7 @@ use Rattle.page.proofs.Lines.{
   at-rest,
   line-is,
 }
-use Rattle.page.proofs.Pages.{page-length, Standing, row-standing}
+use Rattle.page.proofs.Pages.{page-length, row-standing}
 
 -- ---- out of its columns
 

@@ -1,7 +1,7 @@
 -- Writing a page: its length is known from the number of rows alone, so a buffer that is long enough takes all of it, and one that is not takes none.
 use Prim.Native.Nat.{ℕ, zero, suc, _≤_, _<_, min}
 use native.Mathlib.Omega.{arith}
-use mathlib.Core.Path.{_≡_, refl, ap, _∙_}
+use mathlib.Core.Path.{_≡_, refl}
 use mathlib.Core.List.{List}
 use lib.ListN.{length, set}
 use lib.Seq.{sets, set-out}

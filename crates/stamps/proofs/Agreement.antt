@@ -1,20 +1,17 @@
 -- With stamps that are never late there is one choice, the stamps themselves; so the word is what the monitor reads at the close, where that takes every record.
-use Prim.Native.Nat.{ℕ, suc, _+_, _≤_, _<_}
+use Prim.Native.Nat.{ℕ, _+_}
 use native.Mathlib.Omega.{arith}
 use mathlib.Core.Path.{_≡_, refl, sym, ap, subst, _∙_}
-use mathlib.Core.Bool.{true}
 use mathlib.Core.List.{List, [], _∷_, _++_}
-use mathlib.Core.Option.{some}
-use lib.ListN.{length, getElem?}
 use lib.Seq.{ext-getD}
 use Rattle.constraint.specs.Steps.{Step, event, tick, close, times, clock}
 use Rattle.constraint.specs.Meets.{Meets, MeetsRepeat}
-use Rattle.constraint.specs.Continuation.{Reads, reads-open, reads-kept, reads-broken}
+use Rattle.constraint.specs.Continuation.{Reads, reads-open}
 use Rattle.constraint.specs.Questions.{Judged}
-use Rattle.constraint.specs.Run.{stepFor, Room, eventQuestions, questions}
+use Rattle.constraint.specs.Run.{Room, eventQuestions, questions}
 use Rattle.constraint.specs.Streams.{stream}
-use Rattle.constraint.specs.Table.{ReadsTable, table-of, table-refused, bodyAt, lengthAt}
-use Rattle.constraint.specs.Recording.{callAt, RecordAt, recordQuestions, RecordingRead, recording-of, recording-refused, ReadsRecords, no-more, record-refused, record-taken}
+use Rattle.constraint.specs.Table.{ReadsTable, table-of}
+use Rattle.constraint.specs.Recording.{callAt, recordQuestions, RecordingRead, recording-of, ReadsRecords, no-more, record-refused, record-taken}
 use Rattle.constraint.specs.Recording.{ReadsRecording, version-refused, version-taken, ReadsInOrder}
 use Rattle.constraint.specs.Stamps.{TrueTimes, ReadsStamps, each-meets, none-meets, both-occur, RepeatRow, stampsQuestions, AnswersStamps, no-table, no-recording, not-asked, reads}
 use Rattle.constraint.specs.declared.Answer.the-variants.{Taken, Refused}

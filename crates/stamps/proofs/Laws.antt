@@ -1,20 +1,20 @@
 -- The last true time of a choice can be at each place from the earliest to the stamp, and a choice goes on with any later place of the next stamp; so each two
 -- neighbours can take the ends of their ranges, and the tests on these ends tell what each choice and what some choice does.
-use Prim.Native.Nat.{ℕ, zero, suc, _+_, _-_, _≤_, _<_, min, max}
+use Prim.Native.Nat.{ℕ, _+_, _-_, _≤_, _<_, min, max}
 use native.Mathlib.Omega.{arith}
 use native.Mathlib.Decide.{decLt}
 use mathlib.Core.Path.{_≡_, refl, sym, ap, subst, _∙_}
 use mathlib.Core.Bool.{Bool, true, false, cond, _&&_}
 use mathlib.Core.List.{List, [], _∷_, _++_}
-use mathlib.Core.Logic.{_⊎_, inl, inr, ⊎-elim, by-cases}
+use mathlib.Core.Logic.{inl, inr, ⊎-elim, by-cases}
 use lib.ListN.{length, take, length-append, length-take}
 use lib.Seq.{getD-take}
-use lib.Dec.{leb, eqb}
-use borrow.Author.Tests.{eqb-true, eqb-false, leb-true, leb-false}
+use lib.Dec.{eqb}
+use borrow.Author.Tests.{eqb-true, eqb-false}
 use Rattle.constraint.specs.Limits.{firstColoured, lastTime, noLimit}
 use Rattle.constraint.specs.Streams.{stream}
-use Rattle.constraint.specs.Steps.{Step, event, tick, at, times, clock}
-use Rattle.constraint.specs.Meets.{Between, NotLater, Apart, SpansApart, HiddenPoints, MeetsRepeat}
+use Rattle.constraint.specs.Steps.{Step, event, at, times}
+use Rattle.constraint.specs.Meets.{NotLater, Apart, SpansApart, MeetsRepeat}
 use Rattle.constraint.specs.Stamps.{TrueTimes, ReadsStamps, each-meets, none-meets, both-occur}
 use Rattle.constraint.specs.declared.Call.{Call}
 use Rattle.constraint.specs.declared.StampedVerdict.{StampedVerdict}
@@ -27,10 +27,10 @@ use Rattle.machine.specs.declared.Rule.{Rule}
 use Rattle.machine.specs.declared.Marks.{Marks}
 use Rattle.machine.proofs.Tests.{Tells, holds, fails, tells-leb, tells-and}
 use Rattle.machine.proofs.Spans.{apart-first}
-use Rattle.points.specs.Sporadic.{stride, lowest, highest}
-use Rattle.points.proofs.Laws.Points.{points-none, points-first, points-more}
+use Rattle.points.specs.Sporadic.{stride, highest}
+use Rattle.points.proofs.Laws.Points.{points-first, points-more}
 use Rattle.points.proofs.Laws.Sporadic.{PointsOf, Places, first-places, later-place, later-places}
-use Rattle.stamps.specs.Machine.{nextLow, nextHigh, firstStamp, pairFits, laterStamp, stampAfter, callAfter, closeVerdict, stampsVerdict, noStamps}
+use Rattle.stamps.specs.Machine.{nextLow, nextHigh, firstStamp, laterStamp, stampAfter, callAfter, closeVerdict, stampsVerdict, noStamps}
 use Rattle.stamps.specs.declared.Asked.{Asked}
 use Rattle.stamps.specs.declared.Stamps.{Stamps}
 

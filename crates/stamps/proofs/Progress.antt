@@ -1,18 +1,17 @@
 -- What is kept of the stamps goes on from record to record, and at the end it says what the row reads.
 use Prim.Native.Nat.{ℕ, _≤_, _<_}
-use mathlib.Core.Path.{_≡_, refl, sym, subst, _∙_}
+use mathlib.Core.Path.{_≡_, sym, subst}
 use mathlib.Core.List.{List, [], _∷_, _++_}
 use lib.ListN.{length}
 use Rattle.constraint.specs.Limits.{firstColoured, lastTime}
 use Rattle.constraint.specs.Steps.{Step, times, clock}
 use Rattle.constraint.specs.Questions.{Judged}
 use Rattle.constraint.specs.Run.{stepFor, questions}
-use Rattle.constraint.specs.Recording.{VersionKnown, callAt, RecordAt, recordQuestions, ReadsInOrder, recording-of, recording-refused, version-refused}
+use Rattle.constraint.specs.Recording.{VersionKnown, callAt, RecordAt, recordQuestions, ReadsInOrder, recording-of, recording-refused}
 use Rattle.constraint.specs.Stamps.{ReadsStamps}
-use Rattle.constraint.specs.declared.Answer.the-variants.{Taken, Refused}
+use Rattle.constraint.specs.declared.Answer.the-variants.{Taken}
 use Rattle.constraint.specs.declared.Call.{Call}
 use Rattle.constraint.specs.declared.Constraint.{Constraint}
-use Rattle.constraint.specs.declared.StampedVerdict.{StampedVerdict}
 use Rattle.constraint.proofs.Judged.{judged-all}
 use Rattle.constraint.proofs.History.{past-of}
 use Rattle.constraint.proofs.Runs.{accepts-taken}

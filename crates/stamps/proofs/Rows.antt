@@ -1,15 +1,14 @@
 -- A row's numbers are those of its fields, so the type's number and the span tell a Repeat of span 1.
 use Prim.Native.Nat.{ℕ, _≤_, _<_}
 use native.Mathlib.Omega.{arith}
-use mathlib.Core.Path.{_≡_, refl, sym, ap, subst, _∙_}
+use mathlib.Core.Path.{_≡_, sym, ap, subst, _∙_}
 use mathlib.Core.List.{List, [], _∷_}
 use mathlib.Core.Option.{some}
 use lib.ListN.{length, getD, getElem?, take}
 use lib.Seq.{getD-take}
 use Rattle.constraint.specs.Steps.{at}
 use Rattle.constraint.specs.Records.{tableOf, HoldsRow}
-use Rattle.constraint.specs.Stamps.{RepeatRow, stampsQuestions}
-use Rattle.constraint.specs.Questions.{Judged}
+use Rattle.constraint.specs.Stamps.{RepeatRow}
 use Rattle.constraint.specs.declared.Answer.the-variants.{Refused}
 use Rattle.constraint.specs.declared.Constraint.{Constraint}
 use Rattle.constraint.specs.declared.Constraint.the-variants.{Delay, StrongDelay, Repeat, Sporadic, Burst, Order, StrongSynchronization2, StrongSynchronization3, StrongSynchronization4}

@@ -1,13 +1,13 @@
 -- The numbers of the starts say which stretches break the row, so the first that is as long as its start needs is the first that breaks it;
 -- and the answer is put together in the order of the questions.
-use Prim.Native.Nat.{ℕ, _+_, _≤_, _<_, min}
+use Prim.Native.Nat.{ℕ, _≤_, _<_, min}
 use native.Mathlib.Omega.{arith}
-use mathlib.Core.Path.{_≡_, refl, sym, ap, subst, _∙_}
+use mathlib.Core.Path.{_≡_, refl, sym, ap, subst}
 use mathlib.Core.Bool.{Bool, true, false}
-use mathlib.Core.List.{List, [], _∷_, _++_}
+use mathlib.Core.List.{List, [], _∷_}
 use mathlib.Core.Logic.{inl}
 use mathlib.Core.Option.{some}
-use lib.ListN.{length, take, drop, getD, getElem?, length-drop}
+use lib.ListN.{length, getD, getElem?, length-drop}
 use lib.Dec.{leb}
 use borrow.Author.Tests.{le-leb, lt-leb, leb-true, leb-false}
 use Rattle.constraint.specs.Steps.{Step, at}
@@ -20,13 +20,13 @@ use Rattle.constraint.specs.declared.Answer.the-variants.{Taken, Refused}
 use Rattle.constraint.specs.declared.Constraint.{Constraint}
 use Rattle.constraint.specs.declared.Entry.{Entry}
 use Rattle.constraint.specs.declared.Table.{Table}
-use Rattle.constraint.proofs.Judged.{never, judged-none, judged-yes, judged-no}
+use Rattle.constraint.proofs.Judged.{judged-none, judged-yes, judged-no}
 use Rattle.constraint.proofs.Records.{record-count, row-there}
 use Rattle.row.proofs.Exact.{Sound}
 use Rattle.monitor.proofs.Demand.{accepted-sound}
 use Rattle.monitor.proofs.FittingRows.{sound-at}
-use Rattle.constraint.specs.Stretches.{Stretch, stretchOf, stretches, Some, FirstAt, Breaks, Breaking, stretchQuestions, AnswersRow, no-stretch, found}
-use Rattle.stretch.specs.Machine.{Kept, RunOf, Needs, NeedsFrom, Enough, Searches, Tries, TriesAll, Asks}
+use Rattle.constraint.specs.Stretches.{Stretch, stretchOf, stretches, Some, FirstAt, Breaking, stretchQuestions, AnswersRow, no-stretch, found}
+use Rattle.stretch.specs.Machine.{Kept, RunOf, NeedsFrom, Enough, Searches, Tries, TriesAll, Asks}
 use Rattle.stretch.specs.declared.Found.{Found}
 use Rattle.constraint.specs.declared.StretchAnswer.{StretchAnswer}
 use Rattle.stretch.proofs.Taking.{recording-taken}

@@ -1,27 +1,27 @@
 -- A recording's records go to the arrays one by one, as long as there is room, and a record's stream and time say what it is.
-use Prim.Native.Nat.{ℕ, _+_, _≤_, _<_, min}
+use Prim.Native.Nat.{ℕ, _≤_, _<_, min}
 use native.Mathlib.Decide.{ℕ-discrete, decLt}
 use native.Mathlib.Omega.{arith}
 use mathlib.Core.Path.{_≡_, refl, sym, ap, subst, _∙_}
-use mathlib.Core.Bool.{Bool, true, false, cond}
+use mathlib.Core.Bool.{cond}
 use mathlib.Core.List.{List, [], _∷_, _++_}
 use mathlib.Core.Logic.{by-cases}
-use lib.ListN.{length, getD, set, length-append, length-set, List·getD-append}
+use lib.ListN.{length, set, length-append, length-set, List·getD-append}
 use lib.Seq.{getD-at, getD-set-same, getD-set-other}
 use lib.Dec.{eqb}
-use borrow.Author.Tests.{eq-eqb, ne-eqb}
+use borrow.Author.Tests.{ne-eqb}
 use Rattle.constraint.specs.Limits.{streamCount}
 use Rattle.constraint.specs.Streams.{stream}
-use Rattle.constraint.specs.Steps.{Step, event, tick, close, at}
+use Rattle.constraint.specs.Steps.{Step, close, at}
 use Rattle.constraint.specs.Questions.{Judged}
 use Rattle.constraint.specs.Run.{stepFor, questions}
-use Rattle.constraint.specs.Recording.{VersionKnown, callAt, callOf, colourIn, recordQuestions, ReadsInOrder, recording-of, recording-refused}
+use Rattle.constraint.specs.Recording.{VersionKnown, callOf, colourIn, recordQuestions, ReadsInOrder, recording-of, recording-refused}
 use Rattle.constraint.specs.Bytes.{numberAt}
 use Rattle.constraint.specs.Table.{bodyAt}
 use Rattle.constraint.specs.declared.Answer.the-variants.{Taken}
 use Rattle.constraint.specs.declared.Call.{Call}
 use Rattle.constraint.proofs.Lists.{split}
-use Rattle.constraint.proofs.Judged.{never, judged-all}
+use Rattle.constraint.proofs.Judged.{judged-all}
 use Rattle.constraint.proofs.History.{Accepts}
 use Rattle.constraint.proofs.Runs.{accepts-taken}
 use Rattle.monitor.specs.Machine.{occurrenceBy}

@@ -9,8 +9,7 @@ use lib.ListN.{length, length-append}
 use lib.Seq.{append-snoc}
 use Rattle.constraint.specs.Steps.{at}
 use Rattle.constraint.specs.Stretches.{Stretch, stretchOf, starts, sizes, stretches, Some, FirstAt}
-use Rattle.stretch.specs.Machine.{Enough, Searches}
-use Rattle.stretch.specs.declared.Found.{Found}
+use Rattle.stretch.specs.Machine.{Enough}
 
 -- ---- lists of stretches
 

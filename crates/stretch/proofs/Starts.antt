@@ -4,14 +4,13 @@ use Prim.Native.Nat.{ℕ, zero, suc, _+_, _-_, _≤_, _<_}
 use native.Mathlib.Decide.{decLt}
 use native.Mathlib.Omega.{arith}
 use mathlib.Core.Path.{_≡_, refl, sym, ap, subst, _∙_}
-use mathlib.Core.Bool.{Bool, true, false, cond}
+use mathlib.Core.Bool.{true, false, cond}
 use mathlib.Core.List.{List, [], _∷_, _++_}
 use mathlib.Core.Logic.{⊎-elim, by-cases}
-use mathlib.Core.Option.{some}
-use lib.ListN.{length, take, drop, getD, getElem?, length-take, length-drop}
+use lib.ListN.{length, take, drop, getD, length-take, length-drop}
 use lib.Seq.{take-take, length-take-le, getD-take, getD-drop}
-use lib.Dec.{leb, ltb, eqb}
-use borrow.Author.Tests.{le-ltb, le-leb, lt-leb}
+use lib.Dec.{eqb}
+use borrow.Author.Tests.{le-leb, lt-leb}
 use Rattle.constraint.specs.Limits.{streamCount, waitingLimit}
 use Rattle.constraint.specs.Steps.{Step, event, tick, close, at, closed}
 use Rattle.constraint.specs.Continuation.{Open, Reads, reads-open, reads-kept, reads-broken}
@@ -23,7 +22,7 @@ use Rattle.constraint.specs.declared.Answer.the-variants.{Taken}
 use Rattle.constraint.specs.declared.Call.{Call}
 use Rattle.constraint.specs.declared.Constraint.{Constraint}
 use Rattle.constraint.specs.declared.Verdict.{Verdict}
-use Rattle.constraint.proofs.Lists.{split, both}
+use Rattle.constraint.proofs.Lists.{split}
 use Rattle.constraint.proofs.Judged.{never}
 use Rattle.constraint.proofs.LastQuestion.{judged-last}
 use Rattle.constraint.proofs.History.{closed-event, closed-tick, Accepts, Valid}
@@ -33,10 +32,10 @@ use Rattle.row.specs.Machine.{rowOf, eventAt, tickAt, rowStep, rowVerdict}
 use Rattle.row.specs.declared.Occurrence.{Occurrence}
 use Rattle.row.specs.declared.Row.{Row}
 use Rattle.row.specs.declared.RowStep.{RowStep}
-use Rattle.row.proofs.Exact.{Sound, Exact}
+use Rattle.row.proofs.Exact.{Sound}
 use Rattle.row.proofs.Engine.{engine}
-use Rattle.row.proofs.Steps.{Fits, Going, Broken, After, seen, fits-start, fits-room, fits-step, fits-reads}
-use Rattle.constraint.specs.Stretches.{TakesEach, takes-none, takes-more, Breaks}
+use Rattle.row.proofs.Steps.{Fits, Going, After, seen, fits-start, fits-room, fits-step, fits-reads}
+use Rattle.constraint.specs.Stretches.{TakesEach, takes-none, Breaks}
 use Rattle.stretch.specs.Machine.{stepAs, seenAs, Kept, Needs}
 use Rattle.stretch.proofs.Taking.{takes-valid, CallAt, takes-at, next, next-is, part-next, next-judged, takes-next}
 

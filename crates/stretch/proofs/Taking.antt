@@ -1,10 +1,10 @@
 -- A later start has an earlier clock and fewer times, so a record that was taken in its place is in order behind a later start too: only
 -- 12 can refuse it there.
-use Prim.Native.Nat.{ℕ, zero, suc, _+_, _≤_, _<_}
+use Prim.Native.Nat.{ℕ, suc, _+_, _≤_, _<_}
 use native.Mathlib.Decide.{decLt}
 use native.Mathlib.Omega.{arith}
-use mathlib.Core.Path.{_≡_, refl, sym, ap, subst, _∙_}
-use mathlib.Core.Bool.{Bool, true, false, cond, _||_}
+use mathlib.Core.Path.{_≡_, sym, ap, subst, _∙_}
+use mathlib.Core.Bool.{false}
 use mathlib.Core.List.{List, [], _∷_, _++_}
 use mathlib.Core.Logic.{by-cases}
 use lib.ListN.{length, take, drop, getD, length-append, length-drop, List·getD-append}
@@ -14,7 +14,7 @@ use Rattle.constraint.specs.Steps.{Step, event, tick, close, times, clockFrom, 
 use Rattle.constraint.specs.Continuation.{EventInOrder}
 use Rattle.constraint.specs.Questions.{Judged}
 use Rattle.constraint.specs.Run.{stepFor, Room, eventQuestions, questions}
-use Rattle.constraint.specs.Recording.{callAt, RecordAt, recordQuestions, ReadsRecords, no-more, record-taken, ReadsInOrder, version-taken, recording-of}
+use Rattle.constraint.specs.Recording.{callAt, recordQuestions, ReadsRecords, no-more, record-taken, ReadsInOrder, version-taken, recording-of}
 use Rattle.constraint.specs.declared.Answer.the-variants.{Taken}
 use Rattle.constraint.specs.declared.Call.{Call}
 use Rattle.constraint.specs.declared.Constraint.{Constraint}

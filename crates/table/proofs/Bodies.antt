@@ -1,15 +1,14 @@
 -- Fields and their bytes say the same: each field stands in a body behind those before it, in one byte or in eight.
-use Prim.Native.Nat.{ℕ, zero, suc, _+_, _*_, _^_, _≤_, _<_}
+use Prim.Native.Nat.{ℕ, _+_, _^_, _≤_, _<_}
 use mathlib.Core.Path.{_≡_, refl, sym, ap, subst⁻¹, _∙_}
 use mathlib.Core.List.{List, [], _∷_, _++_}
 use mathlib.Core.Logic.{⊎-elim}
 use native.Mathlib.Numerals.{add-one, one-add}
 use native.Mathlib.Omega.{arith}
-use lib.ListN.{length, take, drop, length-append, length-take, length-drop}
+use lib.ListN.{length, drop, length-append, length-take, length-drop}
 use lib.Seq.{take-all, take-add, drop-drop, drop-cons, length-take-le, getD-take, getD-drop}
-use Rattle.constraint.specs.Limits.{lastTime}
 use Rattle.constraint.specs.Steps.{at}
-use Rattle.constraint.specs.Bytes.{Bytes, number, bytesOf, bytesAt, numberAt}
+use Rattle.constraint.specs.Bytes.{Bytes, bytesOf, bytesAt, numberAt}
 use Rattle.constraint.specs.Types.{kind, coloured, count, span, plain, lower, upper, upper-or-none, Field, byte, time, typeOf, fieldsOf}
 use Rattle.constraint.specs.Accepted.{FieldsInRange}
 use Rattle.constraint.specs.Table.{fieldsBytes, rowBody, rowBytes, TimesFit, StandsFor}

@@ -1,7 +1,7 @@
 -- Rows as raw bytes are the rows that their bodies stand for, and a body stands for one row: so an accepted table whose rows are given as raw
 -- bytes is written as the table that it was.
-use Prim.Native.Nat.{ℕ, zero, suc, _+_, _*_, _≤_, _<_}
-use mathlib.Core.Path.{_≡_, refl, sym, ap, subst, _∙_}
+use Prim.Native.Nat.{ℕ, _+_, _*_, _≤_, _<_}
+use mathlib.Core.Path.{_≡_, sym, ap, subst, _∙_}
 use mathlib.Core.List.{List, [], _∷_, _++_}
 use native.Mathlib.Nat.{add-zero}
 use native.Mathlib.Omega.{arith}
@@ -16,7 +16,7 @@ use Rattle.constraint.specs.Questions.{Question, Judged}
 use Rattle.constraint.specs.Types.{lengths, lengthOf}
 use Rattle.constraint.specs.Accepted.{rowQuestions, rowsQuestions, Accepted}
 use Rattle.constraint.specs.Records.{filler}
-use Rattle.constraint.specs.Table.{rowBody, ShapeFits, StandsFor, ReadsTable, table-of}
+use Rattle.constraint.specs.Table.{ShapeFits, StandsFor, ReadsTable, table-of}
 use Rattle.constraint.specs.declared.Answer.the-variants.{Taken, Refused}
 use Rattle.constraint.specs.declared.Constraint.{Constraint}
 use Rattle.constraint.proofs.Lists.{split}

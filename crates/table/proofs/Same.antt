@@ -2,7 +2,7 @@
 use Prim.Native.Nat.{ℕ}
 use mathlib.Core.Path.{_≡_, sym, ap₂, _∙_}
 use mathlib.Core.List.{List, [], _++_}
-use Rattle.constraint.specs.Types.{Field, typeOf, fieldsOf}
+use Rattle.constraint.specs.Types.{Field}
 use Rattle.constraint.specs.Table.{Same}
 use Rattle.constraint.specs.Records.{bytesIn, timesIn}
 use Rattle.constraint.specs.declared.Constraint.{Constraint}

@@ -1,11 +1,11 @@
 -- A body stands for one row: its type byte says which bytes and times to read, and the row is made of them again.
 use Prim.Native.Nat.{ℕ, zero, suc, _+_, _*_, _/_, _%_, _^_, _≤_, _<_}
-use mathlib.Core.Path.{_≡_, refl, sym, ap, ap₂, subst, _∙_}
+use mathlib.Core.Path.{_≡_, refl, sym, ap, ap₂, _∙_}
 use mathlib.Core.List.{List, [], _∷_, _++_}
 use native.Mathlib.Nat.{add-zero}
 use native.Mathlib.Numerals.{add-one, one-add}
 use native.Mathlib.Omega.{arith}
-use lib.ListN.{length, getD, take, drop, length-append, length-take, take-append-drop, List·getD-append}
+use lib.ListN.{length, take, drop, length-append, length-take, take-append-drop, List·getD-append}
 use lib.Seq.{take-at, drop-at, drop-append-add, drop-drop, getD-take, ext-getD}
 use Rattle.constraint.specs.Steps.{at}
 use Rattle.constraint.specs.Bytes.{bytesOf, numberAt}

@@ -2,7 +2,6 @@
 use native.Mathlib.Omega.{arith}
 use borrow.Author.Needs.{needs}
 use borrow.Author.Tests.{not-true, not-false}
-use mathlib.Core.Path.{_≡_}
 use denote.Ref.{now}
 use Rattle.queue.proofs.Shared.{free}
 use Rattle.join.proofs.Answers.{answer-first, answer-second, answer-common, answer-short, answer-written}

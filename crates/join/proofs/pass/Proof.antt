@@ -1,7 +1,6 @@
 -- The loop reads record after record: the kinds of those read are marked, and the first one to avoid is kept.
 use native.Mathlib.Omega.{arith}
 use Prim.Native.Nat.{_-_}
-use mathlib.Core.Path.{_≡_, refl}
 use lib.ListN.{length}
 use denote.Ref.{now}
 use Rattle.constraint.specs.Recording.{version-refused}

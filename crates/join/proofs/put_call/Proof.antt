@@ -1,7 +1,7 @@
 -- Length field, kind and colour are stored first, and the time behind them.
 use native.Mathlib.Omega.{arith}
 use borrow.Author.Needs.{needs}
-use mathlib.Core.Path.{_≡_, refl}
+use mathlib.Core.Path.{refl}
 use mathlib.Core.List.{[], _∷_}
 use denote.Ref.{now}
 use Rattle.constraint.specs.Bytes.{bytesOf}

@@ -1,7 +1,6 @@
 -- A record that is dropped is not stored.
-use native.Mathlib.Omega.{arith}
 use borrow.Author.Needs.{needs}
-use mathlib.Core.Path.{_≡_, sym, _∙_}
+use mathlib.Core.Path.{sym, _∙_}
 use Rattle.queue.proofs.Shared.{free}
 use Rattle.join.proofs.put_left.Statement.{statement}
 use Rattle.join.proofs.put_left.Tie as tie

@@ -1,17 +1,16 @@
 -- The version is stored, and then, turn by turn, what is left of the record that comes next.
-use Prim.Native.Nat.{ℕ, _+_, _-_, _≤_, _<_, max}
+use Prim.Native.Nat.{ℕ, _+_, _-_, _≤_}
 use native.Mathlib.Omega.{arith}
 use mathlib.Core.Path.{_≡_, refl, sym, ap, _∙_}
-use mathlib.Core.Bool.{true, false}
 use mathlib.Core.List.{List, [], _∷_}
 use lib.ListN.{length}
 use lib.Seq.{sets, length-sets}
 use borrow.Author.Tests.{not-false, not-true}
 use denote.Ref.{now}
-use Rattle.constraint.specs.Steps.{Step, at}
+use Rattle.constraint.specs.Steps.{Step}
 use Rattle.constraint.proofs.Lists.{both}
 use Rattle.queue.proofs.Shared.{free}
-use Rattle.constraint.specs.Joined.{joined, stepsBytes, joinedBytes}
+use Rattle.constraint.specs.Joined.{joined, stepsBytes}
 use Rattle.join.specs.Walk.{leftBytes, Records}
 use Rattle.join.proofs.Walking.{Walking, walk-start, walk-end, walk-more, walk-short}
 use Rattle.join.proofs.walk.Statement.{statement}

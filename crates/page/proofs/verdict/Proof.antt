@@ -1,6 +1,5 @@
 -- By the tests that led there.
 use borrow.Author.Tests.{lt-ltb, le-ltb}
-use borrow.Author.Needs.{needs}
 use Rattle.page.proofs.verdict.Statement.{statement}
 use Rattle.page.proofs.verdict.Tie as tie
 

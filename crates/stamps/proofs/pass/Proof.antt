@@ -1,7 +1,6 @@
 -- The loop reads record after record: what is kept of the stamps is that of the steps read so far.
 use native.Mathlib.Omega.{arith}
 use Prim.Native.Nat.{_-_}
-use mathlib.Core.Path.{_≡_, refl}
 use lib.ListN.{length}
 use denote.Ref.{now}
 use Rattle.constraint.specs.Recording.{version-refused}

@@ -1,6 +1,5 @@
 -- Two stores where there is room, none where there is not.
 use native.Mathlib.Omega.{arith}
-use Prim.Native.Nat.{_-_}
 use mathlib.Core.Path.{refl}
 use borrow.Author.Needs.{needs}
 use Rattle.stretch.proofs.keep.Statement.{statement}

@@ -2,7 +2,6 @@
 use native.Mathlib.Omega.{arith}
 use Prim.Native.Nat.{_-_}
 use mathlib.Core.Path.{refl}
-use borrow.Author.Needs.{needs}
 use Rattle.stretch.proofs.Runs.{NeedsTo, needs-start, needs-more}
 use Rattle.stretch.proofs.needs.Statement.{statement}
 use Rattle.stretch.proofs.needs.Tie as tie

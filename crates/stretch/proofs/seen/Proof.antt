@@ -1,5 +1,4 @@
 -- A tick where the stream is none, else an event.
-use Prim.Native.Nat.{_-_}
 use borrow.Author.Tests.{eq-eqb, ne-eqb}
 use Rattle.queue.proofs.Shared.{free}
 use Rattle.stretch.proofs.seen.Statement.{statement}

@@ -1,6 +1,4 @@
 -- The questions are put in their order, each to the row's numbers, and the first "no" gives the number.
-use mathlib.Core.Path.{refl}
-use Rattle.constraint.specs.Records.{HoldsRow}
 use Rattle.constraint.proofs.Judged.{free, passed, failed, judged-none, judged-yes, judged-no}
 use Rattle.constraint.proofs.FieldByField.{row-kinds-no, row-sorts-no, row-bytes-no, row-times-no, row-answered}
 use Rattle.constraint.proofs.Constraint.judge.Statement.{statement}

@@ -1,9 +1,7 @@
 -- A time is compared with the largest one, unless it is the mark where that may stand.
-use mathlib.Core.Path.{sym, subst}
 use mathlib.Core.Logic.{inl, inr, ⊎-elim}
 use lib.Dec.{leb}
 use Rattle.constraint.specs.Limits.{lastTime}
-use Rattle.constraint.specs.Records.{Decides}
 use Rattle.constraint.proofs.Judged.{same-test, test-le}
 use Rattle.constraint.proofs.FieldByField.{plain-range}
 use Rattle.constraint.proofs.fields.time_fits.Statement.{statement}

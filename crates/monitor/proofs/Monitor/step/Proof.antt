@@ -2,9 +2,9 @@
 use native.Mathlib.Omega.{arith}
 use borrow.Author.Needs.{needs}
 use mathlib.Core.Path.{_≡_, sym, ap, _∙_}
-use mathlib.Core.Bool.{true, false}
+use mathlib.Core.Bool.{false}
 use Rattle.constraint.specs.Run.{asks}
-use Rattle.monitor.specs.Machine.{refusalBy, nextFor, crowds, takenCall, takes, steppedBy, stepOf}
+use Rattle.monitor.specs.Machine.{crowds, takenCall, steppedBy, stepOf}
 use Rattle.monitor.proofs.Answers.{place-small, refused-by, crowded-by, taken-by}
 use Rattle.monitor.proofs.Theorem.{step-kept}
 use Rattle.monitor.proofs.Monitor.step.Statement.{statement}

@@ -1,7 +1,6 @@
 -- The number is that of the first "no"; where there is none the clock, the count, the first free time and the mark are those after the call.
 use native.Mathlib.Omega.{arith}
 use borrow.Author.Needs.{needs}
-use Prim.Native.Nat.{ℕ}
 use mathlib.Core.Path.{_≡_}
 use Rattle.monitor.proofs.Answers.{place-small}
 use Rattle.order.proofs.Laws.{refusalOf, takes-refused, takes-taken}

@@ -11,7 +11,6 @@ use Rattle.constraint.specs.Steps.{at}
 use Rattle.constraint.specs.Page.{hyphens, pageLines}
 use Rattle.page.specs.ReadBack.{pageLength}
 use Rattle.page.specs.Sheet.{verdictsOf}
-use Rattle.page.specs.declared.Page.{Page}
 use Rattle.page.proofs.Writing.{some-rows, copied-nothing, copied-page}
 use Rattle.page.proofs.Page.write.Statement.{statement}
 use Rattle.page.proofs.Page.write.Tie as tie

@@ -22,14 +22,16 @@ rows-taken i c rows after a room taken later =
     judged-yes 3 _ _ a room (judged-later (rowQuestions c) (rowsQuestions (i + 1) rows after) a taken later)
 
 -- a row that is refused
-pub rows-refused : (i : ℕ) (c : Constraint) (rows : List Constraint) (after : List Question) (n : ℕ) → i < rowLimit → Judged (rowQuestions c) (Refused n)
+pub rows-refused : (i : ℕ) (c : Constraint) (rows : List Constraint) (after : List Question) (n : ℕ) → i < rowLimit
+    → Judged (rowQuestions c) (Refused n)
     → Judged (rowsQuestions i (c ∷ rows) after) (Refused n)
 unfolding rowsQuestions
 rows-refused i c rows after n room refused =
     judged-yes 3 _ _ _ room (judged-first (rowQuestions c) (rowsQuestions (i + 1) rows after) n refused)
 
 -- a row past the last that there is room for
-pub rows-full : (i : ℕ) (rows : List Constraint) (after : List Question) → i < length rows → rowLimit ≤ i → Judged (rowsQuestions i (drop i rows) after) (Refused 3)
+pub rows-full : (i : ℕ) (rows : List Constraint) (after : List Question) → i < length rows → rowLimit ≤ i
+    → Judged (rowsQuestions i (drop i rows) after) (Refused 3)
 unfolding rowsQuestions
 rows-full i rows after there full = rw (drop-cons rows i filler there) (judged-no 3 _ _ (λ h. omega arith))
 

@@ -19,7 +19,9 @@ use Rattle.constraint.specs.Run.{Room, questions}
 use Rattle.constraint.specs.declared.Answer.{Answer}
 use Rattle.constraint.specs.declared.Call.{Call}
 use Rattle.constraint.specs.declared.Constraint.{Constraint}
-use Rattle.constraint.specs.declared.Constraint.the-variants.{Delay, StrongDelay, Repeat, Sporadic, Burst, Order, StrongSynchronization2, StrongSynchronization3, StrongSynchronization4, ExecutionTime, Reaction, Repetition}
+use Rattle.constraint.specs.declared.Constraint.the-variants.{Delay, StrongDelay, Repeat, Sporadic, Burst, Order, StrongSynchronization2}
+use Rattle.constraint.specs.declared.Constraint.the-variants.{StrongSynchronization3, StrongSynchronization4, ExecutionTime, Reaction}
+use Rattle.constraint.specs.declared.Constraint.the-variants.{Repetition}
 use Rattle.constraint.proofs.Lists.{split, both, Each, each-none, each-cons}
 use Rattle.constraint.proofs.Judged.{skipped, put-in}
 use Rattle.constraint.proofs.History.{times-append, times-other, own-append, clock-append, clock-event, closed-event}
@@ -78,7 +80,8 @@ own-thin : (ks : List ℕ) (steps : List Step) → own ks (thin ks steps) ≡ ow
 unfolding own thin
 own-thin ks [] = refl
 own-thin ks (event k t ∷ steps) =
-    split (among k ks) (λ x. among k ks ≡ x → own ks (cond x (event k t ∷ thin ks steps) (thin ks steps)) ≡ cond x ((k, t) ∷ own ks steps) (own ks steps))
+    split (among k ks) (λ x. among k ks ≡ x → own ks (cond x (event k t ∷ thin ks steps) (thin ks steps))
+    ≡ cond x ((k, t) ∷ own ks steps) (own ks steps))
     (λ e f. rw f (ap (λ (l : List (ℕ × ℕ)). (k, t) ∷ l) (own-thin ks steps))) (λ e f. own-thin ks steps) refl
 own-thin ks (tick t ∷ steps) = own-thin ks steps
 own-thin ks (close ∷ steps) = own-thin ks steps
@@ -99,7 +102,8 @@ module _ (ks : List ℕ) (small : Each (λ k. k ≤ lastKind) ks) where
       let later = continues-thin rest (b ++ (event k t ∷ [])) (closed-event k t b ∙ o ∙ sym (closed-event k t a))
       (λ j own-j. times-append j a (event k t ∷ []) ∙ rw (same j own-j) (sym (times-append j b (event k t ∷ []))))
       (rw (clock-event k t b, clock-event k t a) (omega arith)) in (
-        more-before k t (o ∙ open-a) (omega (arith, small (here .0) (here .1), here .2)) (omega (arith, order .0), rw (← same k f) (order .1)) (later .0),
+        more-before k t (o ∙ open-a) (omega (arith, small (here .0) (here .1), here .2)) (omega (arith, order .0), rw (← same k f) (order .1))
+            (later .0),
         rw (clock-event k t b, clock-event k t a) at (later .1),
       ))
       (λ e f. let later = continues-thin rest b (o ∙ sym (closed-event k t a))
@@ -110,7 +114,8 @@ module _ (ks : List ℕ) (small : Each (λ k. k ≤ lastKind) ks) where
 
 -- the streams of a row of any type but 9 are plain kinds
 plain-two : (a b : ℕ) → a < firstColoured → b < firstColoured → Each (λ k. k ≤ lastKind) (a ∷ b ∷ [])
-plain-two a b h k = each-cons (λ k. k ≤ lastKind) a (b ∷ []) (omega arith) (each-cons (λ k. k ≤ lastKind) b [] (omega arith) (each-none (λ k. k ≤ lastKind)))
+plain-two a b h k = each-cons (λ k. k ≤ lastKind) a (b ∷ []) (omega arith)
+    (each-cons (λ k. k ≤ lastKind) b [] (omega arith) (each-none (λ k. k ≤ lastKind)))
 
 plain-one : (a : ℕ) → a < firstColoured → Each (λ k. k ≤ lastKind) (a ∷ [])
 plain-one a h = each-cons (λ k. k ≤ lastKind) a [] (omega arith) (each-none (λ k. k ≤ lastKind))
@@ -144,7 +149,8 @@ open-as-before c suit other steps = (
         thin ks further,
         left .0,
         meets-same c (steps ++ further) (steps ++ thin ks further)
-            (own-append ks steps further ∙ sym (own-append ks steps (thin ks further) ∙ ap (λ (l : List (ℕ × ℕ)). own ks steps ++ l) (own-thin ks further)))
+            (own-append ks steps further ∙ sym (own-append ks steps (thin ks further)
+            ∙ ap (λ (l : List (ℕ × ℕ)). own ks steps ++ l) (own-thin ks further)))
             (rw (clock-append 0 steps further, clock-append 0 steps (thin ks further)) (left .1)) meets,
       ),
   λ (further, follows, meets). (further, continues-still follows, meets),

@@ -16,11 +16,14 @@ use Rattle.constraint.specs.Meets.{NotLater, Meets, MeetsDelay, MeetsStr
 use Rattle.constraint.specs.Meets.{MeetsStrongSynchronization, MeetsExecutionTime, MeetsReaction, MeetsRepetition}
 use Rattle.constraint.specs.Continuation.{EventInOrder, Continues, stop, more, Open}
 use Rattle.constraint.specs.declared.Constraint.{Constraint}
-use Rattle.constraint.specs.declared.Constraint.the-variants.{Delay, StrongDelay, Repeat, Sporadic, Burst, Order, StrongSynchronization2, StrongSynchronization3, StrongSynchronization4}
+use Rattle.constraint.specs.declared.Constraint.the-variants.{Delay, StrongDelay, Repeat, Sporadic, Burst, Order, StrongSynchronization2}
+use Rattle.constraint.specs.declared.Constraint.the-variants.{StrongSynchronization3, StrongSynchronization4}
 use Rattle.constraint.specs.declared.Constraint.the-variants.{ExecutionTime, Reaction, Repetition}
-use Rattle.constraint.proofs.Lists.{split, both, Each, each-none, each-cons, each-left, each-right, Rising, rising-right, rising-across, rising-snoc}
+use Rattle.constraint.proofs.Lists.{split, both, Each, each-none, each-cons, each-left, each-right, Rising, rising-right, rising-across}
+use Rattle.constraint.proofs.Lists.{rising-snoc}
 use Rattle.constraint.proofs.Streams.{colour-at, among-at}
-use Rattle.constraint.proofs.History.{times-append, times-own, times-tick, own-append, own-tick, own-close, clock-append, clock-later, clock-event, clock-tick, clock-close, closed-event, closed-tick, closed-close, Accepts, with-time}
+use Rattle.constraint.proofs.History.{times-append, times-own, times-tick, own-append, own-tick, own-close, clock-append, clock-later}
+use Rattle.constraint.proofs.History.{clock-event, clock-tick, clock-close, closed-event, closed-tick, closed-close, Accepts, with-time}
 
 -- ---- a row looks only at its own events and the clock
 
@@ -33,7 +36,8 @@ pub own-times : (ks : List ℕ) (k : ℕ) → among k ks ≡ true → (steps : L
 unfolding times own timesIn
 own-times ks k is [] = refl
 own-times ks k is (event j t ∷ steps) =
-    split (among j ks) (λ x. among j ks ≡ x → cond (eqb j k) (t ∷ times k steps) (times k steps) ≡ timesIn k (cond x ((j, t) ∷ own ks steps) (own ks steps)))
+    split (among j ks) (λ x. among j ks ≡ x → cond (eqb j k) (t ∷ times k steps) (times k steps)
+    ≡ timesIn k (cond x ((j, t) ∷ own ks steps) (own ks steps)))
     (λ e f. ap (λ (l : List ℕ). cond (eqb j k) (t ∷ l) l) (own-times ks k is steps))
     (λ e f. rw (ne-eqb j k (λ same. both (sym is ∙ ap (λ (i : ℕ). among i ks) (sym same) ∙ f))) (own-times ks k is steps))
     refl
@@ -49,12 +53,14 @@ pub same-times : (ks : List ℕ) (a b : List Step) → own ks a ≡ own ks b →
 same-times ks a b same i h =
     own-times ks (at ks i) (among-at ks i h) a ∙ ap (timesIn (at ks i)) same ∙ sym (own-times ks (at ks i) (among-at ks i h) b)
 
-synchronized-same : (ks : List ℕ) (tolerance : ℕ) (a b : List Step) → SameTimes ks a b → MeetsStrongSynchronization ks tolerance a → MeetsStrongSynchronization ks tolerance b
+synchronized-same : (ks : List ℕ) (tolerance : ℕ) (a b : List Step) → SameTimes ks a b → MeetsStrongSynchronization ks tolerance a
+    → MeetsStrongSynchronization ks tolerance b
 unfolding MeetsStrongSynchronization
 synchronized-same ks tolerance a b same m j k h g = rw (← same j h, ← same k g) (m j k h g)
 
 -- the same times of each colour of a kind
-pub of-colour : (k : ℕ) (a b : List Step) → SameTimes (colours k) a b → (colour : ℕ) → colour ≤ lastColour → times (stream k colour) a ≡ times (stream k colour) b
+pub of-colour : (k : ℕ) (a b : List Step) → SameTimes (colours k) a b → (colour : ℕ) → colour ≤ lastColour → times (stream k colour) a
+    ≡ times (stream k colour) b
 of-colour k a b same colour few = subst (λ (s : ℕ). times s a ≡ times s b) (colour-at k colour few) (same colour (omega arith))
 
 -- what is met at a clock is met at every earlier one
@@ -126,11 +132,13 @@ continues-clock (more {steps = steps} {further = further} j t o kind order rest)
     omega (arith, clock-event j t steps, order .0)
 
 -- with those recorded, its times of a kind rise strictly
-pub continues-rising : {steps further : List Step} → Continues steps further → (k : ℕ) → Rising (times k steps) → Rising (times k steps ++ times k further)
+pub continues-rising : {steps further : List Step} → Continues steps further → (k : ℕ) → Rising (times k steps)
+    → Rising (times k steps ++ times k further)
 unfolding times
 continues-rising (stop {steps = steps}) k r = rw (append-nil (times k steps)) r
 continues-rising (more {steps = steps} {further = further} j t o kind order rest) k r =
-    subst Rising (sym (times-append k (steps ++ (event j t ∷ [])) further) ∙ ap (times k) (append-assoc steps (event j t ∷ []) further) ∙ times-append k steps (event j t ∷ further))
+    subst Rising (sym (times-append k (steps ++ (event j t ∷ [])) further) ∙ ap (times k) (append-assoc steps (event j t ∷ []) further)
+    ∙ times-append k steps (event j t ∷ further))
     (continues-rising rest k (with-time k j t steps Rising
     (λ e. rising-snoc (times k steps) t r (subst (λ (i : ℕ). Each (λ s. s < t) (times i steps)) e (order .1))) r))
 
@@ -140,11 +148,13 @@ continues-closed c stop = refl
 continues-closed c (more j t o kind order rest) = absurd (let z : _≡_ {A = ℕ} 0 1 = cc in omega arith)
 
 -- it also follows on steps with the same times and no later clock
-pub continues-earlier : {a further : List Step} → Continues a further → (b : List Step) → closed b ≡ closed a → ((k : ℕ) → times k a ≡ times k b) → clock b ≤ clock a → Continues b further
+pub continues-earlier : {a further : List Step} → Continues a further → (b : List Step) → closed b ≡ closed a → ((k : ℕ) → times k a ≡ times k b)
+    → clock b ≤ clock a → Continues b further
 continues-earlier stop b o same earlier = stop
 continues-earlier (more {steps = a} {further = further} j t open-a kind order rest) b o same earlier =
     more j t (o ∙ open-a) kind (omega (arith, order .0), rw (← same j) (order .1))
-    (continues-earlier rest (b ++ (event j t ∷ [])) (closed-event j t b ∙ o ∙ sym (closed-event j t a)) same-after (rw (clock-event j t b, clock-event j t a) (omega arith)))
+    (continues-earlier rest (b ++ (event j t ∷ [])) (closed-event j t b ∙ o ∙ sym (closed-event j t a)) same-after
+    (rw (clock-event j t b, clock-event j t a) (omega arith)))
   where
     same-after : (k : ℕ) → times k (a ++ (event j t ∷ [])) ≡ times k (b ++ (event j t ∷ []))
     same-after k = times-append k a (event j t ∷ []) ∙ rw (same k) (sym (times-append k b (event j t ∷ [])))
@@ -154,7 +164,8 @@ continues-earlier (more {steps = a} {further = further} j t open-a kind order re
 abbrev pub events : ℕ → List ℕ → List Step
 events k ts = map (event k) ts
 
-pub continues-events : (k : ℕ) → k < streamCount → (ts : List ℕ) (steps : List Step) → closed steps ≡ false → Rising (times k steps ++ ts) → Each (λ t. clock steps ≤ t) ts
+pub continues-events : (k : ℕ) → k < streamCount → (ts : List ℕ) (steps : List Step) → closed steps ≡ false → Rising (times k steps ++ ts)
+    → Each (λ t. clock steps ≤ t) ts
     → Continues steps (events k ts)
 continues-events k kind [] steps o r late = stop
 continues-events k kind (t ∷ ts) steps o r late =
@@ -182,12 +193,14 @@ module _ (c : Constraint) (steps : List Step) where
       (event k t ∷ further, more k t o kind order follows, subst (Meets c) (append-assoc steps (event k t ∷ []) further) meets)
 
   -- nothing is recorded by a tick or a close, and neither moves the clock back
-  meets-before : (s : Step) → own (streams c) (steps ++ (s ∷ [])) ≡ own (streams c) steps → clock steps ≤ clock (steps ++ (s ∷ [])) → (further : List Step)
+  meets-before : (s : Step) → own (streams c) (steps ++ (s ∷ [])) ≡ own (streams c) steps → clock steps ≤ clock (steps ++ (s ∷ []))
+      → (further : List Step)
       → Meets c (steps ++ (s ∷ []) ++ further) → Meets c (steps ++ further)
   meets-before s same later further m =
       meets-same c (steps ++ (s ∷ []) ++ further) (steps ++ further)
       (own-append (streams c) (steps ++ (s ∷ [])) further ∙ rw same (sym (own-append (streams c) steps further)))
-      (rw (clock-append 0 (steps ++ (s ∷ [])) further, clock-append 0 steps further) (clock-later (clock steps) (clock (steps ++ (s ∷ []))) further later)) m
+      (rw (clock-append 0 (steps ++ (s ∷ [])) further, clock-append 0 steps further)
+      (clock-later (clock steps) (clock (steps ++ (s ∷ []))) further later)) m
 
   open-before-tick : (t : ℕ) → clock steps ≤ t → Open c (steps ++ (tick t ∷ [])) → Open c steps
   open-before-tick t later (further, follows, meets) = (
@@ -211,12 +224,14 @@ module _ (c : Constraint) (steps : List Step) where
   open-before close a o = open-before-close o
 
   -- a row that is open after an event would be open after a tick to its time
-  pub open-at-tick : (k t : ℕ) → closed steps ≡ false → k < streamCount → EventInOrder steps k t → Open c (steps ++ (event k t ∷ [])) → Open c (steps ++ (tick t ∷ []))
+  pub open-at-tick : (k t : ℕ) → closed steps ≡ false → k < streamCount → EventInOrder steps k t → Open c (steps ++ (event k t ∷ []))
+      → Open c (steps ++ (tick t ∷ []))
   unfolding clockFrom
   open-at-tick k t o kind order (further, follows, meets) = (
     event k t ∷ further,
     more k t (closed-tick t steps ∙ o) kind (rw (clock-tick t steps) (omega arith), rw (times-tick k t steps) (order .1))
-        (continues-earlier follows (steps ++ (tick t ∷ []) ++ (event k t ∷ [])) closed-same same (rw (clock-event k t steps, clock-event k t (steps ++ (tick t ∷ []))) (omega arith))),
+        (continues-earlier follows (steps ++ (tick t ∷ []) ++ (event k t ∷ [])) closed-same same
+        (rw (clock-event k t steps, clock-event k t (steps ++ (tick t ∷ []))) (omega arith))),
     meets-same c (steps ++ (event k t ∷ []) ++ further) (steps ++ (tick t ∷ []) ++ (event k t ∷ further)) own-same clock-same meets,
   )
     where
@@ -239,4 +254,8 @@ module _ (c : Constraint) (steps : List Step) where
 
       clock-same : clock (steps ++ (tick t ∷ []) ++ (event k t ∷ further)) ≤ clock (steps ++ (event k t ∷ []) ++ further)
       clock-same =
-          rw (clock-append 0 (steps ++ (tick t ∷ [])) (event k t ∷ further), clock-append 0 (steps ++ (event k t ∷ [])) further, clock-event k t steps) (omega arith)
+          rw (
+            clock-append 0 (steps ++ (tick t ∷ [])) (event k t ∷ further),
+            clock-append 0 (steps ++ (event k t ∷ [])) further,
+            clock-event k t steps,
+          ) (omega arith)

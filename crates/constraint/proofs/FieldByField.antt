@@ -170,7 +170,8 @@ plain-range r x there other =
 -- Lower and upper
 
 -- a byte is neither
-pub bytes-bounds : (low : ℕ) (roles values : List ℕ) (later : List Field) → NotBelow low (fieldsAs byteField roles values ++ later) ≡ NotBelow low later
+pub bytes-bounds : (low : ℕ) (roles values : List ℕ) (later : List Field) → NotBelow low (fieldsAs byteField roles values ++ later)
+    ≡ NotBelow low later
 unfolding fieldsAs
 bytes-bounds low [] values later = refl
 bytes-bounds low (r ∷ roles) [] later = refl
@@ -197,7 +198,8 @@ module _ (low : ℕ) (roles values : List ℕ) (i : ℕ) (h : i < length roles) 
   pub bounds-other : at roles i ≢ 2 → at roles i ≢ 3 → at roles i ≢ 4
       → NotBelow low (timesFrom roles values i) ≡ NotBelow low (timesFrom roles values (i + 1))
   bounds-other a b c =
-      ap (NotBelow low) (fields-next timeField roles values i h k) ∙ other-bounds low (at roles i) (at values i) (timesFrom roles values (i + 1)) a b c
+      ap (NotBelow low) (fields-next timeField roles values i h k)
+      ∙ other-bounds low (at roles i) (at values i) (timesFrom roles values (i + 1)) a b c
 
 -- A row's numbers: what is asked of them is what is asked of the row
 

@@ -1,4 +1,5 @@
--- What is true of every list of accepted steps: the times of a stream rise strictly and none is after the clock, since each step was accepted in order.
+-- What is true of every list of accepted steps: the times of a stream rise strictly and none is after the clock, since each step was accepted in
+-- order.
 use Prim.Native.Nat.{ℕ, _≤_, _<_}
 use native.Mathlib.Omega.{arith}
 use mathlib.Core.Path.{_≡_, refl, sym, ap, _∙_, subst}
@@ -150,7 +151,8 @@ pub record Past (steps : List Step) : Type 0 where
   pub small : clock steps ≤ lastTime
 
 -- the times of a kind after an event: with its time if it is of that kind
-pub with-time : (k j t : ℕ) (steps : List Step) (P : List ℕ → Type 0) → (j ≡ k → P (times k steps ++ (t ∷ []))) → P (times k steps) → P (times k (steps ++ (event j t ∷ [])))
+pub with-time : (k j t : ℕ) (steps : List Step) (P : List ℕ → Type 0) → (j ≡ k → P (times k steps ++ (t ∷ []))) → P (times k steps)
+    → P (times k (steps ++ (event j t ∷ [])))
 with-time k j t steps P own other =
     split (eqb j k) (λ x. eqb j k ≡ x → P (times k (steps ++ (event j t ∷ []))))
     (λ e f. let same : j ≡ k = eqb-true j k e in
@@ -164,9 +166,11 @@ with-time k j t steps P own other =
 past-event : (j t : ℕ) (steps : List Step) → Past steps → t ≤ lastTime → EventInOrder steps j t → Past (steps ++ (event j t ∷ []))
 past-event j t steps p small order =
     record {
-      rising = λ k. with-time k j t steps Rising (λ e. rising-snoc (times k steps) t (p .rising k) (subst (λ (i : ℕ). Each (λ s. s < t) (times i steps)) e (order .1))) (p .rising k);
+      rising = λ k. with-time k j t steps Rising (λ e. rising-snoc (times k steps) t (p .rising k)
+          (subst (λ (i : ℕ). Each (λ s. s < t) (times i steps)) e (order .1))) (p .rising k);
       past = λ k. rw (clock-event j t steps) (with-time k j t steps (Each (λ s. s ≤ t))
-          (λ e. each-append (λ s. s ≤ t) (times k steps) (t ∷ []) (before k) (each-cons (λ s. s ≤ t) t [] (omega arith) (each-none (λ s. s ≤ t)))) (before k));
+          (λ e. each-append (λ s. s ≤ t) (times k steps) (t ∷ []) (before k) (each-cons (λ s. s ≤ t) t [] (omega arith) (each-none (λ s. s ≤ t))))
+          (before k));
       small = rw (clock-event j t steps) small;
     }
   where

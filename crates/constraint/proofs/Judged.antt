@@ -109,14 +109,16 @@ judged-first (q ∷ first) later n (inl h) = inl (h .0, judged-first first later
 judged-first (q ∷ first) later n (inr h) = inr h
 
 -- a question that is answered "yes" may be left out, or put in
-pub skipped : (before later : List Question) (n : ℕ) (asked : Type 0) → asked → (a : Answer) → Judged (before ++ ((n, asked) ∷ later)) a → Judged (before ++ later) a
+pub skipped : (before later : List Question) (n : ℕ) (asked : Type 0) → asked → (a : Answer) → Judged (before ++ ((n, asked) ∷ later)) a
+    → Judged (before ++ later) a
 unfolding Judged
 skipped [] later n asked holds a (inl h) = h .1
 skipped [] later n asked holds a (inr h) = absurd (h .0 holds)
 skipped (q ∷ before) later n asked holds a (inl h) = inl (h .0, skipped before later n asked holds a (h .1))
 skipped (q ∷ before) later n asked holds a (inr h) = inr h
 
-pub put-in : (before later : List Question) (n : ℕ) (asked : Type 0) → asked → (a : Answer) → Judged (before ++ later) a → Judged (before ++ ((n, asked) ∷ later)) a
+pub put-in : (before later : List Question) (n : ℕ) (asked : Type 0) → asked → (a : Answer) → Judged (before ++ later) a
+    → Judged (before ++ ((n, asked) ∷ later)) a
 unfolding Judged
 put-in [] later n asked holds a j = inl (holds, j)
 put-in (q ∷ before) later n asked holds a (inl h) = inl (h .0, put-in before later n asked holds a (h .1))

@@ -24,7 +24,8 @@ use Rattle.constraint.specs.declared.Constraint.{Constraint}
 use Rattle.constraint.proofs.Lists.{Each}
 use Rattle.constraint.proofs.Judged.{judged-yes, judged-all, put-in, widened}
 use Rattle.constraint.proofs.Counting.{nextFree, next-least, next-snoc}
-use Rattle.constraint.proofs.History.{times-own, times-other, times-tick, times-close, clock-event, clock-tick, clock-close, closed-event, closed-tick, closed-close, Accepts, Valid, valid-none, valid-more, Past, past-of}
+use Rattle.constraint.proofs.History.{times-own, times-other, times-tick, times-close, clock-event, clock-tick, clock-close, closed-event}
+use Rattle.constraint.proofs.History.{closed-tick, closed-close, Accepts, Valid, valid-none, valid-more, Past, past-of}
 use Rattle.constraint.proofs.Runs.{accepts-taken}
 
 -- the last time before clocks were longer
@@ -98,8 +99,11 @@ unfolding total
 total-event zero k t steps h order = absurd (omega arith)
 total-event (suc n) k t steps h order =
     by-cases (ℕ-discrete k n)
-    (λ e. let others : total n (steps ++ (event k t ∷ [])) ≡ total n steps = total-same n (steps ++ (event k t ∷ [])) steps (λ j g. times-other j k t steps (λ f. omega arith)) in
-    let own : nextFree (times n (steps ++ (event k t ∷ []))) ≡ suc t = ap nextFree (subst (λ (j : ℕ). times j (steps ++ (event k t ∷ [])) ≡ times j steps ++ (t ∷ [])) e (times-own k t steps)) ∙ next-snoc (times n steps) t (subst (λ (j : ℕ). Each (λ s. s < t) (times j steps)) e (order .1)) in
+    (λ e. let others : total n (steps ++ (event k t ∷ [])) ≡ total n steps =
+    total-same n (steps ++ (event k t ∷ [])) steps (λ j g. times-other j k t steps (λ f. omega arith)) in
+    let own : nextFree (times n (steps ++ (event k t ∷ []))) ≡ suc t =
+    ap nextFree (subst (λ (j : ℕ). times j (steps ++ (event k t ∷ [])) ≡ times j steps ++ (t ∷ [])) e (times-own k t steps))
+    ∙ next-snoc (times n steps) t (subst (λ (j : ℕ). Each (λ s. s < t) (times j steps)) e (order .1)) in
     let before : nextFree (times n steps) ≤ t = next-least (times n steps) t (subst (λ (j : ℕ). Each (λ s. s < t) (times j steps)) e (order .1)) in
     omega arith)
     (λ e. let other : nextFree (times n (steps ++ (event k t ∷ []))) ≡ nextFree (times n steps) = ap nextFree (times-other n k t steps e) in
@@ -122,11 +126,14 @@ count-step : (s : Step) (steps : List Step) → Accepts steps s → length steps
     → length steps + 1 ≤ total 176 (steps ++ (s ∷ [])) + clock (steps ++ (s ∷ [])) + closings (steps ++ (s ∷ []))
 unfolding closings
 count-step (event k t) steps a h =
-    rw (clock-event k t steps, closed-event k t steps) (omega (arith, total-event 176 k t steps (omega (arith, a .stream-small)) (a .in-order), a .in-order .0))
+    rw (clock-event k t steps, closed-event k t steps) (omega
+    (arith, total-event 176 k t steps (omega (arith, a .stream-small)) (a .in-order), a .in-order .0))
 count-step (tick t) steps a h =
-    rw (clock-tick t steps, closed-tick t steps, total-same 176 (steps ++ (tick t ∷ [])) steps (λ k g. times-tick k t steps)) (omega (arith, a .later))
+    rw (clock-tick t steps, closed-tick t steps, total-same 176 (steps ++ (tick t ∷ [])) steps (λ k g. times-tick k t steps))
+    (omega (arith, a .later))
 count-step close steps a h =
-    rw (clock-close steps, closed-close steps, total-same 176 (steps ++ (close ∷ [])) steps (λ k g. times-close k steps)) (omega (arith, rw (a .not-closed) at h))
+    rw (clock-close steps, closed-close steps, total-same 176 (steps ++ (close ∷ [])) steps (λ k g. times-close k steps))
+    (omega (arith, rw (a .not-closed) at h))
 
 count-bound : {steps : List Step} → Valid steps → length steps ≤ total 176 steps + clock steps + closings steps
 count-bound valid-none = omega arith
@@ -170,11 +177,13 @@ NoneTooLate (a ∷ answers) = ¬ (a ≡ Refused 10) × NoneTooLate answers
 
 module _ (rows : List Constraint) (steps : List Step) where
   -- 10 asks less, and 24 is answered "yes"
-  same-answer : (a : Answer) → ¬ (a ≡ Refused 10) → length steps < lastCount → (s : Call) → Judged (questionsBefore rows steps s) a → Judged (questions rows steps s) a
+  same-answer : (a : Answer) → ¬ (a ≡ Refused 10) → length steps < lastCount → (s : Call) → Judged (questionsBefore rows steps s) a
+      → Judged (questions rows steps s) a
   unfolding questions
   same-answer a other counted (Call.Event k t) judged =
       put-in ((8, closed steps ≡ false) ∷ []) _ 24 _ counted a
-      (widened ((8, closed steps ≡ false) ∷ (9, k ≤ lastKind) ∷ (19, k < firstColoured) ∷ []) _ 10 _ _ (λ (h : t ≤ lastTimeBefore). earlier t h) a other judged)
+      (widened ((8, closed steps ≡ false) ∷ (9, k ≤ lastKind) ∷ (19, k < firstColoured) ∷ []) _ 10 _ _
+      (λ (h : t ≤ lastTimeBefore). earlier t h) a other judged)
   same-answer a other counted (Call.ColouredEvent k c t) judged =
       put-in ((8, closed steps ≡ false) ∷ []) _ 24 _ counted a
       (widened ((8, closed steps ≡ false) ∷ (9, k ≤ lastKind) ∷ (19, (firstColoured ≤ k) × (c ≤ lastColour)) ∷ []) _ 10 _ _
@@ -188,9 +197,11 @@ module _ (rows : List Constraint) (steps : List Step) where
   event-small : (s t : ℕ) → Judged (eventQuestionsThen rows steps s t) Taken → clock (steps ++ (event s t ∷ [])) ≤ lastTimeBefore
   event-small s t judged = rw (clock-event s t steps) (judged-all 10 _ _ judged .0)
 
-  clock-small : (s : Call) → Judged (questionsBefore rows steps s) Taken → clock steps ≤ lastTimeBefore → clock (steps ++ (stepFor s ∷ [])) ≤ lastTimeBefore
+  clock-small : (s : Call) → Judged (questionsBefore rows steps s) Taken → clock steps ≤ lastTimeBefore
+      → clock (steps ++ (stepFor s ∷ [])) ≤ lastTimeBefore
   clock-small (Call.Event k t) judged h = event-small k t (judged-all 19 _ _ (judged-all 9 _ _ (judged-all 8 _ _ judged .1) .1) .1)
-  clock-small (Call.ColouredEvent k c t) judged h = event-small (stream k c) t (judged-all 19 _ _ (judged-all 9 _ _ (judged-all 8 _ _ judged .1) .1) .1)
+  clock-small (Call.ColouredEvent k c t) judged h = event-small (stream k c) t
+      (judged-all 19 _ _ (judged-all 9 _ _ (judged-all 8 _ _ judged .1) .1) .1)
   clock-small (Call.Tick t) judged h = rw (clock-tick t steps) (judged-all 10 _ _ (judged-all 8 _ _ judged .1) .0)
   clock-small Call.Close judged h = rw (clock-close steps) h
 
@@ -201,9 +212,11 @@ run-from done-before none v small = done
 run-from {rows = rows} (call-before {left = left} s Taken judged rest) none v small =
     let now-taken = same-answer rows (left .steps) Taken (none .0) (count-before v small) s judged in
     request (asks s) Taken now-taken
-    (run-from rest (none .1) (valid-more (stepFor s) v (accepts-taken rows (left .steps) s now-taken)) (clock-small rows (left .steps) s judged small))
+    (run-from rest (none .1) (valid-more (stepFor s) v (accepts-taken rows (left .steps) s now-taken))
+    (clock-small rows (left .steps) s judged small))
 run-from {rows = rows} (call-before {left = left} s (Refused n) judged rest) none v small =
-    request (asks s) (Refused n) (same-answer rows (left .steps) (Refused n) (none .0) (count-before v small) s judged) (run-from rest (none .1) v small)
+    request (asks s) (Refused n) (same-answer rows (left .steps) (Refused n) (none .0) (count-before v small) s judged)
+    (run-from rest (none .1) v small)
 
 pub run-still : {rows : List Constraint} {end : Left} {calls : List Call} {answers : List Answer} → RunBefore rows noneLeft calls answers end
     → NoneTooLate answers → Run rows noneLeft (map asks calls) answers end

@@ -1,4 +1,5 @@
--- The record of some rows holds those rows, a row put in its next entry makes the record of one row more, and a row for which there is no entry makes a record that is refused.
+-- The record of some rows holds those rows, a row put in its next entry makes the record of one row more, and a row for which there is no entry
+-- makes a record that is refused.
 use Prim.Native.Nat.{ℕ, zero, suc, _+_, _-_, _≤_, _<_, max}
 use mathlib.Core.Path.{_≡_, refl, sym, ap, subst⁻¹, _∙_}
 use mathlib.Core.List.{List, [], _∷_, _++_, map, map-append, append-assoc}
@@ -33,7 +34,8 @@ unfolding tableOf
 record-count table rows e = ap (λ (t : Table). t .count) e
 
 -- the row that stands in an entry
-entry-row : (rows rest : List Constraint) (i : ℕ) (d : Entry) → i < length rows → getElem? rows i ≡ some (getD (map entryOf (rows ++ rest)) i d .constraint)
+entry-row : (rows rest : List Constraint) (i : ℕ) (d : Entry) → i < length rows → getElem? rows i
+    ≡ some (getD (map entryOf (rows ++ rest)) i d .constraint)
 entry-row [] rest i d h = absurd (omega arith)
 entry-row (c ∷ rows) rest zero d h = refl
 entry-row (c ∷ rows) rest (suc i) d h = entry-row rows rest i d (omega arith)
@@ -81,7 +83,9 @@ record-full table r c adds full accepted =
     let made : r ≡ record { rows = table .rows; count = suc n } = adds .full (omega arith) ∙ (λ i. record { rows = table .rows; count = more i }) in
     subst⁻¹ (λ (rows : List Constraint). Judged (rowsQuestions 0 rows []) (Refused 3))
     (ap rowsOf made
-    ∙ ap (take (suc n)) (ap (λ (l : List Constraint). entries ++ l) (ap (λ (k : ℕ). replicate k filler) (sym (add-one n)) ∙ sym (replicate-append-replicate n 1 filler)) ∙ sym (append-assoc entries (replicate n filler) (filler ∷ [])))
+    ∙ ap (take (suc n)) (ap (λ (l : List Constraint). entries ++ l)
+    (ap (λ (k : ℕ). replicate k filler) (sym (add-one n)) ∙ sym (replicate-append-replicate n 1 filler))
+    ∙ sym (append-assoc entries (replicate n filler) (filler ∷ [])))
     ∙ take-suc (listed ++ (filler ∷ [])) n filler (omega (arith, length-append listed (filler ∷ [])))
     ∙ ap (λ (l : List Constraint). l ++ (getD (listed ++ (filler ∷ [])) n filler ∷ [])) (take-append-le n listed (filler ∷ []) long))
     (rows-one-more 0 (take n listed) (getD (listed ++ (filler ∷ [])) n filler) (omega (arith, length-take n listed)) accepted)

@@ -15,7 +15,11 @@ pub rows-length : (table : Table) → length (rowsOf table) ≡ table .count
 unfolding rowsOf
 rows-length table =
     length-take (table .count) _
-    ∙ omega (arith, length-append (map (λ entry. entry .constraint) (table .rows)) (replicate (table .count) filler), length-replicate (table .count) filler)
+    ∙ omega (
+      arith,
+      length-append (map (λ entry. entry .constraint) (table .rows)) (replicate (table .count) filler),
+      length-replicate (table .count) filler,
+    )
 
 -- the rows from a place on: that of the entry, and the others
 pub rows-from : (table : Table) (i : ℕ) (other : Entry) → i < table .count → i < length (table .rows)
@@ -26,5 +30,6 @@ rows-from table i other counted there =
     rw (add-one i, drop-cons (rowsOf table) i (other .constraint) (omega (arith, rows-length table)))
     (ap (λ (c : Constraint). c ∷ drop (suc i) (rowsOf table))
     (getD-take (table .count) (list ++ replicate (table .count) filler) i (other .constraint) counted
-    ∙ List·getD-append list (replicate (table .count) filler) (other .constraint) i (omega (arith, length-map (table .rows) (λ entry. entry .constraint)))
+    ∙ List·getD-append list (replicate (table .count) filler) (other .constraint) i
+    (omega (arith, length-map (table .rows) (λ entry. entry .constraint)))
     ∙ List·getD-map (λ entry. entry .constraint) (table .rows) i other))

@@ -1,4 +1,5 @@
--- What is true of every list of calls: the steps that it accepts are in order, so each row reads one verdict, broken exactly when it is not open, and at the close kept exactly when the recorded events meet its definition.
+-- What is true of every list of calls: the steps that it accepts are in order, so each row reads one verdict, broken exactly when it is not open,
+-- and at the close kept exactly when the recorded events meet its definition.
 use Prim.Native.Nat.{ℕ, _<_}
 use native.Mathlib.Omega.{arith}
 use mathlib.Core.Path.{_≡_, refl, sym, ap, _∙_, subst}
@@ -62,9 +63,11 @@ valid-less : {steps : List Step} → Valid steps → Valid (butLast steps)
 valid-less valid-none = valid-none
 valid-less (valid-more {steps = steps} s v a) = subst Valid (sym (but-last steps s)) v
 
-pub run-valid : {rows : List Constraint} {left end : Left} {requests : List Request} {answers : List Answer} → Run rows left requests answers end → Valid (left .steps) → Valid (end .steps)
+pub run-valid : {rows : List Constraint} {left end : Left} {requests : List Request} {answers : List Answer} → Run rows left requests answers end
+    → Valid (left .steps) → Valid (end .steps)
 run-valid done v = v
-run-valid {rows = rows} (request {left = left} (asks s) Taken judged rest) v = run-valid rest (valid-more (stepFor s) v (accepts-taken rows (left .steps) s judged))
+run-valid {rows = rows} (request {left = left} (asks s) Taken judged rest) v =
+    run-valid rest (valid-more (stepFor s) v (accepts-taken rows (left .steps) s judged))
 run-valid (request withdraws Taken judged rest) v = run-valid rest (valid-less v)
 run-valid (request r (Refused n) judged rest) v = run-valid rest v
 

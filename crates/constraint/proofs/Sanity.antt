@@ -1,4 +1,5 @@
--- What a reader would check first: a list of requests has one list of answers and leaves one list of steps, a row is open before any step, and each definition can be met and can be missed.
+-- What a reader would check first: a list of requests has one list of answers and leaves one list of steps, a row is open before any step, and each
+-- definition can be met and can be missed.
 use Prim.Native.Nat.{ℕ, zero, suc, _+_, _^_, _≤_, _<_}
 use native.Mathlib.Omega.{arith}
 use mathlib.Core.Path.{_≡_, refl, sym, ap, ap₂, subst}
@@ -12,7 +13,8 @@ use borrow.Author.Tests.{ne-eqb}
 use Rattle.constraint.specs.Limits.{lastColour, lastCount, noLimit}
 use Rattle.constraint.specs.Streams.{stream}
 use Rattle.constraint.specs.Steps.{Step, event, tick, at, times, clockFrom, own, closed}
-use Rattle.constraint.specs.Meets.{Between, NotLater, Apart, SpansApart, AtLeastApart, HiddenPoints, Executes, no-event, started, paused, stopped}
+use Rattle.constraint.specs.Meets.{Between, NotLater, Apart, SpansApart, AtLeastApart, HiddenPoints, Executes, no-event, started, paused}
+use Rattle.constraint.specs.Meets.{stopped}
 use Rattle.constraint.specs.Meets.{Meets, MeetsDelay, MeetsStrongDelay, MeetsRepeat, MeetsSporadic, MeetsBurst, MeetsOrder}
 use Rattle.constraint.specs.Meets.{MeetsStrongSynchronization, MeetsExecutionTime, MeetsReaction, MeetsRepetition}
 use Rattle.constraint.specs.Waiting.{answered}
@@ -23,7 +25,8 @@ use Rattle.constraint.specs.declared.Call.{Call}
 use Rattle.constraint.specs.declared.Answer.{Answer}
 use Rattle.constraint.specs.declared.Answer.the-variants.{Taken, Refused}
 use Rattle.constraint.specs.declared.Constraint.{Constraint}
-use Rattle.constraint.specs.declared.Constraint.the-variants.{Delay, StrongDelay, Repeat, Sporadic, Burst, Order, StrongSynchronization2, StrongSynchronization3, StrongSynchronization4}
+use Rattle.constraint.specs.declared.Constraint.the-variants.{Delay, StrongDelay, Repeat, Sporadic, Burst, Order, StrongSynchronization2}
+use Rattle.constraint.specs.declared.Constraint.the-variants.{StrongSynchronization3, StrongSynchronization4}
 use Rattle.constraint.specs.declared.Constraint.the-variants.{ExecutionTime, Reaction, Repetition}
 use Rattle.constraint.proofs.Judged.{judged-yes, judged-no, judged-once}
 use Rattle.constraint.proofs.Verdicts.{open-of-meets}
@@ -57,7 +60,8 @@ full-refused rows steps open-still full (Call.Tick t) = judged-yes 8 _ _ _ open-
 full-refused rows steps open-still full Call.Close = judged-yes 8 _ _ _ open-still (judged-no 24 _ _ (λ h. omega (arith, full)))
 
 -- a list of requests cannot fail to have answers
-pub run-some : (rows : List Constraint) (requests : List Request) (left : Left) → ¬ ¬ ((answers : List Answer) × (end : Left) × Run rows left requests answers end)
+pub run-some : (rows : List Constraint) (requests : List Request) (left : Left)
+    → ¬ ¬ ((answers : List Answer) × (end : Left) × Run rows left requests answers end)
 run-some rows [] left denied = denied ([], left, done)
 run-some rows (r ∷ requests) left denied =
     judged-some (requestQuestions rows left r) (λ found. run-some rows requests (leftBy left r (found .0))
@@ -192,7 +196,8 @@ repeat-contingent =
     still (suc zero) h end = inr (omega arith)
     still (suc (suc i)) h end = absurd (omega arith)
 
-    apart : (i : ℕ) → i + 1 < 2 → (at (0 ∷ 4 ∷ []) i + 4 ≤ at (0 ∷ 4 ∷ []) (i + 1)) × ((4 ≡ noLimit) ⊎ (at (0 ∷ 4 ∷ []) (i + 1) ≤ at (0 ∷ 4 ∷ []) i + 4))
+    apart : (i : ℕ) → i + 1 < 2 → (at (0 ∷ 4 ∷ []) i + 4 ≤ at (0 ∷ 4 ∷ []) (i + 1))
+        × ((4 ≡ noLimit) ⊎ (at (0 ∷ 4 ∷ []) (i + 1) ≤ at (0 ∷ 4 ∷ []) i + 4))
     apart zero h = (omega arith, inr (omega arith))
     apart (suc i) h = absurd (omega arith)
 
@@ -217,7 +222,12 @@ sporadic-contingent =
         (2 ∷ 7 ∷ [], record { one-each = refl; near = λ i h. near i h; rise = λ i h. rise i h; apart = λ i h. apart i h }, λ i e. last i e),
         λ i h. minimum i h,
       );
-      can-be-missed = λ m. let points = m .0 .1 in omega (arith, points .near 0 (omega arith), points .near 1 (omega arith), far (at (m .0 .0) 0) (at (m .0 .0) 1) (points .apart 0 (omega arith) .1));
+      can-be-missed = λ m. let points = m .0 .1 in omega (
+        arith,
+        points .near 0 (omega arith),
+        points .near 1 (omega arith),
+        far (at (m .0 .0) 0) (at (m .0 .0) 1) (points .apart 0 (omega arith) .1),
+      );
     }
   where
     near : (i : ℕ) → i < 2 → (at (2 ∷ 7 ∷ []) i + 0 ≤ at (2 ∷ 9 ∷ []) i) × (at (2 ∷ 9 ∷ []) i ≤ at (2 ∷ 7 ∷ []) i + 2)
@@ -229,7 +239,8 @@ sporadic-contingent =
     rise zero h = omega arith
     rise (suc i) h = absurd (omega arith)
 
-    apart : (i : ℕ) → i + 1 < 2 → (at (2 ∷ 7 ∷ []) i + 5 ≤ at (2 ∷ 7 ∷ []) (i + 1)) × ((5 ≡ noLimit) ⊎ (at (2 ∷ 7 ∷ []) (i + 1) ≤ at (2 ∷ 7 ∷ []) i + 5))
+    apart : (i : ℕ) → i + 1 < 2 → (at (2 ∷ 7 ∷ []) i + 5 ≤ at (2 ∷ 7 ∷ []) (i + 1))
+        × ((5 ≡ noLimit) ⊎ (at (2 ∷ 7 ∷ []) (i + 1) ≤ at (2 ∷ 7 ∷ []) i + 5))
     apart zero h = (omega arith, inr (omega arith))
     apart (suc i) h = absurd (omega arith)
 
@@ -238,7 +249,8 @@ sporadic-contingent =
     last (suc zero) e = inr (omega arith)
     last (suc (suc i)) e = absurd (omega arith)
 
-    minimum : (i : ℕ) → i + 1 < 2 → (at (2 ∷ 9 ∷ []) i + 0 ≤ at (2 ∷ 9 ∷ []) (i + 1)) × ((noLimit ≡ noLimit) ⊎ (at (2 ∷ 9 ∷ []) (i + 1) ≤ at (2 ∷ 9 ∷ []) i + noLimit))
+    minimum : (i : ℕ) → i + 1 < 2 → (at (2 ∷ 9 ∷ []) i + 0 ≤ at (2 ∷ 9 ∷ []) (i + 1))
+        × ((noLimit ≡ noLimit) ⊎ (at (2 ∷ 9 ∷ []) (i + 1) ≤ at (2 ∷ 9 ∷ []) i + noLimit))
     minimum zero h = (omega arith, inl refl)
     minimum (suc i) h = absurd (omega arith)
 
@@ -273,9 +285,14 @@ silent-sporadic-contingent =
 
 pub burst-contingent : Contingent (Burst 0 1 5 0) (event 0 0 ∷ event 0 5 ∷ []) (event 0 0 ∷ event 0 4 ∷ [])
 unfolding Meets MeetsBurst SpansApart times
-burst-contingent = record { can-be-met = (λ i h. apart 5 (omega arith) i h, λ i h. apart 0 (omega arith) i h); can-be-missed = λ m. omega (arith, m .0 0 (omega arith) .0) }
+burst-contingent = record {
+  can-be-met = (λ i h. apart 5 (omega arith) i h, λ i h. apart 0 (omega arith) i h);
+  can-be-missed =
+      λ m. omega (arith, m .0 0 (omega arith) .0);
+}
   where
-    apart : (lower : ℕ) → lower ≤ 5 → (i : ℕ) → i + 1 < 2 → (at (0 ∷ 5 ∷ []) i + lower ≤ at (0 ∷ 5 ∷ []) (i + 1)) × ((noLimit ≡ noLimit) ⊎ (at (0 ∷ 5 ∷ []) (i + 1) ≤ at (0 ∷ 5 ∷ []) i + noLimit))
+    apart : (lower : ℕ) → lower ≤ 5 → (i : ℕ) → i + 1 < 2 → (at (0 ∷ 5 ∷ []) i + lower ≤ at (0 ∷ 5 ∷ []) (i + 1))
+        × ((noLimit ≡ noLimit) ⊎ (at (0 ∷ 5 ∷ []) (i + 1) ≤ at (0 ∷ 5 ∷ []) i + noLimit))
     apart lower small zero h = (omega arith, inl refl)
     apart lower small (suc i) h = absurd (omega arith)
 
@@ -284,14 +301,19 @@ unfolding Meets MeetsOrder times
 order-contingent = record { can-be-met = (refl, λ i h. omega arith); can-be-missed = λ m. omega (arith, m .0) }
 
 -- kinds that have one event each, all at the same time
-synchronized-alike : (ks : List ℕ) (tolerance t : ℕ) (steps : List Step) → ((j : ℕ) → j < length ks → times (at ks j) steps ≡ t ∷ []) → MeetsStrongSynchronization ks tolerance steps
+synchronized-alike : (ks : List ℕ) (tolerance t : ℕ) (steps : List Step) → ((j : ℕ) → j < length ks → times (at ks j) steps ≡ t ∷ [])
+    → MeetsStrongSynchronization ks tolerance steps
 unfolding MeetsStrongSynchronization
 synchronized-alike ks tolerance t steps alike j k h g = rw (alike j h, alike k g) (refl, λ i l. omega arith)
 
 pub synchronization2-contingent : Contingent (StrongSynchronization2 0 1 2) (event 0 5 ∷ event 1 5 ∷ []) (event 0 5 ∷ [])
 unfolding Meets MeetsStrongSynchronization times
 synchronization2-contingent =
-    record { can-be-met = synchronized-alike (0 ∷ 1 ∷ []) 2 5 (event 0 5 ∷ event 1 5 ∷ []) (λ j h. alike j h); can-be-missed = λ m. omega (arith, m 0 1 (omega arith) (omega arith) .0) }
+    record {
+      can-be-met = synchronized-alike (0 ∷ 1 ∷ []) 2 5 (event 0 5 ∷ event 1 5 ∷ []) (λ j h. alike j h);
+      can-be-missed =
+          λ m. omega (arith, m 0 1 (omega arith) (omega arith) .0);
+    }
   where
     alike : (j : ℕ) → j < 2 → times (at (0 ∷ 1 ∷ []) j) (event 0 5 ∷ event 1 5 ∷ []) ≡ 5 ∷ []
     alike zero h = refl
@@ -312,7 +334,8 @@ synchronization3-contingent =
     alike (suc (suc zero)) h = refl
     alike (suc (suc (suc j))) h = absurd (omega arith)
 
-pub synchronization4-contingent : Contingent (StrongSynchronization4 0 1 2 3 2) (event 0 5 ∷ event 1 5 ∷ event 2 5 ∷ event 3 5 ∷ []) (event 0 5 ∷ event 1 5 ∷ event 2 5 ∷ [])
+pub synchronization4-contingent : Contingent (StrongSynchronization4 0 1 2 3 2) (event 0 5 ∷ event 1 5 ∷ event 2 5 ∷ event 3 5 ∷ [])
+    (event 0 5 ∷ event 1 5 ∷ event 2 5 ∷ [])
 unfolding Meets MeetsStrongSynchronization times
 synchronization4-contingent =
     record {
@@ -355,7 +378,11 @@ execution-time-contingent =
 -- a stimulus of colour 1 at 10 and the first response of that colour at 15; and one at 17
 pub reaction-contingent : Contingent (Reaction 48 49 4 6) (event 49 10 ∷ event 57 15 ∷ []) (event 49 10 ∷ event 57 17 ∷ [])
 unfolding Meets MeetsReaction times
-reaction-contingent = record { can-be-met = λ colour few. met colour few; can-be-missed = λ m. omega (arith, m 1 (omega arith) 0 (omega arith) .1 .1) }
+reaction-contingent = record {
+  can-be-met = λ colour few. met colour few;
+  can-be-missed =
+      λ m. omega (arith, m 1 (omega arith) 0 (omega arith) .1 .1);
+}
   where
     steps : List Step
     steps = event 49 10 ∷ event 57 15 ∷ []

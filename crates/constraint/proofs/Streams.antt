@@ -43,7 +43,8 @@ pub stream-below : (k c : ℕ) → k ≤ lastKind → c ≤ lastColour → strea
 stream-below k c small few = omega arith
 
 -- no two kinds and colours share a stream
-pub streams-apart : (j k c d : ℕ) → firstColoured ≤ j → firstColoured ≤ k → c ≤ lastColour → d ≤ lastColour → stream j c ≡ stream k d → (j ≡ k) × (c ≡ d)
+pub streams-apart : (j k c d : ℕ) → firstColoured ≤ j → firstColoured ≤ k → c ≤ lastColour → d ≤ lastColour → stream j c ≡ stream k d → (j ≡ k)
+    × (c ≡ d)
 streams-apart j k c d a b p q same = (omega arith, omega arith)
 
 -- the kind of a plain stream is that stream, and that of a coloured one its kind
@@ -101,7 +102,8 @@ plain-alone s k h =
 -- a coloured kind is that of its eight streams
 coloured-alone : (s k : ℕ) → firstColoured ≤ k → eqb (kindOf s) k ≡ among s (colours k)
 coloured-alone s k h =
-    split (eqb (kindOf s) k) (λ x. x ≡ among s (colours k)) (λ e. sym (inside (eqb-true (kindOf s) k e))) (λ e. sym (outside (eqb-false (kindOf s) k e)))
+    split (eqb (kindOf s) k) (λ x. x ≡ among s (colours k)) (λ e. sym (inside (eqb-true (kindOf s) k e)))
+    (λ e. sym (outside (eqb-false (kindOf s) k e)))
   where
     late : kindOf s ≡ k → firstColoured ≤ s
     late e = by-cases (decLt s firstColoured) (λ plain. absurd (omega (arith, plain-kind s plain))) (λ not. omega arith)

@@ -1,4 +1,5 @@
--- What is true of verdicts for every row type: a row that is open was open after every earlier step, so the step that broke it is the first after which no continuation is left, and stays it.
+-- What is true of verdicts for every row type: a row that is open was open after every earlier step, so the step that broke it is the first after
+-- which no continuation is left, and stays it.
 use Prim.Native.Nat.{ℕ, zero, suc, _+_, _≤_, _<_}
 use native.Mathlib.Decide.{decLt}
 use native.Mathlib.Omega.{arith}
@@ -35,7 +36,8 @@ module _ (c : Constraint) where
       (λ h. subst (Open c) (sym (take-before steps s k (omega arith))) (open-prefix v (open-before c steps s a o) k))
 
   -- a row that no continuation is left for now, and one was left for before the last step
-  pub broken-now : (steps : List Step) (s : Step) → Valid steps → Open c steps → ¬ Open c (steps ++ (s ∷ [])) → BrokenAt c (steps ++ (s ∷ [])) (length steps + 1)
+  pub broken-now : (steps : List Step) (s : Step) → Valid steps → Open c steps → ¬ Open c (steps ++ (s ∷ []))
+      → BrokenAt c (steps ++ (s ∷ [])) (length steps + 1)
   broken-now steps s v o shut =
       record {
         counted = omega (arith, length-snoc steps s);
@@ -59,7 +61,8 @@ module _ (c : Constraint) where
   -- the step is one that was taken: every row is open before any step
   pub broken-once : (steps : List Step) (n m : ℕ) → BrokenAt c steps n → BrokenAt c steps m → n ≡ m
   broken-once steps n m p q =
-      by-cases (decLt n m) (λ h. absurd (p .after (q .before n h))) (λ h. by-cases (decLt m n) (λ g. absurd (q .after (p .before m g))) (λ g. omega arith))
+      by-cases (decLt n m) (λ h. absurd (p .after (q .before n h)))
+      (λ h. by-cases (decLt m n) (λ g. absurd (q .after (p .before m g))) (λ g. omega arith))
 
   -- after the close a row is open exactly when what was recorded meets its definition
   pub open-of-meets : (steps : List Step) → Meets c steps → Open c steps

@@ -8,7 +8,8 @@ use Rattle.constraint.specs.Steps.{Step, times, own}
 use Rattle.constraint.specs.Waiting.{unanswered, largest, least, begunIncomplete, waiting}
 use Rattle.constraint.proofs.Streams.{streams}
 use Rattle.constraint.specs.declared.Constraint.{Constraint}
-use Rattle.constraint.specs.declared.Constraint.the-variants.{Delay, StrongDelay, Repeat, Sporadic, Burst, Order, StrongSynchronization2, StrongSynchronization3, StrongSynchronization4}
+use Rattle.constraint.specs.declared.Constraint.the-variants.{Delay, StrongDelay, Repeat, Sporadic, Burst, Order, StrongSynchronization2}
+use Rattle.constraint.specs.declared.Constraint.the-variants.{StrongSynchronization3, StrongSynchronization4}
 use Rattle.constraint.specs.declared.Constraint.the-variants.{ExecutionTime, Reaction, Repetition}
 use Rattle.constraint.proofs.Lists.{each-tail}
 use Rattle.constraint.proofs.Continuations.{SameTimes, same-times}
@@ -25,7 +26,8 @@ groups-same ks a b same = ap (λ (counts : List ℕ). largest counts - least cou
 waiting-same-times : (c : Constraint) (a b : List Step) → SameTimes (streams c) a b → waiting c a ≡ waiting c b
 unfolding waiting
 waiting-same-times (Delay source target lower upper) a b same = ap₂ (unanswered lower upper) (same 0 (omega arith)) (same 1 (omega arith))
-waiting-same-times (StrongDelay source target lower upper) a b same = ap₂ (λ (s t : List ℕ). length s - length t) (same 0 (omega arith)) (same 1 (omega arith))
+waiting-same-times (StrongDelay source target lower upper) a b same =
+    ap₂ (λ (s t : List ℕ). length s - length t) (same 0 (omega arith)) (same 1 (omega arith))
 waiting-same-times (Repeat event span lower upper) a b same = refl
 waiting-same-times (Sporadic event lower upper jitter minimum) a b same = refl
 waiting-same-times (Burst event maximum len minimum) a b same = refl

@@ -47,8 +47,10 @@ begins-less first steps n enough b =
 pub keeps-begins : (first : List Step) {rows : List Constraint} {left end : Left} {requests : List Request} {answers : List Answer}
     (run : Run rows left requests answers end) → Keeps (length first) run → Begins first (left .steps) → Begins first (end .steps)
 keeps-begins first done keeps b = b
-keeps-begins first (request {left = left} (asks call) Taken judged rest) keeps b = keeps-begins first rest (keeps .1) (begins-more first (left .steps) (stepFor call) b)
-keeps-begins first (request {left = left} withdraws Taken judged rest) keeps b = keeps-begins first rest (keeps .1) (begins-less first (left .steps) (length (left .steps) - 1) (keeps .0) b)
+keeps-begins first (request {left = left} (asks call) Taken judged rest) keeps b =
+    keeps-begins first rest (keeps .1) (begins-more first (left .steps) (stepFor call) b)
+keeps-begins first (request {left = left} withdraws Taken judged rest) keeps b =
+    keeps-begins first rest (keeps .1) (begins-less first (left .steps) (length (left .steps) - 1) (keeps .0) b)
 keeps-begins first (request r (Refused n) judged rest) keeps b = keeps-begins first rest (keeps .1) b
 
 -- a list of calls withdraws nothing
@@ -64,7 +66,8 @@ calls-keep n (s ∷ calls) (request _ (Refused k) judged rest) h = (h, calls-kee
 broken-behind : (c : Constraint) (n : ℕ) (steps later : List Step) → BrokenAt c steps n → BrokenAt c (steps ++ later) n
 broken-behind c n steps [] b = subst (λ (l : List Step). BrokenAt c l n) (sym (append-nil steps)) b
 broken-behind c n steps (s ∷ later) b =
-    subst (λ (l : List Step). BrokenAt c l n) (append-assoc steps (s ∷ []) later) (broken-behind c n (steps ++ (s ∷ [])) later (broken-later c steps s n b))
+    subst (λ (l : List Step). BrokenAt c l n) (append-assoc steps (s ∷ []) later)
+    (broken-behind c n (steps ++ (s ∷ [])) later (broken-later c steps s n b))
 
 pub begins-broken : (c : Constraint) (n : ℕ) (steps all : List Step) → Begins steps all → BrokenAt c steps n → BrokenAt c all n
 begins-broken c n steps all begins b = subst (λ (l : List Step). BrokenAt c l n) (sym (begins .1)) (broken-behind c n steps (begins .0) b)

@@ -9,7 +9,8 @@ use Rattle.constraint.specs.Limits.{lastColour, noLimit}
 use Rattle.constraint.specs.Streams.{stream}
 use Rattle.constraint.specs.Steps.{Step, at, times, own, clock}
 use Rattle.constraint.specs.declared.Constraint.{Constraint}
-use Rattle.constraint.specs.declared.Constraint.the-variants.{Delay, StrongDelay, Repeat, Sporadic, Burst, Order, StrongSynchronization2, StrongSynchronization3, StrongSynchronization4}
+use Rattle.constraint.specs.declared.Constraint.the-variants.{Delay, StrongDelay, Repeat, Sporadic, Burst, Order, StrongSynchronization2}
+use Rattle.constraint.specs.declared.Constraint.the-variants.{StrongSynchronization3, StrongSynchronization4}
 use Rattle.constraint.specs.declared.Constraint.the-variants.{ExecutionTime, Reaction, Repetition}
 
 -- §5.2; 01, row 2: y is lower to upper after x, both ends included

@@ -119,7 +119,8 @@ verdictAt verdicts i = getD verdicts i Open
 
 -- §7.14; CR 5: the page of a table's rows: what each reads after the steps, closed or not
 pub data PageOf (rows : List Constraint) (steps : List Step) : List ℕ → Type 0 where
-  page-of : (verdicts : List Verdict) → EachReads steps rows verdicts → PageOf rows steps (pageText (at (map typeOf rows)) (verdictAt verdicts) (length rows))
+  page-of : (verdicts : List Verdict) → EachReads steps rows verdicts
+      → PageOf rows steps (pageText (at (map typeOf rows)) (verdictAt verdicts) (length rows))
 
 -- §7.19; CR 5: in a buffer that is too short nothing is written, and 0 is answered; bytes behind the page stay
 pub data Pages (rows : List Constraint) (steps : List Step) (before : List ℕ) : ℕ → List ℕ → Type 0 where

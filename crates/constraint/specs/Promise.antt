@@ -36,7 +36,8 @@ play step m (r ∷ requests) =
     let later = play step (step m r .monitor) requests in
     record { answers = step m r .answer ∷ later .answers; monitor = later .monitor }
 
-module _ {Monitor : Type 0} (fresh : List Constraint → Monitor) (step : Monitor → Request → Outcome Monitor) (verdict : Monitor → ℕ → Option Verdict) where
+module _ {Monitor : Type 0} (fresh : List Constraint → Monitor) (step : Monitor → Request → Outcome Monitor)
+    (verdict : Monitor → ℕ → Option Verdict) where
   -- §3.6 to §3.8, §3.13 to §3.15; 01, time; CR 9: what a monitor promises
   pub record Promise : Type 0 where
     -- §3.6, §3.13; 01, time; CR 9: over an accepted table and after any list of requests the answers are those of the questions, and each row reads

@@ -46,7 +46,8 @@ pub data ReadsRecords (rows : List Constraint) (bytes : List ℕ) : List Step �
   no-more : {before : List Step} {place : ℕ} → length bytes ≤ place → ReadsRecords rows bytes before place (recording-of before)
   record-refused : {before : List Step} {place : ℕ} (n : ℕ) → place < length bytes → Judged (recordQuestions rows before bytes place) (Refused n)
       → ReadsRecords rows bytes before place (recording-refused n place)
-  record-taken : {before : List Step} {place : ℕ} {read : RecordingRead} → place < length bytes → Judged (recordQuestions rows before bytes place) Taken
+  record-taken : {before : List Step} {place : ℕ} {read : RecordingRead} → place < length bytes
+      → Judged (recordQuestions rows before bytes place) Taken
       → ReadsRecords rows bytes (before ++ (stepFor (callAt bytes place) ∷ [])) (place + 2 + lengthAt bytes place) read
       → ReadsRecords rows bytes before place read
 

@@ -81,5 +81,6 @@ pub data ReportOf (table recording : List ℕ) : List ℕ → Type 0 where
 
 -- §7.8; 01, report: the answer, and what is then in the buffer
 pub data Reports (table recording before : List ℕ) : ℕ → List ℕ → Type 0 where
-  written : (text : List ℕ) → ReportOf table recording text → length text ≤ length before → Reports table recording before (length text) (text ++ drop (length text) before)
+  written : (text : List ℕ) → ReportOf table recording text → length text ≤ length before
+      → Reports table recording before (length text) (text ++ drop (length text) before)
   too-short : (text : List ℕ) → ReportOf table recording text → length before < length text → Reports table recording before 0 before

@@ -62,7 +62,8 @@ abbrev pub requestQuestions : List Constraint → Left → Request → List Ques
 requestQuestions rows left (asks call) = questions rows (left .steps) call
 requestQuestions rows left withdraws = (21, left .may ≡ true) ∷ []
 
--- §3.3, §3.12; 01, time; CR 9: what is left once the request has its answer. A refusal changes nothing; a step that is taken may be withdrawn; one that
+-- §3.3, §3.12; 01, time; CR 9: what is left once the request has its answer. A refusal changes nothing; a step that is taken may be withdrawn; one
+-- that
 -- is withdrawn is struck out, and the one before it stays. `take n steps` are the first n
 abbrev pub leftBy : Left → Request → Answer → Left
 leftBy left r (Refused n) = left
@@ -76,6 +77,7 @@ pub data Run (rows : List Constraint) : Left → List Request → List Answer �
       → Judged (requestQuestions rows left r) a → Run rows (leftBy left r a) requests answers end → Run rows left (r ∷ requests) (a ∷ answers) end
 
 -- §3.15; CR 9: none of the first n steps is withdrawn: so many are left after each request
-abbrev pub Keeps : ℕ → {rows : List Constraint} {left end : Left} {requests : List Request} {answers : List Answer} → Run rows left requests answers end → Type 0
+abbrev pub Keeps : ℕ → {rows : List Constraint} {left end : Left} {requests : List Request} {answers : List Answer}
+    → Run rows left requests answers end → Type 0
 Keeps n done = Unit {0}
 Keeps n (request {left = left} r a judged rest) = (n ≤ length (leftBy left r a .steps)) × Keeps n rest

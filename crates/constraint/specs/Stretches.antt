@@ -81,7 +81,8 @@ stretchQuestions rows steps i =
 pub data AnswersRow (rows : List Constraint) (steps : List Step) (i : ℕ) : StretchAnswer → Type 0 where
   no-stretch : (n : ℕ) → Judged (stretchQuestions rows steps i) (Refused n) → AnswersRow rows steps i (StretchAnswer.Refused n 0)
   found : (c : Constraint) (first size tried : ℕ) → Judged (stretchQuestions rows steps i) Taken → getElem? rows i ≡ some c
-      → FirstAt (Breaking c steps) (stretches (length steps)) (stretchOf first size) tried → AnswersRow rows steps i (StretchAnswer.Found first size tried)
+      → FirstAt (Breaking c steps) (stretches (length steps)) (stretchOf first size) tried
+      → AnswersRow rows steps i (StretchAnswer.Found first size tried)
 
 -- §14.5; CR 11: and of a table and a recording, which are asked first
 pub data AnswersStretch (table recording : List ℕ) (i : ℕ) : StretchAnswer → Type 0 where

@@ -7,7 +7,8 @@ use lib.Dec.{eqb}
 use Rattle.constraint.specs.Limits.{spanLimit, repetitionSpanLimit}
 use Rattle.constraint.specs.Steps.{at}
 use Rattle.constraint.specs.declared.Constraint.{Constraint}
-use Rattle.constraint.specs.declared.Constraint.the-variants.{Delay, StrongDelay, Repeat, Sporadic, Burst, Order, StrongSynchronization2, StrongSynchronization3, StrongSynchronization4}
+use Rattle.constraint.specs.declared.Constraint.the-variants.{Delay, StrongDelay, Repeat, Sporadic, Burst, Order, StrongSynchronization2}
+use Rattle.constraint.specs.declared.Constraint.the-variants.{StrongSynchronization3, StrongSynchronization4}
 use Rattle.constraint.specs.declared.Constraint.the-variants.{ExecutionTime, Reaction, Repetition}
 
 -- §4.4, §4.6; 01, table; CR 6, 10: what a byte says: a kind is a plain one or a coloured one; a span or maximum has its own limit

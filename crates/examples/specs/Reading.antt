@@ -32,7 +32,8 @@ AllRead (e ∷ later) = ReadsSo e × AllRead later
 -- calls over two rows get these answers, and the rows read so after them
 abbrev pub BothRead : List Constraint → List Call → List Answer → Verdict → Verdict → Type 0
 BothRead rows calls answers first second =
-    (left : Left) × Run rows noneLeft (map asks calls) answers left × ReadsRow rows (left .steps) 0 (some first) × ReadsRow rows (left .steps) 1 (some second)
+    (left : Left) × Run rows noneLeft (map asks calls) answers left × ReadsRow rows (left .steps) 0 (some first)
+    × ReadsRow rows (left .steps) 1 (some second)
 
 -- §5.3.5: a refused step breaks no row; the tick to its time breaks the one that fell silent
 pub record CrowdedSilence : Type 0 where

@@ -73,6 +73,7 @@ module _ (one two before : List ℕ) (p : Passed) (first-passes : Passes one (re
               split (w .fits) (λ x. AnswersJoin one two before (JoinAnswer.Joined (w .size)) end)
               (λ t. let (size, room, stored) = walks .fits t first second first-records second-records in
               subst (λ (n : ℕ). AnswersJoin one two before (JoinAnswer.Joined n) end) (sym size)
-              (subst (AnswersJoin one two before (JoinAnswer.Joined (length (joinedBytes one two first second)))) (sym (stored ∙ stores-front before (joinedBytes one two first second) (omega (arith, size, room))))
+              (subst (AnswersJoin one two before (JoinAnswer.Joined (length (joinedBytes one two first second))))
+              (sym (stored ∙ stores-front before (joinedBytes one two first second) (omega (arith, size, room))))
               (written first second first-read second-read apart (omega (arith, size, room)))))
               (λ f. absurd (omega (arith, walks .short f first second first-records second-records, fits .0, fits .1)))

@@ -69,10 +69,12 @@ module _ (version : ℕ) (bytes : List ℕ) (place : ℕ) (after : List ℕ) whe
       from-stretch (Record.ColouredEvent k c t 12)
       (subst (λ (x : List ℕ). CallAt version x 0 (Call.ColouredEvent k c t) 12) (sym e)
       (subst (λ (n : ℕ). CallAt version (colouredBytes k c t ++ after) 0 (Call.ColouredEvent k c n) 12) (small-number t small)
-      (subst (λ (x : ℕ). CallAt version (colouredBytes k c t ++ after) 0 (Call.ColouredEvent k x (number (bytesOf 8 t))) 12) (rw (ne-eqb version 1 two))
+      (subst (λ (x : ℕ). CallAt version (colouredBytes k c t ++ after) 0 (Call.ColouredEvent k x (number (bytesOf 8 t))) 12)
+      (rw (ne-eqb version 1 two))
       (coloured-read version (colouredBytes k c t ++ after) refl (omega arith)))))
 
-  pub read-step : (s : Step) → Fits version s → drop place bytes ≡ stepBytes s ++ after → CallAt version bytes place (callFor s) (length (stepBytes s))
+  pub read-step : (s : Step) → Fits version s → drop place bytes ≡ stepBytes s ++ after
+      → CallAt version bytes place (callFor s) (length (stepBytes s))
   unfolding stepBytes bytesOf
   read-step (event s t) fits stands =
       split (ltb s firstColoured)
@@ -80,7 +82,8 @@ module _ (version : ℕ) (bytes : List ℕ) (place : ℕ) (after : List ℕ) whe
       → CallAt version bytes place (cond x (Call.Event s t) (Call.ColouredEvent (kindOf s) ((s - firstColoured) % 8) t))
       (length (cond x (eventBytes s t) (colouredBytes (kindOf s) ((s - firstColoured) % 8) t))))
       (λ plain e. read-plain s t (fits .1) e)
-      (λ coloured e. read-coloured (kindOf s) ((s - firstColoured) % 8) t (fits .1) (λ one. omega (arith, fits .2 one, ltb-false s firstColoured coloured)) e)
+      (λ coloured e. read-coloured (kindOf s) ((s - firstColoured) % 8) t (fits .1)
+      (λ one. omega (arith, fits .2 one, ltb-false s firstColoured coloured)) e)
       stands
   read-step (tick t) fits e = read-tick t fits e
   read-step close fits e = absurd fits
@@ -122,7 +125,8 @@ taken-tick steps t a =
     (judged-yes 10 _ _ Taken (a .time-small) (judged-yes 11 _ _ Taken (a .later) (judged-yes 12 _ _ Taken (room-none _) judged-none))))
 
 -- the call that a step was, is taken where the step is accepted, and is that step
-taken-for : (version : ℕ) (steps : List Step) (s : Step) → Fits version s → Accepts steps s → Judged (questions [] steps (callFor s)) Taken × (stepFor (callFor s) ≡ s)
+taken-for : (version : ℕ) (steps : List Step) (s : Step) → Fits version s → Accepts steps s → Judged (questions [] steps (callFor s)) Taken
+    × (stepFor (callFor s) ≡ s)
 taken-for version steps (event s t) fits a =
     split (ltb s firstColoured)
     (λ x. Judged (questions [] steps (cond x (Call.Event s t) (Call.ColouredEvent (kindOf s) ((s - firstColoured) % 8) t))) Taken
@@ -148,7 +152,11 @@ steps-few version now (event s t ∷ steps) l =
     split (ltb s firstColoured)
     (λ x. suc (length steps) ≤ length (cond x (eventBytes s t) (colouredBytes (kindOf s) ((s - firstColoured) % 8) t) ++ stepsBytes steps))
     (λ plain. omega (arith, length-append (eventBytes s t) (stepsBytes steps), steps-few version t steps (l .2)))
-    (λ coloured. omega (arith, length-append (colouredBytes (kindOf s) ((s - firstColoured) % 8) t) (stepsBytes steps), steps-few version t steps (l .2)))
+    (λ coloured. omega (
+      arith,
+      length-append (colouredBytes (kindOf s) ((s - firstColoured) % 8) t) (stepsBytes steps),
+      steps-few version t steps (l .2),
+    ))
 steps-few version now (tick t ∷ steps) l = omega (arith, length-append (tickBytes t) (stepsBytes steps), steps-few version t steps (l .2))
 steps-few version now (close ∷ steps) l = absurd (l .1)
 
@@ -159,7 +167,8 @@ line-each version now (x ∷ a) s b l = line-each version (timeOf x) a s b (l .2
 module _ (version : ℕ) (known : (1 ≤ version) × (version ≤ 2)) where
   -- what is read behind some steps is read from the start
   reads-behind : {steps : List Step} → Valid steps → (rest : List Step) → Line version 0 (steps ++ rest) → (read : RecordingRead)
-      → ReadsRecords [] (recordingBytes version (steps ++ rest)) steps (length (recordingBytes version steps)) read → ReadsInOrder (recordingBytes version (steps ++ rest)) read
+      → ReadsRecords [] (recordingBytes version (steps ++ rest)) steps (length (recordingBytes version steps)) read
+      → ReadsInOrder (recordingBytes version (steps ++ rest)) read
   unfolding stepsBytes
   reads-behind valid-none rest l read reads = version-taken (omega arith, known .0, known .1) reads
   reads-behind (valid-more {steps = steps} s v a) rest l read reads =
@@ -168,19 +177,23 @@ module _ (version : ℕ) (known : (1 ≤ version) × (version ≤ 2)) where
       let place = length (recordingBytes version steps) in
       let line : Line version 0 (steps ++ s ∷ rest) = subst (Line version 0) again l in
       let fits : Fits version s = line-each version 0 steps s rest line in
-      let stands : drop place bytes ≡ stepBytes s ++ stepsBytes rest = ap (drop (length (stepsBytes steps))) (bytes-append steps (s ∷ rest)) ∙ drop-at (stepsBytes steps) (stepBytes s ++ stepsBytes rest) (length (stepsBytes steps)) refl in
+      let stands : drop place bytes ≡ stepBytes s ++ stepsBytes rest = ap (drop (length (stepsBytes steps))) (bytes-append steps (s ∷ rest))
+      ∙ drop-at (stepsBytes steps) (stepBytes s ++ stepsBytes rest) (length (stepsBytes steps)) refl in
       let here : CallAt version bytes place (callFor s) (length (stepBytes s)) = read-step version bytes place (stepsBytes rest) s fits stands in
       let taken = taken-for version steps s fits a in
       let size : length (stepsBytes (steps ++ (s ∷ []))) ≡ length (stepsBytes steps) + length (stepBytes s) =
-      ap length (bytes-append steps (s ∷ [])) ∙ length-append (stepsBytes steps) (stepBytes s ++ []) ∙ ap (λ (x : List ℕ). length (stepsBytes steps) + length x) (append-nil (stepBytes s)) in
+      ap length (bytes-append steps (s ∷ [])) ∙ length-append (stepsBytes steps) (stepBytes s ++ [])
+      ∙ ap (λ (x : List ℕ). length (stepsBytes steps) + length x) (append-nil (stepBytes s)) in
       let next : length (recordingBytes version (steps ++ (s ∷ []))) ≡ place + 2 + lengthAt bytes place = omega (arith, size, here .size-read) in
       let is : s ≡ stepFor (callAt bytes place) = sym (ap stepFor (here .call-read) ∙ taken .1) in
       subst (λ (x : List Step). ReadsInOrder (recordingBytes version x) read) (sym again)
       (reads-behind v (s ∷ rest) line read
-      (record-taken (omega (arith, here .there .0 .1, here .there .0 .0)) (record-judged [] steps bytes place (callFor s) (length (stepBytes s)) Taken here (taken .0))
+      (record-taken (omega (arith, here .there .0 .1, here .there .0 .0))
+      (record-judged [] steps bytes place (callFor s) (length (stepBytes s)) Taken here (taken .0))
       (subst (λ (x : Step). ReadsRecords [] bytes (steps ++ (x ∷ [])) (place + 2 + lengthAt bytes place) read) is
       (subst (λ (n : ℕ). ReadsRecords [] bytes (steps ++ (s ∷ [])) n read) next
-      (subst (λ (x : List Step). ReadsRecords [] (recordingBytes version x) (steps ++ (s ∷ [])) (length (recordingBytes version (steps ++ (s ∷ [])))) read) again reads)))))
+      (subst (λ (x : List Step). ReadsRecords [] (recordingBytes version x) (steps ++ (s ∷ []))
+      (length (recordingBytes version (steps ++ (s ∷ [])))) read) again reads)))))
 
   -- valid steps that fit a version read back from their bytes
   pub reads-back : (steps : List Step) → Valid steps → Line version 0 steps → ReadsInOrder (recordingBytes version steps) (recording-of steps)

@@ -1,4 +1,5 @@
--- A tick of the first is later than all that stands before it, and so never falls away; one of the second falls away just where a record of the first stands at its time.
+-- A tick of the first is later than all that stands before it, and so never falls away; one of the second falls away just where a record of the
+-- first stands at its time.
 use Prim.Native.Nat.{ℕ, _≤_, _<_}
 use native.Mathlib.Omega.{arith}
 use mathlib.Core.Path.{_≡_, refl, sym, subst}
@@ -33,9 +34,11 @@ weak-of now later (close ∷ steps) h s = absurd (s .0)
 times-late : (now t : ℕ) (steps : List Step) → Strict now steps → among t (timesOf steps) ≡ true → now ≤ t
 times-late now t [] s e = both (sym e)
 times-late now t (event k u ∷ steps) s e =
-    ⊎-elim (λ f. omega (arith, s .0, eqb-true t u f)) (λ f. omega (arith, s .0, times-late u t steps (s .1) f)) (or-true (eqb t u) (among t (timesOf steps)) e)
+    ⊎-elim (λ f. omega (arith, s .0, eqb-true t u f)) (λ f. omega (arith, s .0, times-late u t steps (s .1) f))
+    (or-true (eqb t u) (among t (timesOf steps)) e)
 times-late now t (tick u ∷ steps) s e =
-    ⊎-elim (λ f. omega (arith, s .0, eqb-true t u f)) (λ f. omega (arith, s .0, times-late u t steps (s .1) f)) (or-true (eqb t u) (among t (timesOf steps)) e)
+    ⊎-elim (λ f. omega (arith, s .0, eqb-true t u f)) (λ f. omega (arith, s .0, times-late u t steps (s .1) f))
+    (or-true (eqb t u) (among t (timesOf steps)) e)
 times-late now t (close ∷ steps) s e = absurd (s .0)
 
 -- ---- the first stays whole
@@ -125,7 +128,8 @@ module _ (moments : List ℕ) where
   told-more now a first h told =
       record {
         past = λ u e. ⊎-elim (λ k. inl (omega (arith, h, k)))
-            (λ f. ⊎-elim (λ same. inl (omega (arith, eqb-true u (timeOf a) same))) (λ g. inr g) (or-true (eqb u (timeOf a)) (among u (timesOf first)) f)) (told .past u e);
+            (λ f. ⊎-elim (λ same. inl (omega (arith, eqb-true u (timeOf a) same))) (λ g. inr g)
+            (or-true (eqb u (timeOf a)) (among u (timesOf first)) f)) (told .past u e);
         all = λ u e. told .all u (behind u e (eqb u (timeOf a)));
       }
     where
@@ -154,7 +158,8 @@ module _ (moments : List ℕ) where
 
   head-late : (t : ℕ) (a : Step) (first : List Step) → Strict (timeOf a) first → among t (timesOf (a ∷ first)) ≡ true → timeOf a ≤ t
   head-late t a first s e =
-      ⊎-elim (λ f. omega (arith, eqb-true t (timeOf a) f)) (λ f. times-late (timeOf a) t first s f) (or-true (eqb t (timeOf a)) (among t (timesOf first)) e)
+      ⊎-elim (λ f. omega (arith, eqb-true t (timeOf a) f)) (λ f. times-late (timeOf a) t first s f)
+      (or-true (eqb t (timeOf a)) (among t (timesOf first)) e)
 
   take-first : (now : ℕ) (a : Step) (first second others : List Step) → Comes now a → Interleaves first second (undropped (timeOf a) others)
       → Interleaves (a ∷ first) second (undropped now (a ∷ others))
@@ -167,25 +172,32 @@ module _ (moments : List ℕ) where
   holds now (a ∷ first) [] s w told seen = none-there (first-alone now (a ∷ first) s)
   holds now (a ∷ first) (event k t ∷ second) s w told seen =
       split (leb (timeOf a) t)
-      (λ x. Interleaves (a ∷ first) (without moments (event k t ∷ second)) (undropped now (cond x (a ∷ merged first (event k t ∷ second)) (event k t ∷ merged (a ∷ first) second))))
+      (λ x. Interleaves (a ∷ first) (without moments (event k t ∷ second))
+      (undropped now (cond x (a ∷ merged first (event k t ∷ second)) (event k t ∷ merged (a ∷ first) second))))
       (λ e. take-first now a first (without moments (event k t ∷ second)) (merged first (event k t ∷ second)) (s .0)
-      (holds (timeOf a) first (event k t ∷ second) (s .1) (leb-true (timeOf a) t e, w .1) (told-more now a first (comes-at now a (s .0)) told) (inl (at-first now a first told))))
+      (holds (timeOf a) first (event k t ∷ second) (s .1) (leb-true (timeOf a) t e, w .1) (told-more now a first (comes-at now a (s .0)) told)
+      (inl (at-first now a first told))))
       (λ e. let h : t < timeOf a = leb-false (timeOf a) t e in
       one-event now k t (a ∷ first) second (merged (a ∷ first) second)
-      (holds t (a ∷ first) second (sooner t a h (not-close now a (s .0)), s .1) (weak-of t t second (omega arith) (w .1)) (told-later now t (a ∷ first) (w .0) told) (inr (w .1))))
+      (holds t (a ∷ first) second (sooner t a h (not-close now a (s .0)), s .1) (weak-of t t second (omega arith) (w .1))
+      (told-later now t (a ∷ first) (w .0) told) (inr (w .1))))
   holds now (a ∷ first) (tick t ∷ second) s w told seen =
       split (leb (timeOf a) t)
-      (λ x. Interleaves (a ∷ first) (without moments (tick t ∷ second)) (undropped now (cond x (a ∷ merged first (tick t ∷ second)) (tick t ∷ merged (a ∷ first) second))))
+      (λ x. Interleaves (a ∷ first) (without moments (tick t ∷ second))
+      (undropped now (cond x (a ∷ merged first (tick t ∷ second)) (tick t ∷ merged (a ∷ first) second))))
       (λ e. take-first now a first (without moments (tick t ∷ second)) (merged first (tick t ∷ second)) (s .0)
-      (holds (timeOf a) first (tick t ∷ second) (s .1) (leb-true (timeOf a) t e, w .1) (told-more now a first (comes-at now a (s .0)) told) (inl (at-first now a first told))))
+      (holds (timeOf a) first (tick t ∷ second) (s .1) (leb-true (timeOf a) t e, w .1) (told-more now a first (comes-at now a (s .0)) told)
+      (inl (at-first now a first told))))
       (λ e. let h : t < timeOf a = leb-false (timeOf a) t e in
       one-tick now t (a ∷ first) second (merged (a ∷ first) second) (w .0) seen
       (λ after hit. ⊎-elim (λ soon. omega (arith, soon, after)) (λ f. omega (arith, h, head-late t a first (s .1) f)) (told .past t hit))
       (λ same hit. holds now (a ∷ first) second s (weak-of now t second (w .0) (w .1)) told (inl hit))
-      (λ after. holds t (a ∷ first) second (sooner t a h (not-close now a (s .0)), s .1) (weak-of t t second (omega arith) (w .1)) (told-later now t (a ∷ first) (w .0) told) (inr (w .1))))
+      (λ after. holds t (a ∷ first) second (sooner t a h (not-close now a (s .0)), s .1) (weak-of t t second (omega arith) (w .1))
+      (told-later now t (a ∷ first) (w .0) told) (inr (w .1))))
   holds now (a ∷ first) (close ∷ second) s w told seen = absurd (w .0)
 
 -- the joined list holds the first, and the second without its ticks at times of the first
-pub joined-interleaves : (first second : List Step) → Strict 0 first → Strict 0 second → Interleaves first (without (timesOf first) second) (joined first second)
+pub joined-interleaves : (first second : List Step) → Strict 0 first → Strict 0 second
+    → Interleaves first (without (timesOf first) second) (joined first second)
 joined-interleaves first second s q =
     holds (timesOf first) 0 first second s (weak-of 0 0 second (omega arith) q) (record { past = λ u e. inr e; all = λ u e. e }) (inr q)

@@ -1,4 +1,5 @@
--- Two lists of steps whose times never fall merge into one, a stream's events all come from one of them, and a tick that is left is later than the clock: so what is
+-- Two lists of steps whose times never fall merge into one, a stream's events all come from one of them, and a tick that is left is later than the
+-- clock: so what is
 -- left is a list of steps each of which was accepted after those before it.
 use Prim.Native.Nat.{ℕ, _≤_, _<_}
 use native.Mathlib.Omega.{arith}
@@ -14,7 +15,8 @@ use Rattle.constraint.specs.Streams.{kindOf}
 use Rattle.constraint.specs.Steps.{Step, event, tick, close, among, times, clockFrom, clock, closed}
 use Rattle.constraint.proofs.Lists.{split, both, or-false, Rising, rising-across}
 use Rattle.constraint.proofs.Judged.{never}
-use Rattle.constraint.proofs.History.{times-append, clock-event, clock-tick, closed-event, closed-tick, AcceptsEvent, Valid, valid-none, valid-more, past-of}
+use Rattle.constraint.proofs.History.{times-append, clock-event, clock-tick, closed-event, closed-tick, AcceptsEvent, Valid, valid-none, valid-more}
+use Rattle.constraint.proofs.History.{past-of}
 use Rattle.constraint.specs.Joined.{timeOf, merged, undropped, joined, kindsOf, NoneInCommon}
 
 -- a step that a record of a version can hold: version 1 has no colours
@@ -76,9 +78,11 @@ module _ (s : ℕ) where
   times-first (a ∷ first) [] e = refl
   times-first (a ∷ first) (b ∷ second) e =
       split (leb (timeOf a) (timeOf b)) (λ x. times s (cond x (a ∷ merged first (b ∷ second)) (b ∷ merged (a ∷ first) second)) ≡ times s (a ∷ first))
-      (λ t. times-append s (a ∷ []) (merged first (b ∷ second)) ∙ ap (λ (l : List ℕ). times s (a ∷ []) ++ l) (times-first first (b ∷ second) e) ∙ sym (times-append s (a ∷ []) first))
+      (λ t. times-append s (a ∷ []) (merged first (b ∷ second)) ∙ ap (λ (l : List ℕ). times s (a ∷ []) ++ l) (times-first first (b ∷ second) e)
+      ∙ sym (times-append s (a ∷ []) first))
       (λ t. let none = none-both (times s (b ∷ [])) (times s second) (sym (times-append s (b ∷ []) second) ∙ e) in
-      times-append s (b ∷ []) (merged (a ∷ first) second) ∙ ap (λ (l : List ℕ). l ++ times s (merged (a ∷ first) second)) (none .0) ∙ times-first (a ∷ first) second (none .1))
+      times-append s (b ∷ []) (merged (a ∷ first) second) ∙ ap (λ (l : List ℕ). l ++ times s (merged (a ∷ first) second)) (none .0)
+      ∙ times-first (a ∷ first) second (none .1))
 
   times-second : (first second : List Step) → times s first ≡ [] → times s (merged first second) ≡ times s second
   unfolding merged times
@@ -87,8 +91,10 @@ module _ (s : ℕ) where
   times-second (a ∷ first) (b ∷ second) e =
       split (leb (timeOf a) (timeOf b)) (λ x. times s (cond x (a ∷ merged first (b ∷ second)) (b ∷ merged (a ∷ first) second)) ≡ times s (b ∷ second))
       (λ t. let none = none-both (times s (a ∷ [])) (times s first) (sym (times-append s (a ∷ []) first) ∙ e) in
-      times-append s (a ∷ []) (merged first (b ∷ second)) ∙ ap (λ (l : List ℕ). l ++ times s (merged first (b ∷ second))) (none .0) ∙ times-second first (b ∷ second) (none .1))
-      (λ t. times-append s (b ∷ []) (merged (a ∷ first) second) ∙ ap (λ (l : List ℕ). times s (b ∷ []) ++ l) (times-second (a ∷ first) second e) ∙ sym (times-append s (b ∷ []) second))
+      times-append s (a ∷ []) (merged first (b ∷ second)) ∙ ap (λ (l : List ℕ). l ++ times s (merged first (b ∷ second))) (none .0)
+      ∙ times-second first (b ∷ second) (none .1))
+      (λ t. times-append s (b ∷ []) (merged (a ∷ first) second) ∙ ap (λ (l : List ℕ). times s (b ∷ []) ++ l) (times-second (a ∷ first) second e)
+      ∙ sym (times-append s (b ∷ []) second))
 
   -- a stream whose kind is not there has no times
   no-kind : (steps : List Step) → among (kindOf s) (kindsOf steps) ≡ false → times s steps ≡ []
@@ -96,12 +102,14 @@ module _ (s : ℕ) where
   no-kind [] e = refl
   no-kind (event j t ∷ steps) e =
       split (eqb j s) (λ x. cond x (t ∷ times s steps) (times s steps) ≡ [])
-      (λ same. both (sym (eq-eqb (kindOf s) (kindOf j) (ap kindOf (sym (eqb-true j s same)))) ∙ or-false (eqb (kindOf s) (kindOf j)) (among (kindOf s) (kindsOf steps)) e .0))
+      (λ same. both (sym (eq-eqb (kindOf s) (kindOf j) (ap kindOf (sym (eqb-true j s same))))
+      ∙ or-false (eqb (kindOf s) (kindOf j)) (among (kindOf s) (kindsOf steps)) e .0))
       (λ other. no-kind steps (or-false (eqb (kindOf s) (kindOf j)) (among (kindOf s) (kindsOf steps)) e .1))
   no-kind (tick t ∷ steps) e = no-kind steps e
   no-kind (close ∷ steps) e = no-kind steps e
 
-  pub rising-merged : (first second : List Step) → NoneInCommon first second → Rising (times s first) → Rising (times s second) → Rising (times s (merged first second))
+  pub rising-merged : (first second : List Step) → NoneInCommon first second → Rising (times s first) → Rising (times s second)
+      → Rising (times s (merged first second))
   unfolding NoneInCommon
   rising-merged first second apart r q =
       split (among (kindOf s) (kindsOf first)) (λ x. Rising (times s (merged first second)))
@@ -120,7 +128,8 @@ module _ (version : ℕ) where
   unfolding undropped times
   valid-left [] done now v is unclosed l r few = subst Valid (sym (append-nil done)) v
   valid-left (event s t ∷ steps) done now v is unclosed l r few =
-      let own : Rising (times s done ++ t ∷ times s steps) = subst Rising (times-append s done (event s t ∷ steps) ∙ ap (λ (x : List ℕ). times s done ++ x) (own-first s t steps)) (r s) in
+      let own : Rising (times s done ++ t ∷ times s steps) =
+      subst Rising (times-append s done (event s t ∷ steps) ∙ ap (λ (x : List ℕ). times s done ++ x) (own-first s t steps)) (r s) in
       let accepts : AcceptsEvent done s t = record {
         not-closed = unclosed;
         counted = omega (arith, few, length-append done (event s t ∷ undropped t steps));
@@ -129,12 +138,14 @@ module _ (version : ℕ) where
         in-order = (omega (arith, is, l .0), λ i h. rising-across (times s done) (t ∷ times s steps) own i h 0 (omega arith));
       } in
       subst Valid (append-snoc done (event s t) (undropped t steps))
-      (valid-left steps (done ++ (event s t ∷ [])) t (valid-more (event s t) v accepts) (clock-event s t done) (closed-event s t done ∙ unclosed) (l .2)
+      (valid-left steps (done ++ (event s t ∷ [])) t (valid-more (event s t) v accepts) (clock-event s t done) (closed-event s t done ∙ unclosed)
+      (l .2)
       (λ j. subst (λ (x : List Step). Rising (times j x)) (sym (append-snoc done (event s t) steps)) (r j))
       (subst (λ (x : List Step). length x ≤ lastCount) (sym (append-snoc done (event s t) (undropped t steps))) few))
   valid-left (tick t ∷ steps) done now v is unclosed l r few =
       split (leb t now)
-      (λ x. length (done ++ cond x (undropped now steps) (tick t ∷ undropped t steps)) ≤ lastCount → Valid (done ++ cond x (undropped now steps) (tick t ∷ undropped t steps)))
+      (λ x. length (done ++ cond x (undropped now steps) (tick t ∷ undropped t steps)) ≤ lastCount
+      → Valid (done ++ cond x (undropped now steps) (tick t ∷ undropped t steps)))
       (λ e short. valid-left steps done now v is unclosed (line-earlier version t now steps (l .0) (l .2))
       (λ j. subst Rising (times-append j done (tick t ∷ steps) ∙ sym (times-append j done steps)) (r j)) short)
       (λ e short. subst Valid (append-snoc done (tick t) (undropped t steps))
@@ -161,7 +172,8 @@ module _ (version : ℕ) where
   line-left (close ∷ steps) now l = absurd (l .1)
 
   -- the joined list of two valid ones without a kind in common, where it is no longer than a list of steps may be
-  pub joined-valid : (first second : List Step) → Valid first → Valid second → Line version 0 first → Line version 0 second → NoneInCommon first second
+  pub joined-valid : (first second : List Step) → Valid first → Valid second → Line version 0 first → Line version 0 second
+      → NoneInCommon first second
       → length (joined first second) ≤ lastCount → Valid (joined first second)
   unfolding closed clockFrom
   joined-valid first second v w l m apart few =

@@ -15,7 +15,8 @@ use Rattle.constraint.specs.Bytes.{numberAt}
 use Rattle.constraint.specs.Questions.{Judged}
 use Rattle.constraint.specs.Run.{stepFor, questions}
 use Rattle.constraint.specs.Table.{lengthAt, bodyAt}
-use Rattle.constraint.specs.Recording.{colourIn, callOf, callAt, recordQuestions, recording-of, VersionKnown, ReadsRecords, no-more, record-taken, ReadsInOrder, version-taken}
+use Rattle.constraint.specs.Recording.{colourIn, callOf, callAt, recordQuestions, recording-of, VersionKnown, ReadsRecords, no-more, record-taken}
+use Rattle.constraint.specs.Recording.{ReadsInOrder, version-taken}
 use Rattle.constraint.specs.declared.Answer.the-variants.{Taken}
 use Rattle.constraint.specs.declared.Call.{Call}
 use Rattle.constraint.proofs.Judged.{judged-all}
@@ -34,7 +35,8 @@ module _ (version : ℕ) (steps : List Step) where
       let a = accepts-taken [] steps (Call.Event k t) j in
       (a .stream-small, a .time-small, λ one. judged-all 19 _ _ (judged-all 9 _ _ (judged-all 24 _ _ (judged-all 8 _ _ j .1) .1) .1) .0)
 
-  fits-coloured : (k c t : ℕ) → Judged (questions [] steps (Call.ColouredEvent k (colourIn version c) t)) Taken → Fits version (event (stream k (colourIn version c)) t)
+  fits-coloured : (k c t : ℕ) → Judged (questions [] steps (Call.ColouredEvent k (colourIn version c) t)) Taken
+      → Fits version (event (stream k (colourIn version c)) t)
   unfolding questions
   fits-coloured k c t j =
       let a = accepts-taken [] steps (Call.ColouredEvent k (colourIn version c) t) j in
@@ -101,8 +103,10 @@ pub record Chain (bytes : List ℕ) (before : List Step) (place : ℕ) (all : Li
   pub valid : Valid all
 
 module _ (bytes : List ℕ) where
-  chain-more : (before : List Step) (place : ℕ) (all : List Step) → place < length bytes → Valid before → Judged (recordQuestions [] before bytes place) Taken
-      → (Valid (before ++ (stepFor (callAt bytes place) ∷ [])) → Chain bytes (before ++ (stepFor (callAt bytes place) ∷ [])) (place + 2 + lengthAt bytes place) all)
+  chain-more : (before : List Step) (place : ℕ) (all : List Step) → place < length bytes → Valid before
+      → Judged (recordQuestions [] before bytes place) Taken
+      → (Valid (before ++ (stepFor (callAt bytes place) ∷ []))
+      → Chain bytes (before ++ (stepFor (callAt bytes place) ∷ [])) (place + 2 + lengthAt bytes place) all)
       → Chain bytes before place all
   unfolding recordQuestions
   chain-more before place all there v judged later =
@@ -121,7 +125,8 @@ module _ (bytes : List ℕ) where
         valid = c .valid;
       }
 
-  chain : {before : List Step} {place : ℕ} {all : List Step} → ReadsRecords [] bytes before place (recording-of all) → Valid before → Chain bytes before place all
+  chain : {before : List Step} {place : ℕ} {all : List Step} → ReadsRecords [] bytes before place (recording-of all) → Valid before
+      → Chain bytes before place all
   chain {before} (no-more end) v = record { rest = []; is = sym (append-nil before); records = none end; line = tt; strict = tt; valid = v }
   chain {before} {place} {all} (record-taken there judged reads) v = chain-more before place all there v judged (λ w. chain reads w)
 

@@ -13,9 +13,11 @@ use Rattle.join.proofs.Bytes.{reads-back, steps-few}
 use Rattle.join.proofs.Records.{whole}
 use Rattle.join.proofs.Holding.{joined-interleaves}
 
-module _ (one two : List ℕ) (first second : List Step) (read : ReadsInOrder one (recording-of first)) (also : ReadsInOrder two (recording-of second)) where
+module _ (one two : List ℕ) (first second : List Step) (read : ReadsInOrder one (recording-of first))
+    (also : ReadsInOrder two (recording-of second)) where
   -- it is valid, and reads as the joined steps; the bytes are those of a buffer, of which there are fewer than 2 ^ 64
-  pub joined-reads : NoneInCommon first second → length (joinedBytes one two first second) < 2 ^ 64 → ReadsInOrder (joinedBytes one two first second) (recording-of (joined first second))
+  pub joined-reads : NoneInCommon first second → length (joinedBytes one two first second) < 2 ^ 64
+      → ReadsInOrder (joinedBytes one two first second) (recording-of (joined first second))
   joined-reads apart long =
       let a = whole one first read in
       let b = whole two second also in
@@ -30,6 +32,7 @@ module _ (one two : List ℕ) (first second : List Step) (read : ReadsInOrder on
   pub joined-version : at (joinedBytes one two first second) 0 ≡ max (at one 0) (at two 0)
   joined-version = refl
 
-  -- it holds every record of the first, and of the second all but the ticks at a time of which the first has a record; each in its order, and no other
+  -- it holds every record of the first, and of the second all but the ticks at a time of which the first has a record; each in its order, and no
+  -- other
   pub joined-holds : Interleaves first (without (timesOf first) second) (joined first second)
   joined-holds = joined-interleaves first second (whole one first read .strict) (whole two second also .strict)

@@ -106,13 +106,15 @@ merged-other second = refl
 
 module _ (one two : List ℕ) (place other : ℕ) (a b : Head) (heads : Heads one place a) (others : Heads two other b) where
   module _ (there : a .there ≡ true) (comes : b .there ≡ true → leb (timeOf (stepFor (a .call))) (timeOf (stepFor (b .call))) ≡ true) where
-    taken-first : (rest second : List Step) → Records two other second → merged (stepFor (a .call) ∷ rest) second ≡ stepFor (a .call) ∷ merged rest second
+    taken-first : (rest second : List Step) → Records two other second → merged (stepFor (a .call) ∷ rest) second ≡ stepFor (a .call)
+        ∷ merged rest second
     taken-first rest second records =
         split (b .there) (λ x. merged (stepFor (a .call) ∷ rest) second ≡ stepFor (a .call) ∷ merged rest second)
         (λ e. let f = head-first two other b others second e records in
         subst (λ (l : List Step). merged (stepFor (a .call) ∷ rest) l ≡ stepFor (a .call) ∷ merged rest l) (sym (f .is))
         (merged-first (stepFor (a .call)) rest (stepFor (b .call)) (f .rest) (comes e)))
-        (λ e. subst (λ (l : List Step). merged (stepFor (a .call) ∷ rest) l ≡ stepFor (a .call) ∷ merged rest l) (sym (head-ends two other b others second e records))
+        (λ e. subst (λ (l : List Step). merged (stepFor (a .call) ∷ rest) l ≡ stepFor (a .call) ∷ merged rest l)
+        (sym (head-ends two other b others second e records))
         (merged-only (stepFor (a .call)) rest))
 
     pub next-first : Nexts one two place other (record { there = true; call = a .call; first = a .next; second = other })
@@ -132,19 +134,22 @@ module _ (one two : List ℕ) (place other : ℕ) (a b : Head) (heads : Heads on
         }
 
   module _ (comes : a .there ≡ true → (b .there ≡ true) × (leb (timeOf (stepFor (a .call))) (timeOf (stepFor (b .call))) ≡ false)) where
-    taken-second : (first rest : List Step) → Records one place first → merged first (stepFor (b .call) ∷ rest) ≡ stepFor (b .call) ∷ merged first rest
+    taken-second : (first rest : List Step) → Records one place first → merged first (stepFor (b .call) ∷ rest) ≡ stepFor (b .call)
+        ∷ merged first rest
     taken-second first rest records =
         split (a .there) (λ x. merged first (stepFor (b .call) ∷ rest) ≡ stepFor (b .call) ∷ merged first rest)
         (λ e. let f = head-first one place a heads first e records in
         subst (λ (l : List Step). merged l (stepFor (b .call) ∷ rest) ≡ stepFor (b .call) ∷ merged l rest) (sym (f .is))
         (merged-second (stepFor (a .call)) (f .rest) (stepFor (b .call)) rest (comes e .1)))
-        (λ e. subst (λ (l : List Step). merged l (stepFor (b .call) ∷ rest) ≡ stepFor (b .call) ∷ merged l rest) (sym (head-ends one place a heads first e records))
+        (λ e. subst (λ (l : List Step). merged l (stepFor (b .call) ∷ rest) ≡ stepFor (b .call) ∷ merged l rest)
+        (sym (head-ends one place a heads first e records))
         (merged-other (stepFor (b .call) ∷ rest) ∙ ap (λ (l : List Step). stepFor (b .call) ∷ l) (sym (merged-other rest))))
 
     nothing-left : b .there ≡ false → (first second : List Step) → Records one place first → Records two other second → merged first second ≡ []
     nothing-left e first second records more-records =
         split (a .there) (λ x. merged first second ≡ []) (λ t. both (sym (comes t .0) ∙ e))
-        (λ t. ap (λ (l : List Step). merged l second) (head-ends one place a heads first t records) ∙ merged-other second ∙ head-ends two other b others second e more-records)
+        (λ t. ap (λ (l : List Step). merged l second) (head-ends one place a heads first t records) ∙ merged-other second
+        ∙ head-ends two other b others second e more-records)
 
     pub next-second : Nexts one two place other (record { there = b .there; call = b .call; first = place; second = b .next })
     next-second =
@@ -168,11 +173,13 @@ module _ (one two : List ℕ) (place other : ℕ) (a b : Head) (heads : Heads on
 abbrev leftOf : ℕ → Step → List Step
 leftOf now s = cond (isDropped now s) [] (s ∷ [])
 
-left-more : (now : ℕ) (call : Call) (steps : List Step) → undropped now (stepFor call ∷ steps) ≡ leftOf now (stepFor call) ++ undropped (leftClock now call) steps
+left-more : (now : ℕ) (call : Call) (steps : List Step) → undropped now (stepFor call ∷ steps) ≡ leftOf now (stepFor call)
+    ++ undropped (leftClock now call) steps
 unfolding undropped
 left-more now call steps =
     split (isDropped now (stepFor call))
-    (λ x. cond x (undropped now steps) (stepFor call ∷ undropped (timeOf (stepFor call)) steps) ≡ cond x [] (stepFor call ∷ []) ++ undropped (cond x now (timeOf (stepFor call))) steps)
+    (λ x. cond x (undropped now steps) (stepFor call ∷ undropped (timeOf (stepFor call)) steps) ≡ cond x [] (stepFor call ∷ [])
+    ++ undropped (cond x now (timeOf (stepFor call))) steps)
     (λ e. refl) (λ e. refl)
 
 left-same : (now : ℕ) (call : Call) → callBytes call ≡ stepBytes (stepFor call) → stepsBytes (leftOf now (stepFor call)) ≡ leftBytes now call
@@ -184,7 +191,8 @@ left-same now call same =
 -- ---- the walk
 
 -- what is stored behind a list of bytes is stored with it
-pub stored-behind : (buffer one two : List ℕ) (place n : ℕ) (front back : List ℕ) → length front ≡ n → one ≡ sets buffer place front → two ≡ sets one (place + n) back
+pub stored-behind : (buffer one two : List ℕ) (place n : ℕ) (front back : List ℕ) → length front ≡ n → one ≡ sets buffer place front → two
+    ≡ sets one (place + n) back
     → two ≡ sets buffer place (front ++ back)
 stored-behind buffer one two place n front back size first second =
     second ∙ ap (λ (l : List ℕ). sets l (place + n) back) first
@@ -212,7 +220,8 @@ module _ (one two before : List ℕ) where
     pub walk-end : r .there ≡ false → (size ≡ length (joinedBytes one two first second)) × (buffer ≡ sets before 1 (stepsBytes (joined first second)))
     unfolding undropped
     walk-end e =
-        let all : joined first second ≡ w .done = w .is ∙ ap (λ (l : List Step). w .done ++ undropped clock l) (nexts .ends e (w .rest) (w .other-rest) (w .records) (w .others)) ∙ append-nil (w .done) in (
+        let all : joined first second ≡ w .done = w .is ∙ ap (λ (l : List Step). w .done ++ undropped clock l)
+        (nexts .ends e (w .rest) (w .other-rest) (w .records) (w .others)) ∙ append-nil (w .done) in (
           omega (arith, w .size-is, ap (λ (l : List Step). length (stepsBytes l)) all),
           w .stored ∙ ap (λ (l : List Step). sets before 1 (stepsBytes l)) (sym all),
         )
@@ -234,7 +243,8 @@ module _ (one two before : List ℕ) where
       bytes-are : stepsBytes again ≡ stepsBytes (w .done) ++ leftBytes clock (r .call)
       unfolding again
       bytes-are =
-          bytes-append (w .done) (leftOf clock (stepFor (r .call))) ∙ ap (λ (l : List ℕ). stepsBytes (w .done) ++ l) (left-same clock (r .call) (b .bytes))
+          bytes-append (w .done) (leftOf clock (stepFor (r .call)))
+          ∙ ap (λ (l : List ℕ). stepsBytes (w .done) ++ l) (left-same clock (r .call) (b .bytes))
 
       size-more : 1 + length (stepsBytes again) ≡ size + length (leftBytes clock (r .call))
       size-more = omega (arith, ap length bytes-are, length-append (stepsBytes (w .done)) (leftBytes clock (r .call)), w .size-is)
@@ -250,7 +260,8 @@ module _ (one two before : List ℕ) where
             others = b .others;
             is = all-is ∙ ap (λ (n : ℕ). again ++ undropped n (merged (b .rest) (b .other))) (sym c);
             size-is = s ∙ sym size-more;
-            stored = stored-behind before buffer buffer′ 1 (length (stepsBytes (w .done))) (stepsBytes (w .done)) (leftBytes clock (r .call)) refl (w .stored)
+            stored = stored-behind before buffer buffer′ 1 (length (stepsBytes (w .done))) (stepsBytes (w .done)) (leftBytes clock (r .call)) refl
+                (w .stored)
                 (stored ∙ ap (λ (n : ℕ). sets buffer n (leftBytes clock (r .call))) (w .size-is))
                 ∙ ap (λ (l : List ℕ). sets before 1 l) (sym bytes-are);
           }

@@ -17,7 +17,8 @@ stream-place call small = rw (lt-ltb (streamFor call) streamCount small)
 
 pub place-small : (call : Call) → placeFor call < streamCount
 place-small call =
-    split (ltb (streamFor call) streamCount) (λ x. cond x (streamFor call) 0 < streamCount) (λ e. ltb-true (streamFor call) streamCount e) (λ e. omega arith)
+    split (ltb (streamFor call) streamCount) (λ x. cond x (streamFor call) 0 < streamCount) (λ e. ltb-true (streamFor call) streamCount e)
+    (λ e. omega arith)
 
 pub place-in-small : (place : ℕ) → placeIn place < streamCount
 place-in-small place =

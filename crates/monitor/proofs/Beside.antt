@@ -187,7 +187,8 @@ module _ (c : Constraint) (sound : Sound c) where
     pub read-both : (calls calls′ : List Call) (steps steps′ : List Step) → TakesAll rows calls steps → TakesAll rows′ calls′ steps′
         → EachBeside c steps steps′ → (v : Verdict) × Reads c steps v × Reads c steps′ v
     read-both calls calls′ steps steps′ taken taken′ beside =
-        let last = fits-runs noneLeft noneLeft (rowOf c) start calls calls′ (record { steps = steps; may = taken .0 }) (record { steps = steps′; may = taken′ .0 }) (taken .1) (taken′ .1) of-calls in
+        let last = fits-runs noneLeft noneLeft (rowOf c) start calls calls′ (record { steps = steps; may = taken .0 })
+        (record { steps = steps′; may = taken′ .0 }) (taken .1) (taken′ .1) of-calls in
         let both = last .1 in (
           rowVerdict (last .0) (closed steps),
           fits-reads c exact steps (both .valid) (last .0) (both .fits),

@@ -1,4 +1,5 @@
--- §3.6: a refusal leaves the monitor as it was, a fresh monitor follows the empty list of steps, and the rows of one that follows some steps read what the
+-- §3.6: a refusal leaves the monitor as it was, a fresh monitor follows the empty list of steps, and the rows of one that follows some steps read
+-- what the
 -- definitions say.
 use Prim.Native.Nat.{ℕ, zero, suc, _+_, _-_, _≤_, _<_}
 use native.Mathlib.Decide.{decLt}
@@ -56,7 +57,8 @@ step-untouched m s =
 -- ---- fresh
 
 -- a table that is accepted has sound rows, and there is room for them
-pub accepted-sound : (i : ℕ) (rows : List Constraint) → Judged (rowsQuestions i rows []) Taken → SoundRows rows × ((length rows ≡ 0) ⊎ (i + length rows ≤ rowLimit))
+pub accepted-sound : (i : ℕ) (rows : List Constraint) → Judged (rowsQuestions i rows []) Taken → SoundRows rows
+    × ((length rows ≡ 0) ⊎ (i + length rows ≤ rowLimit))
 unfolding Judged rowsQuestions
 accepted-sound i [] taken = (tt, inl refl)
 accepted-sound i (c ∷ rows) (inl (room, inl (fit, inl (suit, inl (range, inl (lower, later)))))) =
@@ -85,11 +87,13 @@ has-none (c ∷ rows) zero h = absurd (omega arith)
 has-none (c ∷ rows) (suc i) h = has-none rows i (omega arith)
 
 -- a row that reads broken at a step
-pub broken-row : (rows : List Constraint) (steps : List Step) (i n : ℕ) → ReadsRow rows steps i (some (Verdict.Broken n)) → (c : Constraint) × (getElem? rows i ≡ some c) × BrokenAt c steps n
+pub broken-row : (rows : List Constraint) (steps : List Step) (i n : ℕ) → ReadsRow rows steps i (some (Verdict.Broken n)) → (c : Constraint)
+    × (getElem? rows i ≡ some c) × BrokenAt c steps n
 broken-row rows steps i n (row c v e (reads-broken k b)) = (c, e, b)
 
 -- a row that was broken reads so
-pub reads-still : (rows : List Constraint) (steps : List Step) (i n : ℕ) (c : Constraint) → Valid steps → getElem? rows i ≡ some c → BrokenAt c steps n
+pub reads-still : (rows : List Constraint) (steps : List Step) (i n : ℕ) (c : Constraint) → Valid steps → getElem? rows i ≡ some c
+    → BrokenAt c steps n
     → (o : Option Verdict) → ReadsRow rows steps i o → o ≡ some (Verdict.Broken n)
 reads-still rows steps i n c valid e b o (row d v f r) =
     let same : d ≡ c = cc in
@@ -114,11 +118,13 @@ module _ (engine : (c : Constraint) → Sound c → Exact c) where
       }
 
   -- each row number reads what the definitions say
-  pub verdict-reads : (rows : List Constraint) (steps : List Step) (m : Monitor) → Follows engine rows steps m → (i : ℕ) → ReadsRow rows steps i (verdictOf m i)
+  pub verdict-reads : (rows : List Constraint) (steps : List Step) (m : Monitor) → Follows engine rows steps m → (i : ℕ)
+      → ReadsRow rows steps i (verdictOf m i)
   unfolding verdictOf
   verdict-reads rows steps m f i =
       by-cases (decLt i (length rows))
       (λ h. let found = has-row rows i h in
       rw (f .len-is, lt-ltb i (length rows) h, lt-ltb i rowLimit (omega (arith, f .few)), f .closed-is)
-      (row (found .0) (rowVerdict (getD (m .rows) i noRow) (closed steps)) (found .1) (fit-reads engine steps (f .valid) rows (m .rows) (f .fit) i (found .0) (found .1))))
+      (row (found .0) (rowVerdict (getD (m .rows) i noRow) (closed steps)) (found .1)
+      (fit-reads engine steps (f .valid) rows (m .rows) (f .fit) i (found .0) (found .1))))
       (λ h. rw (f .len-is, le-ltb i (length rows) (omega arith)) (no-row (has-none rows i (omega arith))))

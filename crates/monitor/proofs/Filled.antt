@@ -18,5 +18,6 @@ module _ {A B : Type 0} (f : A → B) (empty : B) (items : List A) (n : ℕ) whe
       let rest : List B = replicate (n - (i + 1)) empty in
       rw room
       (set-at (map f (take i items)) empty rest (f (getD items i other)) i (length-map (take i items) f ∙ length-take-le i items (omega arith))
-      ∙ sym (ap (λ (l : List B). l ++ rest) (ap (map f) (ap (λ (k : ℕ). take k items) (add-one i) ∙ take-suc items i other h) ∙ map-append f (take i items) (getD items i other ∷ []))
+      ∙ sym (ap (λ (l : List B). l ++ rest) (ap (map f) (ap (λ (k : ℕ). take k items) (add-one i) ∙ take-suc items i other h)
+      ∙ map-append f (take i items) (getD items i other ∷ []))
       ∙ append-snoc (map f (take i items)) (f (getD items i other)) rest))

@@ -34,7 +34,8 @@ module _ (f : Row → Row) where
   map-suc (r ∷ rows) (suc n) other h = ap (λ (later : List Row). f r ∷ later) (map-suc rows n other (omega arith))
 
   -- the row behind the first n, changed too
-  pub map-next : (rows : List Row) (n : ℕ) (other : Row) → n < length rows → set (mapFirst n f rows) n (f (getD (mapFirst n f rows) n other)) ≡ mapFirst (n + 1) f rows
+  pub map-next : (rows : List Row) (n : ℕ) (other : Row) → n < length rows → set (mapFirst n f rows) n (f (getD (mapFirst n f rows) n other))
+      ≡ mapFirst (n + 1) f rows
   map-next rows n other h = rw (map-behind rows n other, add-one n) (map-suc rows n other h)
 
   pub map-all : (rows : List Row) (n m : ℕ) → n ≡ min m (length rows) → mapFirst n f rows ≡ mapFirst m f rows
@@ -61,7 +62,8 @@ module _ (f : Row → Bool) where
       right true = refl
       right false = refl
 
-  any-suc : (rows : List Row) (n : ℕ) (other : Row) → n < length rows → anyFirst n f rows ≡ false → f (getD rows n other) ≡ false → anyFirst (suc n) f rows ≡ false
+  any-suc : (rows : List Row) (n : ℕ) (other : Row) → n < length rows → anyFirst n f rows ≡ false → f (getD rows n other) ≡ false
+      → anyFirst (suc n) f rows ≡ false
   unfolding anyFirst
   any-suc [] n other h none e = absurd (omega arith)
   any-suc (r ∷ rows) zero other h none e = rw e
@@ -70,7 +72,8 @@ module _ (f : Row → Bool) where
       rw (parts .0) (any-suc rows n other (omega arith) (parts .1) e)
 
   -- nor has the row behind the first n
-  pub any-next : (rows : List Row) (n : ℕ) (other : Row) → n < length rows → anyFirst n f rows ≡ false → f (getD rows n other) ≡ false → anyFirst (n + 1) f rows ≡ false
+  pub any-next : (rows : List Row) (n : ℕ) (other : Row) → n < length rows → anyFirst n f rows ≡ false → f (getD rows n other) ≡ false
+      → anyFirst (n + 1) f rows ≡ false
   any-next rows n other h none e = rw (add-one n) (any-suc rows n other h none e)
 
   pub any-all : (rows : List Row) (n m : ℕ) → n ≡ min m (length rows) → anyFirst n f rows ≡ anyFirst m f rows
@@ -169,7 +172,8 @@ module _ (o : Occurrence) (number : ℕ) where
 
     -- nor does it crowd the next row
     pub moved-next : length (m .before) ≡ rowLimit → (other : Row) (none : Before) (s : RowStep) (saved : Before) → n < min (m .len) rowLimit
-        → s ≡ rowStep (getD (now .rows) n other) o number → saved ≡ savedBy o number (getD (now .rows) n other) (getD (now .before) n none) → s .crowded ≡ false
+        → s ≡ rowStep (getD (now .rows) n other) o number → saved ≡ savedBy o number (getD (now .rows) n other) (getD (now .before) n none)
+        → s .crowded ≡ false
         → Moved m (withRows now (set (now .rows) n (s .row)) (set (now .before) n saved)) (n + 1)
     moved-next wide other none s saved h e k free =
         record {
@@ -189,7 +193,8 @@ module _ (o : Occurrence) (number : ℕ) where
         record {
           crowded-is = sym (sym (any-all full (m .rows) n (m .len) (omega arith)) ∙ so-far .none-full);
           stepped = λ f. so-far .changed
-              ∙ ap₂ (withRows m) (map-all moved (m .rows) n (m .len) (omega arith)) (zip-all (savedBy o number) (m .rows) (m .before) n (m .len) (omega arith));
+              ∙ ap₂ (withRows m) (map-all moved (m .rows) n (m .len) (omega arith))
+              (zip-all (savedBy o number) (m .rows) (m .before) n (m .len) (omega arith));
           as-it-was = λ f. both (sym f);
         }
 

@@ -64,7 +64,8 @@ module _ (engine : (c : Constraint) → Sound c → Exact c) where
         let none-crowded = or-false (moved r .crowded) (anyFirst (length cs) (λ r. moved r .crowded) rows) free in (
           (
             fit .0 .0,
-            subst (λ b. After c (engine c (fit .0 .0)) (steps ++ (s ∷ [])) b (moved r .row)) (none-crowded .0) (after-step c (fit .0 .0) r (fit .0 .1)),
+            subst (λ b. After c (engine c (fit .0 .0)) (steps ++ (s ∷ [])) b (moved r .row)) (none-crowded .0)
+                (after-step c (fit .0 .0) r (fit .0 .1)),
           ),
           fit-step cs rows (fit .1) (none-crowded .1),
         )
@@ -77,7 +78,8 @@ module _ (engine : (c : Constraint) → Sound c → Exact c) where
     fit-crowded (c ∷ cs) [] fit crowded = absurd fit
     fit-crowded (c ∷ cs) (r ∷ rows) fit crowded =
         ⊎-elim
-        (λ e. let full = subst (λ b. After c (engine c (fit .0 .0)) (steps ++ (s ∷ [])) b (moved r .row)) e (after-step c (fit .0 .0) r (fit .0 .1)) in
+        (λ e. let full = subst (λ b. After c (engine c (fit .0 .0)) (steps ++ (s ∷ [])) b (moved r .row)) e
+        (after-step c (fit .0 .0) r (fit .0 .1)) in
         (0, c, refl, full .0, full .1))
         (λ e. let found = fit-crowded cs rows (fit .1) e in (suc (found .0), found .1, found .2, found .3, found .4))
         (or-true (moved r .crowded) (anyFirst (length cs) (λ r. moved r .crowded) rows) crowded)
@@ -94,12 +96,14 @@ module _ (engine : (c : Constraint) → Sound c → Exact c) where
   -- ---- what the rows hold and read
 
   module _ (steps : List Step) (valid : Valid steps) where
-    row-room : (cs : List Constraint) (rows : List Row) → FitRows steps cs rows → (i : ℕ) (c : Constraint) → getElem? cs i ≡ some c → Open c steps → waiting c steps ≤ waitingLimit
+    row-room : (cs : List Constraint) (rows : List Row) → FitRows steps cs rows → (i : ℕ) (c : Constraint) → getElem? cs i ≡ some c → Open c steps
+        → waiting c steps ≤ waitingLimit
     row-room [] rows fit i c e o = absurd (let z : _≡_ {A = ℕ} 0 1 = cc in omega arith)
     row-room (d ∷ cs) [] fit i c e o = absurd fit
     row-room (d ∷ cs) (r ∷ rows) fit zero c e o =
         let same : d ≡ c = cc in
-        subst (λ x. waiting x steps ≤ waitingLimit) same (fits-room d (engine d (fit .0 .0)) steps valid r (fit .0 .1) (subst (λ x. Open x steps) (sym same) o))
+        subst (λ x. waiting x steps ≤ waitingLimit) same (fits-room d (engine d (fit .0 .0)) steps valid r (fit .0 .1)
+        (subst (λ x. Open x steps) (sym same) o))
     row-room (d ∷ cs) (r ∷ rows) fit (suc i) c e o = row-room cs rows (fit .1) i c e o
 
     pub fit-room : (cs : List Constraint) (rows : List Row) → FitRows steps cs rows → Room cs steps

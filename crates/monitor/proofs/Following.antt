@@ -1,4 +1,5 @@
--- The monitor follows the accepted steps: its clock, count, free times and rows are read off them after every call, and each call is answered as its questions say. By cases on the machine's tests, each of which is one question's.
+-- The monitor follows the accepted steps: its clock, count, free times and rows are read off them after every call, and each call is answered as its
+-- questions say. By cases on the machine's tests, each of which is one question's.
 use Prim.Native.Nat.{ℕ, _+_, _≤_, _<_}
 use native.Mathlib.Decide.{ℕ-discrete, decLt}
 use native.Mathlib.Omega.{arith}
@@ -22,13 +23,15 @@ use Rattle.constraint.specs.declared.Call.{Call}
 use Rattle.constraint.specs.declared.Constraint.{Constraint}
 use Rattle.constraint.proofs.Lists.{split, both}
 use Rattle.constraint.proofs.Streams.{stream-below}
-use Rattle.constraint.proofs.History.{times-own, times-other, times-tick, times-close, clock-event, clock-tick, clock-close, closed-event, closed-tick, closed-close, Accepts, Valid, valid-more, counted-of}
+use Rattle.constraint.proofs.History.{times-own, times-other, times-tick, times-close, clock-event, clock-tick, clock-close, closed-event}
+use Rattle.constraint.proofs.History.{closed-tick, closed-close, Accepts, Valid, valid-more, counted-of}
 use Rattle.constraint.proofs.Counting.{nextFree, next-above, next-least, next-snoc}
 use Rattle.machine.specs.Parts.{plus}
 use Rattle.row.specs.Machine.{closeAt, rowStep}
 use Rattle.row.proofs.Exact.{Sound, Exact}
 use Rattle.row.proofs.Steps.{seen}
-use Rattle.monitor.specs.Machine.{anyFirst, refuses, takes, nextStep, placeFor, timeRefusal, ownRefusal, refusalBy, freeAfter, closedAfter, nextFor, occurrenceOf, takenCall, crowds, steppedBy, stepOf}
+use Rattle.monitor.specs.Machine.{anyFirst, refuses, takes, nextStep, placeFor, timeRefusal, ownRefusal, refusalBy, freeAfter, closedAfter}
+use Rattle.monitor.specs.Machine.{nextFor, occurrenceOf, takenCall, crowds, steppedBy, stepOf}
 use Rattle.monitor.specs.declared.Monitor.{Monitor}
 use Rattle.monitor.specs.declared.Stepped.{Stepped}
 use Rattle.monitor.proofs.Answers.{stream-place}
@@ -161,7 +164,8 @@ module _ (engine : (c : Constraint) → Sound c → Exact c) where
             len-is = f .len-is;
             few = f .few;
             fit = rw (f .len-is, seen-is call)
-                (fit-step engine steps (f .valid) (stepFor call) (nextStep m) (step-is counted) accepts rows (m .rows) (f .fit) (sym crowds-is ∙ free));
+                (fit-step engine steps (f .valid) (stepFor call) (nextStep m) (step-is counted) accepts rows (m .rows) (f .fit)
+                (sym crowds-is ∙ free));
           }
 
       room-left : crowds m call ≡ false → Room rows (steps ++ (stepFor call ∷ []))
@@ -172,7 +176,8 @@ module _ (engine : (c : Constraint) → Sound c → Exact c) where
       no-room : crowds m call ≡ true → ¬ Room rows (steps ++ (stepFor call ∷ []))
       unfolding Room
       no-room crowded room =
-          let full = fit-crowded engine steps (f .valid) (stepFor call) (nextStep m) (step-is counted) accepts rows (m .rows) (f .fit) (sym crowds-is ∙ crowded) in
+          let full = fit-crowded engine steps (f .valid) (stepFor call) (nextStep m) (step-is counted) accepts rows (m .rows) (f .fit)
+          (sym crowds-is ∙ crowded) in
           omega (arith, room (full .0) (full .1) (full .2) (full .3), full .4)
 
     -- ---- the answers
@@ -190,7 +195,8 @@ module _ (engine : (c : Constraint) → Sound c → Exact c) where
         (λ e. (others Taken (inl (room-left call accepts e, refl)), followed call accepts e))
 
     -- 10, 11 and 12 of an event, those before them being answered "yes"
-    module _ (call : Call) (s t : ℕ) (is : event s t ≡ stepFor call) (place : placeFor call ≡ s) (small : s < streamCount) (open-still : closed steps ≡ false) (counted : length steps < lastCount)
+    module _ (call : Call) (s t : ℕ) (is : event s t ≡ stepFor call) (place : placeFor call ≡ s) (small : s < streamCount)
+        (open-still : closed steps ≡ false) (counted : length steps < lastCount)
         (others : (a : Answer) → Judged (eventQuestions rows steps s t) a → Judged (questions rows steps call) a) where
       time-answered : Left call (timeRefusal t (m .clock) (nextFor m call))
       unfolding Judged
@@ -205,7 +211,14 @@ module _ (engine : (c : Constraint) → Sound c → Exact c) where
           split (ltb t free) (λ x. Left call (cond x 11 0))
           (λ e. (others _ (inl (fits, inr (not-free s t small (sym (ap (ltb t) there) ∙ e), refl))), f)) (λ taken.
           let order = in-order s t small late (sym (ap (ltb t) there) ∙ taken) in
-          let accepts : Accepts steps (event s t) = record { not-closed = open-still; counted = counted; stream-small = small; time-small = fits; in-order = order } in
+          let accepts : Accepts steps (event s t) = record {
+            not-closed = open-still;
+            counted = counted;
+            stream-small = small;
+            time-small =
+                fits;
+            in-order = order;
+          } in
           last-asked call (subst (Accepts steps) is accepts) (λ a j. others a (inl (
             fits,
             inl (
@@ -251,7 +264,8 @@ module _ (engine : (c : Constraint) → Sound c → Exact c) where
     coloured-answered k colour t =
         let c = Call.ColouredEvent k colour t in
         let last = timeRefusal t (m .clock) (nextFor m c) in
-        first-asked c ((9, k ≤ lastKind) ∷ (19, (firstColoured ≤ k) × (colour ≤ lastColour)) ∷ eventQuestions rows steps (stream k colour) t) (λ a j. j)
+        first-asked c ((9, k ≤ lastKind) ∷ (19, (firstColoured ≤ k) × (colour ≤ lastColour)) ∷ eventQuestions rows steps (stream k colour) t)
+        (λ a j. j)
         (λ open-still counted others.
         split (ltb lastKind k) (λ x. Left c (cond x 9 (cond (ltb k firstColoured) 19 (cond (ltb lastColour colour) 19 last))))
         (λ e. (others _ (inr (λ h. omega (arith, ltb-true lastKind k e), refl)), f)) (λ e9.
@@ -269,14 +283,16 @@ module _ (engine : (c : Constraint) → Sound c → Exact c) where
     unfolding Judged questions
     tick-answered t =
         let c = Call.Tick t in
-        first-asked c ((10, t ≤ lastTime) ∷ (11, clock steps < t) ∷ (12, Room rows (steps ++ (tick t ∷ []))) ∷ []) (λ a j. j) (λ open-still counted others.
+        first-asked c ((10, t ≤ lastTime) ∷ (11, clock steps < t) ∷ (12, Room rows (steps ++ (tick t ∷ []))) ∷ []) (λ a j. j)
+        (λ open-still counted others.
         split (ltb lastTime t) (λ x. Left c (cond x 10 (cond (leb t (m .clock)) 11 0)))
         (λ e. (others _ (inr (λ h. omega (arith, ltb-true lastTime t e), refl)), f)) (λ e10.
         let fits = ltb-false lastTime t e10 in
         split (leb t (m .clock)) (λ x. Left c (cond x 11 0))
         (λ e. (others _ (inl (fits, inr (λ h. omega (arith, leb-true t (m .clock) e, f .clock-is), refl))), f)) (λ e11.
         let later : clock steps < t = omega (arith, leb-false t (m .clock) e11, f .clock-is) in
-        last-asked c (record { not-closed = open-still; counted = counted; time-small = fits; later = later }) (λ a j. others a (inl (fits, inl (later, j)))))))
+        last-asked c (record { not-closed = open-still; counted = counted; time-small = fits; later = later })
+        (λ a j. others a (inl (fits, inl (later, j)))))))
 
     -- the close has only questions 8 and 24: it crowds no row
     close-answered : Asked Call.Close

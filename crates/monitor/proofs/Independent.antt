@@ -42,13 +42,22 @@ pub takes-exactly : (rows : List Constraint) → Accepted rows → (calls : List
     → (answersTo rows calls ≡ allTaken calls) ↔ ((steps : List Step) × TakesAll rows calls steps)
 takes-exactly rows accepted calls =
     let played = monitor-is-exact .exact rows accepted (map asks calls) in (
-      λ all. (played .0 .steps, (played .0 .may, subst (λ (answers : List Answer). Run rows noneLeft (map asks calls) answers (played .0)) all (played .1))),
+      λ all. (
+        played .0 .steps,
+        (
+          played .0 .may,
+          subst (λ (answers : List Answer). Run rows noneLeft (map asks calls) answers (played .0)) all
+              (played .1),
+        ),
+      ),
       λ taken. run-once rows (played .1) (taken .1 .1) .0,
     )
 
 -- the verdict is the one that the row reads
-verdict-read : (rows : List Constraint) (calls : List Call) (answers : List Answer) (left : Left) → Accepted rows → Run rows noneLeft (map asks calls) answers left
-    → (i : ℕ) (c : Constraint) → getElem? rows i ≡ some c → (v : Verdict) → Reads c (left .steps) v → verdictOf (after rows (map asks calls)) i ≡ some v
+verdict-read : (rows : List Constraint) (calls : List Call) (answers : List Answer) (left : Left) → Accepted rows
+    → Run rows noneLeft (map asks calls) answers left
+    → (i : ℕ) (c : Constraint) → getElem? rows i ≡ some c → (v : Verdict) → Reads c (left .steps) v → verdictOf (after rows (map asks calls)) i
+    ≡ some v
 verdict-read rows calls answers left accepted run i c there v reads =
     let row = row-reads rows (map asks calls) left accepted (answers, run) i c there in
     row .1 ∙ ap some (reads-once c (left .steps) (run-valid run valid-none) (row .0) v (row .2) reads)
@@ -87,8 +96,10 @@ module _
   pub rows-apart : verdictOf (after rows (map asks (take n calls))) i ≡ verdictOf (after rows′ (map asks (take n calls′))) j
   rows-apart =
       let (v, reads, reads′) = both-read in
-      verdict-read rows (take n calls) (allTaken (take n calls)) (record { steps = take n steps; may = taken-n .0 }) accepted (taken-n .1) i c there v reads
-      ∙ sym (verdict-read rows′ (take n calls′) (allTaken (take n calls′)) (record { steps = take n steps′; may = taken-n′ .0 }) accepted′ (taken-n′ .1) j c there′ v reads′)
+      verdict-read rows (take n calls) (allTaken (take n calls)) (record { steps = take n steps; may = taken-n .0 }) accepted
+      (taken-n .1) i c there v reads
+      ∙ sym (verdict-read rows′ (take n calls′) (allTaken (take n calls′)) (record { steps = take n steps′; may = taken-n′ .0 }) accepted′
+      (taken-n′ .1) j c there′ v reads′)
 
 -- ---- one list of calls, over two tables
 
@@ -99,7 +110,8 @@ unfolding questions
 same-answer rows rows′ past (Call.Event k t) a a′ judged judged′ free free′ =
     judged-but-last (questions rows past (Call.Event k t)) (questions rows′ past (Call.Event k t)) refl a a′ judged judged′ free free′
 same-answer rows rows′ past (Call.ColouredEvent k colour t) a a′ judged judged′ free free′ =
-    judged-but-last (questions rows past (Call.ColouredEvent k colour t)) (questions rows′ past (Call.ColouredEvent k colour t)) refl a a′ judged judged′
+    judged-but-last (questions rows past (Call.ColouredEvent k colour t))
+    (questions rows′ past (Call.ColouredEvent k colour t)) refl a a′ judged judged′
     free free′
 same-answer rows rows′ past (Call.Tick t) a a′ judged judged′ free free′ =
     judged-but-last (questions rows past (Call.Tick t)) (questions rows′ past (Call.Tick t)) refl a a′ judged judged′ free free′
@@ -112,7 +124,8 @@ same-runs rows rows′ [] done done free free′ = (refl, refl)
 same-runs rows rows′ (s ∷ calls) (request {left = left} {end = end} {answers = answers} _ a judged run)
     (request {end = end′} {answers = answers′} _ a′ judged′ run′) (free, later) (free′, later′) =
     let same : a ≡ a′ = same-answer rows rows′ (left .steps) s a a′ judged judged′ free free′ in
-    let run″ : Run rows′ (leftBy left (asks s) a) (map asks calls) answers′ end′ = subst (λ x. Run rows′ (leftBy left (asks s) x) (map asks calls) answers′ end′) (sym same) run′ in
+    let run″ : Run rows′ (leftBy left (asks s) a) (map asks calls) answers′ end′ =
+    subst (λ x. Run rows′ (leftBy left (asks s) x) (map asks calls) answers′ end′) (sym same) run′ in
     let rest : (answers ≡ answers′) × (end ≡ end′) = same-runs rows rows′ calls run run″ later later′ in
     (ap₂ (λ (x : Answer) (l : List Answer). x ∷ l) same (rest .0), rest .1)
 

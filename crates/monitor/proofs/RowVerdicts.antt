@@ -24,7 +24,8 @@ pub place-small : (i : ℕ) → placeOf i < rowLimit
 place-small i = split (ltb i rowLimit) (λ b. cond b i 0 < rowLimit) (λ e. ltb-true i rowLimit e) (λ e. omega arith)
 
 -- both tests say "yes", or there is no such row
-chosen : (x y : Bool) (v w : Verdict) → (y ≡ true → v ≡ w) → verdictIn (cond (x && y) (RowVerdict.Reads v) (RowVerdict.Refused 15)) ≡ cond (x && y) (some w) none
+chosen : (x y : Bool) (v w : Verdict) → (y ≡ true → v ≡ w) → verdictIn (cond (x && y) (RowVerdict.Reads v) (RowVerdict.Refused 15))
+    ≡ cond (x && y) (some w) none
 chosen true true v w e = ap some (e refl)
 chosen true false v w e = refl
 chosen false y v w e = refl
@@ -44,7 +45,8 @@ module _ (m : Monitor) (full : length (m .rows) ≡ rowLimit) (i : ℕ) (other :
       chosen (ltb i (m .len)) (ltb i rowLimit) (of (getD (m .rows) (placeOf i) other .now .broken)) (of (getD (m .rows) i noRow .now .broken))
       (λ e. rw e (ap (λ (r : Row). of (r .now .broken)) (getD-within (m .rows) i other noRow (omega (arith, ltb-true i rowLimit e)))))
 
-  pub verdict-kept : (answer : RowVerdict) → answer ≡ verdictBy i (m .len) (m .closed) (getD (m .rows) (placeOf i) other .now .broken) → VerdictOf m i answer
+  pub verdict-kept : (answer : RowVerdict) → answer ≡ verdictBy i (m .len) (m .closed) (getD (m .rows) (placeOf i) other .now .broken)
+      → VerdictOf m i answer
   unfolding of
   verdict-kept answer e =
       record {

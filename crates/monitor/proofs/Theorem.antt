@@ -46,7 +46,8 @@ broken-stays = stays engine
 
 -- §3.14: after any requests over an accepted table the monitor is, but for what may be withdrawn, the one after the calls that are left
 pub struck-out : (rows : List Constraint) → Accepted rows → (requests : List Request)
-    → (left : Left) × Remains rows requests left × (calls : List Call) × TakesAll rows calls (left .steps) × SameBare (after rows requests) (after rows (map asks calls))
+    → (left : Left) × Remains rows requests left × (calls : List Call) × TakesAll rows calls (left .steps)
+    × SameBare (after rows requests) (after rows (map asks calls))
 struck-out = struck engine
 
 -- what equals the machine's result for a request keeps the contract of a request
@@ -59,12 +60,14 @@ reading-kept m i e = subst (Reading m i) (sym e) (reading-keeps engine m i)
 
 -- ---- in the buyer's words, after any list of requests over an accepted table
 
-module _ (rows : List Constraint) (requests : List Request) (left : Left) (accepted : Accepted rows) (remains : Remains rows requests left) (i : ℕ) (c : Constraint) (there : getElem? rows i ≡ some c) where
+module _ (rows : List Constraint) (requests : List Request) (left : Left) (accepted : Accepted rows) (remains : Remains rows requests left) (i : ℕ)
+    (c : Constraint) (there : getElem? rows i ≡ some c) where
   -- the row has a verdict, and it reads that after the steps that are left
   pub row-reads : (v : Verdict) × (verdictOf (after rows requests) i ≡ some v) × Reads c (left .steps) v
   row-reads =
       let read = reading-keeps engine (after rows requests) i .means rows requests accepted refl in
-      of-row (verdictOf (after rows requests) i) (subst (λ (x : Left). ReadsRow rows (x .steps) i (verdictOf (after rows requests) i)) (run-once rows (read .1 .1) (remains .1) .1) (read .2))
+      of-row (verdictOf (after rows requests) i) (subst (λ (x : Left). ReadsRow rows (x .steps) i (verdictOf (after rows requests) i))
+      (run-once rows (read .1 .1) (remains .1) .1) (read .2))
     where
       of-row : (o : Option Verdict) → ReadsRow rows (left .steps) i o → (v : Verdict) × (o ≡ some v) × Reads c (left .steps) v
       of-row o (row d v e r) = let same : d ≡ c = cc in (v, refl, subst (λ (x : Constraint). Reads x (left .steps) v) same r)
@@ -75,13 +78,17 @@ module _ (rows : List Constraint) (requests : List Request) (left : Left) (accep
 
   -- at the close a row is kept exactly when the recorded events meet its definition
   pub kept-at-the-close : closed (left .steps) ≡ true → (verdictOf (after rows requests) i ≡ some Verdict.Kept) ↔ Meets c (left .steps)
-  kept-at-the-close shut = Iff·trans (same-verdict Verdict.Kept) (kept-exactly c (left .steps) (run-valid (remains .1) valid-none) shut (row-reads .0) (row-reads .2))
+  kept-at-the-close shut = Iff·trans (same-verdict Verdict.Kept)
+      (kept-exactly c (left .steps) (run-valid (remains .1) valid-none) shut (row-reads .0) (row-reads .2))
 
   -- a row reads broken exactly when no continuation can still meet its definition
   pub broken-while-it-runs : ((n : ℕ) × (verdictOf (after rows requests) i ≡ some (Verdict.Broken n))) ↔ (¬ Open c (left .steps))
   broken-while-it-runs =
-      let exactly = broken-exactly c (left .steps) (run-valid (remains .1) valid-none) (row-reads .0) (row-reads .2) in
-      (λ b. exactly .0 (b .0, same-verdict (Verdict.Broken (b .0)) .0 (b .1)), λ shut. let b = exactly .1 shut in (b .0, same-verdict (Verdict.Broken (b .0)) .1 (b .1)))
+      let exactly = broken-exactly c (left .steps) (run-valid (remains .1) valid-none) (row-reads .0) (row-reads .2) in (
+        λ b. exactly .0 (b .0, same-verdict (Verdict.Broken (b .0)) .0 (b .1)),
+        λ shut. let b = exactly .1 shut in
+            (b .0, same-verdict (Verdict.Broken (b .0)) .1 (b .1)),
+      )
 
   -- §5.1.6: a Delay without an upper limit is not broken before the close
   pub unlimited-delay-unbroken : (source target lower : ℕ) → c ≡ Delay source target lower noLimit → closed (left .steps) ≡ false
@@ -98,14 +105,18 @@ module _ (rows : List Constraint) (requests : List Request) (left : Left) (accep
 
   -- where an event of a Repeat has none span places after it and is more than upper before the clock
   pub silent-repeat-broken : (kind span lower upper : ℕ) → c ≡ Repeat kind span lower upper → ¬ (upper ≡ noLimit) → (place : ℕ)
-      → place < length (times kind (left .steps)) → length (times kind (left .steps)) ≤ place + span → at (times kind (left .steps)) place + upper < clock (left .steps) → ReadsBroken
+      → place < length (times kind (left .steps)) → length (times kind (left .steps)) ≤ place + span
+      → at (times kind (left .steps)) place + upper < clock (left .steps) → ReadsBroken
   silent-repeat-broken kind span lower upper is limit place there none silent =
       broken-while-it-runs .1
-      (λ o. silent-repeat-shut kind span lower upper (left .steps) limit place there none silent (subst (λ (x : Constraint). Open x (left .steps)) is o))
+      (λ o. silent-repeat-shut kind span lower upper (left .steps) limit place there none silent
+      (subst (λ (x : Constraint). Open x (left .steps)) is o))
 
   -- and where the last event of a Sporadic is more than upper and jitter before the clock
   pub silent-sporadic-broken : (kind lower upper jitter minimum : ℕ) → c ≡ Sporadic kind lower upper jitter minimum → ¬ (upper ≡ noLimit)
-      → (place : ℕ) → place + 1 ≡ length (times kind (left .steps)) → at (times kind (left .steps)) place + upper + jitter < clock (left .steps) → ReadsBroken
+      → (place : ℕ) → place + 1 ≡ length (times kind (left .steps)) → at (times kind (left .steps)) place + upper + jitter < clock (left .steps)
+      → ReadsBroken
   silent-sporadic-broken kind lower upper jitter minimum is limit place last silent =
       broken-while-it-runs .1
-      (λ o. silent-sporadic-shut kind lower upper jitter minimum (left .steps) limit place last silent (subst (λ (x : Constraint). Open x (left .steps)) is o))
+      (λ o. silent-sporadic-shut kind lower upper jitter minimum (left .steps) limit place last silent
+      (subst (λ (x : Constraint). Open x (left .steps)) is o))

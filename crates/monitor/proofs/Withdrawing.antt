@@ -35,7 +35,8 @@ use Rattle.row.specs.declared.Occurrence.{Occurrence}
 use Rattle.row.specs.declared.Row.{Row}
 use Rattle.row.proofs.Exact.{Sound, Exact}
 use Rattle.row.proofs.Undo.{row-without}
-use Rattle.monitor.specs.Machine.{monitorOf, mapFirst, zipFirst, refuses, takes, nextStep, placeFor, freeAfter, nextFor, occurrenceOf, crowds, refusalBy}
+use Rattle.monitor.specs.Machine.{monitorOf, mapFirst, zipFirst, refuses, takes, nextStep, placeFor, freeAfter, nextFor, occurrenceOf, crowds}
+use Rattle.monitor.specs.Machine.{refusalBy}
 use Rattle.monitor.specs.Machine.{takenCall, stepOf, verdictOf, placeIn, withdrawn, withdrawOf, bare, SameBare}
 use Rattle.monitor.specs.Contract.{resultOf, step, after, Remains, Steps, Reading}
 use Rattle.monitor.specs.Beside.{allTaken, TakesAll}
@@ -57,7 +58,8 @@ answer-by true c n m x k y = refl
 answer-by false true n m x k y = refl
 answer-by false false n m x k y = refl
 
-same-by : (b c : Bool) (n : ℕ) (m x k y : Monitor) → SameBare m k → SameBare x y → SameBare (by-tests b c n m x .monitor) (by-tests b c n k y .monitor)
+same-by : (b c : Bool) (n : ℕ) (m x k y : Monitor) → SameBare m k → SameBare x y
+    → SameBare (by-tests b c n m x .monitor) (by-tests b c n k y .monitor)
 same-by true c n m x k y e f = e
 same-by false true n m x k y e f = e
 same-by false false n m x k y e f = f
@@ -116,14 +118,16 @@ saved-stamp o number r b earlier =
     split (movesBy (r .rule) (r .now) o) (λ x. cond x (savedRow r o number) b .stamp < number + 1) (λ e. omega arith) (λ e. omega arith)
 
 -- without the step it has an earlier one
-kept-stamp : (o : Occurrence) (number : ℕ) (r : Row) (b : Before) → 0 < number → b .stamp < number → keptWithout number (savedBy o number r b) .stamp < number
+kept-stamp : (o : Occurrence) (number : ℕ) (r : Row) (b : Before) → 0 < number → b .stamp < number
+    → keptWithout number (savedBy o number r b) .stamp < number
 unfolding keptWithout
 kept-stamp o number r b positive earlier =
     split (eqb (savedBy o number r b .stamp) number) (λ x. cond x noBefore (savedBy o number r b) .stamp < number) (λ e. positive)
     (λ e. omega (arith, eqb-false (savedBy o number r b .stamp) number e, saved-stamp o number r b earlier))
 
 module _ (engine : (c : Constraint) → Sound c → Exact c) (o : Occurrence) (number : ℕ) where
-  stamped-taken : (steps : List Step) (cs : List Constraint) (rows : List Row) (before : List Before) → FitRows engine steps cs rows → Stamped (length cs) number before
+  stamped-taken : (steps : List Step) (cs : List Constraint) (rows : List Row) (before : List Before) → FitRows engine steps cs rows
+      → Stamped (length cs) number before
       → Stamped (length cs) (number + 1) (zipFirst (length cs) (savedBy o number) rows before)
   unfolding zipFirst
   stamped-taken steps [] rows before fit stamped = tt
@@ -132,8 +136,10 @@ module _ (engine : (c : Constraint) → Sound c → Exact c) (o : Occurrence) (n
   stamped-taken steps (c ∷ cs) (r ∷ rows) (b ∷ before) fit stamped =
       (saved-stamp o number r b (stamped .0), stamped-taken steps cs rows before (fit .1) (stamped .1))
 
-  stamped-back : (steps : List Step) (cs : List Constraint) (rows others : List Row) (before : List Before) → 0 < number → FitRows engine steps cs rows → length others ≡ length rows
-      → Stamped (length cs) number before → Stamped (length cs) number (zipFirst (length cs) (λ (r : Row) b. keptWithout number b) others (zipFirst (length cs) (savedBy o number) rows before))
+  stamped-back : (steps : List Step) (cs : List Constraint) (rows others : List Row) (before : List Before) → 0 < number
+      → FitRows engine steps cs rows → length others ≡ length rows
+      → Stamped (length cs) number before → Stamped (length cs) number
+      (zipFirst (length cs) (λ (r : Row) b. keptWithout number b) others (zipFirst (length cs) (savedBy o number) rows before))
   unfolding zipFirst
   stamped-back steps [] rows others before positive fit same stamped = tt
   stamped-back steps (c ∷ cs) [] others before positive fit same stamped = absurd fit
@@ -142,14 +148,17 @@ module _ (engine : (c : Constraint) → Sound c → Exact c) (o : Occurrence) (n
   stamped-back steps (c ∷ cs) (r ∷ rows) (x ∷ others) (b ∷ before) positive fit same stamped =
       (kept-stamp o number r b positive (stamped .0), stamped-back steps cs rows others before positive (fit .1) (omega arith) (stamped .1))
 
-  rows-back : (steps : List Step) (cs : List Constraint) (rows : List Row) (before : List Before) → FitRows engine steps cs rows → Stamped (length cs) number before
-      → zipFirst (length cs) (λ b r. rowWithout number r b) (zipFirst (length cs) (savedBy o number) rows before) (mapFirst (length cs) (λ r. rowStep r o number .row) rows) ≡ rows
+  rows-back : (steps : List Step) (cs : List Constraint) (rows : List Row) (before : List Before) → FitRows engine steps cs rows
+      → Stamped (length cs) number before
+      → zipFirst (length cs) (λ b r. rowWithout number r b) (zipFirst (length cs) (savedBy o number) rows before)
+      (mapFirst (length cs) (λ r. rowStep r o number .row) rows) ≡ rows
   unfolding zipFirst mapFirst
   rows-back steps [] rows before fit stamped = refl
   rows-back steps (c ∷ cs) [] before fit stamped = absurd fit
   rows-back steps (c ∷ cs) (r ∷ rows) [] fit stamped = absurd stamped
   rows-back steps (c ∷ cs) (r ∷ rows) (b ∷ before) fit stamped =
-      ap₂ (λ (x : Row) (l : List Row). x ∷ l) (row-without r b o number (fit .0 .1 .whole) (λ e. omega (arith, e, stamped .0))) (rows-back steps cs rows before (fit .1) (stamped .1))
+      ap₂ (λ (x : Row) (l : List Row). x ∷ l) (row-without r b o number (fit .0 .1 .whole) (λ e. omega (arith, e, stamped .0)))
+      (rows-back steps cs rows before (fit .1) (stamped .1))
 
 map-length : (n : ℕ) (f : Row → Row) (rows : List Row) → length (mapFirst n f rows) ≡ length rows
 unfolding mapFirst
@@ -165,7 +174,8 @@ set-own (x ∷ list) (suc i) = ap (λ (l : List ℕ). x ∷ l) (set-own list i)
 -- ---- lists of calls that are all taken
 
 run-more : (rows : List Constraint) (calls : List Call) {left end : Left} (s : Call) → Run rows left (map asks calls) (allTaken calls) end
-    → Judged (questions rows (end .steps) s) Taken → Run rows left (map asks (calls ++ (s ∷ []))) (allTaken (calls ++ (s ∷ []))) (leftBy end (asks s) Taken)
+    → Judged (questions rows (end .steps) s) Taken → Run rows left (map asks (calls ++ (s ∷ []))) (allTaken (calls ++ (s ∷ [])))
+    (leftBy end (asks s) Taken)
 run-more rows [] s done judged = request (asks s) Taken judged done
 run-more rows (c ∷ calls) s (request _ _ j rest) judged = request (asks c) Taken j (run-more rows calls s rest judged)
 
@@ -174,12 +184,14 @@ unfolding play
 play-append m [] b = refl
 play-append m (r ∷ a) b = play-append (step m r .monitor) a b
 
-after-more : (rows : List Constraint) (requests : List Request) (r : Request) → resultOf (after rows requests) r .monitor ≡ after rows (requests ++ (r ∷ []))
+after-more : (rows : List Constraint) (requests : List Request) (r : Request) → resultOf (after rows requests) r .monitor
+    ≡ after rows (requests ++ (r ∷ []))
 unfolding after play
 after-more rows requests r = sym (play-append (monitorOf rows) requests (r ∷ []))
 
 -- one call more, which is taken, and the monitor after it
-pub takes-more : (rows : List Constraint) (calls : List Call) (steps : List Step) (s : Call) → TakesAll rows calls steps → Judged (questions rows steps s) Taken
+pub takes-more : (rows : List Constraint) (calls : List Call) (steps : List Step) (s : Call) → TakesAll rows calls steps
+    → Judged (questions rows steps s) Taken
     → TakesAll rows (calls ++ (s ∷ [])) (steps ++ (stepFor s ∷ []))
 takes-more rows calls steps s taken judged = (true, run-more rows calls s (taken .1) judged)
 
@@ -187,7 +199,8 @@ asks-more : (calls : List Call) (s : Call) → map asks calls ++ (asks s ∷ [])
 asks-more [] s = refl
 asks-more (c ∷ calls) s = ap (λ (l : List Request). asks c ∷ l) (asks-more calls s)
 
-pub after-call : (rows : List Constraint) (calls : List Call) (s : Call) → after rows (map asks calls ++ (asks s ∷ [])) ≡ after rows (map asks (calls ++ (s ∷ [])))
+pub after-call : (rows : List Constraint) (calls : List Call) (s : Call) → after rows (map asks calls ++ (asks s ∷ []))
+    ≡ after rows (map asks (calls ++ (s ∷ [])))
 after-call rows calls s = ap (after rows) (asks-more calls s)
 
 -- ---- what holds between the steps that are left and the monitor
@@ -250,7 +263,8 @@ module _ (engine : (c : Constraint) → Sound c → Exact c) (rows : List Constr
     -- a withdrawal gives back the monitor that the step found
     next-back : set (set (m .next) (placeFor s) (freeAfter s (nextFor m s))) (placeIn (placeFor s)) (nextFor m s) ≡ m .next
     next-back =
-        ap (λ (i : ℕ). set (set (m .next) (placeFor s) (freeAfter s (nextFor m s))) i (nextFor m s)) (ap (λ (b : Bool). cond b (placeFor s) 0) (lt-ltb (placeFor s) streamCount (place-small s)))
+        ap (λ (i : ℕ). set (set (m .next) (placeFor s) (freeAfter s (nextFor m s))) i (nextFor m s))
+        (ap (λ (b : Bool). cond b (placeFor s) 0) (lt-ltb (placeFor s) streamCount (place-small s)))
         ∙ set-set (m .next) (placeFor s) (freeAfter s (nextFor m s)) (nextFor m s) ∙ set-own (m .next) (placeFor s)
 
     module _ (e : stepOf m s .answer ≡ Taken) where
@@ -275,8 +289,19 @@ module _ (engine : (c : Constraint) → Sound c → Exact c) (rows : List Constr
       unfolding withdrawn takenCall bare
       withdrawn-same =
           ap₂ (λ (l : List Row) (next : List ℕ).
-          bare (record { rows = l; next = next; clock = m .clock; count = m .count; closed = m .closed; len = m .len; before = m .before; undo = m .undo }))
-          (subst (λ (k : ℕ). zipFirst k (λ b r. rowWithout (nextStep m) r b) (zipFirst k (savedBy (occurrenceOf m s) (nextStep m)) (m .rows) (m .before))
+          bare (record {
+            rows = l;
+            next = next;
+            clock = m .clock;
+            count = m .count;
+            closed = m .closed;
+            len = m .len;
+            before = m .before;
+            undo =
+                m .undo;
+          }))
+          (subst (λ (k : ℕ). zipFirst k (λ b r. rowWithout (nextStep m) r b)
+          (zipFirst k (savedBy (occurrenceOf m s) (nextStep m)) (m .rows) (m .before))
           (mapFirst k (λ r. rowStep r (occurrenceOf m s) (nextStep m) .row) (m .rows)) ≡ m .rows) (sym (f .len-is))
           (rows-back engine (occurrenceOf m s) (nextStep m) steps rows (m .rows) (m .before) (f .fit) stamped-next))
           next-back
@@ -287,7 +312,8 @@ module _ (engine : (c : Constraint) → Sound c → Exact c) (rows : List Constr
           record {
             follows = answered .1;
             stamped =
-                subst (λ (k : ℕ). Stamped (length rows) (nextStep m + 1) (zipFirst k (savedBy (occurrenceOf m s) (nextStep m)) (m .rows) (m .before))) (sym (f .len-is))
+                subst (λ (k : ℕ). Stamped (length rows) (nextStep m + 1)
+                (zipFirst k (savedBy (occurrenceOf m s) (nextStep m)) (m .rows) (m .before))) (sym (f .len-is))
                 (stamped-taken engine (occurrenceOf m s) (nextStep m) steps rows (m .rows) (m .before) (f .fit) stamped-next);
             calls = p .calls ++ (s ∷ []);
             taken = takes-more rows (p .calls) steps s (p .taken) (answered .0);
@@ -299,8 +325,11 @@ module _ (engine : (c : Constraint) → Sound c → Exact c) (rows : List Constr
       unfolding withdrawn takenCall
       stamped-less =
           let move : Row → Row = λ r. rowStep r (occurrenceOf m s) (nextStep m) .row in
-          subst (λ (k : ℕ). Stamped (length rows) (nextStep m) (zipFirst k (λ r b. keptWithout (nextStep m) b) (mapFirst k move (m .rows)) (zipFirst k (savedBy (occurrenceOf m s) (nextStep m)) (m .rows) (m .before)))) (sym (f .len-is))
-          (stamped-back engine (occurrenceOf m s) (nextStep m) steps rows (m .rows) (mapFirst (length rows) move (m .rows)) (m .before) (omega (arith, next-number)) (f .fit) (map-length (length rows) move (m .rows)) stamped-next)
+          subst (λ (k : ℕ). Stamped (length rows) (nextStep m)
+          (zipFirst k (λ r b. keptWithout (nextStep m) b) (mapFirst k move (m .rows))
+          (zipFirst k (savedBy (occurrenceOf m s) (nextStep m)) (m .rows) (m .before)))) (sym (f .len-is))
+          (stamped-back engine (occurrenceOf m s) (nextStep m) steps rows (m .rows) (mapFirst (length rows) move (m .rows)) (m .before)
+          (omega (arith, next-number)) (f .fit) (map-length (length rows) move (m .rows)) stamped-next)
 
       back-part : Part steps (withdrawn (takenCall m s))
       unfolding withdrawn takenCall
@@ -328,7 +357,12 @@ module _ (engine : (c : Constraint) → Sound c → Exact c) (rows : List Constr
           (subst (Holds (leftBy left (asks s) Taken)) (sym (taken-monitor m s e))
           (record {
             part = taken-part (left .steps) m (h .part) s e;
-            ready = inr (refl, refl, subst (λ (steps : List Step). Part steps (withdrawn (takenCall m s))) (sym (but-last (left .steps) (stepFor s))) (back-part (left .steps) m (h .part) s e));
+            ready = inr (
+              refl,
+              refl,
+              subst (λ (steps : List Step). Part steps (withdrawn (takenCall m s))) (sym (but-last (left .steps) (stepFor s)))
+                  (back-part (left .steps) m (h .part) s e),
+            );
           }))
       by-answer (Refused n) e =
           subst (λ (x : Answer). Holds (leftBy left (asks s) x) (stepOf m s .monitor)) (sym e)
@@ -369,12 +403,20 @@ module _ (engine : (c : Constraint) → Sound c → Exact c) (rows : List Constr
   start-holds accepted =
       let f = start-follows engine rows accepted in
       record {
-        part = record { follows = f; stamped = stamped-none (length rows) rowLimit 1 (f .few) (omega arith); calls = []; taken = (false, done); same = refl };
+        part = record {
+          follows = f;
+          stamped = stamped-none (length rows) rowLimit 1 (f .few) (omega arith);
+          calls = [];
+          taken =
+              (false, done);
+          same = refl;
+        };
         ready = inl (refl, refl);
       }
 
   -- what holds after any requests
-  pub held : Accepted rows → (requests : List Request) → (left : Left) × Run rows noneLeft requests (play step (monitorOf rows) requests .answers) left
+  pub held : Accepted rows → (requests : List Request) → (left : Left)
+      × Run rows noneLeft requests (play step (monitorOf rows) requests .answers) left
       × Holds left (play step (monitorOf rows) requests .monitor)
   held accepted requests = requests-hold noneLeft (monitorOf rows) (start-holds accepted) requests
 
@@ -386,7 +428,8 @@ module _ (engine : (c : Constraint) → Sound c → Exact c) (rows : List Constr
       subst (λ (x : Left). Holds x (play step (monitorOf rows) requests .monitor)) (run-once rows (h .1) run .1) (h .2)
 
   -- it follows them
-  pub remains-follows : Accepted rows → (requests : List Request) {left : Left} → Remains rows requests left → Follows engine rows (left .steps) (after rows requests)
+  pub remains-follows : Accepted rows → (requests : List Request) {left : Left} → Remains rows requests left
+      → Follows engine rows (left .steps) (after rows requests)
   unfolding after
   remains-follows accepted requests remains = held-at accepted requests (remains .1) .part .follows
 
@@ -402,8 +445,10 @@ module _ (engine : (c : Constraint) → Sound c → Exact c) where
       let a = held-at engine rows accepted requests first in
       let b = requests-hold engine rows left m a further in
       let last = subst (λ (x : Left). Holds engine rows x (play step m further .monitor)) (run-once rows (b .1) run .1) (b .2) in
-      let c = broken-row rows (left .steps) i n (subst (ReadsRow rows (left .steps) i) broken (verdict-reads engine rows (left .steps) m (a .part .follows) i)) in
-      let later = begins-broken (c .0) n (left .steps) (end .steps) (keeps-begins (left .steps) run keeps ([], sym (append-nil (left .steps)))) (c .2) in
+      let c = broken-row rows (left .steps) i n (subst (ReadsRow rows (left .steps) i) broken
+      (verdict-reads engine rows (left .steps) m (a .part .follows) i)) in
+      let later = begins-broken (c .0) n (left .steps) (end .steps) (keeps-begins (left .steps) run keeps ([], sym (append-nil (left .steps))))
+      (c .2) in
       ap (λ (x : Monitor). verdictOf x i) (play-append (monitorOf rows) requests further)
       ∙ reads-still rows (end .steps) i n (c .0) (last .part .follows .valid) (c .1) later (verdictOf (play step m further .monitor) i)
       (verdict-reads engine rows (end .steps) (play step m further .monitor) (last .part .follows) i)
@@ -420,7 +465,8 @@ module _ (engine : (c : Constraint) → Sound c → Exact c) where
   unfolding withdrawOf
   withdrawal-untouched m n = by-test (ltb 0 (m .undo .may))
     where
-      by-test : (b : Bool) → cond b (takes (withdrawn m)) (refuses 21 m) .answer ≡ Refused n → cond b (takes (withdrawn m)) (refuses 21 m) .monitor ≡ m
+      by-test : (b : Bool) → cond b (takes (withdrawn m)) (refuses 21 m) .answer ≡ Refused n → cond b (takes (withdrawn m)) (refuses 21 m) .monitor
+          ≡ m
       by-test true e = never (cc)
       by-test false e = refl
 
@@ -440,7 +486,8 @@ module _ (engine : (c : Constraint) → Sound c → Exact c) where
 
   -- after any requests the monitor is the one after calls that are all taken and that record what is left, but for what may be withdrawn
   pub struck : (rows : List Constraint) → Accepted rows → (requests : List Request)
-      → (left : Left) × Remains rows requests left × (calls : List Call) × TakesAll rows calls (left .steps) × SameBare (after rows requests) (after rows (map asks calls))
+      → (left : Left) × Remains rows requests left × (calls : List Call) × TakesAll rows calls (left .steps)
+      × SameBare (after rows requests) (after rows (map asks calls))
   unfolding after
   struck rows accepted requests =
       let h = held engine rows accepted requests in
@@ -449,7 +496,8 @@ module _ (engine : (c : Constraint) → Sound c → Exact c) where
   -- ---- the contracts
 
   -- the monitor after a list of requests follows the steps that they have left
-  pub after-follows : (rows : List Constraint) (requests : List Request) → Accepted rows → (left : Left) × Remains rows requests left × Follows engine rows (left .steps) (after rows requests)
+  pub after-follows : (rows : List Constraint) (requests : List Request) → Accepted rows → (left : Left) × Remains rows requests left
+      × Follows engine rows (left .steps) (after rows requests)
   unfolding after
   after-follows rows requests accepted =
       let h = held engine rows accepted requests in (h .0, (play step (monitorOf rows) requests .answers, h .1), h .2 .part .follows)
@@ -462,7 +510,11 @@ module _ (engine : (c : Constraint) → Sound c → Exact c) where
         means = λ rows requests accepted e.
             let h = held engine rows accepted requests in
             let judged = request-holds engine rows (h .0) (after rows requests) (h .2) r .0 in (
-              (h .0, (play step (monitorOf rows) requests .answers, h .1), subst (λ (x : Monitor). Judged (requestQuestions rows (h .0) r) (resultOf x r .answer)) (sym e) judged),
+              (
+                h .0,
+                (play step (monitorOf rows) requests .answers, h .1),
+                subst (λ (x : Monitor). Judged (requestQuestions rows (h .0) r) (resultOf x r .answer)) (sym e) judged,
+              ),
               ap (λ (x : Monitor). resultOf x r .monitor) e ∙ after-more rows requests r,
             );
       }
@@ -472,6 +524,10 @@ module _ (engine : (c : Constraint) → Sound c → Exact c) where
       record {
         equals = refl;
         means = λ rows requests accepted e.
-            let a = after-follows rows requests accepted in
-            (a .0, a .1, subst (λ (x : Monitor). ReadsRow rows (a .0 .steps) i (verdictOf x i)) (sym e) (verdict-reads engine rows (a .0 .steps) (after rows requests) (a .2) i));
+            let a = after-follows rows requests accepted in (
+              a .0,
+              a .1,
+              subst (λ (x : Monitor). ReadsRow rows (a .0 .steps) i (verdictOf x i)) (sym e)
+                  (verdict-reads engine rows (a .0 .steps) (after rows requests) (a .2) i),
+            );
       }

@@ -20,7 +20,8 @@ use Rattle.monitor.specs.Contract.{step}
 abbrev pub OwnStream : Constraint → ℕ → Type 0
 OwnStream c s = (i : ℕ) × (i < length (kinds c)) × (at (kinds c) i ≡ kindOf s)
 
--- §3.10; CR 7: "other steps": neither an event of the row's kinds nor the close, the clock being at t after it, as an event or a tick leaves it at its own time
+-- §3.10; CR 7: "other steps": neither an event of the row's kinds nor the close, the clock being at t after it, as an event or a tick leaves it at
+-- its own time
 abbrev pub OtherAt : Constraint → ℕ → Step → Type 0
 OtherAt c t (event s time) = (¬ OwnStream c s) × (time ≡ t)
 OtherAt c t (tick time) = time ≡ t

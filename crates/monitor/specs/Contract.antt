@@ -47,7 +47,8 @@ pub record Freshly (table : Table) (answer : Answer) (m : Monitor) : Type 0 wher
 pub record Steps (m : Monitor) (r : Request) (result : Stepped) : Type 0 where
   pub equals : result ≡ resultOf m r
   pub means : (rows : List Constraint) (requests : List Request) → Accepted rows → m ≡ after rows requests
-      → ((left : Left) × Remains rows requests left × Judged (requestQuestions rows left r) (result .answer)) × (result .monitor ≡ after rows (requests ++ (r ∷ [])))
+      → ((left : Left) × Remains rows requests left × Judged (requestQuestions rows left r) (result .answer))
+      × (result .monitor ≡ after rows (requests ++ (r ∷ [])))
 
 -- §3.6, §3.13: the verdict of a row number: what the row reads after the steps that the requests have left, or none where there is no such row
 pub record Reading (m : Monitor) (i : ℕ) (verdict : Option Verdict) : Type 0 where

@@ -2,7 +2,8 @@
 use Prim.Native.Nat.{ℕ, zero, suc, _+_, _*_, _/_, _%_, _-_, _^_, _≤_, _<_}
 use mathlib.Core.Path.{_≡_, refl, ap, ap₂, _∙_}
 use mathlib.Core.List.{List, [], _∷_}
-use native.Mathlib.Nat.{pow-succ', pow-le-pow-right, one-le-pow, one-mul, mod-eq-of-lt, mul-assoc, mul-le-mul-left, mul-le-mul-right, add-mul, zero-add, le-trans}
+use native.Mathlib.Nat.{pow-succ', pow-le-pow-right, one-le-pow, one-mul, mod-eq-of-lt, mul-assoc, mul-le-mul-left, mul-le-mul-right, add-mul}
+use native.Mathlib.Nat.{zero-add, le-trans}
 use native.Mathlib.Numerals.{add-one}
 use native.Mathlib.Omega.{arith}
 use lib.Arith.{digits-lt, digits-div, mod-mul}

@@ -14,7 +14,8 @@ use Rattle.constraint.specs.Run.{stepFor, questions, asks, Left, done}
 use Rattle.constraint.specs.Promise.{play}
 use Rattle.constraint.specs.Limits.{streamCount}
 use Rattle.constraint.specs.Table.{lengthAt}
-use Rattle.constraint.specs.Recording.{callAt, RecordAt, recordQuestions, RecordingRead, recording-of, recording-refused, ReadsRecords, no-more, record-refused, record-taken}
+use Rattle.constraint.specs.Recording.{callAt, RecordAt, recordQuestions, RecordingRead, recording-of, recording-refused, ReadsRecords, no-more}
+use Rattle.constraint.specs.Recording.{record-refused, record-taken}
 use Rattle.constraint.specs.Recording.{VersionKnown, ReadsInOrder, version-taken}
 use Rattle.constraint.specs.declared.Answer.the-variants.{Taken, Refused}
 use Rattle.constraint.specs.declared.Call.{Call}
@@ -24,7 +25,8 @@ use Rattle.constraint.proofs.Runs.{run-valid}
 use Rattle.constraint.proofs.Sanity.{run-once}
 use Rattle.machine.specs.Parts.{plus}
 use Rattle.row.proofs.Engine.{engine}
-use Rattle.monitor.specs.Machine.{monitorOf, anyFirst, refuses, takes, placeFor, refusalBy, occurrenceBy, freeAfter, closedAfter, takenCall, steppedBy, stepOf}
+use Rattle.monitor.specs.Machine.{monitorOf, anyFirst, refuses, takes, placeFor, refusalBy, occurrenceBy, freeAfter, closedAfter, takenCall}
+use Rattle.monitor.specs.Machine.{steppedBy, stepOf}
 use Rattle.monitor.specs.Contract.{after, Steps}
 use Rattle.monitor.specs.Beside.{allTaken}
 use Rattle.monitor.specs.declared.Monitor.{Monitor}
@@ -99,7 +101,8 @@ module _ (steps : List Step) (o : Order) (before : After steps o) where
     unfolding m
     judged =
         let means = kept .means [] (map asks (before .calls)) none-accepted refl .0 in
-        subst (λ (left : Left). Judged (questions [] (left .steps) s) (stepOf m s .answer)) (run-once [] (means .1 .1) (before .all-taken .1) .1) (means .2)
+        subst (λ (left : Left). Judged (questions [] (left .steps) s) (stepOf m s .answer)) (run-once [] (means .1 .1) (before .all-taken .1) .1)
+        (means .2)
 
     same-number : refusalOf o s ≡ refusalOf (orderOf m) s
     unfolding m
@@ -137,14 +140,16 @@ module _ (o : Order) (s : Call) (n : ℕ) (is : n ≡ refusalOf o s) where
   takes-refused h =
       record {
         taken = λ e. absurd (omega (arith, e, h));
-        refused = λ more steps before. subst (λ (x : ℕ). Judged (questions [] steps s) (Refused x)) (sym is) (call-refused steps o before s (subst (λ (x : ℕ). 0 < x) is h));
+        refused = λ more steps before. subst (λ (x : ℕ). Judged (questions [] steps s) (Refused x)) (sym is)
+            (call-refused steps o before s (subst (λ (x : ℕ). 0 < x) is h));
         as-it-was = λ more. refl;
       }
 
   pub takes-taken : n ≤ 0 → (later : Order) → later ≡ orderAfter o s → TakesCall o s (record { number = 0; order = later })
   takes-taken h later e =
       record {
-        taken = λ zero steps before. subst (λ (x : Order). Judged (questions [] steps s) Taken × After (steps ++ (stepFor s ∷ [])) x) (sym e) (call-taken steps o before s (omega (arith, is, h)));
+        taken = λ zero steps before. subst (λ (x : Order). Judged (questions [] steps s) Taken × After (steps ++ (stepFor s ∷ [])) x) (sym e)
+            (call-taken steps o before s (omega (arith, is, h)));
         refused = λ more. absurd (omega (arith, more));
         as-it-was = λ more. absurd (omega (arith, more));
       }
@@ -162,14 +167,16 @@ module _ (bytes : List ℕ) (place : ℕ) (o : Order) where
         none = λ _. refl;
       }
 
-  pub read-call : (s : Call) (size : ℕ) (r : RecordRead) → CallAt (at bytes 0) bytes place s size → AsksCall o s (place + size) r → ReadsNext bytes place o r
+  pub read-call : (s : Call) (size : ℕ) (r : RecordRead) → CallAt (at bytes 0) bytes place s size → AsksCall o s (place + size) r
+      → ReadsNext bytes place o r
   read-call s size r read answered =
       record {
         taken = λ e steps before. let given = answered .takes .taken e steps before in (
           record-judged [] steps bytes place s size Taken read (given .0),
           subst (λ (x : Call). After (steps ++ (stepFor x ∷ [])) (r .order)) (sym (answered .call-is)) (given .1),
         );
-        refused = λ more steps before. record-judged [] steps bytes place s size (Refused (r .number)) read (answered .takes .refused more steps before);
+        refused = λ more steps before. record-judged [] steps bytes place s size (Refused (r .number)) read
+            (answered .takes .refused more steps before);
         as-it-was = answered .takes .as-it-was;
         there = λ e. read .there;
         call-is = λ whole. read .call-read ∙ sym (answered .call-is);
@@ -190,7 +197,8 @@ module _ (bytes : List ℕ) where
 
   module _ (place : ℕ) (steps : List Step) (o : Order) (before : ReadUpTo bytes place steps o) where
     pub up-to-more : (s : Call) (next : ℕ) (o′ : Order) → place < length bytes → callAt bytes place ≡ s → next ≡ place + 2 + lengthAt bytes place
-        → Judged (recordQuestions [] steps bytes place) Taken → After (steps ++ (stepFor s ∷ [])) o′ → ReadUpTo bytes next (steps ++ (stepFor s ∷ [])) o′
+        → Judged (recordQuestions [] steps bytes place) Taken → After (steps ++ (stepFor s ∷ [])) o′
+        → ReadUpTo bytes next (steps ++ (stepFor s ∷ [])) o′
     up-to-more s next o′ there is next-is taken later =
         record {
           order = later;

@@ -1,4 +1,5 @@
--- A line of the page, column by column: each text fits its columns, whatever the type, the verdict and the step, and none has a blank or a line end in it.
+-- A line of the page, column by column: each text fits its columns, whatever the type, the verdict and the step, and none has a blank or a line end
+-- in it.
 use Prim.Native.Nat.{ℕ, zero, suc, _+_, _-_, _≤_, _<_}
 use native.Mathlib.Omega.{arith}
 use mathlib.Core.Path.{_≡_, refl, ap, _∙_}
@@ -71,7 +72,8 @@ all-fit? : ℕ → List (List ℕ) → Bool
 all-fit? width [] = true
 all-fit? width (text ∷ texts) = fits? width text && all-fit? width texts
 
-any-fits : (width : ℕ) (texts : List (List ℕ)) (other : List ℕ) → all-fit? width texts ≡ true → Fits width other → (i : ℕ) → Fits width (getD texts i other)
+any-fits : (width : ℕ) (texts : List (List ℕ)) (other : List ℕ) → all-fit? width texts ≡ true → Fits width other → (i : ℕ)
+    → Fits width (getD texts i other)
 unfolding all-fit?
 any-fits width [] other e f i = f
 any-fits width (text ∷ texts) other e f zero = fits width text (and-true (fits? width text) (all-fit? width texts) e .0)
@@ -115,7 +117,8 @@ module _ (width : ℕ) (text : List ℕ) (fit : Fits width text) where
   left-printed = each-append Printed text (replicate (width - length text) blank) (printed text (fit .letters)) (blanks-printed (width - length text))
 
   right-printed : Each Printed (rightIn width text)
-  right-printed = each-append Printed (replicate (width - length text) blank) text (blanks-printed (width - length text)) (printed text (fit .letters))
+  right-printed = each-append Printed (replicate (width - length text) blank) text (blanks-printed (width - length text))
+      (printed text (fit .letters))
 
 -- a number right-aligned in 20, but for its first 17 columns, is right-aligned in 3
 pub last-columns : (i : ℕ) → i < 1000 → drop 17 (rightIn 20 (decimal i)) ≡ rightIn 3 (decimal i)

@@ -169,5 +169,6 @@ module _ (types : ℕ → ℕ) (verdicts : ℕ → Verdict) where
         omega (arith, heading-length i),
         rw (add-one i)
             (stored l 0 behind (pageLines types verdicts i ++ heading i) (line i) middle last all
-            (stored l 0 place (pageLines types verdicts i) (heading i) buffer middle before so-far (rw (zero-add place) headed)) (rw (zero-add behind) put)),
+            (stored l 0 place (pageLines types verdicts i) (heading i) buffer middle before so-far (rw (zero-add place) headed))
+            (rw (zero-add behind) put)),
       )

@@ -47,7 +47,8 @@ unfolding wordFrom
 word-behind [] zero letters = refl
 word-behind [] (suc n) letters = refl
 word-behind (byte ∷ text) n letters =
-    rw (ne-eqb byte blank (λ e. omega (arith, letters 0 (omega arith)))) (ap (λ (later : List ℕ). byte ∷ later) (word-behind text n (each-tail Letter byte text letters)))
+    rw (ne-eqb byte blank (λ e. omega (arith, letters 0 (omega arith))))
+    (ap (λ (later : List ℕ). byte ∷ later) (word-behind text n (each-tail Letter byte text letters)))
 
 -- a left-aligned text is read back
 word-read : (width : ℕ) (text : List ℕ) → Fits width text → wordFrom (leftIn width text) ≡ text
@@ -121,7 +122,8 @@ module _ (types : ℕ → ℕ) (verdicts : ℕ → Verdict) (n i : ℕ) (few : n
       let small : i < 1000 = omega arith in
       let s = row-standing types verdicts n i few there in
       rw (s .parts, line-is i type v small)
-      (columns-of i (s .before) (number i type v) (gap i type v) (name i type v) (word i type v) (step i type v) (rest i type v ++ lineEnd ∷ []) (s .behind)
+      (columns-of i (s .before) (number i type v) (gap i type v) (name i type v) (word i type v) (step i type v) (rest i type v ++ lineEnd ∷ [])
+      (s .behind)
       (s .start) (at-gap i type v small) (at-name i type v small) (at-word i type v small) (at-step i type v small) (at-rest i type v small))
 
   -- the fields read off row i's line are its number, the name of its type, and its verdict
@@ -142,7 +144,8 @@ module _ (types : ℕ → ℕ) (verdicts : ℕ → Verdict) (n i : ℕ) (few : n
 -- ---- equal pages
 
 -- a page says how many rows it has
-rows-read : (types more : ℕ → ℕ) (verdicts others : ℕ → Verdict) (n k : ℕ) → n ≤ 1000 → k ≤ 1000 → pageText types verdicts n ≡ pageText more others k → n ≡ k
+rows-read : (types more : ℕ → ℕ) (verdicts others : ℕ → Verdict) (n k : ℕ) → n ≤ 1000 → k ≤ 1000 → pageText types verdicts n ≡ pageText more others k
+    → n ≡ k
 rows-read types more verdicts others n k few few′ e = omega (arith, ap length e, page-length types verdicts n few, page-length more others k few′)
 
 -- two pages with the same bytes have as many rows, and say the same verdict of each
@@ -159,5 +162,6 @@ equal-pages types more verdicts others n k few few′ fits fits′ e = (rows, ea
         let there : i < k = omega (arith, rows) in
         let one = page-reads-back types verdicts n i few h (fits i h) in
         let other = page-reads-back more others k i few′ there (fits′ i there) in
-        let said : some (verdicts i) ≡ some (others i) = ap (λ (r : LineRead). r .verdict) (sym one ∙ ap (λ (page : List ℕ). lineRead page i) e ∙ other) in
+        let said : some (verdicts i) ≡ some (others i) = ap (λ (r : LineRead). r .verdict)
+        (sym one ∙ ap (λ (page : List ℕ). lineRead page i) e ∙ other) in
         cc

@@ -38,9 +38,18 @@ behind-colour [] = refl
 behind-colour (kind ∷ []) = refl
 behind-colour (kind ∷ (colour ∷ body)) = refl
 
-event-step : (version : ℕ) (bytes : List ℕ) → lengthAt bytes 0 ≡ 9 → 11 ≤ length bytes → callOf version (bodyAt bytes 0) ≡ Call.Event (at bytes 2) (numberAt 8 bytes 3)
+event-step : (version : ℕ) (bytes : List ℕ) → lengthAt bytes 0 ≡ 9 → 11 ≤ length bytes → callOf version (bodyAt bytes 0)
+    ≡ Call.Event (at bytes 2) (numberAt 8 bytes 3)
 event-step version bytes nine long =
-    rw (nine, body-length bytes 9 long, getD-take 9 (drop 2 bytes) 0 0 (omega arith), getD-drop 2 bytes 0 0, behind-kind (drop 2 bytes), drop-drop 1 2 bytes, take-take 8 8 (drop 3 bytes) (omega arith))
+    rw (
+      nine,
+      body-length bytes 9 long,
+      getD-take 9 (drop 2 bytes) 0 0 (omega arith),
+      getD-drop 2 bytes 0 0,
+      behind-kind (drop 2 bytes),
+      drop-drop 1 2 bytes,
+      take-take 8 8 (drop 3 bytes) (omega arith),
+    )
 
 pub event-read : (version : ℕ) (bytes : List ℕ) → lengthAt bytes 0 ≡ 9 → 11 ≤ length bytes
     → CallAt version bytes 0 (Call.Event (at bytes 2) (numberAt 8 bytes 3)) 11
@@ -65,9 +74,15 @@ coloured-step version bytes ten long =
 pub coloured-read : (version : ℕ) (bytes : List ℕ) → lengthAt bytes 0 ≡ 10 → 12 ≤ length bytes
     → CallAt version bytes 0 (Call.ColouredEvent (at bytes 2) (colourIn version (at bytes 3)) (numberAt 8 bytes 4)) 12
 coloured-read version bytes ten long =
-    record { there = ((omega arith, omega arith), omega arith, omega arith); call-read = coloured-step version bytes ten long; size-read = omega arith }
+    record {
+      there = ((omega arith, omega arith), omega arith, omega arith);
+      call-read = coloured-step version bytes ten long;
+      size-read =
+          omega arith;
+    }
 
-tick-step : (version : ℕ) (bytes : List ℕ) → lengthAt bytes 0 ≡ 8 → 10 ≤ length bytes → callOf version (bodyAt bytes 0) ≡ Call.Tick (numberAt 8 bytes 2)
+tick-step : (version : ℕ) (bytes : List ℕ) → lengthAt bytes 0 ≡ 8 → 10 ≤ length bytes → callOf version (bodyAt bytes 0)
+    ≡ Call.Tick (numberAt 8 bytes 2)
 tick-step version bytes eight long = rw (eight, body-length bytes 8 long, take-take 8 8 (drop 2 bytes) (omega arith))
 
 pub tick-read : (version : ℕ) (bytes : List ℕ) → lengthAt bytes 0 ≡ 8 → 10 ≤ length bytes
@@ -88,9 +103,15 @@ stretch-of-record bytes place there =
 step-of-stretch : (version : ℕ) (bytes : List ℕ) (place : ℕ) (call : Call) (size : ℕ) → CallAt version (drop place bytes) 0 call size
     → CallAt version bytes place call size
 step-of-stretch version bytes place call size read =
-    record { there = record-of-stretch bytes place (read .there); call-read = rw (← drop-drop 2 place bytes) (read .call-read); size-read = read .size-read }
+    record {
+      there = record-of-stretch bytes place (read .there);
+      call-read = rw (← drop-drop 2 place bytes) (read .call-read);
+      size-read =
+          read .size-read;
+    }
 
-read-of-drop : (version : ℕ) (bytes : List ℕ) (place : ℕ) (r : Record) → ReadsRecord version (drop place bytes) 0 r → ReadsRecord version bytes place r
+read-of-drop : (version : ℕ) (bytes : List ℕ) (place : ℕ) (r : Record) → ReadsRecord version (drop place bytes) 0 r
+    → ReadsRecord version bytes place r
 read-of-drop version bytes place (Event kind time size) read = step-of-stretch version bytes place (Call.Event kind time) size read
 read-of-drop version bytes place (ColouredEvent kind colour time size) read =
     step-of-stretch version bytes place (Call.ColouredEvent kind colour time) size read
@@ -118,14 +139,16 @@ unfolding recordQuestions
 record-refused rows steps bytes place not-there = judged-no 14 (RecordAt bytes place) (questions rows steps (callAt bytes place)) not-there
 
 -- no record is a close
-pub unclosed-more : (version : ℕ) (body : List ℕ) (steps : List Step) → closed steps ≡ false → closed (steps ++ (stepFor (callOf version body) ∷ [])) ≡ false
+pub unclosed-more : (version : ℕ) (body : List ℕ) (steps : List Step) → closed steps ≡ false → closed (steps ++ (stepFor (callOf version body) ∷ []))
+    ≡ false
 unclosed-more version body steps before = go (eqb (length body) 9) (eqb (length body) 10)
   where
     coloured : Call
     coloured = Call.ColouredEvent (at body 0) (colourIn version (at body 1)) (numberAt 8 body 2)
 
     go : (nine ten : Bool)
-        → closed (steps ++ (stepFor (cond nine (Call.Event (at body 0) (numberAt 8 body 1)) (cond ten coloured (Call.Tick (numberAt 8 body 0)))) ∷ [])) ≡ false
+        → closed (steps ++ (stepFor (cond nine (Call.Event (at body 0) (numberAt 8 body 1)) (cond ten coloured (Call.Tick (numberAt 8 body 0))))
+        ∷ [])) ≡ false
     go true ten = closed-event (at body 0) (numberAt 8 body 1) steps ∙ before
     go false true = closed-event (stream (at body 0) (colourIn version (at body 1))) (numberAt 8 body 2) steps ∙ before
     go false false = closed-tick (numberAt 8 body 0) steps ∙ before

@@ -1,4 +1,5 @@
--- With stamps that are never late there is one choice, the stamps themselves; so the word is what the monitor reads at the close, where that takes every record.
+-- With stamps that are never late there is one choice, the stamps themselves; so the word is what the monitor reads at the close, where that takes
+-- every record.
 use Prim.Native.Nat.{ℕ, _+_}
 use native.Mathlib.Omega.{arith}
 use mathlib.Core.Path.{_≡_, refl, sym, ap, subst, _∙_}
@@ -13,7 +14,8 @@ use Rattle.constraint.specs.Streams.{stream}
 use Rattle.constraint.specs.Table.{ReadsTable, table-of}
 use Rattle.constraint.specs.Recording.{callAt, recordQuestions, RecordingRead, recording-of, ReadsRecords, no-more, record-refused, record-taken}
 use Rattle.constraint.specs.Recording.{ReadsRecording, version-refused, version-taken, ReadsInOrder}
-use Rattle.constraint.specs.Stamps.{TrueTimes, ReadsStamps, each-meets, none-meets, both-occur, RepeatRow, stampsQuestions, AnswersStamps, no-table, no-recording, not-asked, reads}
+use Rattle.constraint.specs.Stamps.{TrueTimes, ReadsStamps, each-meets, none-meets, both-occur, RepeatRow, stampsQuestions, AnswersStamps, no-table}
+use Rattle.constraint.specs.Stamps.{no-recording, not-asked, reads}
 use Rattle.constraint.specs.declared.Answer.the-variants.{Taken, Refused}
 use Rattle.constraint.specs.declared.Call.{Call}
 use Rattle.constraint.specs.declared.Constraint.{Constraint}
@@ -61,11 +63,13 @@ unfolding Room
 room-none steps i c there left = never (cc)
 
 -- an event, or a call, that is taken over some rows is taken over none
-event-taken : (rows : List Constraint) (steps : List Step) (s t : ℕ) → Judged (eventQuestions rows steps s t) Taken → Judged (eventQuestions [] steps s t) Taken
+event-taken : (rows : List Constraint) (steps : List Step) (s t : ℕ) → Judged (eventQuestions rows steps s t) Taken
+    → Judged (eventQuestions [] steps s t) Taken
 event-taken rows steps s t judged =
     let ten = judged-all 10 _ _ judged in
     let eleven = judged-all 11 _ _ (ten .1) in
-    judged-yes 10 _ _ Taken (ten .0) (judged-yes 11 _ _ Taken (eleven .0) (judged-yes 12 _ _ Taken (room-none (steps ++ (event s t ∷ []))) judged-none))
+    judged-yes 10 _ _ Taken (ten .0) (judged-yes 11 _ _ Taken (eleven .0)
+    (judged-yes 12 _ _ Taken (room-none (steps ++ (event s t ∷ []))) judged-none))
 
 none-taken : (rows : List Constraint) (steps : List Step) (s : Call) → Judged (questions rows steps s) Taken → Judged (questions [] steps s) Taken
 unfolding questions
@@ -100,18 +104,23 @@ module _ (bytes : List ℕ) where
       let both = record-accepts bytes rows steps place judged in
       judged-yes 14 _ _ Taken (both .0) (none-taken rows steps (callAt bytes place) (both .1))
 
-  records-none : (rows : List Constraint) {before : List Step} {place : ℕ} {steps : List Step} → ReadsRecords rows bytes before place (recording-of steps)
+  records-none : (rows : List Constraint) {before : List Step} {place : ℕ} {steps : List Step}
+      → ReadsRecords rows bytes before place (recording-of steps)
       → ReadsRecords [] bytes before place (recording-of steps)
   records-none rows (no-more end) = no-more end
-  records-none rows (record-taken {before} {place} there judged later) = record-taken there (record-none rows before place judged) (records-none rows later)
+  records-none rows (record-taken {before} {place} there judged later) =
+      record-taken there (record-none rows before place judged) (records-none rows later)
 
-  records-valid : (rows : List Constraint) {before : List Step} {place : ℕ} {steps : List Step} → ReadsRecords rows bytes before place (recording-of steps)
+  records-valid : (rows : List Constraint) {before : List Step} {place : ℕ} {steps : List Step}
+      → ReadsRecords rows bytes before place (recording-of steps)
       → Valid before → Valid steps
   records-valid rows (no-more end) valid = valid
   records-valid rows (record-taken {before} {place} there judged later) valid =
-      records-valid rows later (valid-more _ valid (accepts-taken rows before (callAt bytes place) (record-accepts bytes rows before place judged .1)))
+      records-valid rows later (valid-more _ valid (accepts-taken rows before (callAt bytes place)
+      (record-accepts bytes rows before place judged .1)))
 
-  records-once : {before : List Step} {place : ℕ} {x y : RecordingRead} → ReadsRecords [] bytes before place x → ReadsRecords [] bytes before place y → x ≡ y
+  records-once : {before : List Step} {place : ℕ} {x y : RecordingRead} → ReadsRecords [] bytes before place x → ReadsRecords [] bytes before place y
+      → x ≡ y
   records-once (no-more h) (no-more k) = refl
   records-once (no-more h) (record-refused n k q) = absurd (omega arith)
   records-once (no-more h) (record-taken k q later) = absurd (omega arith)
@@ -133,7 +142,8 @@ module _ (bytes : List ℕ) where
   order-once (version-taken h earlier) (version-taken k later) = records-once earlier later
 
   -- and it is the one over any rows that take every record
-  pub order-of : (rows : List Constraint) {steps : List Step} → ReadsRecording rows bytes (recording-of steps) → ReadsInOrder bytes (recording-of steps)
+  pub order-of : (rows : List Constraint) {steps : List Step} → ReadsRecording rows bytes (recording-of steps)
+      → ReadsInOrder bytes (recording-of steps)
   order-of rows (version-taken one records) = version-taken one (records-none rows records)
 
   pub recording-valid : (rows : List Constraint) {steps : List Step} → ReadsRecording rows bytes (recording-of steps) → Valid steps
@@ -165,12 +175,15 @@ module _ (k lower upper : ℕ) (steps : List Step) (valid : Valid steps) where
   own = stamps-choice 0 k steps valid
 
   -- where the stamps meet the row, and where they do not
-  met : MeetsRepeat 1 lower upper (times k steps) (clock steps) → (w : StampedVerdict) → ReadsStamps 0 lower upper (times k steps) (clock steps) w → w ≡ StampedVerdict.Kept
+  met : MeetsRepeat 1 lower upper (times k steps) (clock steps) → (w : StampedVerdict) → ReadsStamps 0 lower upper (times k steps) (clock steps) w
+      → w ≡ StampedVerdict.Kept
   met m w (each-meets all) = refl
   met m w (none-meets none) = absurd (none (times k steps) own m)
-  met m w (both-occur one other c n d f) = absurd (f (subst (λ (l : List ℕ). MeetsRepeat 1 lower upper l (clock steps)) (sym (only-choice (times k steps) other d)) m))
+  met m w (both-occur one other c n d f) = absurd (f (subst (λ (l : List ℕ). MeetsRepeat 1 lower upper l (clock steps))
+      (sym (only-choice (times k steps) other d)) m))
 
-  unmet : ¬ MeetsRepeat 1 lower upper (times k steps) (clock steps) → (w : StampedVerdict) → ReadsStamps 0 lower upper (times k steps) (clock steps) w → w ≡ StampedVerdict.Broken
+  unmet : ¬ MeetsRepeat 1 lower upper (times k steps) (clock steps) → (w : StampedVerdict)
+      → ReadsStamps 0 lower upper (times k steps) (clock steps) w → w ≡ StampedVerdict.Broken
   unmet m w (each-meets all) = absurd (m (all (times k steps) own))
   unmet m w (none-meets none) = refl
   unmet m w (both-occur one other c n d f) = absurd (m (same-choice one c (λ l. MeetsRepeat 1 lower upper l (clock steps)) n))
@@ -179,14 +192,18 @@ module _ (k lower upper : ℕ) (steps : List Step) (valid : Valid steps) where
       → ReadsStamps 0 lower upper (times k steps) (clock steps) w → w ≡ stampedOf v
   word-agrees valid-closed Verdict.Open (reads-open e o) w r = both (sym (closed-close steps) ∙ e)
   word-agrees valid-closed Verdict.Kept reading w r =
-      met (subst (λ (t : Type 0). t) meets-is (kept-exactly (Repeat k 1 lower upper) after valid-closed (closed-close steps) Verdict.Kept reading .0 refl)) w r
+      met (subst (λ (t : Type 0). t) meets-is (kept-exactly (Repeat k 1 lower upper) after valid-closed
+      (closed-close steps) Verdict.Kept reading .0 refl)) w r
   word-agrees valid-closed (Verdict.Broken n) reading w r =
-      unmet (λ m. let kept = kept-exactly (Repeat k 1 lower upper) after valid-closed (closed-close steps) (Verdict.Broken n) reading .1 (subst (λ (t : Type 0). t) (sym meets-is) m) in never (cc)) w r
+      unmet (λ m. let kept = kept-exactly (Repeat k 1 lower upper) after valid-closed (closed-close steps) (Verdict.Broken n) reading .1
+      (subst (λ (t : Type 0). t) (sym meets-is) m) in never (cc)) w r
 
 -- the call with late = 0 over a table and a recording whose every record the monitor takes, and the close: its answer is the word for what the row
 -- reads then
-pub stamps-agree : (table recording : List ℕ) (rows : List Constraint) (steps : List Step) (i k lower upper : ℕ) (v : Verdict) (answer : StampedAnswer)
-    → ReadsTable table (table-of rows) → ReadsRecording rows recording (recording-of steps) → Valid (steps ++ (close ∷ [])) → RepeatRow rows i k lower upper
+pub stamps-agree : (table recording : List ℕ) (rows : List Constraint) (steps : List Step) (i k lower upper : ℕ) (v : Verdict)
+    (answer : StampedAnswer)
+    → ReadsTable table (table-of rows) → ReadsRecording rows recording (recording-of steps) → Valid (steps ++ (close ∷ []))
+    → RepeatRow rows i k lower upper
     → Reads (Repeat k 1 lower upper) (steps ++ (close ∷ [])) v → AnswersStamps table recording i 0 answer → answer ≡ StampedAnswer.Reads (stampedOf v)
 stamps-agree table recording rows steps i k lower upper v answer read taken closes row reading (no-table n place refused) =
     let same = reads-once table read refused in never (cc)
@@ -196,10 +213,13 @@ stamps-agree table recording rows steps i k lower upper v answer read taken clos
     let same : table-of rows′ ≡ table-of rows = reads-once table read′ read in
     let rows-are : rows′ ≡ rows = cc in
     let there : (k : ℕ) × ((lower : ℕ) × ((upper : ℕ) × RepeatRow rows i k lower upper)) = (k, (lower, (upper, row))) in
-    let all-yes : Judged (stampsQuestions rows i 0) Taken = judged-yes 15 _ _ Taken (within rows i _ row) (judged-yes 25 _ _ Taken there (judged-yes 10 _ _ Taken (omega arith) judged-none)) in
-    let never-so = judged-once (stampsQuestions rows i 0) (Refused n) Taken (subst (λ (l : List Constraint). Judged (stampsQuestions l i 0) (Refused n)) rows-are refused) all-yes in
+    let all-yes : Judged (stampsQuestions rows i 0) Taken = judged-yes 15 _ _ Taken (within rows i _ row)
+    (judged-yes 25 _ _ Taken there (judged-yes 10 _ _ Taken (omega arith) judged-none)) in
+    let never-so = judged-once (stampsQuestions rows i 0) (Refused n) Taken
+    (subst (λ (l : List Constraint). Judged (stampsQuestions l i 0) (Refused n)) rows-are refused) all-yes in
     never (cc)
-stamps-agree table recording rows steps i k lower upper v answer read taken closes row reading (reads rows′ steps′ k′ lower′ upper′ w read′ taken′ row′ small says) =
+stamps-agree table recording rows steps i k lower upper v answer read taken closes row reading
+    (reads rows′ steps′ k′ lower′ upper′ w read′ taken′ row′ small says) =
     let same : table-of rows′ ≡ table-of rows = reads-once table read′ read in
     let rows-are : rows′ ≡ rows = cc in
     let same-steps : recording-of steps′ ≡ recording-of steps = order-once recording taken′ (order-of recording rows taken) in
@@ -208,4 +228,5 @@ stamps-agree table recording rows steps i k lower upper v answer read taken clos
     let lower-is : lower′ ≡ lower = cc in
     let upper-is : upper′ ≡ upper = cc in
     let word : ReadsStamps 0 lower upper (times k steps) (clock steps) w = rw (k-is, lower-is, upper-is, steps-are) at says in
-    ap (λ (x : StampedVerdict). StampedAnswer.Reads x) (word-agrees k lower upper steps (recording-valid recording rows taken) closes v reading w word)
+    ap (λ (x : StampedVerdict). StampedAnswer.Reads x) (word-agrees k lower upper steps
+    (recording-valid recording rows taken) closes v reading w word)

@@ -43,7 +43,8 @@ event-plain k lower upper sound = sound .kinds-suit .0
 abbrev pub askedOf : RowAsked → ℕ → Asked
 askedOf found late = record { event = found .event; lower = found .lower; upper = found .upper; late = late }
 
-module _ (bytes recording : List ℕ) (i late : ℕ) (rows : List Constraint) (read : ReadsTable bytes (table-of rows)) (table : Table) (holds : table ≡ tableOf rows)
+module _ (bytes recording : List ℕ) (i late : ℕ) (rows : List Constraint) (read : ReadsTable bytes (table-of rows)) (table : Table)
+    (holds : table ≡ tableOf rows)
     (found : RowAsked) (finds : Finds table i found) (passed : Passed) (passes : PassesStamps recording (askedOf found late) passed) where
   few : length rows ≤ 32
   few = accepted-few rows (read-accepted bytes rows read)

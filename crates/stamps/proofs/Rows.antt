@@ -11,7 +11,8 @@ use Rattle.constraint.specs.Records.{tableOf, HoldsRow}
 use Rattle.constraint.specs.Stamps.{RepeatRow}
 use Rattle.constraint.specs.declared.Answer.the-variants.{Refused}
 use Rattle.constraint.specs.declared.Constraint.{Constraint}
-use Rattle.constraint.specs.declared.Constraint.the-variants.{Delay, StrongDelay, Repeat, Sporadic, Burst, Order, StrongSynchronization2, StrongSynchronization3, StrongSynchronization4}
+use Rattle.constraint.specs.declared.Constraint.the-variants.{Delay, StrongDelay, Repeat, Sporadic, Burst, Order, StrongSynchronization2}
+use Rattle.constraint.specs.declared.Constraint.the-variants.{StrongSynchronization3, StrongSynchronization4}
 use Rattle.constraint.specs.declared.Constraint.the-variants.{ExecutionTime, Reaction, Repetition}
 use Rattle.constraint.specs.declared.Entry.{Entry}
 use Rattle.constraint.specs.declared.Table.{Table}
@@ -27,7 +28,8 @@ taken-at : (xs ys : List ℕ) (n i : ℕ) → take n xs ≡ ys → i < n → at 
 taken-at xs ys n i e h = sym (getD-take n xs i 0 h) ∙ ap (λ (l : List ℕ). at l i) e
 
 -- a row of type 3 is the Repeat of its numbers
-repeat-is : (c : Constraint) (f : Fields) → HoldsRow c f → f .line .form ≡ 3 → c ≡ Repeat (at (f .bytes) 0) (at (f .bytes) 1) (at (f .times) 0) (at (f .times) 1)
+repeat-is : (c : Constraint) (f : Fields) → HoldsRow c f → f .line .form ≡ 3 → c
+    ≡ Repeat (at (f .bytes) 0) (at (f .bytes) 1) (at (f .times) 0) (at (f .times) 1)
 repeat-is (Repeat k span low high) f holds three =
     let k-is : at (f .bytes) 0 ≡ k = taken-at (f .bytes) (k ∷ span ∷ []) 2 0 (holds .bytes) (omega arith) in
     let span-is : at (f .bytes) 1 ≡ span = taken-at (f .bytes) (k ∷ span ∷ []) 2 1 (holds .bytes) (omega arith) in
@@ -77,7 +79,8 @@ module _ (table : Table) (i : ℕ) where
               let low = asked .1 .0 in
               let high = asked .1 .1 .0 in
               let row = asked .1 .1 .1 in
-              let same : getD (table .rows) i d .constraint ≡ Repeat k 1 low high = of-row rows k low high (row-there table rows i d e (is-there rows e)) row in
+              let same : getD (table .rows) i d .constraint ≡ Repeat k 1 low high =
+              of-row rows k low high (row-there table rows i d e (is-there rows e)) row in
               let numbers = repeat-of k low high f (subst (λ (c : Constraint). HoldsRow c f) same holds) in
               never (other (numbers .0) (numbers .1))));
           found = λ zero. absurd (omega (arith, zero));

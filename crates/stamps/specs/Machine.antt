@@ -81,7 +81,8 @@ stampsVerdict a s now = cond (s .any) (closeVerdict a s now) StampedVerdict.Kept
 pub record PassesStamps (bytes : List ℕ) (a : Asked) (r : Passed) : Type 0 where
   pub refused : 0 < r .number → ReadsInOrder bytes (recording-refused (r .number) (r .place))
   pub taken : r .number ≡ 0 → (steps : List Step) × ReadsInOrder bytes (recording-of steps)
-      × (a .event < firstColoured → a .lower ≤ lastTime → ReadsStamps (a .late) (a .lower) (a .upper) (times (a .event) steps) (clock steps) (r .verdict))
+      × (a .event < firstColoured → a .lower ≤ lastTime → ReadsStamps (a .late) (a .lower) (a .upper) (times (a .event) steps) (clock steps)
+      (r .verdict))
 
 -- a row that is asked for: 15 and 25, else its fields
 pub record Finds (table : Table) (i : ℕ) (r : RowAsked) : Type 0 where

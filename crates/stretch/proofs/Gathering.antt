@@ -33,7 +33,8 @@ use Rattle.stretch.specs.Machine.{stepAs, Kept, KeepsRecord}
 
 -- ---- a record's numbers
 
-call-as : (past : List Step) (s : Call) → Accepts past (stepFor s) → (s ≡ Call.Close → ⊥) → stepFor s ≡ stepAs (occurrenceBy s 0 .stream) (occurrenceBy s 0 .time)
+call-as : (past : List Step) (s : Call) → Accepts past (stepFor s) → (s ≡ Call.Close → ⊥) → stepFor s
+    ≡ stepAs (occurrenceBy s 0 .stream) (occurrenceBy s 0 .time)
 call-as past (Call.Event k t) accepts other = rw (ne-eqb k streamCount (λ e. omega (arith, e, accepts .stream-small)))
 call-as past (Call.ColouredEvent k colour t) accepts other = rw (ne-eqb (stream k colour) streamCount (λ e. omega (arith, e, accepts .stream-small)))
 call-as past (Call.Tick t) accepts other = refl
@@ -42,7 +43,8 @@ call-as past Call.Close accepts other = absurd (other refl)
 -- no record is the close
 never-close : (version : ℕ) (body : List ℕ) → callOf version body ≡ Call.Close → ⊥
 never-close version body =
-    split (eqb (length body) 9) (λ x. cond x (Call.Event (at body 0) (numberAt 8 body 1)) (cond (eqb (length body) 10) coloured ticked) ≡ Call.Close → ⊥)
+    split (eqb (length body) 9) (λ x. cond x (Call.Event (at body 0) (numberAt 8 body 1)) (cond (eqb (length body) 10) coloured ticked) ≡ Call.Close
+    → ⊥)
     (λ e f. let z : _≡_ {A = ℕ} 0 1 = cc in omega arith)
     (λ e. split (eqb (length body) 10) (λ x. cond x coloured ticked ≡ Call.Close → ⊥)
     (λ e f. let z : _≡_ {A = ℕ} 0 1 = cc in omega arith) (λ e f. let z : _≡_ {A = ℕ} 0 1 = cc in omega arith))
@@ -126,14 +128,23 @@ module _ (bytes streams times : List ℕ) where
         gather-more streams′ times′ count′ keeps =
             record {
               steps = before .steps ++ (stepFor (r .call) ∷ []);
-              read = up-to-more bytes place (before .steps) o (before .read) (r .call) (r .next) (r .order) there (next .call-is (next .there e)) (next .next-is (next .there e) .0) (judged .0) (judged .1);
+              read = up-to-more bytes place (before .steps) o (before .read) (r .call) (r .next) (r .order) there (next .call-is (next .there e))
+                  (next .next-is (next .there e) .0) (judged .0) (judged .1);
               counted = by-cases (decLt count 256)
                   (λ room. omega (arith, keeps .room room .0, before .counted, length-append (before .steps) (stepFor (r .call) ∷ [])))
-                  (λ full. omega (arith, keeps .full (omega (arith, full)) .0, before .counted, length-append (before .steps) (stepFor (r .call) ∷ [])));
+                  (λ full. omega (
+                    arith,
+                    keeps .full (omega (arith, full)) .0,
+                    before .counted,
+                    length-append (before .steps) (stepFor (r .call) ∷ []),
+                  ));
               kept = by-cases (decLt count 256)
-                  (λ room. as-kept (sym (keeps .room room .1)) (sym (keeps .room room .2)) (kept-room (before .steps) streams times count (before .counted) (before .kept) (before .whole) (before .whole′) (stepFor (r .call)) (occurrenceBy (r .call) 0 .stream) (occurrenceBy (r .call) 0 .time) is room))
+                  (λ room. as-kept (sym (keeps .room room .1)) (sym (keeps .room room .2))
+                  (kept-room (before .steps) streams times count (before .counted) (before .kept) (before .whole) (before .whole′)
+                  (stepFor (r .call)) (occurrenceBy (r .call) 0 .stream) (occurrenceBy (r .call) 0 .time) is room))
                   (λ full. as-kept (sym (keeps .full (omega (arith, full)) .1)) (sym (keeps .full (omega (arith, full)) .2))
-                  (kept-full (before .steps) streams times count (before .counted) (before .kept) (before .whole) (before .whole′) (stepFor (r .call)) (occurrenceBy (r .call) 0 .stream) (occurrenceBy (r .call) 0 .time) is (omega (arith, full))));
+                  (kept-full (before .steps) streams times count (before .counted) (before .kept) (before .whole) (before .whole′)
+                  (stepFor (r .call)) (occurrenceBy (r .call) 0 .stream) (occurrenceBy (r .call) 0 .time) is (omega (arith, full))));
               whole = by-cases (decLt count 256)
                   (λ room. ap length (keeps .room room .1) ∙ length-set streams count _ ∙ before .whole)
                   (λ full. ap length (keeps .full (omega (arith, full)) .1) ∙ before .whole);

@@ -169,7 +169,8 @@ module _ (n : ℕ) where
     module _ (first size tried : ℕ) (s : Searching first size tried) where
       pub search-end : n < size → ¬ Some (Enough need) (stretches n)
       search-end h some =
-          s .none (subst (Some (Enough need)) (s .whole ∙ ap (λ (l : List Stretch). s .before ++ l) (none-left first size h) ∙ append-nil (s .before)) some)
+          s .none (subst (Some (Enough need)) (s .whole ∙ ap (λ (l : List Stretch). s .before ++ l) (none-left first size h)
+          ∙ append-nil (s .before)) some)
 
       module _ (more : size ≤ n) where
         in-order : stretches n ≡ s .before ++ (stretchOf first size ∷ left (first + 1) size)
@@ -193,7 +194,8 @@ module _ (n : ℕ) where
           whole-now : (next : List Stretch) → left (first + 1) size ≡ next → stretches n ≡ tried-now ++ next
           unfolding tried-now
           whole-now next is =
-              in-order ∙ ap (λ (l : List Stretch). s .before ++ (stretchOf first size ∷ l)) is ∙ sym (append-snoc (s .before) (stretchOf first size) next)
+              in-order ∙ ap (λ (l : List Stretch). s .before ++ (stretchOf first size ∷ l)) is
+              ∙ sym (append-snoc (s .before) (stretchOf first size) next)
 
           counted-now : length tried-now ≡ tried + 1
           unfolding tried-now
@@ -248,7 +250,8 @@ numbered-append n i (s ∷ a) b h k =
     let same : i + suc (length a) ≡ i + 1 + length a = omega arith in
     (h .0, numbered-append n (i + 1) a b (h .1) (subst (λ (j : ℕ). Numbered n j b) same k))
 
-numbered-at : (n i : ℕ) (before : List Stretch) (s : Stretch) (later : List Stretch) → Numbered n i (before ++ (s ∷ later)) → Formula n (i + length before) s
+numbered-at : (n i : ℕ) (before : List Stretch) (s : Stretch) (later : List Stretch) → Numbered n i (before ++ (s ∷ later))
+    → Formula n (i + length before) s
 numbered-at n i [] s later h = let same : i ≡ i + 0 = omega arith in subst (λ (j : ℕ). Formula n j s) same (h .0)
 numbered-at n i (x ∷ before) s later h =
     let same : i + 1 + length before ≡ i + suc (length before) = omega arith in
@@ -274,7 +277,8 @@ one-more : (p k : ℕ) → (p + 1) * k ≡ p * k + k
 one-more p k = add-mul p 1 k ∙ ap (λ (x : ℕ). p * k + x) (one-mul k)
 
 squares : (p : ℕ) → (p + 1 + 1) * (p + 1) ≡ (p + 1) * p + 2 * (p + 1)
-squares p = one-more (p + 1) (p + 1) ∙ ap (λ (x : ℕ). x + (p + 1)) (mul-add (p + 1) p 1 ∙ ap (λ (x : ℕ). (p + 1) * p + x) (mul-one (p + 1))) ∙ twice ((p + 1) * p)
+squares p = one-more (p + 1) (p + 1) ∙ ap (λ (x : ℕ). x + (p + 1)) (mul-add (p + 1) p 1 ∙ ap (λ (x : ℕ). (p + 1) * p + x) (mul-one (p + 1)))
+    ∙ twice ((p + 1) * p)
   where
     twice : (x : ℕ) → x + (p + 1) + (p + 1) ≡ x + 2 * (p + 1)
     twice x = omega arith

@@ -45,7 +45,8 @@ takes-at {rows = rows} (takes-more {records = records} s before judged) i h =
     record {
       s = was .s;
       is = List·getD-append records (stepFor s ∷ []) close i earlier ∙ was .is;
-      judged = subst (λ (l : List Step). Judged (questions rows l (was .s)) Taken) (sym (take-append-le i records (stepFor s ∷ []) (omega arith))) (was .judged);
+      judged = subst (λ (l : List Step). Judged (questions rows l (was .s)) Taken) (sym (take-append-le i records (stepFor s ∷ []) (omega arith)))
+          (was .judged);
     })
     (λ late. let last : length records ≡ i = omega (arith, h, length-append records (stepFor s ∷ []), late) in
     record {
@@ -55,7 +56,8 @@ takes-at {rows = rows} (takes-more {records = records} s before judged) i h =
     })
 
 -- those of a recording are taken over no rows
-reads-taken : (bytes : List ℕ) (before steps : List Step) (place : ℕ) → TakesEach [] before → ReadsRecords [] bytes before place (recording-of steps) → TakesEach [] steps
+reads-taken : (bytes : List ℕ) (before steps : List Step) (place : ℕ) → TakesEach [] before → ReadsRecords [] bytes before place (recording-of steps)
+    → TakesEach [] steps
 unfolding recordQuestions
 reads-taken bytes before steps place taken (no-more end) = taken
 reads-taken bytes before steps place taken (record-taken there judged rest) =
@@ -94,7 +96,8 @@ module _ (front part : List Step) where
         let q11 = judged-all 11 _ _ (q10 .1) in
         judged-yes 10 _ _ Taken (q10 .0) (judged-yes 11 _ _ Taken (order-part k t (q11 .0)) (judged-yes 12 _ _ Taken room judged-none))
 
-    pub part-judged : (s : Call) → Judged (questions [] (front ++ part) s) Taken → Room rows (part ++ (stepFor s ∷ [])) → Judged (questions rows part s) Taken
+    pub part-judged : (s : Call) → Judged (questions [] (front ++ part) s) Taken → Room rows (part ++ (stepFor s ∷ []))
+        → Judged (questions rows part s) Taken
     unfolding questions
     part-judged (Call.Event k t) judged room =
         let q8 = judged-all 8 _ _ judged in
@@ -102,14 +105,16 @@ module _ (front part : List Step) where
         let q9 = judged-all 9 _ _ (q24 .1) in
         let q19 = judged-all 19 _ _ (q9 .1) in
         judged-yes 8 _ _ Taken (closed-part front (q8 .0))
-        (judged-yes 24 _ _ Taken (count-part (q24 .0)) (judged-yes 9 _ _ Taken (q9 .0) (judged-yes 19 _ _ Taken (q19 .0) (event-judged k t (q19 .1) room))))
+        (judged-yes 24 _ _ Taken (count-part (q24 .0)) (judged-yes 9 _ _ Taken (q9 .0)
+        (judged-yes 19 _ _ Taken (q19 .0) (event-judged k t (q19 .1) room))))
     part-judged (Call.ColouredEvent k colour t) judged room =
         let q8 = judged-all 8 _ _ judged in
         let q24 = judged-all 24 _ _ (q8 .1) in
         let q9 = judged-all 9 _ _ (q24 .1) in
         let q19 = judged-all 19 _ _ (q9 .1) in
         judged-yes 8 _ _ Taken (closed-part front (q8 .0))
-        (judged-yes 24 _ _ Taken (count-part (q24 .0)) (judged-yes 9 _ _ Taken (q9 .0) (judged-yes 19 _ _ Taken (q19 .0) (event-judged _ t (q19 .1) room))))
+        (judged-yes 24 _ _ Taken (count-part (q24 .0)) (judged-yes 9 _ _ Taken (q9 .0)
+        (judged-yes 19 _ _ Taken (q19 .0) (event-judged _ t (q19 .1) room))))
     part-judged (Call.Tick t) judged room =
         let q8 = judged-all 8 _ _ judged in
         let q24 = judged-all 24 _ _ (q8 .1) in

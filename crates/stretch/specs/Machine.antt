@@ -78,4 +78,5 @@ TriesAll c streams times count answer = (steps : List Step) → RunOf steps stre
 -- and in a row of a table record
 abbrev pub Asks : Table → ℕ → List ℕ → List ℕ → ℕ → StretchAnswer → Type 0
 Asks table i streams times count answer =
-    (rows : List Constraint) (steps : List Step) → table ≡ tableOf rows → Accepted rows → RunOf steps streams times count → AnswersRow rows steps i answer
+    (rows : List Constraint) (steps : List Step) → table ≡ tableOf rows → Accepted rows → RunOf steps streams times count
+    → AnswersRow rows steps i answer

@@ -17,7 +17,8 @@ AcceptedBehind i (table-of rows) = Judged (rowsQuestions i rows []) Taken
 AcceptedBehind i (table-refused n place) = Unit {0}
 
 -- one row more in front
-accepted-more : (i : ℕ) (c : Constraint) (later : TableRead) → i < rowLimit → Judged (rowQuestions c) Taken → AcceptedBehind (i + 1) later → AcceptedBehind i (rowThen c later)
+accepted-more : (i : ℕ) (c : Constraint) (later : TableRead) → i < rowLimit → Judged (rowQuestions c) Taken → AcceptedBehind (i + 1) later
+    → AcceptedBehind i (rowThen c later)
 accepted-more i c (table-of rows) room own accepted = rows-taken i c rows [] Taken room own accepted
 accepted-more i c (table-refused n place) room own accepted = tt
 

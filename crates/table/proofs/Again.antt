@@ -28,10 +28,12 @@ use Rattle.table.proofs.Once.{reads-once}
 use Rattle.table.proofs.RoundTrip.{read-then-write, write-then-read}
 
 -- accepted rows, and room for them
-room : (rows : List Constraint) (before : List ℕ) → Accepted rows → length (tableBytes rows) ≤ length before → Judged (writerQuestions rows before) Taken
+room : (rows : List Constraint) (before : List ℕ) → Accepted rows → length (tableBytes rows) ≤ length before
+    → Judged (writerQuestions rows before) Taken
 room rows before accepted h =
     subst (λ (qs : List Question). Judged qs Taken) (sym (rows-then 0 rows ((16, length (tableBytes rows) ≤ length before) ∷ [])))
-    (judged-later (rowsQuestions 0 rows []) ((16, length (tableBytes rows) ≤ length before) ∷ []) Taken accepted (judged-yes 16 _ [] Taken h judged-none))
+    (judged-later (rowsQuestions 0 rows []) ((16, length (tableBytes rows) ≤ length before) ∷ []) Taken accepted
+    (judged-yes 16 _ [] Taken h judged-none))
 
 -- read, then written to a buffer that is long enough: the same bytes, and those behind them stay
 pub rows-write : (bytes before after : List ℕ) (rows : List Constraint) (w : WriteAnswer) → Bytes bytes → ReadsTable bytes (table-of rows)
@@ -46,8 +48,11 @@ rows-write bytes before after rows w all reads long writes = go w writes
     taken = room rows before (read-accepted bytes rows reads) (omega (arith, ap length same))
 
     go : (w : WriteAnswer) → Writes rows before w after → (w ≡ WriteAnswer.Written (length bytes)) × (after ≡ bytes ++ drop (length bytes) before)
-    go (WriteAnswer.Written n) writes =
-        (ap WriteAnswer.Written (writes .counted n refl ∙ ap length same), writes .buffer ∙ ap (λ (list : List ℕ). list ++ drop (length list) before) same)
+    go (WriteAnswer.Written n) writes = (
+      ap WriteAnswer.Written (writes .counted n refl ∙ ap length same),
+      writes .buffer
+          ∙ ap (λ (list : List ℕ). list ++ drop (length list) before) same,
+    )
     go (WriteAnswer.Refused n) writes = let no = judged-once (writerQuestions rows before) Taken (Refused n) taken (writes .judged) in never (cc)
 
 -- of a table record
@@ -73,12 +78,14 @@ written-read rows before after n writes = subst (λ (list : List ℕ). ReadsTabl
         (subst (λ (qs : List Question). Judged qs Taken) (rows-then 0 rows ((16, length (tableBytes rows) ≤ length before) ∷ [])) (writes .judged)) .0
 
 -- of a table record: the record's rows
-pub write-read : (table : Table) (before after : List ℕ) (n : ℕ) (r : Reading) → Writes (rowsOf table) before (WriteAnswer.Written n) after → ReadsInto (take n after) r
+pub write-read : (table : Table) (before after : List ℕ) (n : ℕ) (r : Reading) → Writes (rowsOf table) before (WriteAnswer.Written n) after
+    → ReadsInto (take n after) r
     → (r .answer ≡ ReadAnswer.Accepted) × (rowsOf (r .table) ≡ rowsOf table)
 write-read table before after n r writes into =
     go (r .answer) refl (reads-once (take n after) (into .reads) (written-read (rowsOf table) before after n writes))
   where
-    go : (a : ReadAnswer) → r .answer ≡ a → readAs (r .answer) (r .table) ≡ table-of (rowsOf table) → (r .answer ≡ ReadAnswer.Accepted) × (rowsOf (r .table) ≡ rowsOf table)
+    go : (a : ReadAnswer) → r .answer ≡ a → readAs (r .answer) (r .table) ≡ table-of (rowsOf table) → (r .answer ≡ ReadAnswer.Accepted)
+        × (rowsOf (r .table) ≡ rowsOf table)
     go ReadAnswer.Accepted e same = (e, rows-same (ap (λ (answer : ReadAnswer). readAs answer (r .table)) (sym e) ∙ same))
       where
         rows-same : table-of (rowsOf (r .table)) ≡ table-of (rowsOf table) → rowsOf (r .table) ≡ rowsOf table

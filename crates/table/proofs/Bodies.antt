@@ -33,7 +33,8 @@ module _ (n : ℕ) (bytes : List ℕ) (place : ℕ) (all : Bytes bytes) (there :
       ap (λ (k : ℕ). bytesOf k (numberAt n bytes place)) (sym long) ∙ bytes-of-number 0 (bytesAt n bytes place) (bytes-part bytes n place all)
 
   number-small : numberAt n bytes place < 256 ^ n
-  number-small = subst⁻¹ (λ (k : ℕ). numberAt n bytes place < 256 ^ k) (sym long) (number-below (bytesAt n bytes place) (bytes-part bytes n place all))
+  number-small = subst⁻¹ (λ (k : ℕ). numberAt n bytes place < 256 ^ k) (sym long)
+      (number-below (bytesAt n bytes place) (bytes-part bytes n place all))
 
 -- The fields of a body
 
@@ -64,7 +65,8 @@ reread-bytes (time role x ∷ fields) body place all there =
     rw (take-add 8 (width fields) (drop place body), drop-drop 8 place body, number-back 8 body place all (omega arith))
     (ap (λ (later : List ℕ). bytesAt 8 body place ++ later) (reread-bytes fields body (place + 8) all (omega arith)))
 
-reread-fits : (fields : List Field) (body : List ℕ) (place : ℕ) → Bytes body → place + width fields ≤ length body → TimesFit (reread fields body place)
+reread-fits : (fields : List Field) (body : List ℕ) (place : ℕ) → Bytes body → place + width fields ≤ length body
+    → TimesFit (reread fields body place)
 reread-fits [] body place all there = tt
 reread-fits (byte role x ∷ fields) body place all there = reread-fits fields body (place + 1) all (omega arith)
 reread-fits (time role x ∷ fields) body place all there =
@@ -78,7 +80,11 @@ stands-of body all c typed read long =
     record {
       bytes =
           ap (λ (fields : List Field). typeOf c ∷ fieldsBytes fields) read
-          ∙ rw (reread-bytes (fieldsOf c) body 1 all (omega arith), take-all (width (fieldsOf c)) (drop 1 body) (omega (arith, length-drop 1 body)), typed)
+          ∙ rw (
+            reread-bytes (fieldsOf c) body 1 all (omega arith),
+            take-all (width (fieldsOf c)) (drop 1 body) (omega (arith, length-drop 1 body)),
+            typed,
+          )
           (sym (drop-cons body 0 0 (omega arith)));
       fits = rw read (reread-fits (fieldsOf c) body 1 all (omega arith));
     }

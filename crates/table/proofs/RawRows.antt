@@ -135,7 +135,8 @@ rows-more bytes rows c raw whole stands =
 -- one row more
 pub table-more : (bytes : List ℕ) (i start t n : ℕ) (table next : Table) (row : Constraint) → Bytes bytes → i < rowLimit → KnownAt bytes i
     → (i + 1) * rawSize ≤ length bytes → start ≡ i * rawSize → t ≡ at bytes start → n ≡ at bytes (start + 1)
-    → row ≡ constraintOf (take (start + lengthOf t n - start) (drop start bytes)) → Adds table row next → RawTable bytes i table → RawTable bytes (i + 1) next
+    → row ≡ constraintOf (take (start + lengthOf t n - start) (drop start bytes)) → Adds table row next → RawTable bytes i table
+    → RawTable bytes (i + 1) next
 table-more bytes i start t n table next row each room known whole there first second read adds held =
     record {
       rows = held .rows ++ (row ∷ []);
@@ -165,13 +166,15 @@ module _ (bytes before : List ℕ) (n : ℕ) (table : Table) (held : RawTable by
       subst (λ (rows : List Constraint). Judged (rowsQuestions 0 rows []) a) (ap rowsOf (held .holds) ∙ record-rows (held .rows)) judged
 
   -- a row before the one that stops is refused
-  pub before-refused : (number : ℕ) → Judged (rowsQuestions 0 (rowsOf table) []) (Refused number) → WritesRaw bytes before (WriteAnswer.Refused number) before
+  pub before-refused : (number : ℕ) → Judged (rowsQuestions 0 (rowsOf table) []) (Refused number)
+      → WritesRaw bytes before (WriteAnswer.Refused number) before
   before-refused number judged =
       stopped-at (held .rows) number (held .raw) (rw (held .counted) more)
       (rw rows-then (judged-first (rowsQuestions 0 (held .rows) []) _ number (asked (Refused number) judged)))
 
   -- the rows before it are taken
-  pub unknown-refused : n < rowLimit → ¬ KnownAt bytes n → Judged (rowsQuestions 0 (rowsOf table) []) Taken → WritesRaw bytes before (WriteAnswer.Refused 4) before
+  pub unknown-refused : n < rowLimit → ¬ KnownAt bytes n → Judged (rowsQuestions 0 (rowsOf table) []) Taken
+      → WritesRaw bytes before (WriteAnswer.Refused 4) before
   unknown-refused room not-known judged =
       stopped-at (held .rows) 4 (held .raw) (rw (held .counted) more)
       (rw rows-then (judged-later (rowsQuestions 0 (held .rows) []) _ (Refused 4) (asked Taken judged)

@@ -39,7 +39,8 @@ row-written : (bytes : List ℕ) (place : ℕ) (c : Constraint) → Bytes bytes 
 unfolding rowBytes
 row-written bytes place c all whole stands =
     let size = lengthAt bytes place in
-    let long : length (bodyAt bytes place) ≡ size = length-take-le size (drop (place + 2) bytes) (omega (arith, length-drop (place + 2) bytes, whole .1)) in
+    let long : length (bodyAt bytes place) ≡ size = length-take-le size (drop (place + 2) bytes)
+    (omega (arith, length-drop (place + 2) bytes, whole .1)) in
     rw (stands .bytes, long, number-back 2 bytes place all (whole .0))
 
 -- rows that were read from a place on have the bytes that stand there
@@ -101,7 +102,8 @@ module _ (before : List ℕ) (c : Constraint) (after : List ℕ) where
   unfolding InRange
   row-there judged shape = record { bytes = sym body-there; fits = range-fits (fieldsOf c) (row-ranges c judged) }
 
-  row-read : (i : ℕ) → i < rowLimit → Judged (rowQuestions c) Taken → Judged (placeQuestions (before ++ (rowBytes c ++ after)) i (length before) c) Taken
+  row-read : (i : ℕ) → i < rowLimit → Judged (rowQuestions c) Taken
+      → Judged (placeQuestions (before ++ (rowBytes c ++ after)) i (length before) c) Taken
   row-read i room judged =
       place-row (before ++ (rowBytes c ++ after)) i (length before) c Taken
       (rw length-there (omega (arith, length-append before (rowBytes c ++ after), length-append (rowBytes c) after, row-length c))) room

@@ -36,7 +36,8 @@ shape-asked body size t n long typed counted there known =
   where
     typed-low : size ≡ lengthOf t n → 1 ≤ at body 0
     typed-low e =
-        split (eqb t 0) (λ b. 1 ≤ at body 0) (λ zero. absurd (omega (arith, rw (eqb-true t 0 zero) at e))) (λ other. omega (arith, eqb-false t 0 other))
+        split (eqb t 0) (λ b. 1 ≤ at body 0) (λ zero. absurd (omega (arith, rw (eqb-true t 0 zero) at e)))
+        (λ other. omega (arith, eqb-false t 0 other))
 
     typed-high : size ≡ lengthOf t n → at body 0 < length lengths
     typed-high e =

@@ -31,7 +31,8 @@ times-at [] j there = absurd (omega arith)
 times-at (x ∷ xs) zero there = take-at (bytesOf 8 x) (timesBytes xs) 8 (bytes-length 8 x)
 times-at (x ∷ xs) (suc j) there =
     let next : 8 * suc j ≡ 8 + 8 * j = omega arith in
-    rw (next, ← drop-drop (8 * j) 8 (bytesOf 8 x ++ timesBytes xs), drop-at (bytesOf 8 x) (timesBytes xs) 8 (bytes-length 8 x)) (times-at xs j (omega arith))
+    rw (next, ← drop-drop (8 * j) 8 (bytesOf 8 x ++ timesBytes xs), drop-at (bytesOf 8 x) (timesBytes xs) 8 (bytes-length 8 x))
+    (times-at xs j (omega arith))
 
 -- The parts of a row's body
 
@@ -107,7 +108,8 @@ module _ (c : Constraint) (fit : TimesFit (fieldsOf c)) where
       times-behind (rowBody c) (timesStart (rowBody c)) j (omega (arith, regular c .sized .few-times))
       ∙ ap (λ (place : ℕ). numberAt 8 (rowBody c) (place + 8 * j)) start
       ∙ ap (λ (body : List ℕ). numberAt 8 body (suc (length bytes) + 8 * j)) (body-parts c)
-      ∙ rw (drop-append-add (typeOf c ∷ bytes) (timesBytes times) (8 * j), times-at times j h) (number-of-bytes 8 (at times j) (time-fits (fieldsOf c) fit j h))
+      ∙ rw (drop-append-add (typeOf c ∷ bytes) (timesBytes times) (8 * j), times-at times j h)
+      (number-of-bytes 8 (at times j) (time-fits (fieldsOf c) fit j h))
 
   -- it is read again
   row-again : constraintOf (rowBody c) ≡ c

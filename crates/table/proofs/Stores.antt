@@ -48,7 +48,12 @@ pub times-more : (buffer : List ℕ) (place : ℕ) (xs : List ℕ) (i : ℕ) →
     → sets buffer place (timesBytes (drop i xs)) ≡ sets (sets buffer place (bytesOf 8 (getD xs i 0))) (place + 8) (timesBytes (drop (i + 1) xs))
 unfolding timesBytes
 times-more buffer place xs i there =
-    rw (add-one i, drop-cons xs i 0 there, stores-append buffer place (bytesOf 8 (getD xs i 0)) (timesBytes (drop (suc i) xs)), bytes-length 8 (getD xs i 0))
+    rw (
+      add-one i,
+      drop-cons xs i 0 there,
+      stores-append buffer place (bytesOf 8 (getD xs i 0)) (timesBytes (drop (suc i) xs)),
+      bytes-length 8 (getD xs i 0),
+    )
 
 -- what the stores of a body leave: of the type byte, of the other bytes and of the times
 pub body-stores : (buffer one two three : List ℕ) (place : ℕ) (c : Constraint) (form next : ℕ) (bytes times : List ℕ)
@@ -87,7 +92,8 @@ module _ (table : Table) (i : ℕ) (other : Entry) (counted : i < table .count) 
       ap length rows-next ∙ length-append (rowBytes row) (rowsBytes (drop (i + 1) (rowsOf table))) ∙ omega (arith, row-length row)
 
   pub rows-more : (buffer : List ℕ) (place : ℕ) → sets buffer place (rowsBytes (drop i (rowsOf table)))
-      ≡ sets (sets buffer place (rowBytes (getD (table .rows) i other .constraint))) (place + (2 + length (rowBody (getD (table .rows) i other .constraint))))
+      ≡ sets (sets buffer place (rowBytes (getD (table .rows) i other .constraint)))
+      (place + (2 + length (rowBody (getD (table .rows) i other .constraint))))
       (rowsBytes (drop (i + 1) (rowsOf table)))
   rows-more buffer place =
       let row = getD (table .rows) i other .constraint in

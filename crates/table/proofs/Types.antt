@@ -14,7 +14,8 @@ use Rattle.constraint.specs.Table.{fieldsBytes, rowBody, ShapeFits, StandsFor}
 use Rattle.constraint.specs.Records.{bytesIn, timesIn}
 use Rattle.constraint.specs.declared.Constraint.{Constraint}
 use Rattle.constraint.specs.declared.Constraint.the-variants.{Delay, StrongDelay, Repeat, Sporadic, Burst, Order}
-use Rattle.constraint.specs.declared.Constraint.the-variants.{StrongSynchronization2, StrongSynchronization3, StrongSynchronization4, ExecutionTime, Reaction, Repetition}
+use Rattle.constraint.specs.declared.Constraint.the-variants.{StrongSynchronization2, StrongSynchronization3, StrongSynchronization4, ExecutionTime}
+use Rattle.constraint.specs.declared.Constraint.the-variants.{Reaction, Repetition}
 use Rattle.table.specs.Rows.{groupFrom, rowRead, constraintOf, timesBytes}
 use Rattle.constraint.proofs.Lists.{split}
 use Rattle.table.proofs.Bodies.{stands-of}

@@ -25,7 +25,8 @@ module _ (rows : List Constraint) (before : List ℕ) where
         counted = λ k e. never (cc);
       }
 
-  pub written-short : Judged (rowsQuestions 0 rows []) Taken → length before < length (tableBytes rows) → Writes rows before (WriteAnswer.Refused 16) before
+  pub written-short : Judged (rowsQuestions 0 rows []) Taken → length before < length (tableBytes rows)
+      → Writes rows before (WriteAnswer.Refused 16) before
   written-short judged short =
       record {
         judged = rw rows-then (judged-later (rowsQuestions 0 rows []) _ _ judged (judged-no 16 _ _ (λ room. omega arith)));
@@ -35,7 +36,8 @@ module _ (rows : List Constraint) (before : List ℕ) where
 
   -- the version byte is stored, and then the rows
   pub written-all : (size : ℕ) (one after : List ℕ) → Judged (rowsQuestions 0 rows []) Taken → length (tableBytes rows) ≤ length before
-      → size ≡ length (tableBytes rows) → one ≡ sets before 0 (1 ∷ []) → after ≡ sets one 1 (rowsBytes rows) → Writes rows before (WriteAnswer.Written size) after
+      → size ≡ length (tableBytes rows) → one ≡ sets before 0 (1 ∷ []) → after ≡ sets one 1 (rowsBytes rows)
+      → Writes rows before (WriteAnswer.Written size) after
   unfolding tableBytes
   written-all size one after judged room counted version stored =
       record {

@@ -12,7 +12,8 @@ use Rattle.constraint.specs.Table.{lengthAt, RowAt, placeQuestions}
 use Rattle.constraint.specs.declared.Answer.the-variants.{Taken, Refused}
 use Rattle.constraint.specs.declared.Constraint.{Constraint}
 use Rattle.constraint.specs.declared.Constraint.the-variants.{Delay, StrongDelay, Repeat, Sporadic, Burst, Order}
-use Rattle.constraint.specs.declared.Constraint.the-variants.{StrongSynchronization2, StrongSynchronization3, StrongSynchronization4, ExecutionTime, Reaction, Repetition}
+use Rattle.constraint.specs.declared.Constraint.the-variants.{StrongSynchronization2, StrongSynchronization3, StrongSynchronization4, ExecutionTime}
+use Rattle.constraint.specs.declared.Constraint.the-variants.{Reaction, Repetition}
 use Rattle.table.specs.declared.reader.RowRead.{RowRead}
 
 -- what reading the row at a place gives, with i rows before it: the row and the place of the next, or the refusal's number

@@ -37,4 +37,5 @@ pub record AnswersWrite (rows : List Constraint) (before : List ℕ) (r : ℕ) (
 -- what reading a table and writing its rows gives: the reader's refusal, which leaves the buffer, or what writing gives
 pub data AnswersRewrite (bytes before : List ℕ) : ℕ → List ℕ → Type 0 where
   not-read : {r : ℕ} (n place : ℕ) → ReadsTable bytes (table-refused n place) → r ≡ refusalCode n place → AnswersRewrite bytes before r before
-  rewritten : {r : ℕ} {after : List ℕ} (rows : List Constraint) → ReadsTable bytes (table-of rows) → AnswersWrite rows before r after → AnswersRewrite bytes before r after
+  rewritten : {r : ℕ} {after : List ℕ} (rows : List Constraint) → ReadsTable bytes (table-of rows) → AnswersWrite rows before r after
+      → AnswersRewrite bytes before r after

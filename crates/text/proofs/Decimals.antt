@@ -63,7 +63,12 @@ pub drop-stored : (l : List ℕ) (start v : ℕ) → 0 < start → start ≤ len
 drop-stored l zero v some there = absurd (omega arith)
 drop-stored l (suc i) v some there =
     let less : suc i - 1 ≡ i = omega arith in
-    rw (less, drop-cons (set l i v) i 0 (omega (arith, length-set l i v)), getD-set-same l i v 0 (omega arith), drop-set-lt (suc i) l i v (omega arith))
+    rw (
+      less,
+      drop-cons (set l i v) i 0 (omega (arith, length-set l i v)),
+      getD-set-same l i v 0 (omega arith),
+      drop-set-lt (suc i) l i v (omega arith),
+    )
 
 -- blanks, and behind them the digits of a number, are the number right-aligned
 pub aligned-right : (bytes : List ℕ) (start x : ℕ) → length bytes ≡ 20 → start ≤ 20 → ((k : ℕ) → k < start → at bytes k ≡ blank)
@@ -79,7 +84,8 @@ aligned-right bytes start x size within blanks spelled =
 -- How many there are
 
 -- the last digit is taken off, or it is the only one
-by-last : (P : List ℕ → Type 0) (n x : ℕ) → (x < 10 → P ((48 + x) ∷ [])) → (10 ≤ x → P (digits n (x / 10) ++ ((48 + x % 10) ∷ []))) → P (digits (suc n) x)
+by-last : (P : List ℕ → Type 0) (n x : ℕ) → (x < 10 → P ((48 + x) ∷ [])) → (10 ≤ x → P (digits n (x / 10) ++ ((48 + x % 10) ∷ [])))
+    → P (digits (suc n) x)
 unfolding digits
 by-last P n x one more = go (decLt x 10)
   where
@@ -133,7 +139,8 @@ decimal-each x = digits-each 20 x
 -- What they stand for
 
 -- one digit more
-number-last : (high : ℕ) (list : List ℕ) (digit : ℕ) → blank < digit → numberFrom high (list ++ (digit ∷ [])) ≡ numberFrom high list * 10 + (digit - 48)
+number-last : (high : ℕ) (list : List ℕ) (digit : ℕ) → blank < digit → numberFrom high (list ++ (digit ∷ []))
+    ≡ numberFrom high list * 10 + (digit - 48)
 unfolding numberFrom
 number-last high [] digit above = rw (ne-eqb digit blank (λ e. omega arith))
 number-last high (first ∷ list) digit above = number-last (cond (eqb first blank) high (high * 10 + (first - 48))) list digit above

@@ -46,7 +46,13 @@ rows-length : (i : ℕ) (verdicts : List Verdict) → i + length verdicts ≤ ro
 unfolding rowLines
 rows-length i [] few = omega arith
 rows-length i (v ∷ verdicts) few =
-    omega (arith, ap length (rows-more i v verdicts), length-append (rowLine i v) (rowLines (i + 1) verdicts), row-length i v (omega arith), rows-length (i + 1) verdicts (omega arith))
+    omega (
+      arith,
+      ap length (rows-more i v verdicts),
+      length-append (rowLine i v) (rowLines (i + 1) verdicts),
+      row-length i v (omega arith),
+      rows-length (i + 1) verdicts (omega arith),
+    )
 
 -- the longest report
 abbrev pub reportLimit : ℕ

@@ -19,13 +19,15 @@ extended-append [] later text = refl
 extended-append (byte ∷ first) later text = extended-append first later (withByte byte text)
 
 -- a text with room stores the byte behind what it holds
-pushed-stored : (byte : ℕ) (text : Text) → text .len < textLimit → withByte byte text ≡ record { bytes = set (text .bytes) (text .len) byte; len = text .len + 1 }
+pushed-stored : (byte : ℕ) (text : Text) → text .len < textLimit → withByte byte text
+    ≡ record { bytes = set (text .bytes) (text .len) byte; len = text .len + 1 }
 unfolding withByte
 pushed-stored byte text room = rw (lt-ltb (text .len) textLimit room)
 
 -- the first of the bytes left is stored
 pub extended-next : (list : List ℕ) (i : ℕ) (text : Text) → i < length list → text .len < textLimit
-    → extended (drop i list) text ≡ extended (drop (i + 1) list) (record { bytes = set (text .bytes) (text .len) (getD list i 0); len = text .len + 1 })
+    → extended (drop i list) text ≡ extended (drop (i + 1) list)
+    (record { bytes = set (text .bytes) (text .len) (getD list i 0); len = text .len + 1 })
 unfolding extended
 extended-next list i text there room =
     rw (drop-cons list i 0 there, add-one i) (ap (λ (next : Text). extended (drop (suc i) list) next) (pushed-stored (getD list i 0) text room))
@@ -61,12 +63,14 @@ holds-pushed text list byte holds room =
       rest = λ i h. getD-set-other (text .bytes) (text .len) i byte 0 (λ e. omega arith) ∙ holds .rest i (omega arith);
     })
 
-pub holds-extended : (text : Text) (list more : List ℕ) → Holds text list → length list + length more ≤ textLimit → Holds (extended more text) (list ++ more)
+pub holds-extended : (text : Text) (list more : List ℕ) → Holds text list → length list + length more ≤ textLimit
+    → Holds (extended more text) (list ++ more)
 unfolding extended
 holds-extended text list [] holds room = rw (append-nil list) holds
 holds-extended text list (byte ∷ more) holds room =
     rw (← append-assoc list (byte ∷ []) more)
-    (holds-extended (withByte byte text) (list ++ (byte ∷ [])) more (holds-pushed text list byte holds (omega arith)) (omega (arith, length-append list (byte ∷ []))))
+    (holds-extended (withByte byte text) (list ++ (byte ∷ [])) more (holds-pushed text list byte holds (omega arith))
+    (omega (arith, length-append list (byte ∷ []))))
 
 -- a text that was made from nothing holds what was put there
 pub holds-all : (list : List ℕ) → length list ≤ textLimit → Holds (extended list emptyText) list

@@ -13,7 +13,8 @@ use Rattle.join.proofs.following.Tie as tie
 tested : (c : tie.After-first-comes)
     → c .first-comes .result ≡ (c .before .before .before .before .record-at .result .there
     && (not (c .before .before .before .record-at2 .result .there)
-    || leb (timeOf (stepFor (c .before .before .before .before .record-at .result .call))) (timeOf (stepFor (c .before .before .before .record-at2 .result .call)))))
+    || leb (timeOf (stepFor (c .before .before .before .before .record-at .result .call)))
+    (timeOf (stepFor (c .before .before .before .record-at2 .result .call)))))
 tested c = rw (c .before .before .time-of .ensures, c .before .time-of2 .ensures) at (c .first-comes .ensures)
 
 returns : tie.Need-returns

@@ -20,7 +20,8 @@ returns-2 c =
     let kept = two .before .before in
     let one = kept .before .before in
     let args = one .before .before .before .before .args in
-    answer-second (now (args .first)) (now (args .second)) (now (args .joined)) (one .pass .result) (one .pass .ensures) (omega (arith, kept .if1 .left))
+    answer-second (now (args .first)) (now (args .second)) (now (args .joined)) (one .pass .result) (one .pass .ensures)
+    (omega (arith, kept .if1 .left))
     (two .pass2 .result) (two .pass2 .ensures) (c .if2 .taken)
 
 returns-3 : tie.Need-returns-3
@@ -30,7 +31,8 @@ returns-3 c =
     let kept = two .before .before in
     let one = kept .before .before in
     let args = one .before .before .before .before .args in
-    answer-common (now (args .first)) (now (args .second)) (now (args .joined)) (one .pass .result) (one .pass .ensures) (omega (arith, kept .if1 .left))
+    answer-common (now (args .first)) (now (args .second)) (now (args .joined)) (one .pass .result) (one .pass .ensures)
+    (omega (arith, kept .if1 .left))
     (two .pass2 .result) (two .pass2 .ensures) (omega (arith, taken .if2 .left)) (c .if3 .taken)
 
 returns-4 : tie.Need-returns-4
@@ -42,8 +44,10 @@ returns-4 c =
     let kept = two .before .before in
     let one = kept .before .before in
     let args = one .before .before .before .before .args in
-    answer-short (now (args .first)) (now (args .second)) (now (args .joined)) (one .pass .result) (one .pass .ensures) (omega (arith, kept .if1 .left))
-    (two .pass2 .result) (two .pass2 .ensures) (omega (arith, taken .if2 .left)) (omega (arith, apart .if3 .left)) _ _ (measured .walk .result) (measured .walk .ensures)
+    answer-short (now (args .first)) (now (args .second)) (now (args .joined)) (one .pass .result) (one .pass .ensures)
+    (omega (arith, kept .if1 .left))
+    (two .pass2 .result) (two .pass2 .ensures) (omega (arith, taken .if2 .left)) (omega (arith, apart .if3 .left)) _ _ (measured .walk .result)
+    (measured .walk .ensures)
     (not-true _ (c .if4 .taken))
 
 returns-5 : tie.Need-returns-5
@@ -57,8 +61,10 @@ returns-5 c =
     let kept = two .before .before in
     let one = kept .before .before in
     let args = one .before .before .before .before .args in
-    answer-written (now (args .first)) (now (args .second)) (now (args .joined)) (one .pass .result) (one .pass .ensures) (omega (arith, kept .if1 .left))
-    (two .pass2 .result) (two .pass2 .ensures) (omega (arith, taken .if2 .left)) (omega (arith, apart .if3 .left)) _ _ (measured .walk .result) (measured .walk .ensures)
+    answer-written (now (args .first)) (now (args .second)) (now (args .joined)) (one .pass .result) (one .pass .ensures)
+    (omega (arith, kept .if1 .left))
+    (two .pass2 .result) (two .pass2 .ensures) (omega (arith, taken .if2 .left)) (omega (arith, apart .if3 .left)) _ _ (measured .walk .result)
+    (measured .walk .ensures)
     (not-false _ (fits .if4 .left)) (written .walk2 .result) _ (written .walk2 .ensures)
 
 pub join-spec : {M : Type 1} → statement M

@@ -29,7 +29,8 @@ loop-holds c =
     let checked = c .before in
     let asked = checked .before in
     let args = asked .before .before .args in
-    pass-start (now (args .bytes)) (args .avoid) (passed (asked .version-known .result) (asked .version-known .ensures) (checked .if1 .left)) (c .start .result) (c .start .ensures)
+    pass-start (now (args .bytes)) (args .avoid) (passed (asked .version-known .result) (asked .version-known .ensures) (checked .if1 .left))
+    (c .start .result) (c .start .ensures)
 
 returns-2 : tie.Need-returns-2 Inv-loop μ-loop
 returns-2 c =
@@ -37,7 +38,8 @@ returns-2 c =
     let at-loop = at-read .before .before in
     let args = at-loop .before .before .before .before .before .args in
     record {
-      refused = λ more. pass-refused (now (args .bytes)) (args .avoid) (at-loop .loop .order) (at-loop .loop .kinds) (at-loop .loop .common) (at-loop .loop .place) (at-loop .loop .inv)
+      refused = λ more. pass-refused (now (args .bytes)) (args .avoid) (at-loop .loop .order) (at-loop .loop .kinds) (at-loop .loop .common)
+          (at-loop .loop .place) (at-loop .loop .inv)
           (at-read .before .loop-test .taken) (at-read .read .result) (at-read .read .ensures) (c .if2 .taken);
       taken = λ e. absurd (omega (arith, e, c .if2 .taken));
     }
@@ -60,9 +62,12 @@ loop-again c =
     let at-read = left .before .before in
     let at-loop = at-read .before .before in
     let args = at-loop .before .before .before .before .before .args in
-    pass-more (now (args .bytes)) (args .avoid) (at-loop .loop .order) (at-loop .loop .kinds) (at-loop .loop .common) (at-loop .loop .place) (at-loop .loop .inv)
-    (at-read .before .loop-test .taken) (at-read .read .result) (at-read .read .ensures) (omega (arith, left .if2 .left)) (kind .kind-of .result) (avoided .marked .result)
-    (marked .mark .result) (common .first-common .result) (kind .kind-of .ensures) (avoided .marked .ensures) (marked .mark .ensures) (common .first-common .ensures)
+    pass-more (now (args .bytes)) (args .avoid) (at-loop .loop .order) (at-loop .loop .kinds) (at-loop .loop .common) (at-loop .loop .place)
+    (at-loop .loop .inv)
+    (at-read .before .loop-test .taken) (at-read .read .result) (at-read .read .ensures) (omega (arith, left .if2 .left)) (kind .kind-of .result)
+    (avoided .marked .result)
+    (marked .mark .result) (common .first-common .result) (kind .kind-of .ensures) (avoided .marked .ensures) (marked .mark .ensures)
+    (common .first-common .ensures)
 
 returns-3 : tie.Need-returns-3 Inv-loop μ-loop
 returns-3 c =
@@ -70,7 +75,8 @@ returns-3 c =
     let args = at-loop .before .before .before .before .before .args in
     record {
       refused = λ more. absurd (omega (arith, more));
-      taken = λ e. pass-end (now (args .bytes)) (args .avoid) (at-loop .loop .order) (at-loop .loop .kinds) (at-loop .loop .common) (at-loop .loop .place) (at-loop .loop .inv)
+      taken = λ e. pass-end (now (args .bytes)) (args .avoid) (at-loop .loop .order) (at-loop .loop .kinds) (at-loop .loop .common)
+          (at-loop .loop .place) (at-loop .loop .inv)
           (c .loop-test .left);
     }
 

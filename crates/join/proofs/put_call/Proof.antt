@@ -37,7 +37,8 @@ returns c =
     let first = last .before .before .before .before in
     let told = first .before .before .before .before in
     let args = told .before .before .before .args in
-    rw (told .call .given .1) (stored-behind (now (args .buffer)) (first .put .last .0) _ (args .place) 3 (0 ∷ 9 ∷ told .call .given .0 .0 ∷ []) (bytesOf 8 (told .call .given .0 .1 .0)) refl
+    rw (told .call .given .1) (stored-behind (now (args .buffer)) (first .put .last .0) _ (args .place) 3 (0 ∷ 9 ∷ told .call .given .0 .0 ∷ [])
+    (bytesOf 8 (told .call .given .0 .1 .0)) refl
     (first .put .ensures) (last .put-eight .ensures))
 
 returns-2 : tie.Need-returns-2
@@ -46,7 +47,8 @@ returns-2 c =
     let first = last .before .before .before .before in
     let told = first .before .before .before .before in
     let args = told .before .before .before .args in
-    rw (told .call2 .given .1) (stored-behind (now (args .buffer)) (first .put2 .last .0) _ (args .place) 4 (0 ∷ 10 ∷ told .call2 .given .0 .0 ∷ told .call2 .given .0 .1 .0 ∷ []) (bytesOf 8 (told .call2 .given .0 .1 .1 .0)) refl
+    rw (told .call2 .given .1) (stored-behind (now (args .buffer)) (first .put2 .last .0) _ (args .place) 4
+    (0 ∷ 10 ∷ told .call2 .given .0 .0 ∷ told .call2 .given .0 .1 .0 ∷ []) (bytesOf 8 (told .call2 .given .0 .1 .1 .0)) refl
     (first .put2 .ensures) (last .put-eight2 .ensures))
 
 returns-3 : tie.Need-returns-3
@@ -55,7 +57,8 @@ returns-3 c =
     let first = last .before .before .before .before in
     let told = first .before .before .before .before in
     let args = told .before .before .before .args in
-    rw (told .call3 .given .1) (stored-behind (now (args .buffer)) (first .put3 .last .0) _ (args .place) 2 (0 ∷ 8 ∷ []) (bytesOf 8 (told .call3 .given .0 .0)) refl
+    rw (told .call3 .given .1) (stored-behind (now (args .buffer)) (first .put3 .last .0) _ (args .place) 2 (0 ∷ 8 ∷ [])
+    (bytesOf 8 (told .call3 .given .0 .0)) refl
     (first .put3 .ensures) (last .put-eight3 .ensures))
 
 pub put-call-spec : {M : Type 1} → statement M

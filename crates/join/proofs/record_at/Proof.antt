@@ -18,7 +18,8 @@ read-here : (c : tie.After-read-record) (r : Record) → c .read-record .result 
     (c .before .before .before .before .before .args .place) r
 read-here c r e =
     let args = c .before .before .before .before .before .args in
-    read-of-stretch (at (now (args .bytes)) 0) (now (args .bytes)) (args .place) r (rw (e, c .before .before .version .ensures) at (c .read-record .ensures))
+    read-of-stretch (at (now (args .bytes)) 0) (now (args .bytes)) (args .place) r
+    (rw (e, c .before .before .version .ensures) at (c .read-record .ensures))
 
 returns : tie.Need-returns
 returns c =

@@ -45,7 +45,8 @@ same-length : tie.Need-same-length Inv-loop μ-loop
 same-length c =
     let at-loop = c .before .before .before in
     let put = at-loop .before .before .before in
-    at-loop .loop .inv .1 ∙ headed (now (put .before .before .before .before .before .before .before .args .buffer)) (put .put-byte .last .0) (put .before .version .result) (put .put-byte .ensures)
+    at-loop .loop .inv .1 ∙ headed (now (put .before .before .before .before .before .before .before .args .buffer)) (put .put-byte .last .0)
+    (put .before .version .result) (put .put-byte .ensures)
 
 returns-2 : tie.Need-returns-2 Inv-loop μ-loop
 returns-2 c =
@@ -56,9 +57,14 @@ returns-2 c =
     let args = put .before .before .before .before .before .before .before .args in
     record {
       fits = λ e a b records others.
-          let end = walk-end (now (args .first)) (now (args .second)) (put .put-byte .last .0) (loop .place) (loop .other) (loop .clock) (loop .size) (loop .buffer) a b
-          (loop .inv .2 a b records others) (next .following .result) (next .following .ensures) (not-true _ (c .if2 .taken)) in
-          (end .0, loop .inv .0, all-stored (now (args .buffer)) (put .put-byte .last .0) _ (put .before .version .result) _ (stepsBytes (joined a b)) (put .put-byte .ensures) (put .before .version .ensures) (end .1));
+          let end = walk-end (now (args .first)) (now (args .second)) (put .put-byte .last .0) (loop .place) (loop .other) (loop .clock) (loop .size)
+          (loop .buffer) a b
+          (loop .inv .2 a b records others) (next .following .result) (next .following .ensures) (not-true _ (c .if2 .taken)) in (
+            end .0,
+            loop .inv .0,
+            all-stored (now (args .buffer)) (put .put-byte .last .0) _ (put .before .version .result) _
+                (stepsBytes (joined a b)) (put .put-byte .ensures) (put .before .version .ensures) (end .1),
+          );
       short = λ e. both e;
     }
 
@@ -66,7 +72,8 @@ same-length-2 : tie.Need-same-length-2 Inv-loop μ-loop
 same-length-2 c =
     let at-loop = c .before .before .before .before .before in
     let put = at-loop .before .before .before in
-    at-loop .loop .inv .1 ∙ headed (now (put .before .before .before .before .before .before .before .args .buffer)) (put .put-byte .last .0) (put .before .version .result) (put .put-byte .ensures)
+    at-loop .loop .inv .1 ∙ headed (now (put .before .before .before .before .before .before .before .args .buffer)) (put .put-byte .last .0)
+    (put .before .version .result) (put .put-byte .ensures)
 
 returns-3 : tie.Need-returns-3 Inv-loop μ-loop
 returns-3 c =
@@ -78,7 +85,8 @@ returns-3 c =
     let args = at-loop .before .before .before .before .before .before .before .before .before .before .args in
     record {
       fits = λ e. both (sym e);
-      short = λ e a b records others. walk-short (now (args .first)) (now (args .second)) _ (loop .place) (loop .other) (loop .clock) (loop .size) (loop .buffer) a b
+      short = λ e a b records others. walk-short (now (args .first)) (now (args .second)) _ (loop .place) (loop .other) (loop .clock) (loop .size)
+          (loop .buffer) a b
           (loop .inv .2 a b records others) (next .following .result) (next .following .ensures) (not-false _ (there .if2 .left)) (args .limit)
           (omega (arith, c .if3 .taken, sized .left-size .ensures));
     }
@@ -106,8 +114,10 @@ loop-again c =
     let loop = at-loop .loop in
     let args = at-loop .before .before .before .before .before .before .before .before .before .before .args in (
       omega (arith, kept .if3 .left),
-      ap length (put .put-left .ensures) ∙ length-sets (loop .buffer) (loop .size) (leftBytes (loop .clock) (next .following .result .call)) ∙ loop .inv .1,
-      λ a b records others. walk-more (now (args .first)) (now (args .second)) _ (loop .place) (loop .other) (loop .clock) (loop .size) (loop .buffer) a b
+      ap length (put .put-left .ensures) ∙ length-sets (loop .buffer) (loop .size) (leftBytes (loop .clock) (next .following .result .call))
+          ∙ loop .inv .1,
+      λ a b records others. walk-more (now (args .first)) (now (args .second)) _ (loop .place) (loop .other) (loop .clock) (loop .size)
+          (loop .buffer) a b
           (loop .inv .2 a b records others) (next .following .result) (next .following .ensures) (not-false _ (there .if2 .left))
           _ _ _ (c .left-clock .ensures) (ap (λ (n : ℕ). loop .size + n) (sized .left-size .ensures)) (put .put-left .ensures),
     )

@@ -10,7 +10,8 @@ use Rattle.number.proofs.put.Statement.{statement}
 use Rattle.number.proofs.put.Tie as tie
 
 abbrev Inv-loop : tie.InvT-loop
-Inv-loop buffer₀ place bytes next₀ i₀ buffer next i = (i ≤ length bytes) × (length buffer ≡ length buffer₀) × (sets buffer next (drop i bytes) ≡ sets buffer₀ place bytes)
+Inv-loop buffer₀ place bytes next₀ i₀ buffer next i = (i ≤ length bytes) × (length buffer ≡ length buffer₀)
+    × (sets buffer next (drop i bytes) ≡ sets buffer₀ place bytes)
 
 abbrev μ-loop : tie.MeasureT-loop
 μ-loop buffer₀ place bytes next₀ i₀ buffer next i = length bytes - i

@@ -27,9 +27,11 @@ returns c =
     let small : i < 1000 = omega arith in
     let aligned : drop 17 (digits .digits-of .result .bytes) ≡ rightIn 3 (decimal i) =
     ap (λ (list : List ℕ). drop 17 list) (digits .digits-of .ensures .aligned) ∙ last-columns i small in
-    stored (now (args .buffer)) (args .place) 5 (number i type Open ++ gap i type Open) (name i type Open) (put2 .put2 .last .0) _ (at-name i type Open small)
+    stored (now (args .buffer)) (args .place) 5 (number i type Open ++ gap i type Open) (name i type Open) (put2 .put2 .last .0) _
+    (at-name i type Open small)
     (stored (now (args .buffer)) (args .place) 3 (number i type Open) (gap i type Open) (put1 .put .last .0) _ (at-gap i type Open small)
-    (put1 .put .ensures ∙ ap (λ (list : List ℕ). sets (now (args .buffer)) (args .place) list) (ap (take 3) aligned ∙ take-all 3 (rightIn 3 (decimal i)) (omega (arith, at-gap i type Open small)))) (put2 .put2 .ensures))
+    (put1 .put .ensures ∙ ap (λ (list : List ℕ). sets (now (args .buffer)) (args .place) list)
+    (ap (take 3) aligned ∙ take-all 3 (rightIn 3 (decimal i)) (omega (arith, at-gap i type Open small)))) (put2 .put2 .ensures))
     (put3 .put3 .ensures ∙ ap (λ (list : List ℕ). sets (put2 .put2 .last .0) (args .place + 5) list) (put3 .before .before .name .ensures))
 
 pub put-row-spec : {M : Type 1} → statement M

@@ -26,10 +26,12 @@ unfolding pageLines
 loop-holds c = (omega arith, refl, refl, refl)
 
 put-line-requires : tie.Need-put-line-requires Inv-loop μ-loop
-put-line-requires c κs = let h = c .before .before .before .before .before .before in (omega (arith, h .put-heading .ensures .behind, heading-length (h .before .before .before .loop .row)), omega arith)
+put-line-requires c κs = let h = c .before .before .before .before .before .before in
+    (omega (arith, h .put-heading .ensures .behind, heading-length (h .before .before .before .loop .row)), omega arith)
 
 add-place : tie.Need-add-place Inv-loop μ-loop
-add-place c = let h = c .before .before .before .before .before .before .before .before .before in omega (arith, h .put-heading .ensures .behind, heading-length (h .before .before .before .loop .row))
+add-place c = let h = c .before .before .before .before .before .before .before .before .before in
+    omega (arith, h .put-heading .ensures .behind, heading-length (h .before .before .before .loop .row))
 
 loop-again : tie.Need-loop-again Inv-loop μ-loop
 loop-again c =
@@ -42,7 +44,8 @@ loop-again c =
     let verdicts = verdictsOf (start .closed) (now (start .steps)) in
     let buffer = now (start .buffer) in
     let next =
-    row-stored types verdicts buffer (loop .buffer) (head .put-heading .last .0) (put .put-line .last .0) (loop .place) (head .put-heading .result) (loop .row)
+    row-stored types verdicts buffer (loop .buffer) (head .put-heading .last .0) (put .put-line .last .0) (loop .place) (head .put-heading .result)
+    (loop .row)
     (omega arith) (loop .inv .2) (loop .inv .3) (head .put-heading .ensures .stored) (head .put-heading .ensures .behind)
     (rw (← verdict .verdict .ensures) (put .put-line .ensures)) in
     (omega arith, ap length (next .1) ∙ length-sets buffer 0 (pageLines types verdicts (loop .row + 1)), next .0, next .1)
@@ -55,7 +58,8 @@ returns c =
     let loop = c .before .loop in
     let start = c .before .before .before .args in
     let all : loop .row ≡ start .rows = omega arith in
-    subst (λ (n : ℕ). loop .buffer ≡ sets (now (start .buffer)) 0 (pageLines (at (now (start .types))) (verdictsOf (start .closed) (now (start .steps))) n)) all
+    subst (λ (n : ℕ). loop .buffer ≡ sets (now (start .buffer)) 0
+    (pageLines (at (now (start .types))) (verdictsOf (start .closed) (now (start .steps))) n)) all
     (loop .inv .3)
 
 pub put-rows-spec : {M : Type 1} → statement M

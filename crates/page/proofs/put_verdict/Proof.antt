@@ -20,7 +20,8 @@ returns c =
     let put1 = put2 .before .before .before .before .before .before in
     let args = put1 .before .before .before .before .before .args in
     let v = args .verdict in
-    stored (now (args .buffer)) (args .place) 28 (leftIn 8 (verdictWord v) ++ rightIn 20 (stepText v)) (replicate 15 blank ++ lineEnd ∷ []) (put2 .put2 .last .0) _
+    stored (now (args .buffer)) (args .place) 28 (leftIn 8 (verdictWord v) ++ rightIn 20 (stepText v)) (replicate 15 blank ++ lineEnd ∷ [])
+    (put2 .put2 .last .0) _
     (omega (
       arith,
       length-append (leftIn 8 (verdictWord v)) (rightIn 20 (stepText v)),

@@ -27,10 +27,12 @@ second bytes other = go (eqb (at bytes 0) 2) refl
     go false e = λ version. eqb-false (at bytes 0) 2 e (omega (arith, version .1, version .2, other))
 
 returns : tie.Need-returns
-returns c = rw (eq-eqb _ _ (c .if1 .taken)) (known (now (c .before .before .before .args .bytes)) (omega (arith, c .before .version .ensures, c .if1 .taken)) (omega (arith, c .before .version .ensures, c .if1 .taken)))
+returns c = rw (eq-eqb _ _ (c .if1 .taken)) (known (now (c .before .before .before .args .bytes))
+    (omega (arith, c .before .version .ensures, c .if1 .taken)) (omega (arith, c .before .version .ensures, c .if1 .taken)))
 
 returns-2 : tie.Need-returns-2
-returns-2 c = rw (c .before .version .ensures) (second (now (c .before .before .before .args .bytes)) (λ one. c .if1 .left (c .before .version .ensures ∙ one)))
+returns-2 c = rw (c .before .version .ensures) (second (now (c .before .before .before .args .bytes))
+    (λ one. c .if1 .left (c .before .version .ensures ∙ one)))
 
 pub version-known-spec : {M : Type 1} → statement M
 version-known-spec =

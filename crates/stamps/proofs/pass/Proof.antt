@@ -31,7 +31,8 @@ loop-holds c =
     let asked = checked .before in
     let args = asked .before .before .args in
     rw (c .new .ensures)
-    (pass-start (now (args .bytes)) (args .asked) (passed (asked .version-known .result) (asked .version-known .ensures) (checked .if1 .left)) (started .start .result) (started .start .ensures))
+    (pass-start (now (args .bytes)) (args .asked) (passed (asked .version-known .result) (asked .version-known .ensures) (checked .if1 .left))
+    (started .start .result) (started .start .ensures))
 
 returns-2 : tie.Need-returns-2 Inv-loop μ-loop
 returns-2 c =
@@ -39,7 +40,8 @@ returns-2 c =
     let at-loop = at-read .before .before in
     let args = at-loop .before .before .before .before .before .before .args in
     record {
-      refused = λ more. pass-refused (now (args .bytes)) (args .asked) (at-loop .loop .order) (at-loop .loop .stamps) (at-loop .loop .place) (at-loop .loop .inv) (at-read .before .loop-test .taken)
+      refused = λ more. pass-refused (now (args .bytes)) (args .asked) (at-loop .loop .order) (at-loop .loop .stamps) (at-loop .loop .place)
+          (at-loop .loop .inv) (at-read .before .loop-test .taken)
           (at-read .read .result) (at-read .read .ensures) (c .if2 .taken);
       taken = λ e. absurd (omega (arith, e, c .if2 .taken));
     }
@@ -57,7 +59,8 @@ loop-again c =
     let at-loop = at-read .before .before in
     let args = at-loop .before .before .before .before .before .before .args in
     rw (c .before .after .ensures)
-    (pass-more (now (args .bytes)) (args .asked) (at-loop .loop .order) (at-loop .loop .stamps) (at-loop .loop .place) (at-loop .loop .inv) (at-read .before .loop-test .taken)
+    (pass-more (now (args .bytes)) (args .asked) (at-loop .loop .order) (at-loop .loop .stamps) (at-loop .loop .place) (at-loop .loop .inv)
+    (at-read .before .loop-test .taken)
     (at-read .read .result) (at-read .read .ensures) (omega (arith, c .before .before .if2 .left)))
 
 returns-3 : tie.Need-returns-3 Inv-loop μ-loop
@@ -67,7 +70,8 @@ returns-3 c =
     record {
       refused = λ more. absurd (omega (arith, more));
       taken = λ e. rw (c .verdict .ensures)
-          (pass-end (now (args .bytes)) (args .asked) (at-loop .loop .order) (at-loop .loop .stamps) (at-loop .loop .place) (at-loop .loop .inv) (c .before .loop-test .left));
+          (pass-end (now (args .bytes)) (args .asked) (at-loop .loop .order) (at-loop .loop .stamps) (at-loop .loop .place) (at-loop .loop .inv)
+          (c .before .loop-test .left));
     }
 
 pub pass-spec : {M : Type 1} → statement M

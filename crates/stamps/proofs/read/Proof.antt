@@ -12,11 +12,13 @@ use Rattle.stamps.proofs.read.Statement.{statement}
 use Rattle.stamps.proofs.read.Tie as tie
 
 -- the refusal that was read
-refusal : (c : tie.After-answer) → ReadsTable (now (c .before .before .before .before .before .args .table)) (table-refused (c .answer .given .0 .0) (c .answer .given .0 .1 .0))
+refusal : (c : tie.After-answer) → ReadsTable (now (c .before .before .before .before .before .args .table))
+    (table-refused (c .answer .given .0 .0) (c .answer .given .0 .1 .0))
 refusal c = rw (c .answer .given .1) at (c .before .before .read .ensures .reads)
 
 -- the rows that were read
-rows-read : (c : tie.After-enum-told) → ReadsTable (now (c .before .before .before .before .before .args .table)) (table-of (rowsOf (c .before .before .read .result .table)))
+rows-read : (c : tie.After-enum-told) → ReadsTable (now (c .before .before .before .before .before .args .table))
+    (table-of (rowsOf (c .before .before .read .result .table)))
 rows-read c = rw (c .enum-told .given .1) at (c .before .before .read .ensures .reads)
 
 rows-held : (c : tie.After-enum-told) → c .before .before .read .result .table ≡ tableOf (rowsOf (c .before .before .read .result .table))
@@ -31,7 +33,8 @@ returns-2 c =
     let at-row = at-pass .before in
     let told = at-row .before in
     let args = told .before .before .before .before .before .args in
-    answer-recording (now (args .table)) (now (args .recording)) (args .row) (args .late) _ (rows-read told) _ (rows-held told) (at-row .row-of .result) (at-row .row-of .ensures)
+    answer-recording (now (args .table)) (now (args .recording)) (args .row) (args .late) _ (rows-read told) _ (rows-held told)
+    (at-row .row-of .result) (at-row .row-of .ensures)
     (at-pass .pass .result) (at-pass .pass .ensures) (c .if1 .taken)
 
 returns-3 : tie.Need-returns-3
@@ -40,7 +43,8 @@ returns-3 c =
     let at-row = at-pass .before in
     let told = at-row .before in
     let args = told .before .before .before .before .before .args in
-    answer-row (now (args .table)) (now (args .recording)) (args .row) (args .late) _ (rows-read told) _ (rows-held told) (at-row .row-of .result) (at-row .row-of .ensures)
+    answer-row (now (args .table)) (now (args .recording)) (args .row) (args .late) _ (rows-read told) _ (rows-held told) (at-row .row-of .result)
+    (at-row .row-of .ensures)
     (at-pass .pass .result) (at-pass .pass .ensures) (omega (arith, c .before .before .if1 .left)) (c .if2 .taken)
 
 returns-4 : tie.Need-returns-4
@@ -49,8 +53,10 @@ returns-4 c =
     let at-row = at-pass .before in
     let told = at-row .before in
     let args = told .before .before .before .before .before .args in
-    answer-range (now (args .table)) (now (args .recording)) (args .row) (args .late) _ (rows-read told) _ (rows-held told) (at-row .row-of .result) (at-row .row-of .ensures)
-    (at-pass .pass .result) (at-pass .pass .ensures) (omega (arith, c .before .before .before .if1 .left)) (omega (arith, c .before .if2 .left)) (c .if3 .taken)
+    answer-range (now (args .table)) (now (args .recording)) (args .row) (args .late) _ (rows-read told) _ (rows-held told) (at-row .row-of .result)
+    (at-row .row-of .ensures)
+    (at-pass .pass .result) (at-pass .pass .ensures) (omega (arith, c .before .before .before .if1 .left)) (omega (arith, c .before .if2 .left))
+    (c .if3 .taken)
 
 returns-5 : tie.Need-returns-5
 returns-5 c =
@@ -58,8 +64,10 @@ returns-5 c =
     let at-row = at-pass .before in
     let told = at-row .before in
     let args = told .before .before .before .before .before .args in
-    answer-reads (now (args .table)) (now (args .recording)) (args .row) (args .late) _ (rows-read told) _ (rows-held told) (at-row .row-of .result) (at-row .row-of .ensures)
-    (at-pass .pass .result) (at-pass .pass .ensures) (omega (arith, c .before .before .before .if1 .left)) (omega (arith, c .before .if2 .left)) (c .if3 .left)
+    answer-reads (now (args .table)) (now (args .recording)) (args .row) (args .late) _ (rows-read told) _ (rows-held told) (at-row .row-of .result)
+    (at-row .row-of .ensures)
+    (at-pass .pass .result) (at-pass .pass .ensures) (omega (arith, c .before .before .before .if1 .left)) (omega (arith, c .before .if2 .left))
+    (c .if3 .left)
 
 pub read-spec : {M : Type 1} → statement M
 read-spec =

@@ -22,20 +22,23 @@ returns-3 c =
     let made = c .before .before .before .before .before .before in
     let args = made .before .before .before .before .args in
     rw (c .no-row3 .ensures)
-    (finds-other (args .t1) (args .row) _ (made .fields .result) (omega (arith, made .before .before .if2 .left)) (made .fields .ensures) (λ three one. absurd (c .before .if3 .taken three)))
+    (finds-other (args .t1) (args .row) _ (made .fields .result) (omega (arith, made .before .before .if2 .left)) (made .fields .ensures)
+    (λ three one. absurd (c .before .if3 .taken three)))
 
 returns-4 : tie.Need-returns-4
 returns-4 c =
     let made = c .before .before .before .before .before .before .before in
     let args = made .before .before .before .before .args in
     rw (c .no-row4 .ensures)
-    (finds-other (args .t1) (args .row) _ (made .fields .result) (omega (arith, made .before .before .if2 .left)) (made .fields .ensures) (λ three one. absurd (c .before .if4 .taken one)))
+    (finds-other (args .t1) (args .row) _ (made .fields .result) (omega (arith, made .before .before .if2 .left)) (made .fields .ensures)
+    (λ three one. absurd (c .before .if4 .taken one)))
 
 returns-5 : tie.Need-returns-5
 returns-5 c =
     let made = c .before .before .before .before .before .before in
     let args = made .before .before .before .before .args in
-    finds-it (args .t1) (args .row) _ (made .fields .result) (omega (arith, made .before .before .if2 .left)) (made .fields .ensures) (c .before .if3 .left) (c .if4 .left)
+    finds-it (args .t1) (args .row) _ (made .fields .result) (omega (arith, made .before .before .if2 .left)) (made .fields .ensures)
+    (c .before .if3 .left) (c .if4 .left)
 
 pub row-of-spec : {M : Type 1} → statement M
 row-of-spec =

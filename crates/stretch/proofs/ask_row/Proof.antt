@@ -26,7 +26,8 @@ returns-3 : tie.Need-returns-3
 returns-3 c =
     let begun = c .before .before .before .before in
     let args = begun .args in
-    asks-row (args .t1) (args .row) (args .streams .now) (args .times .now) (args .count) (begun .pre) _ (omega (arith, c .before .before .if2 .left)) _ (c .try-row .ensures)
+    asks-row (args .t1) (args .row) (args .streams .now) (args .times .now) (args .count) (begun .pre) _
+    (omega (arith, c .before .before .if2 .left)) _ (c .try-row .ensures)
 
 pub ask-row-spec : {M : Type 1} → statement M
 ask-row-spec =

@@ -31,7 +31,8 @@ loop-holds c =
     let begun = asked .before .before in
     let args = begun .args in
     gather-start (now (args .bytes)) (args .streams .now) (args .times .now)
-    (passed (asked .version-known .result) (asked .version-known .ensures) (checked .if1 .left)) (c .start .result) (c .start .ensures) (begun .pre .0) (begun .pre .1)
+    (passed (asked .version-known .result) (asked .version-known .ensures) (checked .if1 .left)) (c .start .result) (c .start .ensures)
+    (begun .pre .0) (begun .pre .1)
 
 returns-2 : tie.Need-returns-2 Inv-loop μ-loop
 returns-2 c =
@@ -39,7 +40,8 @@ returns-2 c =
     let at-loop = at-read .before .before in
     let args = at-loop .before .before .before .before .before .args in
     record {
-      refused = λ more. gather-refused (now (args .bytes)) (at-loop .loop .streams) (at-loop .loop .times) (at-loop .loop .order) (at-loop .loop .count) (at-loop .loop .place)
+      refused = λ more. gather-refused (now (args .bytes)) (at-loop .loop .streams) (at-loop .loop .times) (at-loop .loop .order)
+          (at-loop .loop .count) (at-loop .loop .place)
           (at-loop .loop .inv) (at-read .before .loop-test .taken) (at-read .read .result) (at-read .read .ensures) (c .if2 .taken);
       taken = λ e. absurd (omega (arith, e, c .if2 .taken));
     }
@@ -56,8 +58,10 @@ loop-again c =
     let at-read = c .before .before .before .before .before .before .before in
     let at-loop = at-read .before .before in
     let args = at-loop .before .before .before .before .before .args in
-    gather-more (now (args .bytes)) (at-loop .loop .streams) (at-loop .loop .times) (at-loop .loop .order) (at-loop .loop .count) (at-loop .loop .place)
-    (at-loop .loop .inv) (at-read .before .loop-test .taken) (at-read .read .result) (at-read .read .ensures) (omega (arith, c .before .before .before .before .before .if2 .left))
+    gather-more (now (args .bytes)) (at-loop .loop .streams) (at-loop .loop .times) (at-loop .loop .order) (at-loop .loop .count)
+    (at-loop .loop .place)
+    (at-loop .loop .inv) (at-read .before .loop-test .taken) (at-read .read .result) (at-read .read .ensures)
+    (omega (arith, c .before .before .before .before .before .if2 .left))
     _ _ _ (rw (← c .before .before .before .before .occurrence .ensures) (c .before .keep .ensures))
 
 returns-3 : tie.Need-returns-3 Inv-loop μ-loop
@@ -69,7 +73,8 @@ returns-3 c =
       refused = λ more. absurd (omega (arith, more));
       taken = λ e. (
         inv .steps,
-        gather-end (now (args .bytes)) (at-loop .loop .streams) (at-loop .loop .times) (at-loop .loop .order) (at-loop .loop .count) (at-loop .loop .place) inv (c .loop-test .left),
+        gather-end (now (args .bytes)) (at-loop .loop .streams) (at-loop .loop .times) (at-loop .loop .order) (at-loop .loop .count)
+            (at-loop .loop .place) inv (c .loop-test .left),
         inv .counted,
         inv .kept,
       );

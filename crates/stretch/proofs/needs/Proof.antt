@@ -31,7 +31,8 @@ loop-less : tie.Need-loop-less Inv-loop μ-loop
 loop-less c = omega (arith, c .before .loop-test .taken)
 
 loop-again : tie.Need-loop-again Inv-loop μ-loop
-loop-again c = needs-more _ _ _ _ _ _ _ (c .before .before .loop .inv) (omega (arith, c .before .before .before .pre, c .before .loop-test .taken)) (c .need-from .ensures)
+loop-again c = needs-more _ _ _ _ _ _ _ (c .before .before .loop .inv) (omega (arith, c .before .before .before .pre, c .before .loop-test .taken))
+    (c .need-from .ensures)
 
 returns : tie.Need-returns Inv-loop μ-loop
 returns c = λ start h. c .before .loop .inv .each start (omega (arith, h, c .loop-test .left))

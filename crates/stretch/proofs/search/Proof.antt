@@ -63,13 +63,19 @@ add-first c =
 loop-less : tie.Need-loop-less Inv-loop μ-loop
 loop-less c =
     let at-loop = c .before .before .before .before in
-    omega (arith, at-loop .before .pre, at-loop .loop .inv .inside (c .before .before .before .loop-test .taken), c .before .before .before .loop-test .taken)
+    omega (
+      arith,
+      at-loop .before .pre,
+      at-loop .loop .inv .inside (c .before .before .before .loop-test .taken),
+      c .before .before .before .loop-test .taken,
+    )
 
 loop-again : tie.Need-loop-again Inv-loop μ-loop
 loop-again c =
     let at-loop = c .before .before .before .before in
     let begun = at-loop .before in
-    search-on (begun .args .count) (begun .args .need .now) _ _ _ (at-loop .loop .inv) (c .before .before .before .loop-test .taken) (c .before .if1 .left) (c .if2 .taken)
+    search-on (begun .args .count) (begun .args .need .now) _ _ _ (at-loop .loop .inv) (c .before .before .before .loop-test .taken)
+    (c .before .if1 .left) (c .if2 .taken)
 
 add-size : tie.Need-add-size Inv-loop μ-loop
 add-size c =
@@ -79,13 +85,19 @@ add-size c =
 loop-less-2 : tie.Need-loop-less-2 Inv-loop μ-loop
 loop-less-2 c =
     let at-loop = c .before .before .before .before in
-    omega (arith, at-loop .before .pre, at-loop .loop .inv .inside (c .before .before .before .loop-test .taken), c .before .before .before .loop-test .taken)
+    omega (
+      arith,
+      at-loop .before .pre,
+      at-loop .loop .inv .inside (c .before .before .before .loop-test .taken),
+      c .before .before .before .loop-test .taken,
+    )
 
 loop-again-2 : tie.Need-loop-again-2 Inv-loop μ-loop
 loop-again-2 c =
     let at-loop = c .before .before .before .before in
     let begun = at-loop .before in
-    search-longer (begun .args .count) (begun .args .need .now) _ _ _ (at-loop .loop .inv) (c .before .before .before .loop-test .taken) (c .before .if1 .left) (begun .pre) (c .if2 .left)
+    search-longer (begun .args .count) (begun .args .need .now) _ _ _ (at-loop .loop .inv) (c .before .before .before .loop-test .taken)
+    (c .before .if1 .left) (begun .pre) (c .if2 .left)
 
 returns-2 : tie.Need-returns-2 Inv-loop μ-loop
 returns-2 c =

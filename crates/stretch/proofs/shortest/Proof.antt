@@ -13,11 +13,13 @@ use Rattle.stretch.proofs.shortest.Statement.{statement}
 use Rattle.stretch.proofs.shortest.Tie as tie
 
 -- the refusal that was read
-refusal : (c : tie.After-answer) → ReadsTable (now (c .before .before .before .before .before .args .table)) (table-refused (c .answer .given .0 .0) (c .answer .given .0 .1 .0))
+refusal : (c : tie.After-answer) → ReadsTable (now (c .before .before .before .before .before .args .table))
+    (table-refused (c .answer .given .0 .0) (c .answer .given .0 .1 .0))
 refusal c = rw (c .answer .given .1) at (c .before .before .read .ensures .reads)
 
 -- the rows that were read
-rows-read : (c : tie.After-enum-told) → ReadsTable (now (c .before .before .before .before .before .args .table)) (table-of (rowsOf (c .before .before .read .result .table)))
+rows-read : (c : tie.After-enum-told) → ReadsTable (now (c .before .before .before .before .before .args .table))
+    (table-of (rowsOf (c .before .before .read .result .table)))
 rows-read c = rw (c .enum-told .given .1) at (c .before .before .read .ensures .reads)
 
 rows-held : (c : tie.After-enum-told) → c .before .before .read .result .table ≡ tableOf (rowsOf (c .before .before .read .result .table))

@@ -14,7 +14,8 @@ returns c steps run accepted =
     let args = at-needs .before .args in (
       refl,
       refl,
-      tries-none (args .constraint) (args .streams .now) (args .times .now) (args .count) (at-needs .needs .result) (at-needs .needs .ensures) steps run accepted
+      tries-none (args .constraint) (args .streams .now) (args .times .now) (args .count) (at-needs .needs .result)
+          (at-needs .needs .ensures) steps run accepted
           (at-search .search .result) (at-search .search .ensures) (c .if1 .taken),
     )
 
@@ -23,7 +24,8 @@ returns-2 c steps run accepted =
     let at-search = c .before .before .before .before .before in
     let at-needs = at-search .before .before in
     let args = at-needs .before .args in
-    tries-first (args .constraint) (args .streams .now) (args .times .now) (args .count) (at-needs .needs .result) (at-needs .needs .ensures) steps run accepted
+    tries-first (args .constraint) (args .streams .now) (args .times .now) (args .count) (at-needs .needs .result)
+    (at-needs .needs .ensures) steps run accepted
     (at-search .search .result) (at-search .search .ensures) (omega (arith, c .before .before .before .if1 .left))
 
 pub try-row-spec : {M : Type 1} → statement M

@@ -17,7 +17,8 @@ refusal-small : (n place m at : ℕ) → 0 < n → n < 256 → StretchAnswer.Ref
 refusal-small n place m at above below e = let same : n ≡ m = cc in (omega (arith, same, above), omega (arith, same, below))
 
 -- and of a stretch
-stretch-parts : (first size tried a b c : ℕ) → first < 256 → size < 65536 → tried < 4294967296 → StretchAnswer.Found first size tried ≡ StretchAnswer.Found a b c
+stretch-parts : (first size tried a b c : ℕ) → first < 256 → size < 65536 → tried < 4294967296 → StretchAnswer.Found first size tried
+    ≡ StretchAnswer.Found a b c
     → (a < 256) × (b < 65536) × (c < 4294967296)
 stretch-parts first size tried a b c one two three e =
     let first-is : first ≡ a = cc in
@@ -34,7 +35,8 @@ returns c =
       answers = rw (given .1) at (at-answer .before .before .shortest .ensures);
       equals = refl;
       small = λ n place e. never (cc);
-      parts = λ first size tried e. stretch-parts (given .0 .0) (given .0 .1 .0) (given .0 .1 .1 .0) first size tried (omega arith) (omega arith) (omega arith) e;
+      parts = λ first size tried e. stretch-parts (given .0 .0) (given .0 .1 .0) (given .0 .1 .1 .0) first size tried (omega arith) (omega arith)
+          (omega arith) e;
     }
 
 returns-2 : tie.Need-returns-2

@@ -49,7 +49,8 @@ returns-3 c =
     let at-room = c .before .before .before .before .before .before .before .before in
     let at-size = at-room .before in
     let a = at-size .before .before .before .before .before .args in
-    written-all (rowsOf (a .table)) (now (a .buffer)) _ _ _ (taken (at-size .before)) (omega (arith, at-room .if1 .left, at-size .size-of .ensures)) (at-size .size-of .ensures)
+    written-all (rowsOf (a .table)) (now (a .buffer)) _ _ _ (taken (at-size .before)) (omega (arith, at-room .if1 .left, at-size .size-of .ensures))
+    (at-size .size-of .ensures)
     (c .before .before .before .before .before .before .put-byte .ensures) (c .before .before .put-rows .ensures)
 
 pub write-spec : {M : Type 1} → statement M

@@ -11,13 +11,23 @@ returns : tie.Need-returns
 returns c =
     let at-read = c .before .before .before in
     let r = at-read .read in
-    record { read = _; reads = reads-as (now (at-read .before .before .args .bytes)) (r .result) _ (c .enum-told .given .1) (r .ensures); code = sym (rows-length (r .result .table)) }
+    record {
+      read = _;
+      reads = reads-as (now (at-read .before .before .args .bytes)) (r .result) _ (c .enum-told .given .1) (r .ensures);
+      code =
+          sym (rows-length (r .result .table));
+    }
 
 returns-2 : tie.Need-returns-2
 returns-2 c =
     let at-read = c .before .before .before .before .before in
     let r = at-read .read in
-    record { read = _; reads = reads-as (now (at-read .before .before .args .bytes)) (r .result) _ (c .before .before .answer .given .1) (r .ensures); code = c .refusal-code .ensures }
+    record {
+      read = _;
+      reads = reads-as (now (at-read .before .before .args .bytes)) (r .result) _ (c .before .before .answer .given .1)
+          (r .ensures);
+      code = c .refusal-code .ensures;
+    }
 
 pub table-read-spec : {M : Type 1} → statement M
 table-read-spec =

@@ -20,7 +20,8 @@ returns-2 c =
     let at-answer = c .before .before in
     let at-read = at-answer .before .before .before in
     let r = at-read .read in
-    not-read _ _ (reads-as (now (at-read .before .before .before .args .bytes)) (r .result) _ (at-answer .answer .given .1) (r .ensures)) (c .refusal-code .ensures)
+    not-read _ _ (reads-as (now (at-read .before .before .before .args .bytes)) (r .result) _ (at-answer .answer .given .1) (r .ensures))
+    (c .refusal-code .ensures)
 
 pub table-rewrite-spec : {M : Type 1} → statement M
 table-rewrite-spec =

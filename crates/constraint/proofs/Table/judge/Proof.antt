@@ -43,7 +43,8 @@ returns-2 c =
     let table = at-loop .before .args .t1 in
     let i = at-loop .loop .i in
     at-loop .loop .inv .1 _
-    (subst⁻¹ (λ rows. Judged (rowsQuestions i rows []) (Refused (c .before .number .given .0 .0))) (rows-from table i _ (omega arith) (omega (arith, size at-loop)))
+    (subst⁻¹ (λ rows. Judged (rowsQuestions i rows []) (Refused (c .before .number .given .0 .0)))
+    (rows-from table i _ (omega arith) (omega (arith, size at-loop)))
     (rows-refused i _ (drop (i + 1) (rowsOf table)) [] _ (omega arith) (rw (c .before .number .given .1) at (at-judge .judge .ensures))))
 
 loop-again : tie.Need-loop-again Inv-loop μ-loop

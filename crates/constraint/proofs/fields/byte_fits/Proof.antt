@@ -20,7 +20,8 @@ returns-5 : tie.Need-returns-5
 returns-5 c =
     let b = c .before .before in
     let a = b .before .before .before .args in
-    rw (span-range (a .role) (a .value) (b .before .before .if1 .left) (b .before .if2 .left) (b .if3 .left) (c .before .if4 .left)) (λ h. omega arith)
+    rw (span-range (a .role) (a .value) (b .before .before .if1 .left) (b .before .if2 .left) (b .if3 .left) (c .before .if4 .left))
+    (λ h. omega arith)
 
 returns-6 : tie.Need-returns-6
 returns-6 c =

@@ -13,7 +13,8 @@ use Rattle.constraint.proofs.fields.is_new.Tie as tie
 
 abbrev Inv-loop : tie.InvT-loop
 Inv-loop kind from roles values i₀ i =
-    (i ≤ 5) × ((b : Bool) → Decides (Absent kind (kindsIn (bytesFrom roles values i))) b → Decides (Absent kind (kindsIn (bytesFrom roles values from))) b)
+    (i ≤ 5) × ((b : Bool) → Decides (Absent kind (kindsIn (bytesFrom roles values i))) b
+    → Decides (Absent kind (kindsIn (bytesFrom roles values from))) b)
 
 abbrev μ-loop : tie.MeasureT-loop
 μ-loop kind from roles values i₀ i = 5 - i

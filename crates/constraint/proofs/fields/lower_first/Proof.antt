@@ -28,7 +28,8 @@ returns c =
     let a = at-loop .before .args in
     let low = at-loop .loop .low in
     let i = at-loop .loop .i in
-    at-loop .loop .inv .1 (leb low (at (a .t2) i)) (rw (bounds-upper low (a .t1) (a .t2) i (omega arith) (omega arith) (c .if1 .taken)) (test-le low (at (a .t2) i)))
+    at-loop .loop .inv .1 (leb low (at (a .t2) i)) (rw (bounds-upper low (a .t1) (a .t2) i (omega arith) (omega arith) (c .if1 .taken))
+    (test-le low (at (a .t2) i)))
 
 returns-2 : tie.Need-returns-2 Inv-loop μ-loop
 returns-2 c =
@@ -36,7 +37,8 @@ returns-2 c =
     let a = at-loop .before .args in
     let low = at-loop .loop .low in
     let i = at-loop .loop .i in
-    at-loop .loop .inv .1 (leb low (at (a .t2) i)) (rw (bounds-upper-or-none low (a .t1) (a .t2) i (omega arith) (omega arith) (c .if2 .taken)) (test-le low (at (a .t2) i)))
+    at-loop .loop .inv .1 (leb low (at (a .t2) i)) (rw (bounds-upper-or-none low (a .t1) (a .t2) i (omega arith) (omega arith) (c .if2 .taken))
+    (test-le low (at (a .t2) i)))
 
 loop-again : tie.Need-loop-again Inv-loop μ-loop
 loop-again c =
@@ -48,7 +50,8 @@ loop-again c =
       λ b later. at-loop .loop .inv .1 b
           (⊎-elim
           (λ came. rw (bounds-lower low (a .t1) (a .t2) i (omega arith) (omega arith) (came .0 .taken)) (rw (came .1) at later))
-          (λ came. rw (bounds-other low (a .t1) (a .t2) i (omega arith) (omega arith) (came .0 .left) (c .before .before .if1 .left) (c .before .if2 .left))
+          (λ came. rw (bounds-other low (a .t1) (a .t2) i (omega arith) (omega arith) (came .0 .left) (c .before .before .if1 .left)
+          (c .before .if2 .left))
           (rw (came .1) at later))
           (c .if3 .came)),
     )

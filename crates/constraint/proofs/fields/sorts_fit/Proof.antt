@@ -25,15 +25,19 @@ returns c =
     let a = at-loop .before .args in
     let test = c .before .sort-fits in
     at-loop .loop .inv .1 false
-    (field-missed sort-wise byteField (a .t1) (a .t2) (at-loop .loop .i) (omega arith) (omega arith) (failed (test .result) (test .ensures) (c .if1 .taken)))
+    (field-missed sort-wise byteField (a .t1) (a .t2) (at-loop .loop .i) (omega arith) (omega arith)
+    (failed (test .result) (test .ensures) (c .if1 .taken)))
 
 loop-again : tie.Need-loop-again Inv-loop μ-loop
 loop-again c =
     let at-loop = c .before .before .before in
     let a = at-loop .before .args in
     let test = c .before .sort-fits in
-    let here = passed (test .result) (test .ensures) (c .if1 .left) in
-    (omega arith, λ b later. at-loop .loop .inv .1 b (field-here sort-wise byteField (a .t1) (a .t2) (at-loop .loop .i) (omega arith) (omega arith) here b later))
+    let here = passed (test .result) (test .ensures) (c .if1 .left) in (
+      omega arith,
+      λ b later. at-loop .loop .inv .1 b (field-here sort-wise byteField (a .t1) (a .t2) (at-loop .loop .i) (omega arith)
+          (omega arith) here b later),
+    )
 
 returns-2 : tie.Need-returns-2 Inv-loop μ-loop
 returns-2 c =

@@ -1,4 +1,5 @@
--- The number of the first "no" is that of `refusalBy`; past it the rows take the call, which is the next step, and where it crowds one of them the monitor is handed back as it was.
+-- The number of the first "no" is that of `refusalBy`; past it the rows take the call, which is the next step, and where it crowds one of them the
+-- monitor is handed back as it was.
 use native.Mathlib.Omega.{arith}
 use borrow.Author.Needs.{needs}
 use mathlib.Core.Path.{_≡_, sym, ap, _∙_}
@@ -37,7 +38,8 @@ returns : tie.Need-returns
 returns c =
     let asked = c .before .before in
     let args = start asked .args in
-    step-kept (args .t1) (asks (args .call)) (c .refused .ensures ∙ refused-by (args .t1) (args .call) (asked .refusal .result) (c .before .if1 .taken) ∙ by-number asked)
+    step-kept (args .t1) (asks (args .call)) (c .refused .ensures
+    ∙ refused-by (args .t1) (args .call) (asked .refusal .result) (c .before .if1 .taken) ∙ by-number asked)
 
 returns-2 : tie.Need-returns-2
 returns-2 c =
@@ -45,11 +47,13 @@ returns-2 c =
     let args = start (asked stepped) .args in
     let number = asked stepped .refusal .result in
     step-kept (args .t1) (asks (args .call))
-    (c .refused2 .ensures ∙ crowded-by (args .t1) (args .call) number (stepped .before .before .before .if1 .left) (crowds-is stepped ∙ c .before .if2 .taken)
+    (c .refused2 .ensures ∙ crowded-by (args .t1) (args .call) number (stepped .before .before .before .if1 .left)
+    (crowds-is stepped ∙ c .before .if2 .taken)
     ∙ by-number (asked stepped))
 
 mul-after : tie.Need-mul-after
-mul-after c = let placed = asked (c .before .before .before) .before .before in omega (arith, placed .place .ensures, place-small (placed .before .args .call))
+mul-after c = let placed = asked (c .before .before .before) .before .before in
+    omega (arith, placed .place .ensures, place-small (placed .before .args .call))
 
 element-write-after : tie.Need-element-write-after
 element-write-after c =

@@ -16,13 +16,18 @@ returns : tie.Need-returns
 unfolding withdrawOf
 returns c =
     let m = c .before .before .before .before .args .self in
-    step-kept m withdraws (c .refused .ensures ∙ sym (cond-false (ltb 0 (m .undo .may)) (takes (withdrawn m)) (refuses 21 m) (le-ltb 0 (m .undo .may) (omega (arith, c .before .if1 .taken)))))
+    step-kept m withdraws (c .refused .ensures ∙ sym (cond-false (ltb 0 (m .undo .may)) (takes (withdrawn m)) (refuses 21 m)
+    (le-ltb 0 (m .undo .may) (omega (arith, c .before .if1 .taken)))))
 
 mul-after : tie.Need-mul-after
 mul-after c = omega (arith, c .before .place-in .ensures, place-in-small (c .before .before .before .before .before .args .self .undo .place))
 
 element-write-after : tie.Need-element-write-after
-element-write-after c = omega (arith, c .before .place-in .ensures, place-in-small (c .before .before .before .before .before .args .self .undo .place))
+element-write-after c = omega (
+  arith,
+  c .before .place-in .ensures,
+  place-in-small (c .before .before .before .before .before .args .self .undo .place),
+)
 
 returns-2 : tie.Need-returns-2
 unfolding withdrawOf withdrawn
@@ -32,7 +37,8 @@ returns-2 c =
     let m = placed .before .before .before .before .args .self in
     step-kept m withdraws
     (simp (c .taken .ensures, c .before .no-undo .ensures, backed .back .ensures, placed .place-in .ensures)
-    (sym (cond-true (ltb 0 (m .undo .may)) (takes (withdrawn m)) (refuses 21 m) (lt-ltb 0 (m .undo .may) (omega (arith, placed .before .if1 .left))))))
+    (sym (cond-true (ltb 0 (m .undo .may)) (takes (withdrawn m)) (refuses 21 m)
+    (lt-ltb 0 (m .undo .may) (omega (arith, placed .before .if1 .left))))))
 
 pub withdraw-spec : {M : Type 1} → statement M
 withdraw-spec =

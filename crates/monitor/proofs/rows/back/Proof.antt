@@ -31,7 +31,8 @@ loop-again c =
     let start = at-loop .before .before in
     let args = start .args in (
       omega arith,
-      without-next (args .number) (args .m) (size start) (wide start) (at-loop .loop .after) (at-loop .loop .i) (at-loop .loop .inv .1) (omega (arith, at-loop .before .held .ensures)) _ _ _ _
+      without-next (args .number) (args .m) (size start) (wide start) (at-loop .loop .after) (at-loop .loop .i) (at-loop .loop .inv .1)
+          (omega (arith, at-loop .before .held .ensures)) _ _ _ _
           (c .before .without .ensures) (c .without2 .ensures),
     )
 
@@ -39,7 +40,8 @@ returns : tie.Need-returns Inv-loop μ-loop
 returns c =
     let start = c .before .before .before in
     c .before .loop .inv .1
-    ∙ without-all (start .args .number) (start .args .m) (size start) (wide start) (c .before .loop .i) (omega (arith, c .before .before .held .ensures))
+    ∙ without-all (start .args .number) (start .args .m) (size start) (wide start) (c .before .loop .i)
+    (omega (arith, c .before .before .held .ensures))
 
 pub back-spec : {M : Type 1} → statement M
 back-spec =

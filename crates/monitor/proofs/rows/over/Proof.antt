@@ -26,7 +26,8 @@ size : (c : tie.Start Inv-loop μ-loop) → length (c .args .t1 .rows) ≡ 32
 size c = sym (length-map (c .args .t1 .rows) _) ∙ c .good .0 .1 .1 .0 .1 .0 .1
 
 -- the row of an entry
-row-at : (table : Table) (i : ℕ) (other : Entry) → i < table .count → i < length (table .rows) → getD (rowsOf table) i filler ≡ getD (table .rows) i other .constraint
+row-at : (table : Table) (i : ℕ) (other : Entry) → i < table .count → i < length (table .rows) → getD (rowsOf table) i filler
+    ≡ getD (table .rows) i other .constraint
 row-at table i other counted there = cc (drop-cons (rowsOf table) i filler (omega (arith, rows-length table)), rows-from table i other counted there)
 
 loop-holds : tie.Need-loop-holds Inv-loop μ-loop
@@ -38,8 +39,11 @@ loop-again c =
     let start = at-loop .before .before in
     let table = start .args .t1 in
     let i = at-loop .loop .i in
-    let counted : i < table .count = omega arith in
-    (omega arith, rw (at-loop .loop .inv .1, c .begin2 .ensures, ← row-at table i _ counted (omega (arith, size start))) (filled-next rowOf noRow (rowsOf table) 32 i filler (omega (arith, rows-length table)) (omega arith)))
+    let counted : i < table .count = omega arith in (
+      omega arith,
+      rw (at-loop .loop .inv .1, c .begin2 .ensures, ← row-at table i _ counted (omega (arith, size start)))
+          (filled-next rowOf noRow (rowsOf table) 32 i filler (omega (arith, rows-length table)) (omega arith)),
+    )
 
 returns : tie.Need-returns Inv-loop μ-loop
 unfolding monitorOf
@@ -47,7 +51,13 @@ returns c =
     let at-loop = c .before .before .before in
     let args = at-loop .before .before .args in
     let all : at-loop .loop .i ≡ args .len = omega arith in
-    rw (at-loop .loop .inv .1, all, length-take-le (args .len) (rowsOf (args .t1)) (omega (arith, rows-length (args .t1))), c .no-undo .ensures, c .before .none .ensures)
+    rw (
+      at-loop .loop .inv .1,
+      all,
+      length-take-le (args .len) (rowsOf (args .t1)) (omega (arith, rows-length (args .t1))),
+      c .no-undo .ensures,
+      c .before .none .ensures,
+    )
 
 pub over-spec : {M : Type 1} → statement M
 over-spec =

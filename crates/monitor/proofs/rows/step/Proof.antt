@@ -40,7 +40,8 @@ loop-again c =
     let start = at-loop .before .before in
     let args = start .args in (
       omega arith,
-      moved-next (args .o) (args .number) (args .m) (size start) (at-loop .loop .after) (at-loop .loop .i) (at-loop .loop .inv .1) (wide start) _ _ _ _
+      moved-next (args .o) (args .number) (args .m) (size start) (at-loop .loop .after) (at-loop .loop .i) (at-loop .loop .inv .1)
+          (wide start) _ _ _ _
           (omega (arith, at-loop .before .held .ensures)) (stepped .step .ensures) (c .saved .ensures) (c .before .before .before .if1 .left),
     )
 

@@ -24,10 +24,12 @@ returns c =
     takes-refused (args .t1) (args .call) (asked .refusal .result) (number-is asked) (c .if1 .taken)
 
 mul-order : tie.Need-mul-order
-mul-order c = let placed = c .before .before .before .before .before in omega (arith, placed .place .ensures, place-small (placed .before .args .call))
+mul-order c = let placed = c .before .before .before .before .before in
+    omega (arith, placed .place .ensures, place-small (placed .before .args .call))
 
 element-write-order : tie.Need-element-write-order
-element-write-order c = let placed = c .before .before .before .before .before in omega (arith, placed .place .ensures, place-small (placed .before .args .call))
+element-write-order c = let placed = c .before .before .before .before .before in
+    omega (arith, placed .place .ensures, place-small (placed .before .args .call))
 
 returns-2 : tie.Need-returns-2
 returns-2 c =

@@ -19,8 +19,10 @@ returns-4 c =
     let at-n = c .before .before .before in
     let a = at-n .before .before .before .args in
     rw (c .length-of .ensures)
-    (shape-asked (now (a .body)) (a .size) (at-n .before .byte-at .result) (at-n .byte-at2 .result) (at-n .before .before .before .pre) (at-n .before .byte-at .ensures)
-    (at-n .byte-at2 .ensures) (omega arith) (⊎-elim (λ came seven. (came .1 .left, came .2 .left)) (λ came seven. absurd (came .left seven)) (c .before .if2 .came)))
+    (shape-asked (now (a .body)) (a .size) (at-n .before .byte-at .result) (at-n .byte-at2 .result) (at-n .before .before .before .pre)
+    (at-n .before .byte-at .ensures)
+    (at-n .byte-at2 .ensures) (omega arith) (⊎-elim (λ came seven. (came .1 .left, came .2 .left)) (λ came seven. absurd (came .left seven))
+    (c .before .if2 .came)))
 
 pub shape-fits-spec : {M : Type 1} → statement M
 shape-fits-spec =

@@ -67,7 +67,8 @@ loop-again c =
       omega arith,
       omega (arith, loop .inv .1),
       table-more bytes (loop .i) (loop .start) (first .result) (second .result) (loop .table) (c .with-row .result) (c .before .row-of .result)
-          (each (at-loop .before .before)) (omega (arith, start .pre .room)) (start .pre .known (loop .i) (omega arith)) (omega (arith, start .pre .whole)) (loop .inv .1)
+          (each (at-loop .before .before)) (omega (arith, start .pre .room)) (start .pre .known (loop .i) (omega arith))
+          (omega (arith, start .pre .whole)) (loop .inv .1)
           (first .ensures) (second .ensures) (c .before .row-of .ensures ∙ rw (at-length .length-of .ensures)) (c .with-row .ensures) (loop .inv .2),
     )
 

@@ -32,12 +32,14 @@ returns c =
     }
 
 -- the test is that of the row
-test : (c : tie.After-type-known Inv-loop μ-loop) → Decides (KnownAt (now (c .before .before .before .before .before .before .before .args .bytes)) (c .before .before .before .before .before .loop .i)) (c .type-known .result)
+test : (c : tie.After-type-known Inv-loop μ-loop) → Decides (KnownAt (now (c .before .before .before .before .before .before .before .args .bytes))
+    (c .before .before .before .before .before .loop .i)) (c .type-known .result)
 test c =
     let second = c .before .byte-at2 in
     let first = c .before .before .byte-at in
     let at-loop = c .before .before .before .before .before in
-    known-test (now (at-loop .before .before .args .bytes)) (at-loop .loop .i) (at-loop .loop .start) (first .result) (second .result) (c .type-known .result)
+    known-test (now (at-loop .before .before .args .bytes)) (at-loop .loop .i) (at-loop .loop .start) (first .result) (second .result)
+    (c .type-known .result)
     (at-loop .loop .inv .1) (first .ensures) (second .ensures) (c .type-known .ensures)
 
 returns-2 : tie.Need-returns-2 Inv-loop μ-loop
@@ -57,7 +59,8 @@ loop-again c =
       omega arith,
       omega (arith, loop .inv .1),
       omega arith,
-      known-more (now (at-loop .before .before .args .bytes)) (loop .i) (loop .inv .3) (passed (c .before .type-known .result) (test (c .before)) (c .if2 .left)),
+      known-more (now (at-loop .before .before .args .bytes)) (loop .i) (loop .inv .3)
+          (passed (c .before .type-known .result) (test (c .before)) (c .if2 .left)),
     )
 
 returns-3 : tie.Need-returns-3 Inv-loop μ-loop

@@ -53,5 +53,6 @@ returns-3 c =
 pub refused-row-spec : {M : Type 1} → statement M
 refused-row-spec =
     tie.close
-    (tie.spec Inv-loop μ-loop loop-holds (λ c. omega arith) returns row-taken-requires returns-2 (λ c. omega arith) (λ c. omega arith) (λ c. omega arith)
+    (tie.spec Inv-loop μ-loop loop-holds (λ c. omega arith) returns row-taken-requires returns-2 (λ c. omega arith) (λ c. omega arith)
+    (λ c. omega arith)
     loop-again returns-3)

@@ -13,7 +13,8 @@ returns c =
     let at-known = at-first .before in
     let a = at-known .before .before .before .args in
     all-written (now (a .rows)) (now (a .buffer)) _ (at-known .known-rows .result) (at-first .first-rows .result) (at-write .write .result)
-    (at-first .first-rows .ensures) (omega (arith, at-write .before .before .if1 .taken, at-known .known-rows .ensures .whole)) (at-write .write .ensures)
+    (at-first .first-rows .ensures) (omega (arith, at-write .before .before .if1 .taken, at-known .known-rows .ensures .whole))
+    (at-write .write .ensures)
 
 returns-2 : tie.Need-returns-2
 returns-2 c =
@@ -22,7 +23,8 @@ returns-2 c =
     let at-known = at-first .before in
     let a = at-known .before .before .before .args in
     before-refused (now (a .rows)) (now (a .buffer)) (at-known .known-rows .result) (at-first .first-rows .result) (at-first .first-rows .ensures)
-    (omega (arith, at-judge .before .if1 .left, at-known .known-rows .ensures .whole)) _ (rw (c .before .number .given .1) at (at-judge .judge .ensures))
+    (omega (arith, at-judge .before .if1 .left, at-known .known-rows .ensures .whole)) _
+    (rw (c .before .number .given .1) at (at-judge .judge .ensures))
 
 returns-3 : tie.Need-returns-3
 returns-3 c =
@@ -34,7 +36,8 @@ returns-3 c =
     let found = at-known .known-rows .ensures in
     unknown-refused (now (a .rows)) (now (a .buffer)) (at-known .known-rows .result) (at-first .first-rows .result) (at-first .first-rows .ensures)
     (omega (arith, at-judge .before .if1 .left, found .whole)) (c .if2 .taken)
-    (found .last (c .if2 .taken) (omega (arith, at-judge .before .if1 .left, found .whole))) (rw (at-told .enum-told .given .1) at (at-judge .judge .ensures))
+    (found .last (c .if2 .taken) (omega (arith, at-judge .before .if1 .left, found .whole)))
+    (rw (at-told .enum-told .given .1) at (at-judge .judge .ensures))
 
 returns-4 : tie.Need-returns-4
 returns-4 c =
@@ -44,7 +47,8 @@ returns-4 c =
     let at-known = at-first .before in
     let a = at-known .before .before .before .args in
     full-refused (now (a .rows)) (now (a .buffer)) (at-known .known-rows .result) (at-first .first-rows .result) (at-first .first-rows .ensures)
-    (omega (arith, at-judge .before .if1 .left, at-known .known-rows .ensures .whole)) (c .if2 .left) (rw (at-told .enum-told .given .1) at (at-judge .judge .ensures))
+    (omega (arith, at-judge .before .if1 .left, at-known .known-rows .ensures .whole)) (c .if2 .left)
+    (rw (at-told .enum-told .given .1) at (at-judge .judge .ensures))
 
 pub write-spec : {M : Type 1} → statement M
 write-spec =

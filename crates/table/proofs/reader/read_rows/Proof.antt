@@ -53,7 +53,8 @@ returns c =
 returns-2 : tie.Need-returns-2 Inv-loop μ-loop
 returns-2 c =
     let at-loop = c .before in
-    up-to-end (now (at-loop .before .before .before .args .bytes)) (at-loop .loop .table) (at-loop .loop .place) (at-loop .loop .inv) (c .loop-test .left)
+    up-to-end (now (at-loop .before .before .before .args .bytes)) (at-loop .loop .table) (at-loop .loop .place) (at-loop .loop .inv)
+    (c .loop-test .left)
 
 pub read-rows-spec : {M : Type 1} → statement M
 read-rows-spec =

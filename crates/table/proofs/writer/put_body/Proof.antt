@@ -16,7 +16,8 @@ use Rattle.table.proofs.writer.put_body.Statement.{statement}
 use Rattle.table.proofs.writer.put_body.Tie as tie
 
 -- the length says how many bytes and how many times there are
-start : (c : tie.After-times-start) → c .times-start .result ≡ 1 + length (bytesIn (fieldsOf (c .before .before .before .before .before .before .args .row)))
+start : (c : tie.After-times-start) → c .times-start .result
+    ≡ 1 + length (bytesIn (fieldsOf (c .before .before .before .before .before .before .args .row)))
 start c = let a = c .before .before .before .before .before .before in c .times-start .ensures ∙ rw (a .pre .0) (body-start (a .args .row))
 
 -- and the array has that many bytes
@@ -25,7 +26,9 @@ there c =
     let fields = c .before .before .before .before .fields in
     omega (arith, start c, numbers-there _ (fields .result) (fields .ensures))
 
-times : (c : tie.After-times-count) → c .times-count .result ≡ length (timesIn (fieldsOf (c .before .before .before .before .before .before .before .before .before .before .before .before .before .before .before .before .args .row)))
+times : (c : tie.After-times-count) → c .times-count .result
+    ≡ length (timesIn (fieldsOf
+    (c .before .before .before .before .before .before .before .before .before .before .before .before .before .before .before .before .args .row)))
 times c =
     let a = c .before .before .before .before .before .before .before .before .before .before .before .before .before .before .before .before in
     c .times-count .ensures ∙ rw (a .pre .0) (body-times (a .args .row))

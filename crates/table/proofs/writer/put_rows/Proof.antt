@@ -77,7 +77,8 @@ returns c =
     let at-loop = c .before in
     let loop = at-loop .loop in
     let table = at-loop .before .before .args .t2 in
-    sym (ap (λ (left : List Constraint). sets (loop .buffer) (loop .place) (rowsBytes left)) (drop-of-length-le (rowsOf table) {i = loop .i} (omega (arith, rows-length table))))
+    sym (ap (λ (left : List Constraint). sets (loop .buffer) (loop .place) (rowsBytes left))
+    (drop-of-length-le (rowsOf table) {i = loop .i} (omega (arith, rows-length table))))
     ∙ loop .inv .3
 
 pub put-rows-spec : {M : Type 1} → statement M

@@ -32,7 +32,8 @@ loop-again c =
     let start = at-loop .before .before in
     let loop = at-loop .loop in
     let xs = take (start .args .count) (start .args .t3) in
-    let same : getD xs (loop .i) 0 ≡ getD (start .args .t3) (loop .i) 0 = getD-take (start .args .count) (start .args .t3) (loop .i) 0 (omega arith) in (
+    let same : getD xs (loop .i) 0 ≡ getD (start .args .t3) (loop .i) 0 =
+    getD-take (start .args .count) (start .args .t3) (loop .i) 0 (omega arith) in (
       omega arith,
       at-put .put-eight .kept .0 ∙ loop .inv .1,
       omega arith,
@@ -49,7 +50,8 @@ returns c =
     let start = at-loop .before .before in
     let loop = at-loop .loop in
     let xs = take (start .args .count) (start .args .t3) in
-    sym (ap (λ (left : List ℕ). sets (loop .buffer) (loop .next) (timesBytes left)) (drop-of-length-le xs {i = loop .i} (omega (arith, long start)))) ∙ loop .inv .3
+    sym (ap (λ (left : List ℕ). sets (loop .buffer) (loop .next) (timesBytes left)) (drop-of-length-le xs {i = loop .i} (omega (arith, long start))))
+    ∙ loop .inv .3
 
 pub put-times-spec : {M : Type 1} → statement M
 put-times-spec =

@@ -13,7 +13,8 @@ use Rattle.table.proofs.writer.size_of.Statement.{statement}
 use Rattle.table.proofs.writer.size_of.Tie as tie
 
 abbrev Inv-loop : tie.InvT-loop
-Inv-loop table count size₀ i₀ size i = (i ≤ count) × (size ≤ 1 + 40 * i) × (size + length (rowsBytes (drop i (rowsOf table))) ≡ length (tableBytes (rowsOf table)))
+Inv-loop table count size₀ i₀ size i = (i ≤ count) × (size ≤ 1 + 40 * i)
+    × (size + length (rowsBytes (drop i (rowsOf table))) ≡ length (tableBytes (rowsOf table)))
 
 abbrev μ-loop : tie.MeasureT-loop
 μ-loop table count size₀ i₀ size i = count - i
@@ -49,7 +50,8 @@ unfolding rowsBytes
 returns c =
     let at-loop = c .before in
     let table = at-loop .before .args .t1 in
-    let none : drop (at-loop .loop .i) (rowsOf table) ≡ [] = drop-of-length-le (rowsOf table) {i = at-loop .loop .i} (omega (arith, rows-length table)) in
+    let none : drop (at-loop .loop .i) (rowsOf table) ≡ [] =
+    drop-of-length-le (rowsOf table) {i = at-loop .loop .i} (omega (arith, rows-length table)) in
     omega (arith, rw none at (at-loop .loop .inv .2))
 
 pub size-of-spec : {M : Type 1} → statement M

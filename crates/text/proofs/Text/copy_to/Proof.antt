@@ -21,12 +21,14 @@ within c =
     ⊎-elim (λ w. omega (arith, size start)) (λ w. omega (arith, size start)) (c .if1 .came)
 
 -- the bytes copied
-held : (c : tie.Joined1) → take (c .if1 .len) (c .before .before .before .before .args .self .bytes) ≡ content (c .before .before .before .before .args .self)
+held : (c : tie.Joined1) → take (c .if1 .len) (c .before .before .before .before .args .self .bytes)
+    ≡ content (c .before .before .before .before .args .self)
 held c =
     let start = c .before .before .before .before in
     let bytes = start .args .self .bytes in
     ⊎-elim (λ w. rw (w .1))
-    (λ w. rw (w .1) (take-all textLimit bytes (omega (arith, size start)) ∙ sym (take-all (start .args .self .len) bytes (omega (arith, size start)))))
+    (λ w. rw (w .1) (take-all textLimit bytes (omega (arith, size start))
+    ∙ sym (take-all (start .args .self .len) bytes (omega (arith, size start)))))
     (c .if1 .came)
 
 -- their number

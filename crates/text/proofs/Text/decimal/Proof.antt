@@ -14,7 +14,12 @@ returns : tie.Need-returns
 returns c =
     let digits = c .before .before .before .before .digits-of in
     let bytes = drop (digits .result .start) (digits .result .bytes) in
-    rw (c .word .ensures, take-all (20 - digits .result .start) bytes (omega (arith, length-drop (digits .result .start) (digits .result .bytes), digits .ensures .size)), digits .ensures .spelled)
+    rw (
+      c .word .ensures,
+      take-all (20 - digits .result .start) bytes
+          (omega (arith, length-drop (digits .result .start) (digits .result .bytes), digits .ensures .size)),
+      digits .ensures .spelled,
+    )
 
 pub decimal-spec : {M : Type 1} → statement M
 decimal-spec =

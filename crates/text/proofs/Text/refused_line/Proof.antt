@@ -9,7 +9,13 @@ returns : tie.Need-returns
 unfolding extended
 returns c =
     let line = c .before .before .before .before in
-    rw (c .push2 .ensures, c .before .decimal2 .ensures, c .before .before .push .ensures, c .before .before .before .decimal .ensures, line .word .ensures) (simp extended-append)
+    rw (
+      c .push2 .ensures,
+      c .before .decimal2 .ensures,
+      c .before .before .push .ensures,
+      c .before .before .before .decimal .ensures,
+      line .word .ensures,
+    ) (simp extended-append)
 
 pub refused-line-spec : {M : Type 1} → statement M
 refused-line-spec =

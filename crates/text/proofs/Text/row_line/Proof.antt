@@ -26,7 +26,14 @@ returns-3 c =
     let at-word = c .before .before in
     let known = at-word .before .before .before in
     let line = known .before .before in
-    rw (c .push4 .ensures, c .before .decimal2 .ensures, at-word .word2 .ensures, line .push .ensures, line .before .decimal .ensures, known .verdict .given .1)
+    rw (
+      c .push4 .ensures,
+      c .before .decimal2 .ensures,
+      at-word .word2 .ensures,
+      line .push .ensures,
+      line .before .decimal .ensures,
+      known .verdict .given .1,
+    )
     (simp extended-append)
 
 pub row-line-spec : {M : Type 1} → statement M

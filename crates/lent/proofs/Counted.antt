@@ -54,7 +54,13 @@ module _ (h : Lent) (ix : Indexes h) (room : ℕ) (few : Roomy (withRoom h room)
         listed = λ kind small. same-rows h renumbered refl refl kind ∙ ix .listed kind small;
         no-ticks = ix .no-ticks;
         no-sooner = ix .no-sooner;
-        roomy = record { now-few = few .now-few; then-few = few .then-few; now-room = few .now-room; then-room = few .then-room };
+        roomy = record {
+          room-mark = few .room-mark;
+          now-few = few .now-few;
+          then-few = few .then-few;
+          now-room = few .now-room;
+          then-room = few .then-room;
+        };
       }
 
 -- the numbers before a call that is taken, with the first free time of a place, as they may be put back

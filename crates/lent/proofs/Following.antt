@@ -1,19 +1,21 @@
 -- One row after the other of a list of rows takes a step. Where the others would be left as they are by it, that is the step of all rows.
-use Prim.Native.Nat.{ℕ, zero, suc, _<_, _≤_, min}
+use Prim.Native.Nat.{ℕ, zero, suc, _+_, _<_, _≤_, min}
 use native.Mathlib.Nat.{not-suc-le-zero, le-of-suc-le-suc}
 use native.Mathlib.Numerals.{add-one}
 use native.Mathlib.Omega.{arith}
 use mathlib.Core.Path.{_≡_, refl, sym, _∙_, ap, ap₂, subst}
 use mathlib.Core.Bool.{Bool, true, false, cond, _||_}
 use mathlib.Core.List.{List, [], _∷_, _++_, append-nil}
-use lib.ListN.{length, getD, set}
+use lib.ListN.{length, getD, set, length-set}
 use lib.Seq.{getD-set-same, getD-set-other, set-getD}
 use lib.Dec.{ltb}
 use borrow.Author.Tests.{ltb-true, ltb-false}
-use Rattle.constraint.proofs.Lists.{split, or-false}
+use Rattle.constraint.proofs.Lists.{split, both, or-false}
 use Rattle.row.specs.Undo.{noBefore}
 use Rattle.row.specs.declared.Before.{Before}
 use Rattle.row.specs.declared.Row.{Row}
+use Rattle.row.specs.Stored.{roomIn}
+use Rattle.row.proofs.Filling.{taken, room-less, room-fits}
 use Rattle.monitor.specs.Machine.{noRow, mapFirst, zipFirst, anyFirst}
 use Rattle.monitor.specs.Parts.{withRows}
 use Rattle.monitor.specs.declared.Monitor.{Monitor}
@@ -155,6 +157,20 @@ module _ (f : Row → Row) (save : Row → Before → Before) where
   visits-beside [] h = same-beside h
   visits-beside (j ∷ is) h = visits-beside is (visit h j)
 
+  -- whether there is room, row after row
+  abbrev pub rooms : Lent → ℕ → List ℕ → ℕ
+  rooms h room [] = room
+  rooms h room (i ∷ is) = rooms (visit h i) (roomIn (rowAt (visit h i .monitor) i) room) is
+
+  pub rooms-last : (is : List ℕ) (h : Lent) (room i : ℕ)
+      → rooms h room (is ++ (i ∷ [])) ≡ roomIn (rowAt (visits h (is ++ (i ∷ [])) .monitor) i) (rooms h room is)
+  rooms-last [] h room i = refl
+  rooms-last (j ∷ is) h room i = rooms-last is (visit h j) (roomIn (rowAt (visit h j .monitor) j) room) i
+
+  visits-long : (is : List ℕ) (h : Lent) → length (visits h is .monitor .rows) ≡ length (h .monitor .rows)
+  visits-long [] h = refl
+  visits-long (j ∷ is) h = visits-long is (visit h j) ∙ length-set (h .monitor .rows) j (f (rowAt (h .monitor) j))
+
   module _ (test : ℕ → Bool) (h : Lent) (kept-there : length (h .monitor .before) ≡ length (h .monitor .rows)) where
     abbrev rows : List Row
     rows = h .monitor .rows
@@ -266,6 +282,50 @@ module _ (f g : Row → Row) (save keep : Row → Before → Before) (test : ℕ
       ∙ ap (λ (y : Lent). visit g keep y n) so-far
       ∙ sym (visits-last g keep (numbers test n) h n))
       (λ _ e. ap (visits f save h) (append-nil (numbers test n)) ∙ so-far ∙ ap (visits g keep h) (sym (append-nil (numbers test n)))) refl
+
+-- ---- the room that the rows leave which pass a test
+
+module _ (f : Row → Row) (save : Row → Before → Before) (test : ℕ → Bool) (h : Lent) (room : ℕ) (mark : room ≤ 1) where
+  abbrev roomTo : ℕ → ℕ
+  roomTo n = rooms f save h room (numbers test n)
+
+  abbrev takenBy : ℕ → ℕ
+  takenBy i = taken (f (rowAt (h .monitor) i) .rule) (f (rowAt (h .monitor) i) .now)
+
+  -- one more row passes the test
+  next-room : (n : ℕ) → n < length (h .monitor .rows) → rooms f save h room (numbers test n ++ (n ∷ [])) ≡ roomIn (f (rowAt (h .monitor) n)) (roomTo n)
+  next-room n there =
+      let x : Lent = visits f save h (numbers test n) in
+      let wide : length (x .monitor .rows) ≡ length (h .monitor .rows) = visits-long f save (numbers test n) h in
+      let before : rowAt (x .monitor) n ≡ rowAt (h .monitor) n = behind f f save save test h n n (omega arith) .0 in
+      rooms-last f save (numbers test n) h room n
+      ∙ ap (λ (y : Lent). roomIn (rowAt (y .monitor) n) (roomTo n)) (visits-last f save (numbers test n) h n)
+      ∙ ap (λ (r : Row). roomIn r (roomTo n))
+      (getD-set-same (x .monitor .rows) n (f (rowAt (x .monitor) n)) noRow (omega (arith, there, wide)) ∙ ap f before)
+
+  pub room-left : (n : ℕ) → n ≤ length (h .monitor .rows) → ((i : ℕ) → i < n → test i ≡ true → f (rowAt (h .monitor) i) .now .len ≤ 64)
+      → (roomTo n ≤ room) × ((i : ℕ) → i < n → test i ≡ true → takenBy i + roomTo n ≤ 64)
+  room-left zero there few = (omega arith, λ i l. absurd (omega (arith, l)))
+  room-left (suc n) there few =
+      let so-far = room-left n (omega (arith, there)) (λ i l. few i (omega (arith, l))) in
+      split (test n)
+      (λ b. test n ≡ b → (rooms f save h room (numbers test n ++ cond b (n ∷ []) []) ≤ room)
+      × ((i : ℕ) → i < suc n → test i ≡ true → takenBy i + rooms f save h room (numbers test n ++ cond b (n ∷ []) []) ≤ 64))
+      (λ _ e.
+      let r : Row = f (rowAt (h .monitor) n) in
+      let less : roomIn r (roomTo n) ≤ roomTo n = room-less r (roomTo n) in
+      subst (λ (k : ℕ). (k ≤ room) × ((i : ℕ) → i < suc n → test i ≡ true → takenBy i + k ≤ 64)) (sym (next-room n (omega (arith, there)))) (
+        omega (arith, less, so-far .0),
+        λ i l is-own. below i n l (λ k. omega (arith, less, so-far .1 i k is-own))
+            (λ same. subst (λ (j : ℕ). takenBy j + roomIn r (roomTo n) ≤ 64) (sym same)
+            (room-fits r (roomTo n) (omega (arith, so-far .0, mark)) (few n (omega arith) e))),
+      ))
+      (λ _ e.
+      subst (λ (l : List ℕ). (rooms f save h room l ≤ room) × ((i : ℕ) → i < suc n → test i ≡ true → takenBy i + rooms f save h room l ≤ 64))
+      (sym (append-nil (numbers test n))) (
+        so-far .0,
+        λ i l is-own. below i n l (λ k. so-far .1 i k is-own) (λ same. both (sym is-own ∙ ap test same ∙ e)),
+      )) refl
 
 -- ---- one of them has a mark
 

@@ -24,6 +24,7 @@ use Rattle.row.specs.Stored.{beyond}
 use Rattle.row.specs.Undo.{noBefore}
 use Rattle.row.specs.declared.Before.{Before}
 use Rattle.row.specs.declared.Row.{Row}
+use Rattle.row.proofs.Filling.{taken-few}
 use Rattle.row.proofs.Exact as Exact
 use Rattle.row.proofs.OwnKinds.{concerns-none}
 use Rattle.monitor.specs.Machine.{noRow, monitorOf}
@@ -187,18 +188,6 @@ either : (b : Bool) (x y : ℕ) → x ≤ waitingLimit → y ≤ waitingLimit �
 either true x y p q = p
 either false x y p q = q
 
-taken-few : (rule : Rule) (len : ℕ) → len ≤ waitingLimit → takenIn rule len ≤ waitingLimit
-taken-few rule len few =
-    let beyond-few : (limit taken : ℕ) → taken ≤ waitingLimit → beyond limit (rule .span) taken ≤ waitingLimit =
-    λ limit taken small. either (ltb limit (rule .span)) taken 0 small (omega arith) in
-    either (eqb (rule .form) 3) _ _ (beyond-few 64 len few)
-    (either (eqb (rule .form) 5) _ _ (beyond-few 64 len few)
-    (either (eqb (rule .form) 10) _ _ (beyond-few 31 64 (omega arith))
-    (either (eqb (rule .form) 4) _ _ (omega arith)
-    (either (eqb (rule .form) 6) _ _ (omega arith)
-    (either (eqb (rule .form) 8) _ _ (omega arith)
-    (either (eqb (rule .form) 9) _ _ (omega arith) few))))))
-
 -- ---- its words say what is so of it
 
 length-is : (rows : List Constraint) → length rows ≤ rowLimit → length (after rows [] .rows) ≡ rowLimit
@@ -233,10 +222,11 @@ fresh-roomy rows =
     let then-few : (i : ℕ) → keptAt (after rows []) i .state .len ≤ waitingLimit =
     λ i. subst (λ (b : Before). b .state .len ≤ waitingLimit) (sym (kept-is rows i)) (omega arith) in
     record {
+      room-mark = omega arith;
       now-few = λ i _. now-few i;
       then-few = λ i _. then-few i;
-      now-room = λ i _. omega (arith, taken-few (rowAt (after rows []) i .rule) (rowAt (after rows []) i .now .len) (now-few i));
-      then-room = λ i _. omega (arith, taken-few (rowAt (after rows []) i .rule) (keptAt (after rows []) i .state .len) (then-few i));
+      now-room = λ i _. omega (arith, taken-few (rowAt (after rows []) i .rule .form) (rowAt (after rows []) i .rule .span) (rowAt (after rows []) i .now .len) (now-few i));
+      then-room = λ i _. omega (arith, taken-few (rowAt (after rows []) i .rule .form) (rowAt (after rows []) i .rule .span) (keptAt (after rows []) i .state .len) (then-few i));
     }
 
 pub fresh-indexes : (rows : List Constraint) → Accepted rows → Indexes (freshLent rows)

@@ -13,23 +13,24 @@ use Rattle.constraint.proofs.Lists.{split}
 use Rattle.machine.specs.declared.Rule.{Rule}
 use Rattle.row.specs.Machine.{concerns, noEvent}
 use Rattle.row.specs.Undo.{noBefore, movesBy}
-use Rattle.row.specs.Stored.{eventRow, eventSaves, endedRow, endedSaves}
+use Rattle.row.specs.Stored.{eventRow, eventSaves, endedRow, endedSaves, roomIn}
 use Rattle.row.specs.declared.Before.{Before}
 use Rattle.row.specs.declared.Occurrence.{Occurrence}
 use Rattle.row.specs.declared.Row.{Row}
 use Rattle.row.proofs.Undo.{still}
 use Rattle.row.proofs.Crowding.{crowds}
+use Rattle.row.proofs.Filling.{taken}
 use Rattle.row.proofs.Apart.{rule-stays, step-few, saved-few, saved-state}
 use Rattle.monitor.specs.Machine.{noRow, mapFirst, zipFirst}
 use Rattle.monitor.specs.Parts.{withRows}
 use Rattle.monitor.proofs.First.{zip-length}
 use Rattle.monitor.specs.declared.Monitor.{Monitor}
 use Rattle.lent.specs.Layout.{Lent, rowNamed, startOf, heldRows, rowAt, keptAt, dueAt}
-use Rattle.lent.specs.Steps.{withSoonest, visitAt, visited, ended, soonestOf, rowCount, soonestAll, passed, begun}
+use Rattle.lent.specs.Steps.{withSoonest, withRoom, visitAt, visited, roomAfter, ended, soonestOf, rowCount, soonestAll, passed, begun}
 use Rattle.lent.specs.Contract.{namedRows, rowsOf, numbers, isOf, takenIn, Roomy, Sound, Indexes}
 use Rattle.lent.proofs.Following as Following
 use Rattle.lent.proofs.Following.{mapped, map-length, map-twice, zipped, zip-twice, row-none, row-more, visits, visits-last, visits-beside}
-use Rattle.lent.proofs.Following.{visits-same, Beside, same-beside}
+use Rattle.lent.proofs.Following.{visits-same, rooms, rooms-last, room-left, Beside, same-beside}
 use Rattle.lent.proofs.Hearing.{unconcerned, no-ends, moved, late, saves, late-saves, ended-late, saved-late, late-first}
 use Rattle.lent.proofs.Hearing.{late-saves-first, late-still, unsaved, late-unsaved, heard-moved, heard-late}
 
@@ -63,6 +64,14 @@ list-visits o number h first zero = refl
 list-visits o number h first (suc n) =
     ap (λ (x : Lent). visitAt x (rowNamed h (first + n)) o number) (list-visits o number h first n)
     ∙ sym (visits-last (eventRow o number) (eventSaves o number) (namedRows h first n) h (rowNamed h (first + n)))
+
+list-rooms : (o : Occurrence) (number : ℕ) (h : Lent) (first n : ℕ)
+    → roomAfter h first n o number ≡ rooms (eventRow o number) (eventSaves o number) h (h .room) (namedRows h first n)
+list-rooms o number h first zero = refl
+list-rooms o number h first (suc n) =
+    ap₂ (λ (x : Lent) (room : ℕ). roomIn (rowAt (x .monitor) (rowNamed h (first + n))) room) (list-visits o number h first (suc n))
+    (list-rooms o number h first n)
+    ∙ sym (rooms-last (eventRow o number) (eventSaves o number) (namedRows h first n) h (h .room) (rowNamed h (first + n)))
 
 ended-beside : (h : Lent) (n : ℕ) (o : Occurrence) (number : ℕ) → Beside h (ended h n o number)
 ended-beside h zero o number = same-beside h
@@ -150,6 +159,15 @@ module _ (c : Lent) (ix : Indexes c) (o : Occurrence) (above : 0 < c .monitor .c
     abbrev list-heard : Lent → Lent
     list-heard x = visited x first count o (m .count)
 
+    abbrev room-after : Lent → ℕ
+    room-after x = roomAfter x first count o (m .count)
+
+    -- so, and a place is free in each row of the list where there is room
+    pub record Heard (x : Lent) : Type 0 where
+      pub stepped : Stepped (list-heard x)
+      pub less : room-after x ≤ c .room
+      pub fits : (i : ℕ) → i < n → test i ≡ true → takenIn (rowAt m i .rule) (step (rowAt m i) .now .len) + room-after x ≤ 64
+
     list-visited : (x : Lent) → Beside c x → list-heard x ≡ visits hear hear-save x (numbers test n)
     list-visited x b = list-visits o (m .count) x first count ∙ ap (visits hear hear-save x) (same-named c x (b .entries-are) first count ∙ list-is)
 
@@ -162,7 +180,7 @@ module _ (c : Lent) (ix : Indexes c) (o : Occurrence) (above : 0 < c .monitor .c
         × (x .soonest ≤ g (rowAt m i) .now .due)))
         → ((i : ℕ) → i < n → test i ≡ true → (hear (g (rowAt m i)) ≡ step (g (rowAt m i)))
         × ((b : Before) → hear-save (g (rowAt m i)) b ≡ save (g (rowAt m i)) b))
-        → Stepped (list-heard x)
+        → Heard x
     list-steps x g t same made no-matter nor-kept others own =
         let rows-are : x .monitor .rows ≡ mapFirst n g (m .rows) = ap (λ (y : Monitor). y .rows) made in
         let kept-are : x .monitor .before ≡ zipFirst n t (m .rows) (m .before) = ap (λ (y : Monitor). y .before) made in
@@ -182,25 +200,41 @@ module _ (c : Lent) (ix : Indexes c) (o : Occurrence) (above : 0 < c .monitor .c
         subst (λ (r : Row). (hear r ≡ step r) × (hear-save r (keptAt (x .monitor) i) ≡ save r (keptAt (x .monitor) i))) (sym (at i k))
         (own i k is-own .0, own i k is-own .1 (keptAt (x .monitor) i))) in
         let beside-x = visits-beside step save (numbers test n) x in
+        let after : (i : ℕ) → i < n → test i ≡ true → hear (rowAt (x .monitor) i) ≡ step (rowAt m i) = λ i k is-own.
+        ap hear (at i k) ∙ own i k is-own .0 ∙ no-matter (rowAt m i) in
+        let room-is : room-after x ≡ rooms hear hear-save x (x .room) (numbers test n) =
+        list-rooms o (m .count) x first count
+        ∙ ap (rooms hear hear-save x (x .room)) (same-named c x (same .entries-are) first count ∙ list-is) in
+        let free = room-left hear hear-save test x (x .room) (subst (λ (k : ℕ). k ≤ 1) (sym (same .room-is)) (ix .roomy .room-mark)) n there
+        (λ i k is-own. subst (λ (r : Row). r .now .len ≤ 64) (sym (after i k is-own)) (step-few (rowAt m i) o (m .count) (ix .roomy .now-few i k))) in
         record {
-          monitor-is = ap (λ (y : Lent). y .monitor) same-list ∙ v .monitor-is
-              ∙ ap (λ (y : Monitor). withRows y (mapFirst n step (y .rows)) (zipFirst n save (y .rows) (y .before))) made
-              ∙ ap (λ (rows : List Row). withRows m rows (zipFirst n save (mapFirst n g (m .rows)) (zipFirst n t (m .rows) (m .before))))
-              (map-twice step g no-matter n (m .rows))
-              ∙ ap (withRows m (mapFirst n step (m .rows))) (zip-twice save t g nor-kept n (m .rows) (m .before));
-          heeds = λ i k. subst (λ (y : Lent). y .soonest ≤ step (rowAt m i) .now .due) (sym same-list)
-              (subst (λ (r : Row). visits step save x (numbers test n) .soonest ≤ r .now .due) (ap step (at i k) ∙ no-matter (rowAt m i))
-              (v .heeds i k));
-          beside = subst (Beside c) (sym same-list) (record {
-            room-is = beside-x .room-is ∙ same .room-is;
-            ends-are = beside-x .ends-are ∙ same .ends-are;
-            entries-are = beside-x .entries-are ∙ same .entries-are;
-          });
+          stepped = record {
+            monitor-is = ap (λ (y : Lent). y .monitor) same-list ∙ v .monitor-is
+                ∙ ap (λ (y : Monitor). withRows y (mapFirst n step (y .rows)) (zipFirst n save (y .rows) (y .before))) made
+                ∙ ap (λ (rows : List Row). withRows m rows (zipFirst n save (mapFirst n g (m .rows)) (zipFirst n t (m .rows) (m .before))))
+                (map-twice step g no-matter n (m .rows))
+                ∙ ap (withRows m (mapFirst n step (m .rows))) (zip-twice save t g nor-kept n (m .rows) (m .before));
+            heeds = λ i k. subst (λ (y : Lent). y .soonest ≤ step (rowAt m i) .now .due) (sym same-list)
+                (subst (λ (r : Row). visits step save x (numbers test n) .soonest ≤ r .now .due) (ap step (at i k) ∙ no-matter (rowAt m i))
+                (v .heeds i k));
+            beside = subst (Beside c) (sym same-list) (record {
+              room-is = beside-x .room-is ∙ same .room-is;
+              ends-are = beside-x .ends-are ∙ same .ends-are;
+              entries-are = beside-x .entries-are ∙ same .entries-are;
+            });
+          };
+          less = subst (λ (k : ℕ). k ≤ c .room) (sym room-is)
+              (subst (λ (k : ℕ). rooms hear hear-save x (x .room) (numbers test n) ≤ k) (same .room-is) (free .0));
+          fits = λ i k is-own. subst (λ (room : ℕ). takenIn (rowAt m i .rule) (step (rowAt m i) .now .len) + room ≤ 64) (sym room-is)
+              (subst (λ (rule : Rule). takenIn rule (step (rowAt m i) .now .len) + rooms hear hear-save x (x .room) (numbers test n) ≤ 64)
+              (rule-stays (rowAt m i) o (m .count))
+              (subst (λ (r : Row). taken (r .rule) (r .now) + rooms hear hear-save x (x .room) (numbers test n) ≤ 64) (after i k is-own)
+              (free .1 i k is-own)));
         }
 
     -- the clock can go to no row, as none is due before a time
     not-late : (s : ℕ) → o .closes ≡ false → ltb s (o .time) ≡ false → ((i : ℕ) → i < n → s ≤ rowAt m i .now .due)
-        → Stepped (list-heard (withSoonest c s))
+        → Heard (withSoonest c s)
     not-late s going e least =
         list-steps (withSoonest c s) (λ r. r) (λ r b. b) (record { room-is = refl; ends-are = refl; entries-are = refl })
         (sym (ap (λ (rows : List Row). withRows m rows (zipFirst n (λ r b. b) (m .rows) (m .before))) (map-none n (m .rows))
@@ -216,7 +250,7 @@ module _ (c : Lent) (ix : Indexes c) (o : Occurrence) (above : 0 < c .monitor .c
         in-time i k = le-ltb (rowAt m i .now .due) (o .time) (omega (arith, ltb-false s (o .time) e, least i k))
 
     -- the rows to which the clock or the close goes come first
-    pub some-late : Stepped (list-heard (withSoonest (ended c n o (m .count)) 0))
+    pub some-late : Heard (withSoonest (ended c n o (m .count)) 0)
     some-late =
         let b = ended-beside c n o (m .count) in
         list-steps (withSoonest (ended c n o (m .count)) 0) (late o (m .count)) (late-saves o (m .count))
@@ -226,18 +260,17 @@ module _ (c : Lent) (ix : Indexes c) (o : Occurrence) (above : 0 < c .monitor .c
         (λ i k out. (late-still o (m .count) above (rowAt m i) out, (late-unsaved o (m .count) above (rowAt m i) (keptAt m i) out, omega arith)))
         (λ i k is-own. heard-late o (m .count) above (rowAt m i) is-own (room i k))
 
-    pub all-stepped : o .closes ≡ false → Stepped (list-heard (begun c o))
+    pub all-stepped : o .closes ≡ false → Heard (begun c o)
     all-stepped going =
-        split (ltb (c .soonest) (o .time)) (λ b. ltb (c .soonest) (o .time) ≡ b → Stepped (list-heard (cond b (passed c o) c)))
+        split (ltb (c .soonest) (o .time)) (λ b. ltb (c .soonest) (o .time) ≡ b → Heard (cond b (passed c o) c))
         (λ _ _. split (ltb (soonestAll c) (o .time))
-        (λ b. ltb (soonestAll c) (o .time) ≡ b → Stepped
-        (list-heard (cond b (withSoonest (ended c n o (m .count)) 0) (withSoonest c (soonestAll c)))))
+        (λ b. ltb (soonestAll c) (o .time) ≡ b → Heard (cond b (withSoonest (ended c n o (m .count)) 0) (withSoonest c (soonestAll c))))
         (λ _ _. some-late) (λ _ e. not-late (soonestAll c) going e (soonest-least (m .rows) n)) refl)
         (λ _ e. not-late (c .soonest) going e (ix .no-sooner)) refl
 
   -- ---- the words say what is so of the monitor after the step
-  module _ (x : Lent) (st : Stepped x) (fits : (i : ℕ) → i < n
-      → takenIn (rowAt m i .rule) (step (rowAt m i) .now .len) + c .room ≤ waitingLimit) where
+  module _ (x : Lent) (st : Stepped x) (room : ℕ) (less : room ≤ c .room)
+      (fits : (i : ℕ) → i < n → takenIn (rowAt m i .rule) (step (rowAt m i) .now .len) + room ≤ waitingLimit) where
     held-is : heldRows (x .monitor) ≡ n
     held-is = ap heldRows (st .monitor-is)
 
@@ -259,31 +292,34 @@ module _ (c : Lent) (ix : Indexes c) (o : Occurrence) (above : 0 < c .monitor .c
     each : (P : ℕ → Type 0) → ((i : ℕ) → i < n → P i) → (i : ℕ) → i < heldRows (x .monitor) → P i
     each P so i l = so i (omega (arith, l, held-is))
 
-    few : Roomy x
+    few : Roomy (withRoom x room)
     few =
         record {
+          room-mark = omega (arith, less, ix .roomy .room-mark);
           now-few = each (λ i. rowAt (x .monitor) i .now .len ≤ 64)
               (λ i k. subst (λ (r : Row). r .now .len ≤ 64) (sym (row-is i k)) (step-few (rowAt m i) o (m .count) (ix .roomy .now-few i k)));
           then-few = each (λ i. keptAt (x .monitor) i .state .len ≤ 64)
               (λ i k. subst (λ (b : Before). b .state .len ≤ 64) (sym (kept-is i k))
               (saved-few (rowAt m i) o (m .count) (keptAt m i) (ix .roomy .now-few i k) (ix .roomy .then-few i k)));
-          now-room = each (λ i. takenIn (rowAt (x .monitor) i .rule) (rowAt (x .monitor) i .now .len) + x .room ≤ 64)
-              (λ i k. subst (λ (rule : Rule). takenIn rule (rowAt (x .monitor) i .now .len) + x .room ≤ 64) (sym (rule-is i k))
-              (subst (λ (r : Row). takes i (r .now .len) + x .room ≤ 64) (sym (row-is i k))
-              (subst (λ (room : ℕ). takes i (step (rowAt m i) .now .len) + room ≤ 64) (sym (st .beside .room-is)) (fits i k))));
-          then-room = each (λ i. takenIn (rowAt (x .monitor) i .rule) (keptAt (x .monitor) i .state .len) + x .room ≤ 64)
-              (λ i k. subst (λ (rule : Rule). takenIn rule (keptAt (x .monitor) i .state .len) + x .room ≤ 64) (sym (rule-is i k))
-              (subst (λ (b : Before). takes i (b .state .len) + x .room ≤ 64) (sym (kept-is i k))
-              (subst (λ (room : ℕ). takes i (save (rowAt m i) (keptAt m i) .state .len) + room ≤ 64) (sym (st .beside .room-is))
-              (saved-state (λ s. takes i (s .len) + c .room ≤ 64) (rowAt m i) o (m .count) (keptAt m i) (ix .roomy .now-room i k)
-              (ix .roomy .then-room i k)))));
+          now-room = each (λ i. takenIn (rowAt (x .monitor) i .rule) (rowAt (x .monitor) i .now .len) + room ≤ 64)
+              (λ i k. subst (λ (rule : Rule). takenIn rule (rowAt (x .monitor) i .now .len) + room ≤ 64) (sym (rule-is i k))
+              (subst (λ (r : Row). takes i (r .now .len) + room ≤ 64) (sym (row-is i k)) (fits i k)));
+          then-room = each (λ i. takenIn (rowAt (x .monitor) i .rule) (keptAt (x .monitor) i .state .len) + room ≤ 64)
+              (λ i k. subst (λ (rule : Rule). takenIn rule (keptAt (x .monitor) i .state .len) + room ≤ 64) (sym (rule-is i k))
+              (subst (λ (b : Before). takes i (b .state .len) + room ≤ 64) (sym (kept-is i k))
+              (saved-state (λ s. takes i (s .len) + room ≤ 64) (rowAt m i) o (m .count) (keptAt m i)
+              (smaller-room (takes i (rowAt m i .now .len)) (ix .roomy .now-room i k))
+              (smaller-room (takes i (keptAt m i .state .len)) (ix .roomy .then-room i k)))));
         }
+      where
+        smaller-room : (a : ℕ) → a + c .room ≤ 64 → a + room ≤ 64
+        smaller-room a l = omega (arith, l, less)
 
     -- each row has its kinds
     same-kinds : (kind i : ℕ) → i < n → isOf m kind i ≡ isOf (x .monitor) kind i
     same-kinds kind i k = ap (λ (r : Rule). concerns r kind) (sym (rule-is i k))
 
-    pub step-indexes : Indexes x
+    pub step-indexes : Indexes (withRoom x room)
     step-indexes =
         record {
           shaped = record {
@@ -298,7 +334,7 @@ module _ (c : Lent) (ix : Indexes c) (o : Occurrence) (above : 0 < c .monitor .c
             closed-mark = ix .sound .closed-mark;
             closed-then = ix .sound .closed-then;
           });
-          listed = λ kind small. same-rows c x (st .beside .ends-are) (st .beside .entries-are) kind ∙ ix .listed kind small
+          listed = λ kind small. same-rows c (withRoom x room) (st .beside .ends-are) (st .beside .entries-are) kind ∙ ix .listed kind small
               ∙ same-numbers (isOf m kind) (isOf (x .monitor) kind) n (same-kinds kind) ∙ ap (numbers (isOf (x .monitor) kind)) (sym held-is);
           no-ticks = each (λ i. isOf (x .monitor) noEvent i ≡ false) (λ i k. sym (same-kinds noEvent i k) ∙ ix .no-ticks i k);
           no-sooner = each (λ i. x .soonest ≤ dueAt (x .monitor) i)

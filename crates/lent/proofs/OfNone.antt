@@ -1,7 +1,7 @@
 -- A tick and the close concern no row, so that they crowd none, and what the clock or the close does to each row is the whole step.
 use Prim.Native.Nat.{ℕ, zero, suc, _+_, _<_, _≤_}
 use native.Mathlib.Omega.{arith}
-use mathlib.Core.Path.{_≡_, refl, sym, _∙_, ap}
+use mathlib.Core.Path.{subst, _≡_, refl, sym, _∙_, ap}
 use mathlib.Core.Bool.{Bool, false, cond}
 use mathlib.Core.List.{[], _∷_, _++_, append-nil}
 use Rattle.constraint.specs.declared.Call.{Call}
@@ -13,7 +13,7 @@ use Rattle.monitor.specs.Machine as Machine
 use Rattle.monitor.specs.Machine.{anyFirst, refuses, takes, nextStep, occurrenceBy, takenCall}
 use Rattle.monitor.specs.declared.Monitor.{Monitor}
 use Rattle.lent.specs.Layout.{Lent, heldRows, rowAt}
-use Rattle.lent.specs.Steps.{withSoonest, ended, begun, countedTo}
+use Rattle.lent.specs.Steps.{withRoom, withSoonest, ended, begun, countedTo}
 use Rattle.lent.specs.Contract.{numbers, isOf, takenIn, Indexes}
 use Rattle.lent.proofs.Following.{anyIn, any-numbers}
 use Rattle.lent.proofs.Hearing.{moved, saves, calm}
@@ -69,14 +69,14 @@ module _ (h : Lent) (ix : Indexes h) (call : Call) (o : Occurrence) (no-event : 
   on-none x stepped = (
     ap takes (stepped .monitor-is ∙ all-rows (c .monitor) (moved o (nextStep m)) (saves o (nextStep m)) (ix .shaped .rows-there) ∙ sym taken-is)
     ∙ sym (ap (λ (b : Bool). cond b (refuses 12 m) (takes (takenCall m call))) none-crowds),
-    step-indexes c counted o above x stepped fits,
+    subst (λ (room : ℕ). Indexes (withRoom x room)) (sym (stepped .beside .room-is)) (step-indexes c counted o above x stepped (h .room) (omega arith) fits),
   )
 
   room : (i : ℕ) → i < heldRows m → crowds o (rowAt m i) ≡ false
   room i l = calm (rowAt m i) o (quiet i l)
 
   pub on-tick : o .closes ≡ false → Answered h call 0 (begun c o)
-  on-tick going = on-none (begun c o) (all-stepped c counted o above 0 0 none-listed room going)
+  on-tick going = on-none (begun c o) (all-stepped c counted o above 0 0 none-listed room going .stepped)
 
   pub on-close : Answered h call 0 (withSoonest (ended c (heldRows m) o (nextStep m)) 0)
-  on-close = on-none (withSoonest (ended c (heldRows m) o (nextStep m)) 0) (some-late c counted o above 0 0 none-listed room)
+  on-close = on-none (withSoonest (ended c (heldRows m) o (nextStep m)) 0) (some-late c counted o above 0 0 none-listed room .stepped)

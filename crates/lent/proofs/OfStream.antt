@@ -1,6 +1,6 @@
 -- An event of a stream: the rows of its kind take the step, after those to which the clock goes, and that is the step of all rows; the question
 -- for 64 is answered as all rows would answer it.
-use Prim.Native.Nat.{ℕ, _-_, _<_}
+use Prim.Native.Nat.{ℕ, _+_, _<_, _≤_}
 use native.Mathlib.Omega.{arith}
 use mathlib.Core.Path.{_≡_, refl, sym, _∙_, ap}
 use mathlib.Core.Bool.{Bool, false, cond}
@@ -11,16 +11,18 @@ use Rattle.constraint.proofs.Lists.{split}
 use Rattle.machine.specs.Parts.{plus}
 use Rattle.row.specs.Machine.{eventAt, rowStep}
 use Rattle.row.specs.declared.Occurrence.{Occurrence}
+use Rattle.row.proofs.Crowding.{crowds}
+use Rattle.row.proofs.Filling.{quiet-taken}
 use Rattle.monitor.specs.Machine as Machine
 use Rattle.monitor.specs.Machine.{anyFirst, refuses, takes, nextStep, occurrenceBy, takenCall}
 use Rattle.monitor.specs.declared.Monitor.{Monitor}
-use Rattle.lent.specs.Layout.{Lent, startOf, heldRows}
-use Rattle.lent.specs.Steps.{roomFor, roomed, countedOn, rowCount, crowdedOn, leftOn}
-use Rattle.lent.specs.Contract.{numbers, isOf, Indexes}
+use Rattle.lent.specs.Layout.{Lent, startOf, heldRows, rowAt}
+use Rattle.lent.specs.Steps.{roomFor, roomed, countedOn, begun, rowCount, crowdedOn, leftOn}
+use Rattle.lent.specs.Contract.{namedRows, numbers, isOf, takenIn, Indexes}
 use Rattle.lent.proofs.Hearing.{moved, saves}
 use Rattle.lent.proofs.Listing as Listing
 use Rattle.lent.proofs.Listing.{same-named, all-stepped, step-indexes}
-use Rattle.lent.proofs.Room.{roomed-roomy, event-fits, crowd-known, step-crowd, each-free}
+use Rattle.lent.proofs.Room.{roomed-roomy, crowd-known, step-crowd, each-free}
 use Rattle.lent.proofs.Counted.{undoAt, takenFrom, all-rows, Answered, renumbered-indexes}
 
 module _ (h : Lent) (ix : Indexes h) (call : Call) (kind stream time : ℕ) (small : kind < 64) (kind-is : kindOf stream ≡ kind)
@@ -46,23 +48,38 @@ module _ (h : Lent) (ix : Indexes h) (call : Call) (kind stream time : ℕ) (sma
 
   counted : Indexes c
   counted =
-      renumbered-indexes h ix (roomFor h - 1) (roomed-roomy h (ix .roomy)) (set (m .next) stream (plus time 1))
+      renumbered-indexes h ix (roomFor h) (roomed-roomy h (ix .roomy)) (set (m .next) stream (plus time 1))
       (length-set (m .next) stream (plus time 1) ∙ ix .shaped .next-there)
       time (nextStep m) (m .closed) (undoAt m stream) (ix .sound .closed-mark) (ix .sound .closed-mark)
 
   above : 0 < nextStep m
   above = omega arith
 
-  stepped : crowdedOn h kind stream time ≡ false → Listing.Stepped c counted o above left
-  stepped none =
-      all-stepped c counted o above (startOf h kind) (rowCount h kind)
-      (same-named h c refl (startOf h kind) (rowCount h kind) ∙ ix .listed kind small
-      ∙ ap (λ (k : ℕ). numbers (isOf m k) (heldRows m)) (sym kind-is))
-      (each-free m o (ix .shaped .rows-there) (sym (crowd-known h ix kind stream time small kind-is) ∙ none)) refl
+  list-is : namedRows c (startOf h kind) (rowCount h kind) ≡ numbers (isOf m (o .kind)) (heldRows m)
+  list-is =
+      same-named h c refl (startOf h kind) (rowCount h kind) ∙ ix .listed kind small
+      ∙ ap (λ (k : ℕ). numbers (isOf m k) (heldRows m)) (sym kind-is)
 
-  taken-monitor : crowdedOn h kind stream time ≡ false → left .monitor ≡ takenCall m call
-  taken-monitor none =
-      stepped none .monitor-is ∙ all-rows (c .monitor) (moved o (nextStep m)) (saves o (nextStep m)) (ix .shaped .rows-there) ∙ sym taken-is
+  module _ (none : crowdedOn h kind stream time ≡ false) where
+    free : (i : ℕ) → i < heldRows m → crowds o (rowAt m i) ≡ false
+    free = each-free m o (ix .shaped .rows-there) (sym (crowd-known h ix kind stream time small kind-is) ∙ none)
+
+    heard : Listing.Heard c counted o above (startOf h kind) (rowCount h kind) list-is free (begun c o)
+    heard = all-stepped c counted o above (startOf h kind) (rowCount h kind) list-is free refl
+
+    taken-monitor : left .monitor ≡ takenCall m call
+    taken-monitor =
+        heard .stepped .monitor-is ∙ all-rows (c .monitor) (moved o (nextStep m)) (saves o (nextStep m)) (ix .shaped .rows-there) ∙ sym taken-is
+
+    -- a place is free in each row where there is room: one of the kind was looked at, and any other has taken none
+    fits : (i : ℕ) → i < heldRows m → takenIn (rowAt m i .rule) (moved o (nextStep m) (rowAt m i) .now .len) + left .room ≤ 64
+    fits i l =
+        split (isOf m (o .kind) i) (λ b. isOf m (o .kind) i ≡ b → takenIn (rowAt m i .rule) (moved o (nextStep m) (rowAt m i) .now .len) + left .room ≤ 64)
+        (λ _ e. heard .fits i l e)
+        (λ _ e. less _ _ (left .room) (c .room) (quiet-taken (rowAt m i) o (nextStep m) e) (heard .less) (counted .roomy .now-room i l)) refl
+      where
+        less : (a b x y : ℕ) → a ≤ b → x ≤ y → b + y ≤ 64 → a + x ≤ 64
+        less a b x y p q r = omega (arith, p, q, r)
 
   pub on-stream : Answered h call (cond (crowdedOn h kind stream time) 12 0) (cond (crowdedOn h kind stream time) h left)
   on-stream =
@@ -70,5 +87,5 @@ module _ (h : Lent) (ix : Indexes h) (call : Call) (kind stream time : ℕ) (sma
       (λ _ e. (sym (ap (λ (b : Bool). cond b (refuses 12 m) (takes (takenCall m call))) (sym crowd-is ∙ e)), ix))
       (λ _ e. (
         ap takes (taken-monitor e) ∙ sym (ap (λ (b : Bool). cond b (refuses 12 m) (takes (takenCall m call))) (sym crowd-is ∙ e)),
-        step-indexes c counted o above left (stepped e) (event-fits h (ix .roomy) o (nextStep m)),
+        step-indexes c counted o above _ (heard e .stepped) (left .room) (heard e .less) (fits e),
       )) refl

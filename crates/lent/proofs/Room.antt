@@ -1,6 +1,6 @@
 -- Whether an event crowds a row of its kind is whether it crowds any row; and where each row has room for the events that may come, it crowds
--- none, so that the question need not be asked. An event takes one place at most, so that there is room for one less after it.
-use Prim.Native.Nat.{ℕ, zero, suc, _+_, _-_, _%_, _<_, _≤_}
+-- none, so that the question need not be asked.
+use Prim.Native.Nat.{ℕ, zero, suc, _+_, _-_, _%_, _<_, _≤_, min}
 use native.Mathlib.Nat.{le-trans}
 use native.Mathlib.Omega.{arith}
 use mathlib.Core.Path.{_≡_, refl, sym, _∙_, ap, subst}
@@ -14,8 +14,7 @@ use Rattle.row.specs.Machine.{rowStep, eventAt}
 use Rattle.row.specs.Stored.{larger, filledIn}
 use Rattle.row.specs.declared.Occurrence.{Occurrence}
 use Rattle.row.proofs.Crowding.{crowds, step-crowds, crowded-known}
-use Rattle.row.proofs.Apart.{step-few}
-use Rattle.row.proofs.Filling.{room-free, taken-few, step-taken}
+use Rattle.row.proofs.Filling.{room-free, taken-few}
 use Rattle.monitor.specs.Machine.{noRow, anyFirst}
 use Rattle.monitor.specs.declared.Monitor.{Monitor}
 use Rattle.monitor.proofs.First.{any-all}
@@ -59,11 +58,11 @@ module _ (h : Lent) (few : Roomy h) where
 
   fits-by : (taken : ℕ) → taken ≤ 64 → taken + h .room ≤ 64 → taken ≤ fullest m n → taken + roomFor h ≤ 64
   fits-by taken small fits most =
-      split (ltb 0 (h .room)) (λ b. taken + cond b (h .room) (cond (eqb (m .count % 32) 0) (64 - fullest m n) 0) ≤ 64) (λ _. fits)
-      (λ _. split (eqb (m .count % 32) 0) (λ b. taken + cond b (64 - fullest m n) 0 ≤ 64) (λ _. less taken (fullest m n) small most)
+      split (ltb 0 (h .room)) (λ b. taken + cond b (h .room) (cond (eqb (m .count % 32) 0) (min 1 (64 - fullest m n)) 0) ≤ 64) (λ _. fits)
+      (λ _. split (eqb (m .count % 32) 0) (λ b. taken + cond b (min 1 (64 - fullest m n)) 0 ≤ 64) (λ _. less taken (fullest m n) small most)
       (λ _. omega (arith, small)))
     where
-      less : (a b : ℕ) → a ≤ 64 → a ≤ b → a + (64 - b) ≤ 64
+      less : (a b : ℕ) → a ≤ 64 → a ≤ b → a + min 1 (64 - b) ≤ 64
       less a b p q = omega (arith, p, q)
 
   most : (i : ℕ) → i < n → (now-taken i ≤ fullest m n) × (then-taken i ≤ fullest m n)
@@ -79,28 +78,17 @@ module _ (h : Lent) (few : Roomy h) where
   then-fits i l =
       fits-by (then-taken i) (taken-few (rowAt m i .rule .form) (rowAt m i .rule .span) _ (few .then-few i l)) (few .then-room i l) (most i l .1)
 
-  one-less : (a b : ℕ) → a + b ≤ 64 → a + (b - 1) ≤ 64
-  one-less a b l = omega (arith, l)
-
   pub roomed-roomy : Roomy (roomed h)
   roomed-roomy =
       record {
+        room-mark = split (ltb 0 (h .room)) (λ b. cond b (h .room) (cond (eqb (m .count % 32) 0) (min 1 (64 - fullest m n)) 0) ≤ 1)
+            (λ _. few .room-mark) (λ _. split (eqb (m .count % 32) 0) (λ b. cond b (min 1 (64 - fullest m n)) 0 ≤ 1) (λ _. omega arith)
+            (λ _. omega arith));
         now-few = few .now-few;
         then-few = few .then-few;
-        now-room = λ i l. one-less (now-taken i) (roomFor h) (now-fits i l);
-        then-room = λ i l. one-less (then-taken i) (roomFor h) (then-fits i l);
+        now-room = now-fits;
+        then-room = then-fits;
       }
-
-  -- also after an event
-  pub event-fits : (o : Occurrence) (number i : ℕ) → i < n
-      → takenIn (rowAt m i .rule) (rowStep (rowAt m i) o number .row .now .len) + (roomFor h - 1) ≤ 64
-  event-fits o number i l =
-      one-more (now-taken i) (takenIn (rowAt m i .rule) (rowStep (rowAt m i) o number .row .now .len)) (roomFor h) (now-fits i l)
-      (step-taken (rowAt m i) o number)
-      (taken-few (rowAt m i .rule .form) (rowAt m i .rule .span) _ (step-few (rowAt m i) o number (few .now-few i l)))
-    where
-      one-more : (a b c : ℕ) → a + c ≤ 64 → b ≤ a + 1 → b ≤ 64 → b + (c - 1) ≤ 64
-      one-more a b c p q r = omega (arith, p, q, r)
 
 -- ---- the question
 

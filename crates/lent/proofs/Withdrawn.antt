@@ -155,6 +155,7 @@ module _ (h : Lent) (ix : Indexes h) where
   roomy-back : Roomy x
   roomy-back =
       record {
+        room-mark = subst (λ (room : ℕ). room ≤ 1) (sym (beside .room-is)) (ix .roomy .room-mark);
         now-few = each (λ y i. rowAt y i .now .len ≤ 64)
             (λ i l. back-now m₀ (λ s. s .len ≤ 64) i (ix .roomy .now-few i l) (ix .roomy .then-few i l));
         then-few = each (λ y i. keptAt y i .state .len ≤ 64) (λ i l. back-then m₀ (λ s. s .len ≤ 64) i (ix .roomy .then-few i l) (omega arith));

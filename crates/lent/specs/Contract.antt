@@ -51,8 +51,9 @@ isOf m kind i = concerns (rowAt m i .rule) kind
 abbrev pub takenIn : Rule → ℕ → ℕ
 takenIn rule len = filledBy (rule .form) (rule .span) len
 
--- in no row wait more than 64, nor did before its last step; and each has room for the events that may come
+-- in no row wait more than 64, nor did before its last step; and where there is said to be room, each has a free place
 pub record Roomy (h : Lent) : Type 0 where
+  pub room-mark : h .room ≤ 1
   pub now-few : (i : ℕ) → i < heldRows (h .monitor) → rowAt (h .monitor) i .now .len ≤ waitingLimit
   pub then-few : (i : ℕ) → i < heldRows (h .monitor) → keptAt (h .monitor) i .state .len ≤ waitingLimit
   pub now-room : (i : ℕ) → i < heldRows (h .monitor)

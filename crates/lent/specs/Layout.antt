@@ -14,8 +14,7 @@ use Rattle.row.specs.declared.Row.{Row}
 use Rattle.monitor.specs.Machine.{noRow}
 use Rattle.monitor.specs.declared.Monitor.{Monitor}
 
--- a monitor, a time before which no row is due, how many events may come before a row can be crowded, and for each kind where its rows end among
--- the entries
+-- a monitor, a time before which no row is due, 1 while a place is free in every row, and for each kind where its rows end among the entries
 pub record Lent : Type 0 where
   pub monitor : Monitor
   pub soonest : ℕ

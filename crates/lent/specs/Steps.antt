@@ -12,7 +12,7 @@ use Rattle.constraint.specs.Run.{Request, asks, withdraws}
 use Rattle.machine.specs.Parts.{plus}
 use Rattle.row.specs.Apart.{crowdedBy}
 use Rattle.row.specs.Undo.{rowWithout, keptWithout}
-use Rattle.row.specs.Stored.{eventRow, eventSaves, endedRow, endedSaves, larger, filledIn}
+use Rattle.row.specs.Stored.{eventRow, eventSaves, endedRow, endedSaves, larger, filledIn, roomIn}
 use Rattle.row.specs.declared.Before.{Before}
 use Rattle.row.specs.declared.Occurrence.{Occurrence}
 use Rattle.row.specs.declared.Row.{Row}
@@ -84,19 +84,27 @@ abbrev pub crowded : Lent → ℕ → ℕ → Occurrence → Bool
 crowded h first zero o = false
 crowded h first (suc n) o = crowded h first n o || crowdedAt h (rowNamed h (first + n)) o
 
--- ---- how many events may come before a row can be crowded
+-- ---- whether there is room in every row
 
 -- how many places are taken in the fullest of the first n rows, now or before its last step
 abbrev pub fullest : Monitor → ℕ → ℕ
 fullest m zero = 0
 fullest m (suc n) = larger (fullest m n) (filledIn (rowAt m n) (keptAt m n))
 
--- it is counted down, and where it is 0 found anew at every 32nd step
+-- 1 while a place is free in every row; where that is not known it is found anew at every 32nd step
 abbrev pub roomFor : Lent → ℕ
-roomFor h = cond (ltb 0 (h .room)) (h .room) (cond (eqb (h .monitor .count % 32) 0) (waitingLimit - fullest (h .monitor) (heldRows (h .monitor))) 0)
+roomFor h =
+    cond (ltb 0 (h .room)) (h .room)
+    (cond (eqb (h .monitor .count % 32) 0) (min 1 (waitingLimit - fullest (h .monitor) (heldRows (h .monitor)))) 0)
 
 abbrev pub roomed : Lent → Lent
-roomed h = withRoom h (roomFor h - 1)
+roomed h = withRoom h (roomFor h)
+
+-- after an event, which has gone to n entries' rows: each was looked at
+abbrev pub roomAfter : Lent → ℕ → ℕ → Occurrence → ℕ → ℕ
+roomAfter h first zero o number = h .room
+roomAfter h first (suc n) o number =
+    roomIn (rowAt (visited h first (suc n) o number .monitor) (rowNamed h (first + n))) (roomAfter h first n o number)
 
 -- ---- the numbers beside the rows after a step
 
@@ -170,9 +178,13 @@ begun h o = cond (ltb (h .soonest) (o .time)) (passed h o) h
 abbrev pub crowdedOn : Lent → ℕ → ℕ → ℕ → Bool
 crowdedOn h kind stream time = cond (ltb 0 (h .room)) false (crowded h (startOf h kind) (rowCount h kind) (eventAt stream time))
 
+-- the rows of a kind after an event of it, and whether there is room
+abbrev pub heardOn : Lent → ℕ → ℕ → Occurrence → ℕ → Lent
+heardOn h first n o number = withRoom (visited h first n o number) (roomAfter h first n o number)
+
 abbrev pub leftOn : Lent → ℕ → ℕ → ℕ → Lent
 leftOn h kind stream time =
-    visited (begun (countedOn (roomed h) stream time) (eventAt stream time)) (startOf h kind) (rowCount h kind) (eventAt stream time) (nextNumber h)
+    heardOn (begun (countedOn (roomed h) stream time) (eventAt stream time)) (startOf h kind) (rowCount h kind) (eventAt stream time) (nextNumber h)
 
 -- what the function on words promises of it
 pub record OnStream (entry : Words) (kind stream time number : ℕ) (exit : Words) : Type 0 where

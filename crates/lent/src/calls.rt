@@ -24,6 +24,7 @@ use constraint::LAST_COLOUR;
 use constraint::LAST_KIND;
 use constraint::LAST_TIME;
 use machine::parts::kind_of;
+use machine::parts::smaller;
 use monitor::calls::place_in;
 use monitor::calls::time_refusal;
 use queue::minus;
@@ -98,7 +99,7 @@ fn crowds_on(m: &Words, kind: usize, stream: usize, time: u64) -> bool
     rows::crowds_of(m, kind, event_of(stream, time))
 }
 
-// How many events may come before a row can be crowded: where it is 0 that is found anew at every 32nd step.
+// 1 while a place is free in every row: where that is not known it is found anew at every 32nd step.
 fn room_for(m: &Words) -> u64
     ensures { λ r. ⌜ ((h : Lent) → now (m .entry) ≡ wordsOf h → Shaped h → r ≡ roomFor h) ⌝ }
 {
@@ -107,7 +108,7 @@ fn room_for(m: &Words) -> u64
         return room;
     }
     if m[NUMBERS][0][COUNT] % 32 == 0 {
-        return minus(64, rows::fullest(m, held(m)));
+        return smaller(1, minus(64, rows::fullest(m, held(m))));
     }
     0
 }
@@ -120,7 +121,7 @@ fn event_on(m: &mut Words, kind: usize, stream: usize, time: u64) -> u8
     if crowds_on(m, kind, stream, time) {
         return 12;
     }
-    put_room(m, minus(room_for(m), 1));
+    put_room(m, room_for(m));
     count_event(m, stream, time);
     begin_event(m, stream, time);
     rows::visits_of(m, kind, stream as u64, time);

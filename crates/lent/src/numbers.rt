@@ -73,7 +73,7 @@ pub fn put_soonest(m: &mut Words, time: u64)
     m[NUMBERS][0][SOONEST] = time;
 }
 
-// Another number of events that may come before a row can be crowded.
+// Another mark for whether there is room.
 pub fn put_room(m: &mut Words, room: u64)
     ensures { λ _. ⌜ ((h : Lent) → now (m .entry) ≡ wordsOf h → Shaped h → now (m .exit) ≡ wordsOf (withRoom h room)) ⌝ }
 {

@@ -2,6 +2,7 @@
 use crate::COUNT;
 use crate::ENTRIES;
 use crate::NUMBERS;
+use crate::ROOM;
 use crate::SOONEST;
 use crate::Words;
 use constraint::NO_LIMIT;
@@ -16,7 +17,7 @@ ghost use Prim.Native.Nat.{_+_, _<_, _≤_};
 ghost use mathlib.Core.Path.{_≡_};
 ghost use Rattle.row.specs.Machine.{eventAt};
 ghost use Rattle.lent.specs.Layout.{Lent, wordsOf, Shaped, rowNamed, startOf, endOf};
-ghost use Rattle.lent.specs.Steps.{visited, ended, soonestOf, crowdedAt, crowded, fullest, backed, rowCount};
+ghost use Rattle.lent.specs.Steps.{heardOn, ended, soonestOf, crowdedAt, crowded, fullest, backed, rowCount};
 
 // The row that an entry names, whatever the word is.
 fn named(m: &Words, place: usize) -> usize
@@ -52,23 +53,26 @@ fn start_of(m: &Words, kind: usize) -> usize
 // The rows that n entries name, from one on, after an event that concerns them, which is the step of that number.
 fn visits(m: &mut Words, first: usize, n: usize, stream: u64, t: u64, number: u64)
     requires { ⌜ first + n ≤ 128 ⌝ }
-    ensures { λ _. ⌜ ((h : Lent) → now (m .entry) ≡ wordsOf h → Shaped h → now (m .exit) ≡ wordsOf (visited h first n (eventAt stream t) number)) ⌝ }
+    ensures { λ _. ⌜ ((h : Lent) → now (m .entry) ≡ wordsOf h → Shaped h → now (m .exit) ≡ wordsOf (heardOn h first n (eventAt stream t) number)) ⌝ }
 {
     let mut soonest = m[NUMBERS][0][SOONEST];
+    let mut room = m[NUMBERS][0][ROOM];
     let mut j = 0;
     while j < n {
         let i = named(m, first + j);
         stored::event(&mut m[i], stream, t, number);
         soonest = smaller(soonest, m[i][1][DUE]);
+        room = stored::room_in(&m[i], room);
         j += 1;
     }
     m[NUMBERS][0][SOONEST] = soonest;
+    m[NUMBERS][0][ROOM] = room;
 }
 
 // The rows of a kind after an event of it, which is the step that the count says.
 pub fn visits_of(m: &mut Words, kind: usize, stream: u64, t: u64)
     requires { ⌜ kind < 64 ⌝ }
-    ensures { λ _. ⌜ ((h : Lent) → now (m .entry) ≡ wordsOf h → Shaped h → now (m .exit) ≡ wordsOf (visited h (startOf h kind) (rowCount h kind) (eventAt stream t) (h .monitor .count))) ⌝ }
+    ensures { λ _. ⌜ ((h : Lent) → now (m .entry) ≡ wordsOf h → Shaped h → now (m .exit) ≡ wordsOf (heardOn h (startOf h kind) (rowCount h kind) (eventAt stream t) (h .monitor .count))) ⌝ }
 {
     let first = start_of(m, kind);
     let n = left(end_of(m, kind), first);

@@ -1,13 +1,13 @@
--- How full a row is says when an event can crowd it: a row in which a place is free is crowded by nothing, and an event takes at most one place
--- more, as the types in which two words may come at once are full from the start or never are.
-use Prim.Native.Nat.{ℕ, _+_, _-_, _/_, _<_, _≤_}
+-- How full a row is says when an event can crowd it: a row in which a place is free is crowded by nothing, and what does not concern a row takes
+-- none.
+use Prim.Native.Nat.{ℕ, _+_, _-_, _/_, _<_, _≤_, min}
 use native.Mathlib.Omega.{arith}
 use mathlib.Core.Path.{_≡_, refl, sym, ap, subst}
 use mathlib.Core.Bool.{Bool, true, false, cond, _&&_}
 use mathlib.Core.List.{List}
 use lib.Dec.{ltb, leb, eqb}
 use lib.ListN.{length, set}
-use borrow.Author.Tests.{lt-ltb, le-ltb, ltb-false, eqb-true}
+use borrow.Author.Tests.{lt-ltb, le-ltb, ltb-true, ltb-false, eqb-true}
 use Rattle.constraint.specs.Limits.{waitingLimit}
 use Rattle.constraint.proofs.Lists.{split}
 use Rattle.queue.specs.Ring.{Ring, ringOf, ringPlace, pushRing, dropRing, changed, edited}
@@ -28,7 +28,7 @@ use Rattle.chains.specs.Reaction.{decideReaction}
 use Rattle.repetition.specs.Repetition.{fillsRepetition, decideRepetition}
 use Rattle.row.specs.Machine.{concerns, itemsOf, brokenRow, applied, stays, crowding, changedRow, rowStep}
 use Rattle.row.specs.Apart.{fills, fillsNever, crowdedBy, changeBy}
-use Rattle.row.specs.Stored.{beyond, filledBy}
+use Rattle.row.specs.Stored.{beyond, filledInTwos, filledBy, roomIn}
 use Rattle.row.specs.declared.Occurrence.{Occurrence}
 use Rattle.row.specs.declared.Row.{Row}
 use Rattle.row.specs.declared.RowStep.{RowStep}
@@ -73,10 +73,14 @@ module _ (rule : Rule) (marks : Marks) (len s t : ℕ) (many : 63 ≤ len) where
       split (ltb len 64) (λ b. cond b false (cond (ltb len (rule .span)) far false) ≡ false) (λ _. refl)
       (λ f. ap (λ (b : Bool). cond b far false) (le-ltb len (rule .span) (omega (arith, ltb-false 64 (rule .span) e, ltb-false len 64 f)))))
 
-  free-repetition : beyond 31 (rule .span) 64 < 64 → fillsRepetition rule marks len s t ≡ false
+  full : 64 < 64 → ⊥
+  full l = omega (arith, l)
+
+  free-repetition : beyond 31 (rule .span) (filledInTwos len) < 64 → fillsRepetition rule marks len s t ≡ false
   unfolding fillsRepetition
   free-repetition =
-      split (ltb 31 (rule .span)) (λ b. cond b 64 0 < 64 → ltb (len / 2) (rule .span) ≡ false) (λ _ l. absurd (omega (arith, l)))
+      split (ltb 31 (rule .span)) (λ b. cond b (filledInTwos len) 0 < 64 → ltb (len / 2) (rule .span) ≡ false)
+      (λ _ l. absurd (full (subst (λ (n : ℕ). n < 64) (ap (λ (b : Bool). cond b len 64) (le-ltb len 63 many)) l)))
       (λ e _. le-ltb (len / 2) (rule .span) (omega (arith, many, ltb-false 31 (rule .span) e)))
 
   abbrev fillsOf : ℕ → Marks → ℕ → ℕ → ℕ → Bool
@@ -108,109 +112,45 @@ room-free rule now o l =
 
 -- ---- how many places are taken
 
+twos-rise : (n m : ℕ) → n ≤ m → filledInTwos n ≤ filledInTwos m
+twos-rise n m l =
+    split (ltb m 63) (λ b. ltb m 63 ≡ b → filledInTwos n ≤ cond b m 64)
+    (λ _ e. subst (λ (b : Bool). cond b n 64 ≤ m) (sym (lt-ltb n 63 (omega (arith, ltb-true m 63 e, l)))) l) (λ _ e. twos-few n) refl
+  where
+    twos-few : (k : ℕ) → filledInTwos k ≤ 64
+    twos-few k = split (ltb k 63) (λ b. ltb k 63 ≡ b → cond b k 64 ≤ 64) (λ _ e. omega (arith, ltb-true k 63 e)) (λ _ _. omega arith) refl
+
 module _ (form span : ℕ) where
   beyond-rises : (limit n m : ℕ) → n ≤ m → beyond limit span n ≤ beyond limit span m
   beyond-rises limit n m l = split (ltb limit span) (λ b. cond b n 0 ≤ cond b m 0) (λ _. l) (λ _. omega arith)
 
-  beyond-more : (limit n m : ℕ) → n ≤ m + 1 → beyond limit span n ≤ beyond limit span m + 1
-  beyond-more limit n m l = split (ltb limit span) (λ b. cond b n 0 ≤ cond b m 0 + 1) (λ _. l) (λ _. omega arith)
-
   pub taken-rises : (n m : ℕ) → n ≤ m → filledBy form span n ≤ filledBy form span m
   taken-rises n m l =
       by-form (λ k. filledBy k span n ≤ filledBy k span m) form l l (beyond-rises 64 n m l) (omega arith) (beyond-rises 64 n m l) (omega arith)
-      (omega arith) (omega arith) (omega arith) (λ n1 n2 n3 n4 n5 n6 n8 n9 n10. rw (n3, n4, n5, n6, n8, n9, n10) l)
+      (omega arith) (omega arith) (beyond-rises 31 (filledInTwos n) (filledInTwos m) (twos-rise n m l))
+      (λ n1 n2 n3 n4 n5 n6 n8 n9 n10. rw (n3, n4, n5, n6, n8, n9, n10) l)
+
+  -- no more than a limit, where as many are kept
+  at-most-by : (n limit : ℕ) → n ≤ limit → filledInTwos n ≤ limit → filledBy form span n ≤ limit
+  at-most-by n limit l k =
+      by-form (λ j. filledBy j span n ≤ limit) form l l (few-beyond 64 n l) (omega arith) (few-beyond 64 n l) (omega arith) (omega arith)
+      (omega arith) (few-beyond 31 (filledInTwos n) k) (λ n1 n2 n3 n4 n5 n6 n8 n9 n10. rw (n3, n4, n5, n6, n8, n9, n10) l)
+    where
+      few-beyond : (above m : ℕ) → m ≤ limit → beyond above span m ≤ limit
+      few-beyond above m p = split (ltb above span) (λ b. cond b m 0 ≤ limit) (λ _. p) (λ _. omega arith)
 
   pub taken-few : (n : ℕ) → n ≤ 64 → filledBy form span n ≤ 64
   taken-few n l =
-      by-form (λ k. filledBy k span n ≤ 64) form l l (few-beyond 64 n l) (omega arith) (few-beyond 64 n l) (omega arith) (omega arith)
-      (omega arith) (few-beyond 31 64 (omega arith)) (λ n1 n2 n3 n4 n5 n6 n8 n9 n10. rw (n3, n4, n5, n6, n8, n9, n10) l)
-    where
-      few-beyond : (limit m : ℕ) → m ≤ 64 → beyond limit span m ≤ 64
-      few-beyond limit m k = split (ltb limit span) (λ b. cond b m 0 ≤ 64) (λ _. k) (λ _. omega arith)
+      at-most-by n 64 l (split (ltb n 63) (λ b. ltb n 63 ≡ b → cond b n 64 ≤ 64) (λ _ e. omega (arith, ltb-true n 63 e)) (λ _ _. omega arith) refl)
 
--- ---- an event takes one place more at most
-
-pushed-one : (word : ℕ) (q : Ring) → pushRing word q .len ≤ q .len + 1
-unfolding pushRing
-pushed-one word q =
-    split (ltb (q .len) 64)
-    (λ b. cond {A = Ring} b (ringOf (set (q .times) (ringPlace (q .head) (q .len)) word) (q .head) (q .len + 1)) q .len ≤ q .len + 1)
-    (λ _. omega arith) (λ _. omega arith)
-
-module _ (rule : Rule) (marks : Marks) (times : List ℕ) (s t : ℕ) (q : Ring) where
-  -- a change with which a ring has at most one word more
-  abbrev One : Change → Type 0
-  One change = edited (change .edit) q .len ≤ q .len + 1
-
-  one-by : (b : Bool) (x y : Change) → One x → One y → One (cond b x y)
-  one-by true x y p r = p
-  one-by false x y p r = r
-
-  dropped : (k : ℕ) → q .len - k ≤ q .len + 1
-  dropped k = omega arith
-
-  pushed : (k : ℕ) → pushRing t (dropRing k q) .len ≤ q .len + 1
-  pushed k = omega (arith, pushed-one t (dropRing k q))
-
-  one-delay : One (decideDelay rule marks times s t)
-  unfolding decideDelay
-  one-delay =
-      one-by (eqb s (rule .first)) (waits (rule .upper) times (cond once (Drop 0) (Push 0 t)) marks)
-      (waits (rule .upper) times (Drop answered) (withLast marks (plus t 1)))
-      (split once (λ b. edited (cond b (Drop 0) (Push 0 t)) q .len ≤ q .len + 1) (λ _. dropped 0) (λ _. pushed 0)) (dropped answered)
-    where
-      once : Bool
-      once = answeredAtOnce (rule .lower) (marks .last) t
-
-      answered : ℕ
-      answered = answeredBy (rule .lower) t times
-
-  one-target : One (targetStrongDelay rule marks times t)
-  unfolding targetStrongDelay
-  one-target =
-      one-by (none-left times) (cond (eqb (rule .lower) 0) (continuesWith (Drop 0) (withLast marks (plus t 1)) t false) breaking)
-      (cond (leb (front times + rule .lower) t) (waits (rule .upper) times (Drop 1) marks) breaking)
-      (one-by (eqb (rule .lower) 0) (continuesWith (Drop 0) (withLast marks (plus t 1)) t false) breaking (dropped 0) (dropped 0))
-      (one-by (leb (front times + rule .lower) t) (waits (rule .upper) times (Drop 1) marks) breaking (dropped 1) (dropped 0))
-
-  one-strong-delay : One (decideStrongDelay rule marks times s t)
-  unfolding decideStrongDelay sourceStrongDelay
-  one-strong-delay =
-      one-by (eqb s (rule .first)) (sourceStrongDelay rule marks times t) (targetStrongDelay rule marks times t)
-      (split (eqb (earlyOf marks) 0) (λ b. edited (cond b (Push 0 t) (Drop 0)) q .len ≤ q .len + 1) (λ _. pushed 0) (λ _. dropped 0)) one-target
-
-  one-repeat : One (decideRepeat rule marks times s t)
-  unfolding decideRepeat
-  one-repeat =
-      one-by (farEnough (rule .minimum) (marks .last) t && spanReached rule times t)
-      (continuesWith (Push (leaving rule (length times)) t) (withLast marks (plus t 1)) (dueWith rule times t) true) breaking
-      (pushed (leaving rule (length times))) (dropped 0)
-
-  one-synchronization : One (decideStrongSynchronization rule marks times s t)
-  unfolding decideStrongSynchronization
-  one-synchronization =
-      let now : Marks = counted rule marks s in
-      let full : Change = waits (rule .upper) times (Drop 1) (withoutOldest now) in
-      let part : Change = waits (rule .upper) times (Drop 0) now in
-      one-by (ltb (countOf rule marks s) (length times)) (cond (complete rule now) full part) (waits (rule .upper) times (Push 0 t) now)
-      (one-by (complete rule now) full part (dropped 1) (dropped 0)) (pushed 0)
-
-  abbrev decideOf : ℕ → Marks → List ℕ → ℕ → ℕ → Change
-  decideOf form =
-      chosen form (decideDelay rule) (decideStrongDelay rule) (decideRepeat rule) (decideSporadic rule) (decideOrder rule) (decideExecutionTime rule)
-      (decideReaction rule) (decideRepetition rule) (decideStrongSynchronization rule)
-
-  one-more : (form : ℕ) → filledBy form (rule .span) (edited (decideOf form marks times s t .edit) q .len) ≤ filledBy form (rule .span) (q .len) + 1
-  one-more form =
-      by-form (λ k. filledBy k (rule .span) (edited (decideOf k marks times s t .edit) q .len) ≤ filledBy k (rule .span) (q .len) + 1) form
-      one-delay one-strong-delay (beyond-more form (rule .span) 64 _ _ one-repeat) (omega arith) (beyond-more form (rule .span) 64 _ _ one-repeat)
-      (omega arith) (omega arith) (omega arith) (omega arith)
-      (λ n1 n2 n3 n4 n5 n6 n8 n9 n10. rw (n1, n2, n3, n4, n5, n6, n8, n9, n10) one-synchronization)
+  -- a place is free where at most 62 are kept
+  pub taken-free : (n : ℕ) → n ≤ 62 → filledBy form span n ≤ 63
+  taken-free n l = at-most-by n 63 (omega (arith, l)) (subst (λ (b : Bool). cond b n 64 ≤ 63) (sym (lt-ltb n 63 (omega (arith, l)))) (omega (arith, l)))
 
 -- ---- a step
 
 -- how many places of a row of that rule a state takes
-abbrev taken : Rule → State → ℕ
+abbrev pub taken : Rule → State → ℕ
 taken rule now = filledBy (rule .form) (rule .span) (now .len)
 
 module _ (r : Row) (o : Occurrence) (number : ℕ) where
@@ -226,16 +166,6 @@ module _ (r : Row) (o : Occurrence) (number : ℕ) where
   unfolding brokenRow
   emptied = taken-rises (r .rule .form) (r .rule .span) 0 (r .now .len) (omega arith)
 
-  changed-taken : taken (r .rule) (changedRow r (changeBy r o) number .row .now) ≤ was + 1
-  unfolding changedRow applied
-  changed-taken =
-      let more : Bool = ltb waitingLimit (length (changed (changeBy r o .edit) (itemsOf r))) in
-      let goes : RowStep = cond more (crowding r) (stays (applied r (changeBy r o))) in
-      at-most (was + 1) (ltb waitingLimit (r .now .len)) (crowding r) (cond (changeBy r o .breaks) (stays (brokenRow r number)) goes) (omega arith)
-      (at-most (was + 1) (changeBy r o .breaks) (stays (brokenRow r number)) goes (omega (arith, emptied))
-      (at-most (was + 1) more (crowding r) (stays (applied r (changeBy r o))) (omega arith)
-      (one-more (r .rule) (r .now .marks) (itemsOf r) (o .stream) (o .time) (ringOf (r .times) (r .now .head) (r .now .len)) (r .rule .form))))
-
   abbrev ends : RowStep
   ends = cond (o .closes && eqb (r .now .kept) 0) (stays (brokenRow r number)) (stays r)
 
@@ -249,13 +179,28 @@ module _ (r : Row) (o : Occurrence) (number : ℕ) where
       at-most limit (ltb 0 (r .now .broken)) (stays r) (cond (ltb (r .now .due) (o .time)) (stays (brokenRow r number)) own) l
       (at-most limit (ltb (r .now .due) (o .time)) (stays (brokenRow r number)) own (omega (arith, emptied, l)) k)
 
-  pub step-taken : taken (r .rule) (rowStep r o number .row .now) ≤ was + 1
-  unfolding rowStep
-  step-taken =
-      by-step (was + 1) (cond (concerns (r .rule) (o .kind)) (changedRow r (changeBy r o) number) ends) (omega arith)
-      (at-most (was + 1) (concerns (r .rule) (o .kind)) (changedRow r (changeBy r o) number) ends changed-taken (omega (arith, ends-taken)))
-
   -- one that does not concern the row takes none
   pub quiet-taken : concerns (r .rule) (o .kind) ≡ false → taken (r .rule) (rowStep r o number .row .now) ≤ was
   unfolding rowStep
   quiet-taken quiet = rw quiet (by-step was ends (omega arith) ends-taken)
+
+-- ---- whether there is room
+
+pub room-less : (r : Row) (room : ℕ) → roomIn r room ≤ room
+room-less r room =
+    split (ltb 62 (r .now .len)) (λ b. cond b (min room (64 - taken (r .rule) (r .now))) room ≤ room) (λ _. omega arith) (λ _. omega arith)
+
+-- where there is, a place is free in the row
+pub room-fits : (r : Row) (room : ℕ) → room ≤ 1 → r .now .len ≤ 64 → taken (r .rule) (r .now) + roomIn r room ≤ 64
+room-fits r room mark few =
+    split (ltb 62 (r .now .len)) (λ b. ltb 62 (r .now .len) ≡ b
+    → taken (r .rule) (r .now) + cond b (min room (64 - taken (r .rule) (r .now))) room ≤ 64)
+    (λ _ _. at-most-left (taken (r .rule) (r .now)) room (taken-few (r .rule .form) (r .rule .span) (r .now .len) few))
+    (λ _ e. one-left (taken (r .rule) (r .now)) room mark
+    (taken-free (r .rule .form) (r .rule .span) (r .now .len) (ltb-false 62 (r .now .len) e))) refl
+  where
+    at-most-left : (a b : ℕ) → a ≤ 64 → a + min b (64 - a) ≤ 64
+    at-most-left a b l = omega (arith, l)
+
+    one-left : (a b : ℕ) → b ≤ 1 → a ≤ 63 → a + b ≤ 64
+    one-left a b k l = omega (arith, k, l)

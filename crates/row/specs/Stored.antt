@@ -1,5 +1,5 @@
 -- A row where it lies: the words that it is, with what is kept of it, and what a step, a withdrawal and a fresh start make of them.
-use Prim.Native.Nat.{ℕ}
+use Prim.Native.Nat.{ℕ, _-_, min}
 use mathlib.Core.Path.{_≡_}
 use mathlib.Core.Bool.{cond}
 use mathlib.Core.List.{List}
@@ -48,16 +48,19 @@ endedSaves o number r b = cond (endsBy (r .rule) (r .now) o) (savedAt r 0 number
 
 -- ---- how full it is
 
--- how many of its 64 places are taken in a row of a type and a span that keeps so many times: none where no event can let too many wait; all where
--- two may come at once
+-- how many of its 64 places are taken in a row of a type and a span that keeps so many times: none where no event can let too many wait
 abbrev pub beyond : ℕ → ℕ → ℕ → ℕ
 beyond limit span taken = cond (ltb limit span) taken 0
+
+-- two more words find no room where 63 are kept
+abbrev pub filledInTwos : ℕ → ℕ
+filledInTwos len = cond (ltb len 63) len 64
 
 abbrev pub filledBy : ℕ → ℕ → ℕ → ℕ
 filledBy form span len =
     cond (eqb form 3) (beyond 64 span len)
     (cond (eqb form 5) (beyond 64 span len)
-    (cond (eqb form 10) (beyond 31 span 64)
+    (cond (eqb form 10) (beyond 31 span (filledInTwos len))
     (cond (eqb form 4) 0
     (cond (eqb form 6) 0
     (cond (eqb form 8) 0
@@ -70,6 +73,10 @@ larger a b = cond (ltb a b) b a
 
 abbrev pub filledIn : Row → Before → ℕ
 filledIn r b = larger (filledBy (r .rule .form) (r .rule .span) (r .now .len)) (filledBy (r .rule .form) (r .rule .span) (b .state .len))
+
+-- the number of free places that is said of all rows, where this row has been looked at: one in which fewer than 63 are kept has one
+abbrev pub roomIn : Row → ℕ → ℕ
+roomIn r room = cond (ltb 62 (r .now .len)) (min room (64 - filledBy (r .rule .form) (r .rule .span) (r .now .len))) room
 
 -- ---- what a function on a row's words promises, whatever row they are
 

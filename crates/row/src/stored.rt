@@ -18,7 +18,9 @@ use pairs::order;
 use pairs::strong_delay;
 use phases::execution_time;
 use points::sporadic;
+use machine::parts::smaller;
 use queue::SIZE;
+use queue::minus;
 use queue::put_back;
 use spans::repeat;
 ghost use mathlib.Core.Path.{_≡_};
@@ -31,7 +33,8 @@ ghost use Rattle.row.specs.Apart.{crowdedBy, steppedRow};
 ghost use Rattle.row.specs.Machine.{decide, eventAt, rowOf};
 ghost use Rattle.row.specs.declared.Before.{Before};
 ghost use Rattle.row.specs.declared.Row.{Row};
-ghost use Rattle.row.specs.Stored.{pastOf, wordsOf, eventRow, eventSaves, endedRow, endedSaves, larger, beyond, filledBy, filledIn, Becomes, stateAt, nothing};
+ghost use Rattle.row.specs.Stored.{pastOf, wordsOf, eventRow, eventSaves, endedRow, endedSaves};
+ghost use Rattle.row.specs.Stored.{larger, beyond, filledInTwos, filledBy, filledIn, roomIn, Becomes, stateAt, nothing};
 
 // What the row keeps.
 fn state_at(w: &[u64; SIZE]) -> State
@@ -279,6 +282,13 @@ fn beyond(limit: u64, span: u64, taken: u64) -> u64
     if limit < span { taken } else { 0 }
 }
 
+// The same where words come in twos.
+fn filled_in_twos(len: u64) -> u64
+    ensures { λ r. ⌜ r ≡ filledInTwos len ⌝ }
+{
+    if len < 63 { len } else { 64 }
+}
+
 // How many places are taken in a row of a type and a span that keeps so many times.
 fn filled_by(form: u64, span: u64, len: u64) -> u64
     ensures { λ r. ⌜ r ≡ filledBy form span len ⌝ }
@@ -290,7 +300,7 @@ fn filled_by(form: u64, span: u64, len: u64) -> u64
         return beyond(64, span, len);
     }
     if form == 10 {
-        return beyond(31, span, 64);
+        return beyond(31, span, filled_in_twos(len));
     }
     if form == 4 {
         return 0;
@@ -317,4 +327,16 @@ pub fn filled(row: &[[u64; SIZE]; 2]) -> u64
         filled_by(form, span, row[1][words::LEN]),
         filled_by(form, span, row[1][words::PAST + 6]),
     )
+}
+
+// Whether there is room for another event, where this row has been looked at.
+pub fn room_in(row: &[[u64; SIZE]; 2], room: u64) -> u64
+    ensures { λ r. ⌜ ((w : Row) (b : Before) → now (row .entry) ≡ wordsOf w b → r ≡ roomIn w room) ⌝ }
+{
+    let len = row[1][words::LEN];
+    if 62 < len {
+        let filled = filled_by(row[1][words::FORM], row[1][words::SPAN], len);
+        return smaller(room, minus(64, filled));
+    }
+    room
 }

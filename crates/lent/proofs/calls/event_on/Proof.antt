@@ -1,11 +1,11 @@
 -- Where the event crowds a row nothing is stored; else the numbers, the rows to which the clock goes, and the rows of its kind, one after the other.
-use Prim.Native.Nat.{ℕ, _-_}
+use Prim.Native.Nat.{ℕ}
 use mathlib.Core.Path.{_≡_, refl, sym, ap, _∙_}
 use mathlib.Core.Bool.{true, false}
 use mathlib.Core.List.{List}
 use Rattle.row.specs.Machine.{eventAt}
 use Rattle.lent.specs.Layout.{Lent, wordsOf, startOf}
-use Rattle.lent.specs.Steps.{visited, crowdedOn, roomed, roomFor, withRoom, countedOn, begun, rowCount}
+use Rattle.lent.specs.Steps.{heardOn, crowdedOn, roomed, roomFor, withRoom, countedOn, begun, rowCount}
 use Rattle.lent.proofs.Parts.{shaped-room, shaped-counted, shaped-begun, begun-count, begun-ends, same-rows}
 use borrow.Author.Needs.{needs}
 use Rattle.lent.proofs.calls.event_on.Statement.{statement}
@@ -27,8 +27,7 @@ returns-2 c =
     let b = c .before .before in
     let k = b .before .before in
     let q = k .before .before in
-    let x = q .before in
-    let z = x .before in
+    let z = q .before in
     let i = z .before .before .before in
     let w = i .before in
     let a = w .before .before .args in
@@ -38,9 +37,9 @@ returns-2 c =
       stores = λ h e s going.
           let none-crowds : crowdedOn h (a .kind) (a .stream) (a .time) ≡ false = sym (w .crowds-on .ensures h e s) ∙ i .if1 .left in
           let h₀ = roomed h in
-          let room = x .minus .ensures ∙ ap (λ (n : ℕ). n - 1) (z .room-for .ensures h e s) in
+          let room = z .room-for .ensures h e s in
           let e₀ = q .put-room .ensures h e s ∙ ap (λ (n : ℕ). wordsOf (withRoom h n)) room in
-          let wide₀ = shaped-room h (roomFor h - 1) s in
+          let wide₀ = shaped-room h (roomFor h) s in
           let h₁ = countedOn h₀ (a .stream) (a .time) in
           let counted = k .count-event .ensures h₀ e₀ wide₀ going in
           let wide₁ = shaped-counted h₀ (a .stream) (a .time) wide₀ in
@@ -50,11 +49,11 @@ returns-2 c =
           let rows = same-rows h₂ h (begun-ends h₁ o) (a .kind) in (
             rw none-crowds refl,
             rw none-crowds
-                (c .visits-of .ensures h₂ began wide₂ ∙ (λ j. wordsOf (visited h₂ (rows .0 j) (rows .1 j) o (begun-count h₁ o j)))),
+                (c .visits-of .ensures h₂ began wide₂ ∙ (λ j. wordsOf (heardOn h₂ (rows .0 j) (rows .1 j) o (begun-count h₁ o j)))),
           );
     }
 
 pub event-on-spec : {M : Type 1} → statement M
 event-on-spec =
     tie.close (tie.spec (λ c κs. search needs) returns (λ c κs. search needs) (λ c κs. search needs) (λ c κs. search needs) (λ c κs. search needs)
-    (λ c κs. search needs) (λ c κs. search needs) returns-2)
+    (λ c κs. search needs) returns-2)

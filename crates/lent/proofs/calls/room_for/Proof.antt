@@ -1,5 +1,5 @@
 -- The number stands at its place; where it is 0, at every 32nd step, it is what the fullest row leaves.
-use Prim.Native.Nat.{ℕ, _-_, _%_}
+use Prim.Native.Nat.{ℕ, _-_, _%_, min}
 use mathlib.Core.Path.{_≡_, refl, sym, ap, _∙_}
 use mathlib.Core.Bool.{true, false}
 use lib.Dec.{ltb, eqb}
@@ -22,7 +22,8 @@ returns c h e s =
 
 returns-2 : tie.Need-returns-2
 returns-2 c h e s =
-    let f = c .before in
+    let u = c .before in
+    let f = u .before in
     let d = f .before in
     let t = d .before in
     let i = t .before .before in
@@ -31,7 +32,7 @@ returns-2 c h e s =
     let due : eqb (h .monitor .count % 32) 0 ≡ true =
     ap (λ (n : ℕ). eqb (n % 32) 0) (sym (number-at h s (now (a .m)) e 1)) ∙ eq-eqb _ _ (t .if2 .taken) in
     rw (none, due)
-    (c .minus .ensures ∙ ap (λ (n : ℕ). waitingLimit - n) (f .fullest .ensures h e s ∙ ap (fullest (h .monitor)) (d .held .ensures .1 h e s)))
+    (c .smaller .ensures ∙ ap (min 1) (u .minus .ensures) ∙ ap (λ (n : ℕ). min 1 (waitingLimit - n)) (f .fullest .ensures h e s ∙ ap (fullest (h .monitor)) (d .held .ensures .1 h e s)))
 
 returns-3 : tie.Need-returns-3
 returns-3 c h e s =
@@ -45,4 +46,4 @@ returns-3 c h e s =
 pub room-for-spec : {M : Type 1} → statement M
 room-for-spec =
     tie.close (tie.spec (λ c. search needs) (λ c. search needs) (λ c. search needs) returns (λ c. search needs) (λ c. search needs) (λ c. search needs)
-    (λ c κs. search needs) (λ c κs. c .held .ensures .0) (λ c κs. search needs) returns-2 returns-3)
+    (λ c κs. search needs) (λ c κs. c .held .ensures .0) (λ c κs. search needs) (λ c κs. search needs) returns-2 returns-3)

@@ -10,27 +10,30 @@ use Rattle.machine.specs.Words.{rowWords, numberWords}
 use Rattle.row.specs.Machine.{eventAt}
 use Rattle.row.specs.Stored as Stored
 use Rattle.lent.specs.Layout.{Lent, Words, wordsOf, Shaped, rowNamed, rowAt, keptAt}
-use Rattle.lent.specs.Steps.{withSoonest, visitAt, visited}
+use Rattle.lent.specs.Steps.{withSoonest, withRoom, visitAt, visited, roomAfter, heardOn}
 use Rattle.lent.proofs.Blocks.{row-lies, row-stored}
-use Rattle.lent.proofs.Parts.{shaped-visited, shaped-soonest, shaped-row, visited-named, number-at, soonest-written}
+use Rattle.lent.proofs.Parts.{shaped-visited, shaped-soonest, shaped-row, visited-named, number-at, soonest-written, room-written}
 use borrow.Author.Needs.{needs}
 use Rattle.lent.proofs.rows.visits.Statement.{statement}
 use Rattle.lent.proofs.rows.visits.Tie as tie
 
--- the rows of the first j entries have taken the event, and the soonest time is not stored yet
+-- the rows of the first j entries have taken the event, and neither the soonest time nor the room is stored yet
 abbrev unstored : Lent → ℕ → ℕ → ℕ → ℕ → ℕ → Lent
 unstored h first j stream t number = withSoonest (visited h first j (eventAt stream t) number) (h .soonest)
 
 abbrev Inv-loop : tie.InvT-loop
-Inv-loop m₀ first n stream t number soonest₀ j₀ m soonest j =
+Inv-loop m₀ first n stream t number soonest₀ room₀ j₀ m soonest room j =
     (j ≤ n) × ((h : Lent) → m₀ ≡ wordsOf h → Shaped h
-    → (m ≡ wordsOf (unstored h first j stream t number)) × (soonest ≡ visited h first j (eventAt stream t) number .soonest))
+    → (m ≡ wordsOf (unstored h first j stream t number)) × ((soonest ≡ visited h first j (eventAt stream t) number .soonest)
+    × (room ≡ roomAfter h first j (eventAt stream t) number)))
 
 abbrev μ-loop : tie.MeasureT-loop
-μ-loop m₀ first n stream t number soonest₀ j₀ m soonest j = n - j
+μ-loop m₀ first n stream t number soonest₀ room₀ j₀ m soonest room j = n - j
 
 loop-holds : tie.Need-loop-holds Inv-loop μ-loop
-loop-holds c = (omega arith, λ h e s. (e, number-at h s (now (c .before .args .m)) e 4))
+loop-holds c =
+    let m = now (c .before .before .args .m) in
+    (omega arith, λ h e s. (e, (number-at h s m e 4, number-at h s m e 11)))
 
 add-named : tie.Need-add-named Inv-loop μ-loop
 add-named c = omega arith
@@ -68,13 +71,20 @@ add-j c = omega arith
 loop-less : tie.Need-loop-less Inv-loop μ-loop
 loop-less c = omega arith
 
+mul-room-in : tie.Need-mul-room-in Inv-loop μ-loop
+mul-room-in c = omega (arith, c .before .before .before .before .named .ensures .0)
+
+index-1-room-in : tie.Need-index-1-room-in Inv-loop μ-loop
+index-1-room-in c = omega (arith, c .before .before .before .before .named .ensures .0)
+
 loop-again : tie.Need-loop-again Inv-loop μ-loop
 unfolding Stored.wordsOf rowWords numberWords
 loop-again c =
-    let v = c .before .before in
+    let w = c .before .before in
+    let v = w .before .before in
     let d = v .before .before in
     let l = d .before .before in
-    let a = l .before .before .before .args in
+    let a = l .before .before .before .before .args in
     let j = l .before .loop .j in
     let o = eventAt (a .stream) (a .t) in
     let i = d .named .result in (
@@ -92,28 +102,39 @@ loop-again c =
           let taken = v .event .ensures r b (row-lies h′ wide _ (so-far .0) i there) in
           let stored = row-stored h′ wide _ (so-far .0) i there (v .event .last .0) row′ kept′ taken in
           let x = visitAt (visited h (a .first) j o (a .number)) i o (a .number) in
-          let due = ap (λ (w : List (List ℕ)). getD (getD w 1 []) 17 0) (row-lies (withSoonest x (h .soonest)) (shaped-row h′ i row′ kept′ wide) _ stored i there) in
+          let lies = row-lies (withSoonest x (h .soonest)) (shaped-row h′ i row′ kept′ wide) _ stored i there in
+          let due = ap (λ (y : List (List ℕ)). getD (getD y 1 []) 17 0) lies in
+          let room = c .room-in .ensures (rowAt (x .monitor) i) (keptAt (x .monitor) i) lies in
           let next : visitAt (visited h (a .first) j o (a .number)) i o (a .number) ≡ visited h (a .first) (j + 1) o (a .number) =
           ap (λ (k : ℕ). visitAt (visited h (a .first) j o (a .number)) k o (a .number)) row
           ∙ ap (λ (k : ℕ). visited h (a .first) k o (a .number)) (sym (add-one j)) in (
             stored ∙ ap (λ (y : Lent). wordsOf (withSoonest y (h .soonest))) next,
-            c .smaller .ensures ∙ ap₂ min (so-far .1) due ∙ ap (λ (y : Lent). y .soonest) next,
+            (
+              w .smaller .ensures ∙ ap₂ min (so-far .1 .0) due ∙ ap (λ (y : Lent). y .soonest) next,
+              room ∙ (λ k. Stored.roomIn (rowAt (visitAt (visited h (a .first) j o (a .number)) (row k) o (a .number) .monitor) (row k)) (so-far .1 .1 k))
+                  ∙ ap (λ (k : ℕ). roomAfter h (a .first) k o (a .number)) (sym (add-one j)),
+            ),
           ),
     )
 
 returns : tie.Need-returns Inv-loop μ-loop
 returns c h e s =
     let l = c .before .loop in
-    let a = c .before .before .before .args in
+    let a = c .before .before .before .before .args in
     let o = eventAt (a .stream) (a .t) in
     let at-end : l .j ≡ a .n = omega arith in
     let so-far = l .inv .1 h e s in
-    let wide = shaped-soonest (visited h (a .first) (l .j) o (a .number)) (h .soonest) (shaped-visited h (a .first) (l .j) o (a .number) s) in
-    ap₂ (λ (m : Words) (t : ℕ). set m 32 (set (getD m 32 []) 0 (set (getD (getD m 32 []) 0 []) 4 t))) (so-far .0) (so-far .1)
-    ∙ soonest-written (unstored h (a .first) (l .j) (a .stream) (a .t) (a .number)) wide (visited h (a .first) (l .j) o (a .number) .soonest)
-    ∙ ap (λ (k : ℕ). wordsOf (visited h (a .first) k o (a .number))) at-end
+    let x = visited h (a .first) (l .j) o (a .number) in
+    let wide = shaped-visited h (a .first) (l .j) o (a .number) s in
+    let soonest = ap₂ (λ (m : Words) (t : ℕ). set m 32 (set (getD m 32 []) 0 (set (getD (getD m 32 []) 0 []) 4 t))) (so-far .0) (so-far .1 .0)
+    ∙ soonest-written (withSoonest x (h .soonest)) (shaped-soonest x (h .soonest) wide) (x .soonest) in
+    ap₂ (λ (m : Words) (t : ℕ). set m 32 (set (getD m 32 []) 0 (set (getD (getD m 32 []) 0 []) 11 t))) soonest (so-far .1 .1)
+    ∙ room-written x wide (roomAfter h (a .first) (l .j) o (a .number))
+    ∙ ap (λ (k : ℕ). wordsOf (heardOn h (a .first) k o (a .number))) at-end
 
 pub visits-spec : {M : Type 1} → statement M
 visits-spec =
-    tie.close (tie.spec Inv-loop μ-loop (λ c. search needs) (λ c. search needs) (λ c. search needs) loop-holds add-named named-requires mul-event index-1-event event-requires mul-smaller
-    index-1-smaller index-2-smaller index-3-smaller smaller-requires add-j loop-less loop-again (λ c. search needs) (λ c. search needs) (λ c. search needs) returns)
+    tie.close (tie.spec Inv-loop μ-loop (λ c. search needs) (λ c. search needs) (λ c. search needs) (λ c. search needs) (λ c. search needs)
+    (λ c. search needs) loop-holds add-named named-requires mul-event index-1-event event-requires mul-smaller index-1-smaller index-2-smaller
+    index-3-smaller smaller-requires mul-room-in index-1-room-in (λ c κs. tt) add-j loop-less loop-again (λ c. search needs) (λ c. search needs)
+    (λ c. search needs) (λ c. search needs) (λ c. search needs) (λ c. search needs) returns)

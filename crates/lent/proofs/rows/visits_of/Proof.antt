@@ -4,7 +4,7 @@ use mathlib.Core.Path.{_≡_, ap₂, _∙_}
 use denote.Ref.{now}
 use Rattle.row.specs.Machine.{eventAt}
 use Rattle.lent.specs.Layout.{wordsOf}
-use Rattle.lent.specs.Steps.{visited}
+use Rattle.lent.specs.Steps.{heardOn}
 use Rattle.lent.proofs.Parts.{number-at}
 use borrow.Author.Needs.{needs}
 use Rattle.lent.proofs.rows.visits_of.Statement.{statement}
@@ -19,7 +19,7 @@ returns c h e s =
     let first = f .start-of .ensures .1 h e s in
     let count = l .left .ensures ∙ ap₂ (λ (x y : ℕ). x - y) (n .end-of .ensures .1 h e s) first in
     let number = number-at h s (now (a .m)) e 1 in
-    c .visits .ensures h e s ∙ (λ k. wordsOf (visited h (first k) (count k) (eventAt (a .stream) (a .t)) (number k)))
+    c .visits .ensures h e s ∙ (λ k. wordsOf (heardOn h (first k) (count k) (eventAt (a .stream) (a .t)) (number k)))
 
 pub visits-of-spec : {M : Type 1} → statement M
 visits-of-spec =

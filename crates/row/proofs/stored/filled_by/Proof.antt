@@ -1,5 +1,7 @@
 -- The tests are those of `filledBy`, in its order.
+use mathlib.Core.Path.{_∙_, ap}
 use borrow.Author.Tests.{eq-eqb, ne-eqb}
+use Rattle.row.specs.Stored.{beyond}
 use borrow.Author.Needs.{needs}
 use Rattle.row.proofs.stored.filled_by.Statement.{statement}
 use Rattle.row.proofs.stored.filled_by.Tie as tie
@@ -11,7 +13,10 @@ returns-2 : tie.Need-returns-2
 returns-2 c = rw (ne-eqb _ _ (c .before .before .if1 .left), eq-eqb _ _ (c .before .if2 .taken)) (c .beyond2 .ensures)
 
 returns-3 : tie.Need-returns-3
-returns-3 c = rw (ne-eqb _ _ (c .before .before .before .if1 .left), ne-eqb _ _ (c .before .before .if2 .left), eq-eqb _ _ (c .before .if3 .taken)) (c .beyond3 .ensures)
+returns-3 c =
+    let t = c .before .before in
+    rw (ne-eqb _ _ (t .before .before .if1 .left), ne-eqb _ _ (t .before .if2 .left), eq-eqb _ _ (t .if3 .taken))
+    (c .beyond3 .ensures ∙ ap (beyond 31 (t .before .before .before .args .span)) (c .before .filled-in-twos .ensures))
 
 returns-4 : tie.Need-returns-4
 returns-4 c = rw (ne-eqb _ _ (c .before .before .before .if1 .left), ne-eqb _ _ (c .before .before .if2 .left), ne-eqb _ _ (c .before .if3 .left), eq-eqb _ _ (c .if4 .taken))
@@ -31,5 +36,5 @@ returns-8 c =
 
 pub filled-by-spec : {M : Type 1} → statement M
 filled-by-spec =
-    tie.close (tie.spec (λ c κs. search needs) returns (λ c κs. search needs) returns-2 (λ c κs. search needs) returns-3 returns-4 returns-5 returns-6
+    tie.close (tie.spec (λ c κs. search needs) returns (λ c κs. search needs) returns-2 (λ c κs. search needs) (λ c κs. search needs) returns-3 returns-4 returns-5 returns-6
     returns-7 returns-8)

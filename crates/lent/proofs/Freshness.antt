@@ -20,7 +20,6 @@ use Rattle.constraint.proofs.Lists.{split, Each, each-none, each-cons, each-app
 use Rattle.machine.specs.Rule as Rules
 use Rattle.machine.specs.declared.Rule.{Rule}
 use Rattle.row.specs.Machine.{rowOf, concerns, noEvent}
-use Rattle.row.specs.Stored.{beyond}
 use Rattle.row.specs.Undo.{noBefore}
 use Rattle.row.specs.declared.Before.{Before}
 use Rattle.row.specs.declared.Row.{Row}
@@ -34,7 +33,7 @@ use Rattle.monitor.proofs.FittingRows.{SoundRows}
 use Rattle.monitor.proofs.Demand.{accepted-sound, accepted-few}
 use Rattle.lent.specs.Layout.{Lent, Words, wordsOf, Shaped, endOf, startOf, rowNamed, heldRows, rowAt, keptAt}
 use Rattle.lent.specs.Steps.{rowCount}
-use Rattle.lent.specs.Contract.{namedRows, rowsOf, numbers, isOf, takenIn, Roomy, Sound, Indexes}
+use Rattle.lent.specs.Contract.{namedRows, rowsOf, numbers, isOf, Roomy, Sound, Indexes}
 use Rattle.lent.specs.Fresh.{listedTo, endsTo, padded, withLists, freshLent, noWords, RowsPut}
 use Rattle.lent.proofs.Padding.{padded-length, padded-at, padded-next}
 use Rattle.lent.proofs.Totals.{listed-few}

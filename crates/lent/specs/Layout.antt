@@ -1,12 +1,10 @@
 -- The words of a lent monitor: 35 blocks of two arrays of 64. Block i below 32 is row i; the last three have the numbers beside the rows, the list of
 -- rows for each kind, and the first free times of the coloured streams.
-use Prim.Native.Nat.{ℕ, zero, suc, _+_, _-_, _<_, _≤_, _/_, _%_, min}
+use Prim.Native.Nat.{ℕ, zero, suc, _-_, _%_, min}
 use mathlib.Core.Path.{_≡_}
-use mathlib.Core.Bool.{Bool, cond}
 use mathlib.Core.List.{List, [], _∷_, _++_}
 use lib.ListN.{length, getD, take, drop}
-use lib.Dec.{ltb}
-use Rattle.constraint.specs.Limits.{rowLimit, streamCount, waitingLimit}
+use Rattle.constraint.specs.Limits.{rowLimit, streamCount}
 use Rattle.row.specs.Undo.{noBefore}
 use Rattle.row.specs.Stored as Stored
 use Rattle.row.specs.declared.Before.{Before}

@@ -25,7 +25,8 @@ use Rattle.pairs.specs.Order.{aheadOf, changesTo, decideOrder}
 use Rattle.spans.specs.Repeat.{fillsRepeat, decideRepeat}
 use Rattle.points.specs.Sporadic.{pointAt, stride, lowest, highest, laterSporadic, decideSporadic}
 use Rattle.groups.specs.StrongSynchronization.{countOf, counted, complete, withoutOldest, fillsStrongSynchronization, decideStrongSynchronization}
-use Rattle.phases.specs.ExecutionTime.{phaseOf, ranOf, ranTo, idleFrom, runningFrom, preemptedFrom, whileIdle, whileRunning, whilePreempted, decideExecutionTime}
+use Rattle.phases.specs.ExecutionTime.{phaseOf, ranOf, ranTo, idleFrom, runningFrom, preemptedFrom, whileIdle, whileRunning, whilePreempted}
+use Rattle.phases.specs.ExecutionTime.{decideExecutionTime}
 use Rattle.chains.specs.declared.reaction.Pair.{Pair}
 use Rattle.chains.specs.Reaction.{afterStimulus, afterResponse, dueBut, paired, decideReaction}
 use Rattle.repetition.specs.Repetition.{hasPlace, placed, fillsRepetition, decideRepetition}

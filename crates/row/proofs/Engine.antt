@@ -1,7 +1,8 @@
 -- Every row type is exact: by the type, what its own laws prove.
 use Rattle.constraint.specs.declared.Constraint.{Constraint}
 use Rattle.constraint.specs.declared.Constraint.the-variants.{Delay, StrongDelay, Repeat, Sporadic, Burst, Order}
-use Rattle.constraint.specs.declared.Constraint.the-variants.{StrongSynchronization2, StrongSynchronization3, StrongSynchronization4, ExecutionTime, Reaction, Repetition}
+use Rattle.constraint.specs.declared.Constraint.the-variants.{StrongSynchronization2, StrongSynchronization3, StrongSynchronization4, ExecutionTime}
+use Rattle.constraint.specs.declared.Constraint.the-variants.{Reaction, Repetition}
 use Rattle.pairs.proofs.Laws.Delay.{exactDelay}
 use Rattle.pairs.proofs.Laws.StrongDelay.{exactStrongDelay}
 use Rattle.pairs.proofs.Laws.Order.{exactOrder}

@@ -4,30 +4,21 @@ use Prim.Native.Nat.{ℕ, _+_, _-_, _/_, _<_, _≤_, min}
 use native.Mathlib.Omega.{arith}
 use mathlib.Core.Path.{_≡_, refl, sym, ap, subst}
 use mathlib.Core.Bool.{Bool, true, false, cond, _&&_}
-use mathlib.Core.List.{List}
-use lib.Dec.{ltb, leb, eqb}
-use lib.ListN.{length, set}
+use lib.Dec.{ltb, eqb}
 use borrow.Author.Tests.{lt-ltb, le-ltb, ltb-true, ltb-false, eqb-true}
 use Rattle.constraint.specs.Limits.{waitingLimit}
 use Rattle.constraint.proofs.Lists.{split}
-use Rattle.queue.specs.Ring.{Ring, ringOf, ringPlace, pushRing, dropRing, changed, edited}
-use Rattle.queue.specs.declared.Edit.the-variants.{Drop, Push}
-use Rattle.machine.specs.Parts.{plus, farEnough, front, none-left, earlyOf, withLast, continuesWith, breaking, waits}
+use Rattle.machine.specs.Parts.{farEnough}
 use Rattle.machine.specs.declared.Rule.{Rule}
 use Rattle.machine.specs.declared.Marks.{Marks}
 use Rattle.machine.specs.declared.State.{State}
-use Rattle.machine.specs.declared.Change.{Change}
-use Rattle.pairs.specs.Delay.{answeredBy, answeredAtOnce, fillsDelay, decideDelay}
-use Rattle.pairs.specs.StrongDelay.{fillsStrongDelay, sourceStrongDelay, targetStrongDelay, decideStrongDelay}
-use Rattle.spans.specs.Repeat.{spanReached, leaving, dueWith, fillsRepeat, decideRepeat}
-use Rattle.groups.specs.StrongSynchronization.{countOf, counted, complete, withoutOldest, fillsStrongSynchronization, decideStrongSynchronization}
-use Rattle.points.specs.Sporadic.{decideSporadic}
-use Rattle.pairs.specs.Order.{decideOrder}
-use Rattle.phases.specs.ExecutionTime.{decideExecutionTime}
-use Rattle.chains.specs.Reaction.{decideReaction}
-use Rattle.repetition.specs.Repetition.{fillsRepetition, decideRepetition}
-use Rattle.row.specs.Machine.{concerns, itemsOf, brokenRow, applied, stays, crowding, changedRow, rowStep}
-use Rattle.row.specs.Apart.{fills, fillsNever, crowdedBy, changeBy}
+use Rattle.pairs.specs.Delay.{fillsDelay}
+use Rattle.pairs.specs.StrongDelay.{fillsStrongDelay}
+use Rattle.spans.specs.Repeat.{fillsRepeat}
+use Rattle.groups.specs.StrongSynchronization.{fillsStrongSynchronization}
+use Rattle.repetition.specs.Repetition.{fillsRepetition}
+use Rattle.row.specs.Machine.{concerns, brokenRow, stays, rowStep}
+use Rattle.row.specs.Apart.{fills, fillsNever, crowdedBy}
 use Rattle.row.specs.Stored.{beyond, filledInTwos, filledBy, roomIn}
 use Rattle.row.specs.declared.Occurrence.{Occurrence}
 use Rattle.row.specs.declared.Row.{Row}

@@ -1,5 +1,5 @@
 -- The word for "open" stands at its place.
-use mathlib.Core.Path.{_≡_, ap, _∙_}
+use mathlib.Core.Path.{ap, _∙_}
 use Prim.Native.Nat.{ℕ, _-_}
 use denote.Ref.{now}
 use Rattle.lent.proofs.Parts.{number-at}

@@ -1,6 +1,6 @@
 -- The number of rows stands at its place, and is cut at 32.
-use Prim.Native.Nat.{ℕ, min}
-use mathlib.Core.Path.{_≡_, refl, sym, ap, _∙_}
+use Prim.Native.Nat.{ℕ}
+use mathlib.Core.Path.{ap, _∙_}
 use mathlib.Core.List.{List, []}
 use lib.ListN.{getD}
 use native.Mathlib.Omega.{arith}

@@ -1,13 +1,12 @@
 -- The questions are put first; then the numbers are counted on, and the close goes to every row.
-use Prim.Native.Nat.{ℕ, _≤_}
-use mathlib.Core.Path.{_≡_, refl, sym, ap, ap₂, _∙_}
+use Prim.Native.Nat.{ℕ}
+use mathlib.Core.Path.{refl, ap, _∙_}
 use native.Mathlib.Omega.{arith}
-use mathlib.Core.Bool.{true, false}
 use denote.Ref.{now}
 use Rattle.constraint.specs.declared.Call.{Call}
 use Rattle.row.specs.Machine.{closeAt}
 use Rattle.lent.specs.Layout.{wordsOf, heldRows}
-use Rattle.lent.specs.Steps.{countedTo, withClosed, ended, nextNumber}
+use Rattle.lent.specs.Steps.{countedTo, ended, nextNumber}
 use Rattle.lent.proofs.Parts.{number-at, shaped-to, shaped-ended}
 use Rattle.lent.proofs.Asked.{first-number, own-number, refused-stores, taken-stores}
 use borrow.Author.Needs.{needs}

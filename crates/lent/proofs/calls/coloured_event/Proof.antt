@@ -1,10 +1,9 @@
 -- The questions are put first; the stream of one that is answered is its kind’s and colour’s.
-use Prim.Native.Nat.{ℕ, _<_}
-use mathlib.Core.Path.{_≡_, ap, subst, _∙_}
+use Prim.Native.Nat.{ℕ}
+use mathlib.Core.Path.{subst}
 use native.Mathlib.Omega.{arith}
 use denote.Ref.{now}
 use Rattle.constraint.specs.declared.Call.{Call}
-use Rattle.lent.specs.Layout.{Lent, Words, wordsOf, Shaped}
 use Rattle.lent.specs.Steps.{OnStream}
 use Rattle.lent.proofs.Asked.{refused-stores, taken-stores}
 use borrow.Author.Needs.{needs}

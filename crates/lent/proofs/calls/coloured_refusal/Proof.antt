@@ -1,11 +1,11 @@
 -- The questions are put in their order, and the first "no" gives the number.
-use Prim.Native.Nat.{ℕ, _<_, _≤_}
-use mathlib.Core.Path.{_≡_, refl, sym, ap, ap₂, _∙_}
+use Prim.Native.Nat.{ℕ}
+use mathlib.Core.Path.{refl, ap, ap₂, _∙_}
 use native.Mathlib.Omega.{arith}
 use denote.Ref.{now}
-use borrow.Author.Tests.{lt-ltb, le-ltb, le-leb, lt-leb}
+use borrow.Author.Tests.{lt-ltb, le-ltb}
 use lib.ListN.{getD}
-use Rattle.constraint.specs.Limits.{lastKind, firstColoured, lastColour, lastTime, streamCount}
+use Rattle.constraint.specs.Limits.{lastKind, firstColoured, lastColour, streamCount}
 use Rattle.monitor.specs.Machine.{timeRefusal}
 use Rattle.constraint.specs.declared.Call.{Call}
 use Rattle.lent.proofs.Parts.{number-at}

@@ -1,5 +1,4 @@
 -- While there is room nothing is looked at; else the rows are asked.
-use Prim.Native.Nat.{ℕ}
 use mathlib.Core.Path.{_≡_, refl, sym, ap, _∙_}
 use mathlib.Core.Bool.{true, false}
 use lib.Dec.{ltb}

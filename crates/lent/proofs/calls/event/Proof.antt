@@ -1,5 +1,4 @@
 -- The questions are put first; the kind of one that is answered has rows of its own.
-use Prim.Native.Nat.{ℕ, _<_}
 use native.Mathlib.Omega.{arith}
 use denote.Ref.{now}
 use Rattle.constraint.specs.declared.Call.{Call}

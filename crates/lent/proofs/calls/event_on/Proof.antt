@@ -2,10 +2,9 @@
 use Prim.Native.Nat.{ℕ}
 use mathlib.Core.Path.{_≡_, refl, sym, ap, _∙_}
 use mathlib.Core.Bool.{true, false}
-use mathlib.Core.List.{List}
 use Rattle.row.specs.Machine.{eventAt}
-use Rattle.lent.specs.Layout.{Lent, wordsOf, startOf}
-use Rattle.lent.specs.Steps.{heardOn, crowdedOn, roomed, roomFor, withRoom, countedOn, begun, rowCount}
+use Rattle.lent.specs.Layout.{wordsOf}
+use Rattle.lent.specs.Steps.{heardOn, crowdedOn, roomed, roomFor, withRoom, countedOn, begun}
 use Rattle.lent.proofs.Parts.{shaped-room, shaped-counted, shaped-begun, begun-count, begun-ends, same-rows}
 use borrow.Author.Needs.{needs}
 use Rattle.lent.proofs.calls.event_on.Statement.{statement}

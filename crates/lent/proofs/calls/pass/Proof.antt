@@ -1,6 +1,6 @@
 -- Where the soonest due time is past, the rows that are overdue end; else it is stored.
 use Prim.Native.Nat.{ℕ}
-use mathlib.Core.Path.{_≡_, refl, sym, ap, ap₂, _∙_}
+use mathlib.Core.Path.{_≡_, sym, ap, ap₂, _∙_}
 use mathlib.Core.Bool.{true, false}
 use lib.Dec.{ltb}
 use denote.Ref.{now}

@@ -5,7 +5,6 @@ use mathlib.Core.Bool.{true, false}
 use lib.Dec.{ltb, eqb}
 use denote.Ref.{now}
 use borrow.Author.Tests.{lt-ltb, le-ltb, eq-eqb, ne-eqb}
-use native.Mathlib.Omega.{arith}
 use Rattle.constraint.specs.Limits.{waitingLimit}
 use Rattle.lent.specs.Steps.{fullest}
 use Rattle.lent.proofs.Parts.{number-at}

@@ -1,6 +1,5 @@
 -- The questions are put first; then the numbers are counted on, and the clock goes to the rows.
-use Prim.Native.Nat.{ℕ}
-use mathlib.Core.Path.{_≡_, refl}
+use mathlib.Core.Path.{refl}
 use native.Mathlib.Omega.{arith}
 use denote.Ref.{now}
 use Rattle.constraint.specs.declared.Call.{Call}

@@ -1,6 +1,6 @@
 -- The first free time of the stream is stored, and then the numbers are counted on.
 use Prim.Native.Nat.{ℕ}
-use mathlib.Core.Path.{_≡_, refl, sym, ap, ap₂, _∙_}
+use mathlib.Core.Path.{refl, sym, ap, ap₂, _∙_}
 use mathlib.Core.List.{List, [], _∷_}
 use lib.ListN.{getD, set, take}
 use Rattle.machine.specs.Parts.{plus}

@@ -1,10 +1,8 @@
 -- The numbers are counted on, with the first free time of stream 0 as it is.
 use Prim.Native.Nat.{ℕ}
-use mathlib.Core.Path.{_≡_, refl, ap, ap₂, _∙_}
+use mathlib.Core.Path.{refl, ap, ap₂, _∙_}
 use mathlib.Core.List.{List, [], _∷_}
 use lib.ListN.{getD, set, take}
-use denote.Ref.{now}
-use native.Mathlib.Omega.{arith}
 use Rattle.lent.specs.Layout.{Words, wordsOf, numberArray}
 use Rattle.lent.specs.Steps.{countedMonitor, countedTo}
 use Rattle.lent.proofs.Parts.{numbers-read, block-written}

@@ -1,6 +1,6 @@
 -- The number is stored at its place.
-use mathlib.Core.Path.{_≡_, ap, _∙_}
-use mathlib.Core.List.{List, []}
+use mathlib.Core.Path.{ap, _∙_}
+use mathlib.Core.List.{[]}
 use lib.ListN.{getD, set}
 use Rattle.lent.proofs.Parts.{room-written}
 use borrow.Author.Needs.{needs}

@@ -1,9 +1,9 @@
 -- The word for "open" is stored as 0.
 use Prim.Native.Nat.{ℕ}
-use mathlib.Core.Path.{_≡_, refl, ap, _∙_}
+use mathlib.Core.Path.{refl, ap, _∙_}
 use mathlib.Core.List.{List, []}
 use lib.ListN.{getD, set}
-use Rattle.lent.specs.Layout.{Words, wordsOf, numberBlock}
+use Rattle.lent.specs.Layout.{Words, wordsOf}
 use Rattle.lent.specs.Steps.{withClosed}
 use Rattle.lent.proofs.Parts.{numbers-read, block-written}
 use borrow.Author.Needs.{needs}

@@ -1,6 +1,6 @@
 -- Row after row: before the turn of number i the first i are without the step.
-use Prim.Native.Nat.{ℕ, _+_, _-_, _≤_, _<_}
-use mathlib.Core.Path.{_≡_, refl, sym, ap, _∙_}
+use Prim.Native.Nat.{ℕ, _-_, _≤_, _<_}
+use mathlib.Core.Path.{_≡_, sym, ap, _∙_}
 use native.Mathlib.Omega.{arith}
 use native.Mathlib.Numerals.{add-one}
 use Rattle.row.specs.Undo.{rowWithout, keptWithout}
@@ -8,7 +8,6 @@ use Rattle.lent.specs.Layout.{Lent, wordsOf, Shaped, rowAt, keptAt}
 use Rattle.lent.specs.Steps.{backed}
 use Rattle.lent.proofs.Blocks.{row-lies, row-stored}
 use Rattle.lent.proofs.Parts.{shaped-backed}
-use borrow.Author.Needs.{needs}
 use Rattle.lent.proofs.rows.back.Statement.{statement}
 use Rattle.lent.proofs.rows.back.Tie as tie
 

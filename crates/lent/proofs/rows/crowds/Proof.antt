@@ -1,5 +1,5 @@
 -- Entry after entry: before the turn of number j none of the rows of the first j is crowded, and the first that is ends the search.
-use Prim.Native.Nat.{ℕ, _+_, _-_, _≤_, _<_}
+use Prim.Native.Nat.{ℕ, _-_, _≤_, _<_}
 use mathlib.Core.Path.{_≡_, refl, sym, ap, ap₂, _∙_}
 use native.Mathlib.Omega.{arith}
 use native.Mathlib.Numerals.{add-one}
@@ -7,7 +7,6 @@ use mathlib.Core.Bool.{Bool, true, false, _||_}
 use Rattle.lent.specs.Layout.{Lent, wordsOf, Shaped}
 use Rattle.lent.specs.Steps.{crowdedAt, crowded}
 use Rattle.lent.proofs.Parts.{crowded-there}
-use borrow.Author.Needs.{needs}
 use Rattle.lent.proofs.rows.crowds.Statement.{statement}
 use Rattle.lent.proofs.rows.crowds.Tie as tie
 

@@ -1,6 +1,6 @@
 -- The rows of a kind are those that its entries name.
 use Prim.Native.Nat.{ℕ, _-_}
-use mathlib.Core.Path.{_≡_, ap₂, _∙_}
+use mathlib.Core.Path.{ap₂, _∙_}
 use Rattle.lent.specs.Steps.{crowded}
 use borrow.Author.Needs.{needs}
 use Rattle.lent.proofs.rows.crowds_of.Statement.{statement}

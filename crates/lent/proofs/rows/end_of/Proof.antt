@@ -1,10 +1,9 @@
 -- The end stands at its place, and is cut at 128.
-use Prim.Native.Nat.{ℕ, _≤_, min}
-use mathlib.Core.Path.{_≡_, refl, sym, ap, _∙_}
+use Prim.Native.Nat.{ℕ}
+use mathlib.Core.Path.{ap, _∙_}
 use mathlib.Core.List.{List, []}
 use lib.ListN.{getD}
 use native.Mathlib.Omega.{arith}
-use Rattle.lent.specs.Layout.{numberBlock}
 use Rattle.lent.proofs.Parts.{numbers-read}
 use borrow.Author.Needs.{needs}
 use Rattle.lent.proofs.rows.end_of.Statement.{statement}

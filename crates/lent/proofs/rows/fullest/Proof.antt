@@ -1,5 +1,5 @@
 -- Row after row: before the turn of number i it is the number of the fullest of the first i.
-use Prim.Native.Nat.{ℕ, _+_, _-_, _≤_, _<_}
+use Prim.Native.Nat.{_-_, _≤_, _<_}
 use mathlib.Core.Path.{_≡_, refl, sym, ap, ap₂, _∙_}
 use native.Mathlib.Omega.{arith}
 use native.Mathlib.Numerals.{add-one}
@@ -8,7 +8,6 @@ use Rattle.row.specs.Stored.{larger}
 use Rattle.lent.specs.Layout.{Lent, wordsOf, Shaped, rowAt, keptAt}
 use Rattle.lent.specs.Steps.{fullest}
 use Rattle.lent.proofs.Blocks.{row-lies}
-use borrow.Author.Needs.{needs}
 use Rattle.lent.proofs.rows.fullest.Statement.{statement}
 use Rattle.lent.proofs.rows.fullest.Tie as tie
 

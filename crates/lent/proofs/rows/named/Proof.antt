@@ -1,6 +1,6 @@
 -- An entry stands in one of two arrays.
-use Prim.Native.Nat.{ℕ, _+_, _-_, _<_, _%_}
-use mathlib.Core.Path.{_≡_, refl, sym, ap, _∙_}
+use Prim.Native.Nat.{ℕ, _+_, _-_, _%_}
+use mathlib.Core.Path.{_≡_, ap, _∙_}
 use mathlib.Core.List.{List, []}
 use lib.ListN.{getD}
 use lib.Seq.{getD-take, getD-drop}

@@ -1,6 +1,6 @@
 -- Entry after entry: before the turn of number j the rows of the first j have taken the event; the soonest time is kept beside, and stored at the end.
 use Prim.Native.Nat.{ℕ, _+_, _-_, _≤_, _<_, min}
-use mathlib.Core.Path.{_≡_, refl, sym, ap, ap₂, _∙_}
+use mathlib.Core.Path.{_≡_, sym, ap, ap₂, _∙_}
 use native.Mathlib.Omega.{arith}
 use native.Mathlib.Numerals.{add-one}
 use mathlib.Core.List.{List, []}
@@ -10,7 +10,7 @@ use Rattle.machine.specs.Words.{rowWords, numberWords}
 use Rattle.row.specs.Machine.{eventAt}
 use Rattle.row.specs.Stored as Stored
 use Rattle.lent.specs.Layout.{Lent, Words, wordsOf, Shaped, rowNamed, rowAt, keptAt}
-use Rattle.lent.specs.Steps.{withSoonest, withRoom, visitAt, visited, roomAfter, heardOn}
+use Rattle.lent.specs.Steps.{withSoonest, visitAt, visited, roomAfter, heardOn}
 use Rattle.lent.proofs.Blocks.{row-lies, row-stored}
 use Rattle.lent.proofs.Parts.{shaped-visited, shaped-soonest, shaped-row, visited-named, number-at, soonest-written, room-written}
 use borrow.Author.Needs.{needs}

@@ -1,6 +1,6 @@
 -- The rows of a kind are those that its entries name, and the number of the step stands at its place.
 use Prim.Native.Nat.{ℕ, _-_}
-use mathlib.Core.Path.{_≡_, ap₂, _∙_}
+use mathlib.Core.Path.{ap₂, _∙_}
 use denote.Ref.{now}
 use Rattle.row.specs.Machine.{eventAt}
 use Rattle.lent.specs.Layout.{wordsOf}

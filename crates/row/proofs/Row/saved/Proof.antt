@@ -1,5 +1,4 @@
 -- The row takes the step where it lies, and what is kept of it is read off there.
-use mathlib.Core.Path.{_≡_}
 use borrow.Author.Needs.{needs}
 use Rattle.row.proofs.Row.saved.Statement.{statement}
 use Rattle.row.proofs.Row.saved.Tie as tie

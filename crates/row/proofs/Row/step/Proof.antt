@@ -1,5 +1,5 @@
 -- A row that is crowded stays as it was, and any other takes the step where it lies.
-use mathlib.Core.Path.{_≡_, sym, ap, _∙_}
+use mathlib.Core.Path.{sym, ap, _∙_}
 use mathlib.Core.Bool.{true, false}
 use Rattle.row.specs.Machine.{stays}
 use Rattle.row.proofs.Crowding.{step-by}

@@ -1,6 +1,4 @@
 -- The words that the row is are put back where they lie.
-use mathlib.Core.Path.{_≡_}
-use Rattle.row.specs.Undo.{rowWithout, keptWithout}
 use borrow.Author.Needs.{needs}
 use Rattle.row.proofs.Row.without.Statement.{statement}
 use Rattle.row.proofs.Row.without.Tie as tie

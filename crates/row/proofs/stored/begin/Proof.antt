@@ -1,5 +1,4 @@
 -- The words are those of the row of the constraint.
-use mathlib.Core.Path.{_∙_}
 use borrow.Author.Needs.{needs}
 use Rattle.row.proofs.stored.begin.Statement.{statement}
 use Rattle.row.proofs.stored.begin.Tie as tie

@@ -8,8 +8,7 @@ use Rattle.queue.specs.Ring.{ring}
 use Rattle.machine.specs.declared.Change.{Change}
 use Rattle.machine.specs.declared.Marks.{Marks}
 use Rattle.machine.specs.declared.Rule.{Rule}
-use Rattle.machine.specs.declared.State.{State}
-use Rattle.machine.specs.Words.{Past, rowWords, numberWords, changedWords, Applies}
+use Rattle.machine.specs.Words.{rowWords, numberWords, changedWords, Applies}
 use Rattle.row.proofs.Dispatch.{NoneOf, form-1, form-2, form-3-5, form-4, form-6, form-8, form-9, form-10, form-none}
 use denote.Ref.{now}
 use Rattle.pairs.specs.Delay.{decideDelay}

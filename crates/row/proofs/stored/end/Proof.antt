@@ -1,6 +1,6 @@
 -- A broken row stays; an overdue one breaks; the close keeps the past of one that it does not concern, and breaks it where it is not kept.
 use Prim.Native.Nat.{ℕ}
-use mathlib.Core.Path.{_≡_, refl, sym, ap, _∙_}
+use mathlib.Core.Path.{sym, ap, _∙_}
 use mathlib.Core.List.{List, []}
 use lib.ListN.{getD}
 use lib.Dec.{ltb, eqb}

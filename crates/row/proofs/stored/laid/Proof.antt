@@ -1,5 +1,5 @@
 -- The times are the first array; the numbers are put into the second, part after part.
-use mathlib.Core.Path.{_≡_, refl, ap, _∙_}
+use mathlib.Core.Path.{refl, ap}
 use Prim.Native.Nat.{ℕ}
 use mathlib.Core.List.{List, [], _∷_}
 use Rattle.machine.specs.Words.{rowWords}

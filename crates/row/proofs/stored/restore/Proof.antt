@@ -1,8 +1,5 @@
 -- What is read off the past is put in the place of the state, and nothing in that of the past.
-use mathlib.Core.Path.{_≡_, ap, _∙_}
 use Rattle.machine.specs.Words.{numberWords}
-use Rattle.row.specs.declared.Before.{Before}
-use Rattle.row.specs.Stored.{pastOf}
 use borrow.Author.Needs.{needs}
 use Rattle.row.proofs.stored.restore.Statement.{statement}
 use Rattle.row.proofs.stored.restore.Tie as tie

@@ -251,10 +251,10 @@ module _ (f g : Row → Row) (save keep : Row → Before → Before) (test : ℕ
       let x : Lent = visits f save h (numbers test n) in
       let last = visits-last f save (numbers test n) h n in (
         ap (λ (y : Lent). rowAt (y .monitor) j) last
-        ∙ getD-set-other (x .monitor .rows) n j (f (rowAt (x .monitor) n)) noRow (λ same. omega (arith, same, l)) ∙ so-far .0,
+            ∙ getD-set-other (x .monitor .rows) n j (f (rowAt (x .monitor) n)) noRow (λ same. omega (arith, same, l)) ∙ so-far .0,
         ap (λ (y : Lent). keptAt (y .monitor) j) last
-        ∙ getD-set-other (x .monitor .before) n j (save (rowAt (x .monitor) n) (keptAt (x .monitor) n)) noBefore (λ same. omega (arith, same, l))
-        ∙ so-far .1,
+            ∙ getD-set-other (x .monitor .before) n j (save (rowAt (x .monitor) n) (keptAt (x .monitor) n)) noBefore (λ same. omega (arith, same, l))
+            ∙ so-far .1,
       ))
       (λ e. (
         ap (λ (l′ : List ℕ). rowAt (visits f save h l′ .monitor) j) (append-nil (numbers test n)) ∙ so-far .0,

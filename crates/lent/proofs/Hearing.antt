@@ -186,7 +186,7 @@ module _ (o : Occurrence) (number : ℕ) where
       (λ _ e.
       let so = when-open e in (
         ap (λ (z : Bool). cond z (heardRow r o number) r) (is-zero (r .now .broken) e)
-        ∙ sym (step-heard r o number e (so .0) concerned (step-crowds r o number ∙ so .1)),
+            ∙ sym (step-heard r o number e (so .0) concerned (step-crowds r o number ∙ so .1)),
         λ b. ap (λ (z : Bool). cond z (heardBefore r o number) b) (is-zero (r .now .broken) e) ∙ sym (saved-heard r o number e (so .0) concerned b),
       )) refl
 

@@ -68,7 +68,7 @@ module _ (h : Lent) (ix : Indexes h) (call : Call) (o : Occurrence) (no-event : 
   on-none : (x : Lent) → Listing.Stepped c counted o above x → Answered h call 0 x
   on-none x stepped = (
     ap takes (stepped .monitor-is ∙ all-rows (c .monitor) (moved o (nextStep m)) (saves o (nextStep m)) (ix .shaped .rows-there) ∙ sym taken-is)
-    ∙ sym (ap (λ (b : Bool). cond b (refuses 12 m) (takes (takenCall m call))) none-crowds),
+        ∙ sym (ap (λ (b : Bool). cond b (refuses 12 m) (takes (takenCall m call))) none-crowds),
     subst (λ (room : ℕ). Indexes (withRoom x room)) (sym (stepped .beside .room-is)) (step-indexes c counted o above x stepped (h .room) (omega arith) fits),
   )
 

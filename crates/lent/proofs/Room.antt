@@ -66,9 +66,11 @@ module _ (h : Lent) (few : Roomy h) where
       less a b p q = omega (arith, p, q)
 
   most : (i : ℕ) → i < n → (now-taken i ≤ fullest m n) × (then-taken i ≤ fullest m n)
-  most i l =
-      (le-trans (larger-first (now-taken i) (then-taken i)) (fullest-most m n i l), le-trans (larger-second (now-taken i) (then-taken i))
-      (fullest-most m n i l))
+  most i l = (
+    le-trans (larger-first (now-taken i) (then-taken i)) (fullest-most m n i l),
+    le-trans (larger-second (now-taken i) (then-taken i))
+        (fullest-most m n i l),
+  )
 
   now-fits : (i : ℕ) → i < n → now-taken i + roomFor h ≤ 64
   now-fits i l =

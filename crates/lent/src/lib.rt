@@ -2,7 +2,6 @@
 ghost use Prim.Native.Nat.{_-_, _≤_};
 ghost use mathlib.Core.Path.{_≡_};
 ghost use Rattle.lent.specs.Layout.{Lent, wordsOf, Shaped, heldRows};
-
 use queue::minus;
 
 pub mod calls;

@@ -50,7 +50,8 @@ dueBut (suc n) colour high words = min (dueBut n colour high words) (latest (hig
 abbrev pub paired : Marks → List ℕ → ℕ → Pair → Change
 paired marks words colour pair =
     cond (pair .breaks) breaking
-    (continuesWith (Store (2 * colour) (pair .low) (pair .high)) marks (dueBut 8 colour (pair .high) words) (eqb (dueBut 8 colour (pair .high) words) noLimit))
+    (continuesWith (Store (2 * colour) (pair .low) (pair .high)) marks (dueBut 8 colour (pair .high) words)
+    (eqb (dueBut 8 colour (pair .high) words) noLimit))
 
 -- an event of one of the row's streams
 unfoldable pub decideReaction : Rule → Marks → List ℕ → ℕ → ℕ → Change

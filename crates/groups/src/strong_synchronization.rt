@@ -12,7 +12,8 @@ ghost use Prim.Native.Nat.{ℕ};
 ghost use Rattle.machine.specs.Words.{Past, numberWords, withMarks, ruleAt, marksAt, Applies};
 ghost use Rattle.machine.specs.declared.Rule.{Rule};
 ghost use Rattle.machine.specs.declared.State.{State};
-ghost use Rattle.groups.specs.StrongSynchronization.{fillsStrongSynchronization, countOf, oneMore, counted, has, complete, withoutOldest, decideStrongSynchronization};
+ghost use Rattle.groups.specs.StrongSynchronization.{fillsStrongSynchronization, countOf, oneMore, counted, has, complete, withoutOldest};
+ghost use Rattle.groups.specs.StrongSynchronization.{decideStrongSynchronization};
 
 // What an event makes of the row, where it lies.
 pub fn apply(row: &mut [[u64; SIZE]; 2], stream: u64, t: u64, number: u64)

@@ -28,13 +28,15 @@ pub first-number : (h : Lent) (call : Call) (first : ℕ) → first ≡ cond (lt
     → 0 < first → first ≡ refusalOf h call
 first-number h call first e l = first-no (ltb 0 (h .monitor .closed)) (leb lastCount (h .monitor .count)) first _ e l
 
-pub own-number : (h : Lent) (call : Call) (first number : ℕ) → first ≡ cond (ltb 0 (h .monitor .closed)) 8 (cond (leb lastCount (h .monitor .count)) 24 0)
+pub own-number : (h : Lent) (call : Call) (first number : ℕ) → first
+    ≡ cond (ltb 0 (h .monitor .closed)) 8 (cond (leb lastCount (h .monitor .count)) 24 0)
     → first ≤ 0 → number ≡ ownRefusal call (h .monitor .clock) (nextFor (h .monitor) call) → number ≡ refusalOf h call
 own-number h call first number e l own = own ∙ sym (first-yes (ltb 0 (h .monitor .closed)) (leb lastCount (h .monitor .count)) first _ e l)
 
 pub not-closed : (closed : ℕ) (b : Bool) (own : ℕ) → cond (ltb 0 closed) 8 (cond b 24 own) ≡ 0 → closed ≡ 0
 not-closed closed b own =
-    split (ltb 0 closed) (λ z. cond z 8 (cond b 24 own) ≡ 0 → closed ≡ 0) (λ _ e. absurd (omega (arith, e))) (λ f _. omega (arith, ltb-false 0 closed f))
+    split (ltb 0 closed) (λ z. cond z 8 (cond b 24 own) ≡ 0 → closed ≡ 0) (λ _ e. absurd (omega (arith, e)))
+    (λ f _. omega (arith, ltb-false 0 closed f))
 
 module _ (entry : Words) (call : Call) (refusal : ℕ) (asked : (h : Lent) → entry ≡ wordsOf h → Shaped h → refusal ≡ refusalOf h call) where
   pub refused-stores : 0 < refusal → Stores entry (asks call) refusal entry
@@ -59,7 +61,8 @@ module _ (entry : Words) (call : Call) (refusal : ℕ) (asked : (h : Lent) → e
             let is = asked h e s in
             let zero-is : refusalOf h call ≡ 0 = omega (arith, is, none) in
             let test = le-ltb 0 (refusalOf h call) (omega (arith, zero-is)) in
-            let going = not-closed (h .monitor .closed) (leb lastCount (h .monitor .count)) (ownRefusal call (h .monitor .clock) (nextFor (h .monitor) call)) zero-is in
+            let going = not-closed (h .monitor .closed) (leb lastCount (h .monitor .count))
+            (ownRefusal call (h .monitor .clock) (nextFor (h .monitor) call)) zero-is in
             let so = done h e s going in (
               so .0 ∙ sym (cond-false (ltb 0 (refusalOf h call)) (refusalOf h call) (answerTo h call) test),
               so .1 ∙ sym (ap wordsOf (cond-false (ltb 0 (refusalOf h call)) h (leftAfter h call) test)),

@@ -46,7 +46,8 @@ behind-read : (front rest : Words) (n i : ℕ) → length front ≡ n → getD (
 behind-read [] rest zero i e = ap (λ (k : ℕ). getD rest k []) (zero-add i)
 behind-read [] rest (suc n) i e = absurd (omega (arith, e))
 behind-read (x ∷ front) rest zero i e = absurd (omega (arith, e))
-behind-read (x ∷ front) rest (suc n) i e = ap (λ (k : ℕ). getD (x ∷ (front ++ rest)) k []) (suc-add n i) ∙ behind-read front rest n i (omega (arith, e))
+behind-read (x ∷ front) rest (suc n) i e = ap (λ (k : ℕ). getD (x ∷ (front ++ rest)) k []) (suc-add n i)
+    ∙ behind-read front rest n i (omega (arith, e))
 
 behind-written : (front rest : Words) (n i : ℕ) (w : List (List ℕ)) → length front ≡ n → set (front ++ rest) (n + i) w ≡ front ++ set rest i w
 behind-written [] rest zero i w e = ap (λ (k : ℕ). set rest k w) (zero-add i)
@@ -63,7 +64,8 @@ module _ (h : Lent) (s : Shaped h) where
 
   pub row-read : (i : ℕ) → i < 32 → getD (wordsOf h) i [] ≡ Stored.wordsOf (rowAt (h .monitor) i) (keptAt (h .monitor) i)
   unfolding wordsOf
-  row-read i l = block-read (h .monitor .rows) (h .monitor .before) i (lastBlocks h) (omega (arith, s .rows-there, l)) (omega (arith, s .kept-there, l))
+  row-read i l = block-read (h .monitor .rows) (h .monitor .before) i (lastBlocks h) (omega (arith, s .rows-there, l))
+      (omega (arith, s .kept-there, l))
 
   pub row-written : (i : ℕ) (r : Row) (b : Before) → i < 32 → set (wordsOf h) i (Stored.wordsOf r b) ≡ wordsOf (withRow h i r b)
   unfolding wordsOf
@@ -74,7 +76,8 @@ module _ (h : Lent) (s : Shaped h) where
   unfolding wordsOf
   last-read i = behind-read (rowBlocks (h .monitor .rows) (h .monitor .before)) (lastBlocks h) 32 i front-length
 
-  pub last-written : (i : ℕ) (w : List (List ℕ)) → set (wordsOf h) (32 + i) w ≡ rowBlocks (h .monitor .rows) (h .monitor .before) ++ set (lastBlocks h) i w
+  pub last-written : (i : ℕ) (w : List (List ℕ)) → set (wordsOf h) (32 + i) w ≡ rowBlocks (h .monitor .rows) (h .monitor .before)
+      ++ set (lastBlocks h) i w
   unfolding wordsOf
   last-written i w = behind-written (rowBlocks (h .monitor .rows) (h .monitor .before)) (lastBlocks h) 32 i w front-length
 

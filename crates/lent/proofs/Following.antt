@@ -293,7 +293,8 @@ module _ (f : Row → Row) (save : Row → Before → Before) (test : ℕ → Bo
   takenBy i = taken (f (rowAt (h .monitor) i) .rule) (f (rowAt (h .monitor) i) .now)
 
   -- one more row passes the test
-  next-room : (n : ℕ) → n < length (h .monitor .rows) → rooms f save h room (numbers test n ++ (n ∷ [])) ≡ roomIn (f (rowAt (h .monitor) n)) (roomTo n)
+  next-room : (n : ℕ) → n < length (h .monitor .rows) → rooms f save h room (numbers test n ++ (n ∷ []))
+      ≡ roomIn (f (rowAt (h .monitor) n)) (roomTo n)
   next-room n there =
       let x : Lent = visits f save h (numbers test n) in
       let wide : length (x .monitor .rows) ≡ length (h .monitor .rows) = visits-long f save (numbers test n) h in

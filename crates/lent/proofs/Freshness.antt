@@ -224,8 +224,16 @@ fresh-roomy rows =
       room-mark = omega arith;
       now-few = λ i _. now-few i;
       then-few = λ i _. then-few i;
-      now-room = λ i _. omega (arith, taken-few (rowAt (after rows []) i .rule .form) (rowAt (after rows []) i .rule .span) (rowAt (after rows []) i .now .len) (now-few i));
-      then-room = λ i _. omega (arith, taken-few (rowAt (after rows []) i .rule .form) (rowAt (after rows []) i .rule .span) (keptAt (after rows []) i .state .len) (then-few i));
+      now-room = λ i _. omega (
+        arith,
+        taken-few (rowAt (after rows []) i .rule .form) (rowAt (after rows []) i .rule .span)
+            (rowAt (after rows []) i .now .len) (now-few i),
+      );
+      then-room = λ i _. omega (
+        arith,
+        taken-few (rowAt (after rows []) i .rule .form) (rowAt (after rows []) i .rule .span)
+            (keptAt (after rows []) i .state .len) (then-few i),
+      );
     }
 
 pub fresh-indexes : (rows : List Constraint) → Accepted rows → Indexes (freshLent rows)

@@ -69,7 +69,8 @@ module _ (h : Lent) (ix : Indexes h) (call : Call) (o : Occurrence) (no-event : 
   on-none x stepped = (
     ap takes (stepped .monitor-is ∙ all-rows (c .monitor) (moved o (nextStep m)) (saves o (nextStep m)) (ix .shaped .rows-there) ∙ sym taken-is)
         ∙ sym (ap (λ (b : Bool). cond b (refuses 12 m) (takes (takenCall m call))) none-crowds),
-    subst (λ (room : ℕ). Indexes (withRoom x room)) (sym (stepped .beside .room-is)) (step-indexes c counted o above x stepped (h .room) (omega arith) fits),
+    subst (λ (room : ℕ). Indexes (withRoom x room)) (sym (stepped .beside .room-is))
+        (step-indexes c counted o above x stepped (h .room) (omega arith) fits),
   )
 
   room : (i : ℕ) → i < heldRows m → crowds o (rowAt m i) ≡ false

@@ -74,7 +74,8 @@ module _ (h : Lent) (ix : Indexes h) (call : Call) (kind stream time : ℕ) (sma
     -- a place is free in each row where there is room: one of the kind was looked at, and any other has taken none
     fits : (i : ℕ) → i < heldRows m → takenIn (rowAt m i .rule) (moved o (nextStep m) (rowAt m i) .now .len) + left .room ≤ 64
     fits i l =
-        split (isOf m (o .kind) i) (λ b. isOf m (o .kind) i ≡ b → takenIn (rowAt m i .rule) (moved o (nextStep m) (rowAt m i) .now .len) + left .room ≤ 64)
+        split (isOf m (o .kind) i) (λ b. isOf m (o .kind) i ≡ b
+        → takenIn (rowAt m i .rule) (moved o (nextStep m) (rowAt m i) .now .len) + left .room ≤ 64)
         (λ _ e. heard .fits i l e)
         (λ _ e. less _ _ (left .room) (c .room) (quiet-taken (rowAt m i) o (nextStep m) e) (heard .less) (counted .roomy .now-room i l)) refl
       where

@@ -1,4 +1,5 @@
--- The words beside the rows, read and written: each stands at a place of the last three blocks, and a store there is a store in one part of the record.
+-- The words beside the rows, read and written: each stands at a place of the last three blocks, and a store there is a store in one part of the
+-- record.
 use Prim.Native.Nat.{ℕ, zero, suc, _+_, _-_, _<_, _/_, _%_, min}
 use native.Mathlib.Omega.{arith}
 use native.Mathlib.Nat.{suc-add, zero-add}
@@ -112,7 +113,8 @@ module _ (h : Lent) (s : Shaped h) where
 
   -- and a store of it
   pub plain-written : (i v : ℕ) → i < 48
-      → set (wordsOf h) 32 (set (getD (wordsOf h) 32 []) 0 (set (getD (getD (wordsOf h) 32 []) 0 []) (16 + i) v)) ≡ wordsOf (withNext h (set (h .monitor .next) i v))
+      → set (wordsOf h) 32 (set (getD (wordsOf h) 32 []) 0 (set (getD (getD (wordsOf h) 32 []) 0 []) (16 + i) v))
+      ≡ wordsOf (withNext h (set (h .monitor .next) i v))
   unfolding wordsOf
   plain-written i v l =
       ap (λ (b : List (List ℕ)). set (wordsOf h) 32 (set b 0 (set (getD b 0 []) (16 + i) v))) numbers-read
@@ -128,7 +130,8 @@ module _ (h : Lent) (s : Shaped h) where
   unfolding wordsOf
   coloured-written i v l =
       ap (λ (b : List (List ℕ)). set (wordsOf h) 34 (set b (i / 64) (set (getD b (i / 64) []) (i % 64) v))) coloured-read
-      ∙ last-written h s 2 (set (halves (drop 48 (h .monitor .next))) (i / 64) (set (getD (halves (drop 48 (h .monitor .next))) (i / 64) []) (i % 64) v))
+      ∙ last-written h s 2 (set (halves (drop 48 (h .monitor .next))) (i / 64)
+      (set (getD (halves (drop 48 (h .monitor .next))) (i / 64) []) (i % 64) v))
       ∙ ap₂ (λ (x : List ℕ) (c : List (List ℕ)). rowBlocks (h .monitor .rows) (h .monitor .before)
       ++ ((numberArray (h .monitor) (h .soonest) (h .room) x ∷ h .ends ∷ []) ∷ halves (h .entries) ∷ c ∷ []))
       (sym (take-set-le 48 (h .monitor .next) (48 + i) v (omega arith)))
@@ -149,7 +152,8 @@ or-true true = refl
 or-true false = refl
 
 -- one of the rows is crowded where the row of an entry is
-pub crowded-there : (h : Lent) (first j : ℕ) (o : Occurrence) → crowdedAt h (rowNamed h (first + j)) o ≡ true → (n : ℕ) → j < n → crowded h first n o ≡ true
+pub crowded-there : (h : Lent) (first j : ℕ) (o : Occurrence) → crowdedAt h (rowNamed h (first + j)) o ≡ true → (n : ℕ) → j < n → crowded h first n o
+    ≡ true
 crowded-there h first j o there zero small = absurd (omega (arith, small))
 crowded-there h first j o there (suc n) small =
     split (ltb j n) (λ _. (crowded h first n o || crowdedAt h (rowNamed h (first + n)) o) ≡ true)
@@ -172,11 +176,25 @@ shaped-next h i v s =
 
 pub shaped-soonest : (h : Lent) (time : ℕ) → Shaped h → Shaped (withSoonest h time)
 shaped-soonest h time s =
-    record { rows-there = s .rows-there; kept-there = s .kept-there; next-there = s .next-there; ends-there = s .ends-there; entries-there = s .entries-there }
+    record {
+      rows-there = s .rows-there;
+      kept-there = s .kept-there;
+      next-there = s .next-there;
+      ends-there = s .ends-there;
+      entries-there =
+          s .entries-there;
+    }
 
 pub shaped-room : (h : Lent) (room : ℕ) → Shaped h → Shaped (withRoom h room)
 shaped-room h room s =
-    record { rows-there = s .rows-there; kept-there = s .kept-there; next-there = s .next-there; ends-there = s .ends-there; entries-there = s .entries-there }
+    record {
+      rows-there = s .rows-there;
+      kept-there = s .kept-there;
+      next-there = s .next-there;
+      ends-there = s .ends-there;
+      entries-there =
+          s .entries-there;
+    }
 
 pub shaped-row : (h : Lent) (i : ℕ) (r : Row) (b : Before) → Shaped h → Shaped (withRow h i r b)
 shaped-row h i r b s =
@@ -217,7 +235,14 @@ shaped-counted h stream time s =
 
 pub shaped-to : (h : Lent) (time closed : ℕ) → Shaped h → Shaped (countedTo h time closed)
 shaped-to h time closed s =
-    record { rows-there = s .rows-there; kept-there = s .kept-there; next-there = s .next-there; ends-there = s .ends-there; entries-there = s .entries-there }
+    record {
+      rows-there = s .rows-there;
+      kept-there = s .kept-there;
+      next-there = s .next-there;
+      ends-there = s .ends-there;
+      entries-there =
+          s .entries-there;
+    }
 
 -- ---- the rows to which the clock goes
 
@@ -239,19 +264,23 @@ same-rows x h e (suc kind) = (
 
 module _ (h : Lent) (o : Occurrence) where
   -- what holds of each outcome holds of what begins
-  by-outcome : (P : Lent → Type 0) → P (withSoonest (ended h (heldRows (h .monitor)) o (h .monitor .count)) 0) → P (withSoonest h (soonestAll h)) → P h → P (begun h o)
+  by-outcome : (P : Lent → Type 0) → P (withSoonest (ended h (heldRows (h .monitor)) o (h .monitor .count)) 0) → P (withSoonest h (soonestAll h))
+      → P h → P (begun h o)
   by-outcome P late same none =
       split (ltb (h .soonest) (o .time)) (λ b. P (cond b (passed h o) h))
       (λ _. split (ltb (soonestAll h) (o .time))
-      (λ b. P (cond b (withSoonest (ended h (heldRows (h .monitor)) o (h .monitor .count)) 0) (withSoonest h (soonestAll h)))) (λ _. late) (λ _. same)) (λ _. none)
+      (λ b. P (cond b (withSoonest (ended h (heldRows (h .monitor)) o (h .monitor .count)) 0) (withSoonest h (soonestAll h)))) (λ _. late)
+      (λ _. same)) (λ _. none)
 
   pub begun-count : begun h o .monitor .count ≡ h .monitor .count
-  begun-count = by-outcome (λ (x : Lent). x .monitor .count ≡ h .monitor .count) (ended-count h (heldRows (h .monitor)) o (h .monitor .count)) refl refl
+  begun-count = by-outcome (λ (x : Lent). x .monitor .count ≡ h .monitor .count)
+      (ended-count h (heldRows (h .monitor)) o (h .monitor .count)) refl refl
 
   pub begun-ends : begun h o .ends ≡ h .ends
   begun-ends = by-outcome (λ (x : Lent). x .ends ≡ h .ends) (ended-ends h (heldRows (h .monitor)) o (h .monitor .count)) refl refl
 
   pub shaped-begun : Shaped h → Shaped (begun h o)
   shaped-begun s =
-      by-outcome Shaped (shaped-soonest (ended h (heldRows (h .monitor)) o (h .monitor .count)) 0 (shaped-ended h (heldRows (h .monitor)) o (h .monitor .count) s))
+      by-outcome Shaped (shaped-soonest (ended h (heldRows (h .monitor)) o (h .monitor .count)) 0
+      (shaped-ended h (heldRows (h .monitor)) o (h .monitor .count) s))
       (shaped-soonest h (soonestAll h) s) s

@@ -30,7 +30,8 @@ rowBlocks [] kept = []
 rowBlocks (r ∷ rows) [] = []
 rowBlocks (r ∷ rows) (b ∷ kept) = Stored.wordsOf r b ∷ rowBlocks rows kept
 
--- the numbers beside the rows, and the first free times of the plain kinds behind them; the word for "open" is 0 once the recording is closed, so that
+-- the numbers beside the rows, and the first free times of the plain kinds behind them; the word for "open" is 0 once the recording is closed, so
+-- that
 -- memory of zeros reads as closed
 abbrev pub numberArray : Monitor → ℕ → ℕ → List ℕ → List ℕ
 numberArray m soonest room plain =

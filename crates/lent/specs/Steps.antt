@@ -151,7 +151,8 @@ countedMonitor m stream free time closed =
 -- after an event of a stream, a tick, and the close
 abbrev pub countedOn : Lent → ℕ → ℕ → Lent
 countedOn h stream time =
-    withMonitor h (countedMonitor (withNext h (set (h .monitor .next) stream (plus time 1)) .monitor) stream (getD (h .monitor .next) stream 0) time (h .monitor .closed))
+    withMonitor h (countedMonitor (withNext h (set (h .monitor .next) stream (plus time 1)) .monitor) stream (getD (h .monitor .next) stream 0) time
+    (h .monitor .closed))
 
 abbrev pub countedTo : Lent → ℕ → ℕ → Lent
 countedTo h time closed = withMonitor h (countedMonitor (h .monitor) 0 (getD (h .monitor .next) 0 0) time closed)

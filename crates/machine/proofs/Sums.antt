@@ -1,4 +1,5 @@
--- Sums that form deadlines are exact: the largest is a point at the last time with an upper and a jitter, three times the last time, which is below the
+-- Sums that form deadlines are exact: the largest is a point at the last time with an upper and a jitter, three times the last time, which is below
+-- the
 -- mark (§1.1). So a sum saturates only where the mark itself is added.
 use Prim.Native.Nat.{ℕ, _+_, _*_, _≤_, _<_}
 use native.Mathlib.Omega.{arith}

@@ -9,7 +9,7 @@ use lib.ListN.{length}
 use Rattle.constraint.specs.Limits.{lastTime}
 use Rattle.constraint.specs.Steps.{Step, event, tick, at, times, own, clock, closed}
 use Rattle.constraint.specs.Meets.{Meets}
-use Rattle.constraint.specs.Continuation.{Continues, Open}
+use Rattle.constraint.specs.Continuation.{Open}
 use Rattle.constraint.specs.Waiting.{waiting}
 use Rattle.constraint.specs.Accepted.{kinds, KindsFit}
 use Rattle.constraint.proofs.Streams.{streams}
@@ -66,7 +66,8 @@ pub record TwoKinds (decide : Marks → List ℕ → ℕ → ℕ → Change) (so
       → kept marks times ≡ false → ¬ Meet sources targets
 
 -- a constraint whose definition and what waits are said of two lists of times
-pub record OfTwoKinds (c : Constraint) (source target : ℕ) (Meet : List ℕ → List ℕ → Type 0) (waits-in : Bool) (wait : List ℕ → List ℕ → ℕ) : Type 1 where
+pub record OfTwoKinds (c : Constraint) (source target : ℕ) (Meet : List ℕ → List ℕ → Type 0) (waits-in : Bool)
+    (wait : List ℕ → List ℕ → ℕ) : Type 1 where
   pub kinds-are : kinds c ≡ source ∷ target ∷ []
   pub streams-are : streams c ≡ source ∷ target ∷ []
   pub kinds-fit : KindsFit (kinds c)
@@ -80,7 +81,8 @@ pub target-apart : {source target : ℕ} → KindsFit (source ∷ target ∷ [])
 target-apart {source} {target} fit = kinds-apart (source ∷ target ∷ []) fit 1 0 (omega arith) (omega arith) (λ e. omega arith)
 
 module _ {c : Constraint} {source target : ℕ} {Meet : List ℕ → List ℕ → Type 0} {waits-in : Bool} {wait : List ℕ → List ℕ → ℕ}
-    (of : OfTwoKinds c source target Meet waits-in wait) (decide : Marks → List ℕ → ℕ → ℕ → Change) (laws : TwoKinds decide source target Meet waits-in wait) where
+    (of : OfTwoKinds c source target Meet waits-in wait) (decide : Marks → List ℕ → ℕ → ℕ → Change)
+    (laws : TwoKinds decide source target Meet waits-in wait) where
   -- ---- the two kinds
 
   pair-fit : KindsFit (source ∷ target ∷ [])

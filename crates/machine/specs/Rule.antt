@@ -7,7 +7,8 @@ use lib.ListN.{replicate}
 use Rattle.constraint.specs.Limits.{noLimit}
 use Rattle.constraint.specs.declared.Constraint.{Constraint}
 use Rattle.constraint.specs.declared.Constraint.the-variants.{Delay, StrongDelay, Repeat, Sporadic, Burst, Order}
-use Rattle.constraint.specs.declared.Constraint.the-variants.{StrongSynchronization2, StrongSynchronization3, StrongSynchronization4, ExecutionTime, Reaction, Repetition}
+use Rattle.constraint.specs.declared.Constraint.the-variants.{StrongSynchronization2, StrongSynchronization3, StrongSynchronization4, ExecutionTime}
+use Rattle.constraint.specs.declared.Constraint.the-variants.{Reaction, Repetition}
 use Rattle.machine.specs.declared.Rule.{Rule}
 
 -- a kind that no event has

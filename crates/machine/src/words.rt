@@ -10,7 +10,6 @@ use queue::place_of;
 use queue::push;
 use queue::put_pair;
 use queue::time_at;
-ghost use Prim.Native.Nat.{_<_};
 ghost use mathlib.Core.Path.{_≡_};
 ghost use mathlib.Core.Bool.{cond};
 ghost use Rattle.machine.specs.declared.Rule.{Rule};

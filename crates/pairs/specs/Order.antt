@@ -25,7 +25,8 @@ withAhead m ahead = marksOf (m .last) ahead (m .second) m
 -- the change to other marks: a target beyond needs its source at once, and the row is kept where nothing is beyond
 unfoldable pub changesTo : Marks → Change
 changesTo marks =
-    cond (eqb (earlyOf marks) 0) (continuesWith (Drop 0) marks noLimit (eqb (aheadOf marks) 0)) (continuesWith (Drop 0) marks (earlyOf marks - 1) false)
+    cond (eqb (earlyOf marks) 0) (continuesWith (Drop 0) marks noLimit (eqb (aheadOf marks) 0))
+    (continuesWith (Drop 0) marks (earlyOf marks - 1) false)
 
 -- what the row keeps after the change to these marks
 abbrev pub stored : State → ℕ → ℕ → State

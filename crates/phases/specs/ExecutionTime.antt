@@ -1,4 +1,5 @@
--- ExecutionTime: no times are kept; `first` is the phase, 0 between two executions, 1 in a running one and 2 in a preempted one, `last` one more than the
+-- ExecutionTime: no times are kept; `first` is the phase, 0 between two executions, 1 in a running one and 2 in a preempted one, `last` one more
+-- than the
 -- time of the row's last event, `second` how long the execution begun has run up to that event.
 use Prim.Native.Nat.{ℕ, _-_}
 use mathlib.Core.Bool.{true, false, cond, _&&_}

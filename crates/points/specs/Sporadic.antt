@@ -1,4 +1,5 @@
--- Sporadic: no times are kept; the last hidden point can be at each place from `first` to `second`, and `last` is one more than the last event's time.
+-- Sporadic: no times are kept; the last hidden point can be at each place from `first` to `second`, and `last` is one more than the last event's
+-- time.
 use Prim.Native.Nat.{ℕ, _-_, min, max}
 use mathlib.Core.Bool.{true, cond, _&&_}
 use mathlib.Core.List.{List}

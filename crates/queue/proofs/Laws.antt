@@ -240,7 +240,8 @@ near-either : (p : ℕ) (b : Bool) (x y : Ring) (l : List ℕ) → Near p (x .ti
 near-either p true x y l n k = n
 near-either p false x y l n k = k
 
-near-push : (p : ℕ) (q : Ring) (word : ℕ) (l : List ℕ) → (ringPlace (q .head) (q .len) ≡ ringPlace p 0) ⊎ (ringPlace (q .head) (q .len) ≡ ringPlace p 1)
+near-push : (p : ℕ) (q : Ring) (word : ℕ) (l : List ℕ) → (ringPlace (q .head) (q .len) ≡ ringPlace p 0)
+    ⊎ (ringPlace (q .head) (q .len) ≡ ringPlace p 1)
     → Near p (q .times) l → Near p (pushRing word q .times) l
 unfolding pushRing
 near-push p q word l at n = near-either p (ltb (q .len) 64) _ q l (near-set p (q .times) l _ word at n) n
@@ -287,7 +288,8 @@ near-edited q (PushTwo d first second) =
     near-push _ (pushRing first (dropRing d q)) second (q .times) (pushed-place (dropRing d q) first)
     (near-push _ (dropRing d q) first (q .times) (inl (omega arith)) (near-same _ (q .times)))
 near-edited q (Store place first second) =
-    near-put _ (putRing place first q) (place + 1) second (q .times) (inr (ap (λ (h : ℕ). ringPlace h (place + 1)) (put-head q place first) ∙ next-place (q .head) place))
+    near-put _ (putRing place first q) (place + 1) second (q .times)
+    (inr (ap (λ (h : ℕ). ringPlace h (place + 1)) (put-head q place first) ∙ next-place (q .head) place))
     (near-put _ q place first (q .times) (inl (omega arith)) (near-same _ (q .times)))
 
 pub edit-back : (q : Ring) (e : Edit) → length (q .times) ≡ 64

@@ -1,4 +1,5 @@
--- Whether what occurs crowds a row does not hang on the number of the step, nor on its times: a row with room for two more words is crowded by nothing, as a
+-- Whether what occurs crowds a row does not hang on the number of the step, nor on its times: a row with room for two more words is crowded by
+-- nothing, as a
 -- change lets in two at most; and with 63 or 64 waiting, its type, its marks and how many wait say whether more are let in.
 use Prim.Native.Nat.{ℕ, _+_, _-_, _*_, _/_, _%_, _<_, _≤_}
 use native.Mathlib.Omega.{arith}
@@ -166,7 +167,8 @@ module _ (times : List ℕ) (many : 63 ≤ length times) (few : length times ≤
   strong-delay rule marks kind t =
       split (eqb kind (rule .first))
       (λ a. cond (ltb n waitingLimit) false (cond a (eqb (earlyOf marks) 0) false)
-      ≡ crowds-of (cond a (waits (rule .upper) times (cond (eqb (earlyOf marks) 0) (Push 0 t) (Drop 0)) (withLast marks 0)) (targetStrongDelay rule marks times t)) times)
+      ≡ crowds-of (cond a (waits (rule .upper) times (cond (eqb (earlyOf marks) 0) (Push 0 t) (Drop 0)) (withLast marks 0))
+      (targetStrongDelay rule marks times t)) times)
       (λ _. split (eqb (earlyOf marks) 0)
       (λ b. cond (ltb n waitingLimit) false b ≡ crowds-of (waits (rule .upper) times (cond b (Push 0 t) (Drop 0)) (withLast marks 0)) times)
       (λ _. sym (pushed t)) (λ _. never (ltb n waitingLimit) ∙ sym (dropped 0)))
@@ -180,8 +182,10 @@ module _ (times : List ℕ) (many : 63 ≤ length times) (few : length times ≤
   repeat rule marks kind t =
       let far : Bool = farEnough (rule .minimum) (marks .last) t in
       let reached : Bool = leb (front times + rule .lower) t in
-      let on : Bool → Change = λ s. continuesWith (Push (cond s 0 1) t) (withLast marks (plus t 1)) (dueOr (plus t (rule .upper)) (rule .upper) (drop (cond s 0 1) times)) true in
-      split (ltb n (rule .span)) (λ s. cond (ltb n waitingLimit) false (cond s far false) ≡ crowds-of (cond (far && (s || reached)) (on s) breaking) times)
+      let on : Bool → Change = λ s. continuesWith (Push (cond s 0 1) t) (withLast marks (plus t 1))
+      (dueOr (plus t (rule .upper)) (rule .upper) (drop (cond s 0 1) times)) true in
+      split (ltb n (rule .span)) (λ s. cond (ltb n waitingLimit) false (cond s far false)
+      ≡ crowds-of (cond (far && (s || reached)) (on s) breaking) times)
       (λ _. split far (λ f. cond (ltb n waitingLimit) false f ≡ crowds-of (cond (f && true) (on true) breaking) times)
       (λ _. sym (pushed t)) (λ _. never (ltb n waitingLimit)))
       (λ _. never (ltb n waitingLimit) ∙ sym (calm-by (far && reached) (on false) breaking (replaced t) refl))
@@ -215,7 +219,8 @@ module _ (times : List ℕ) (many : 63 ≤ length times) (few : length times ≤
       let full : Change = waits (rule .upper) times (Drop 1) (withoutOldest now) in
       let part : Change = waits (rule .upper) times (Drop 0) now in
       split (ltb (countOf rule marks kind) n)
-      (λ b. cond (ltb n waitingLimit) false (cond b false true) ≡ crowds-of (cond b (cond (complete rule now) full part) (waits (rule .upper) times (Push 0 t) now)) times)
+      (λ b. cond (ltb n waitingLimit) false (cond b false true)
+      ≡ crowds-of (cond b (cond (complete rule now) full part) (waits (rule .upper) times (Push 0 t) now)) times)
       (λ _. never (ltb n waitingLimit) ∙ sym (calm-by (complete rule now) full part (dropped 1) (dropped 0))) (λ _. sym (pushed t))
 
   -- ---- those in which nothing waits
@@ -223,7 +228,8 @@ module _ (times : List ℕ) (many : 63 ≤ length times) (few : length times ≤
   later : (rule : Rule) (marks : Marks) (t : ℕ) → Calm (laterSporadic rule marks t)
   unfolding laterSporadic
   later rule marks t =
-      calm-by (farEnough (rule .minimum) (marks .last) t && (leb (stride (rule .lower)) (rule .upper) && leb (lowest rule marks t) (highest rule marks t)))
+      calm-by (farEnough (rule .minimum) (marks .last) t && (leb (stride (rule .lower)) (rule .upper)
+      && leb (lowest rule marks t) (highest rule marks t)))
       (pointAt rule marks t (lowest rule marks t) (highest rule marks t)) breaking (dropped 0) refl
 
   sporadic : (rule : Rule) (marks : Marks) (kind t : ℕ) → Calm (decideSporadic rule marks times kind t)
@@ -263,7 +269,8 @@ module _ (times : List ℕ) (many : 63 ≤ length times) (few : length times ≤
       let one : Change = cond (eqb (phaseOf marks) 1) (whileRunning rule marks kind t) (whilePreempted rule marks kind t) in
       calm-by (ltb t (marks .last)) breaking (cond (eqb (phaseOf marks) 0) (whileIdle rule marks kind t) one) refl
       (calm-by (eqb (phaseOf marks) 0) (whileIdle rule marks kind t) one (idle rule marks kind t)
-      (calm-by (eqb (phaseOf marks) 1) (whileRunning rule marks kind t) (whilePreempted rule marks kind t) (running rule marks kind t) (preempted rule marks kind t)))
+      (calm-by (eqb (phaseOf marks) 1) (whileRunning rule marks kind t) (whilePreempted rule marks kind t) (running rule marks kind t)
+      (preempted rule marks kind t)))
 
   stored : (place first second : ℕ) → ltb 64 (length (set (set times place first) (place + 1) second)) ≡ false
   stored place first second =
@@ -273,7 +280,8 @@ module _ (times : List ℕ) (many : 63 ≤ length times) (few : length times ≤
   paired-calm : (marks : Marks) (colour : ℕ) (pair : Pair) → Calm (paired marks times colour pair)
   paired-calm marks colour pair =
       calm-by (pair .breaks) breaking
-      (continuesWith (Store (2 * colour) (pair .low) (pair .high)) marks (dueBut 8 colour (pair .high) times) (eqb (dueBut 8 colour (pair .high) times) noLimit)) refl
+      (continuesWith (Store (2 * colour) (pair .low) (pair .high)) marks (dueBut 8 colour (pair .high) times)
+      (eqb (dueBut 8 colour (pair .high) times) noLimit)) refl
       (stored (2 * colour) (pair .low) (pair .high))
 
   reaction : (rule : Rule) (marks : Marks) (s t : ℕ) → Calm (decideReaction rule marks times s t)
@@ -310,9 +318,12 @@ pub crowded-known : (r : Row) (o : Occurrence) → r .now .len ≤ 64 → crowde
 unfolding crowdedBy
 crowded-known r o few =
     let size : length (itemsOf r) ≡ r .now .len = ring-length (r .times) (r .now .head) (r .now .len) in
-    let own : Bool → Bool = λ b. cond (ltb 0 (r .now .broken)) false (cond (ltb (r .now .due) (o .time)) false (cond (concerns (r .rule) (o .kind)) b false)) in
-    split (ltb (r .now .len) 63) (λ b. ltb (r .now .len) 63 ≡ b → cond b false (own (fills (r .rule) (r .now .marks) (r .now .len) (o .stream) (o .time))) ≡ crowds o r)
+    let own : Bool → Bool = λ b. cond (ltb 0 (r .now .broken)) false
+    (cond (ltb (r .now .due) (o .time)) false (cond (concerns (r .rule) (o .kind)) b false)) in
+    split (ltb (r .now .len) 63) (λ b. ltb (r .now .len) 63 ≡ b
+    → cond b false (own (fills (r .rule) (r .now .marks) (r .now .len) (o .stream) (o .time))) ≡ crowds o r)
     (λ _ e. sym (room-left r o (omega (arith, size, ltb-true (r .now .len) 63 e))))
     (λ _ e. rw (le-ltb waitingLimit (r .now .len) few) (ap own (ap (λ (k : ℕ). fills (r .rule) (r .now .marks) k (o .stream) (o .time)) (sym size)
-    ∙ fills-known (itemsOf r) (omega (arith, size, ltb-false (r .now .len) 63 e)) (omega (arith, size, few)) (r .rule) (r .now .marks) (o .stream) (o .time))))
+    ∙ fills-known (itemsOf r) (omega (arith, size, ltb-false (r .now .len) 63 e)) (omega (arith, size, few)) (r .rule) (r .now .marks) (o .stream)
+    (o .time))))
     refl

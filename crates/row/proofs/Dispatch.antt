@@ -16,7 +16,8 @@ module _ {A : Type 0} (n : ℕ) (a b c d e f g h j : A) where
   abbrev pub chosen : A
   chosen =
       cond (eqb n 1) a
-      (cond (eqb n 2) b (cond (eqb n 3 || eqb n 5) c (cond (eqb n 4) d (cond (eqb n 6) e (cond (eqb n 8) f (cond (eqb n 9) g (cond (eqb n 10) h j)))))))
+      (cond (eqb n 2) b (cond (eqb n 3 || eqb n 5) c (cond (eqb n 4) d
+      (cond (eqb n 6) e (cond (eqb n 8) f (cond (eqb n 9) g (cond (eqb n 10) h j)))))))
 
   pub form-1 : n ≡ 1 → chosen ≡ a
   form-1 is = rw is

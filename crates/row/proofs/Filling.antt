@@ -136,7 +136,8 @@ module _ (form span : ℕ) where
 
   -- a place is free where at most 62 are kept
   pub taken-free : (n : ℕ) → n ≤ 62 → filledBy form span n ≤ 63
-  taken-free n l = at-most-by n 63 (omega (arith, l)) (subst (λ (b : Bool). cond b n 64 ≤ 63) (sym (lt-ltb n 63 (omega (arith, l)))) (omega (arith, l)))
+  taken-free n l = at-most-by n 63 (omega (arith, l)) (subst (λ (b : Bool). cond b n 64 ≤ 63) (sym (lt-ltb n 63 (omega (arith, l))))
+      (omega (arith, l)))
 
 -- ---- a step
 

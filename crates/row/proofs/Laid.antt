@@ -27,7 +27,8 @@ module _ (r : Row) (change : Change) (number : ℕ) where
       split (change .breaks)
       (λ b. cond b (wordsOf (brokenRow r number) (savedAt r (editPlace (change .edit) (ringOf (r .times) (r .now .head) (r .now .len))) number))
       (wordsOf (applied r change) (savedAt r (editPlace (change .edit) (ringOf (r .times) (r .now .head) (r .now .len))) number))
-      ≡ wordsOf (cond b (brokenRow r number) (applied r change)) (savedAt r (editPlace (change .edit) (ringOf (r .times) (r .now .head) (r .now .len))) number))
+      ≡ wordsOf (cond b (brokenRow r number) (applied r change))
+      (savedAt r (editPlace (change .edit) (ringOf (r .times) (r .now .head) (r .now .len))) number))
       (λ _. refl) (λ _. refl)
 
 -- ---- what occurs
@@ -43,7 +44,8 @@ module _ (r : Row) (o : Occurrence) (number : ℕ) (b : Before) where
   with-state = rowFrom (r .rule) (r .times)
 
   ended-row : (broken late own closes unkept : Bool) (heard : Row) (x y : State) → cond late false own ≡ false
-      → cond (cond broken false (cond late true (cond closes (cond own false true) false))) (with-state (cond late x (cond unkept x y))) (with-state y)
+      → cond (cond broken false (cond late true (cond closes (cond own false true) false))) (with-state (cond late x (cond unkept x y)))
+      (with-state y)
       ≡ cond broken (with-state y) (cond late (with-state x) (cond own heard (cond (closes && unkept) (with-state x) (with-state y))))
   ended-row true late own closes unkept heard x y e = refl
   ended-row false true own closes unkept heard x y e = refl

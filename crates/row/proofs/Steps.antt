@@ -142,7 +142,8 @@ module _ (c : Constraint) (exact : Exact c) (steps : List Step) (valid : Valid s
   fits-room r f o =
       ⊎-elim
       (λ (g : Going c exact steps (r .times) (r .now)).
-      waits-few (waitsIn (ruleOf c .form)) (omega (arith, ring-length (r .times) (r .now .head) (r .now .len), g .room)) (exact .waits past (g .live)))
+      waits-few (waitsIn (ruleOf c .form)) (omega (arith, ring-length (r .times) (r .now .head) (r .now .len), g .room))
+      (exact .waits past (g .live)))
       (λ b. absurd (broken-shut c (r .now .broken) valid (b .first) o))
       (f .state)
 

@@ -51,7 +51,8 @@ module _ (r : Row) (whole : length (r .times) ≡ 64) where
       split (ltb waitingLimit (r .now .len)) (λ x. Back (at change) (cond x (crowding r) (cond (change .breaks) (stays (brokenRow r n)) goes) .row))
       (λ e. back-same (at change))
       (λ e. split (change .breaks) (λ x. Back (at change) (cond x (stays (brokenRow r n)) goes .row)) (λ f. back-broken (at change) n)
-      (λ f. split more (λ x. Back (at change) (cond x (crowding r) (stays (applied r change)) .row)) (λ g. back-same (at change)) (λ g. back-applied change)))
+      (λ f. split more (λ x. Back (at change) (cond x (crowding r) (stays (applied r change)) .row)) (λ g. back-same (at change))
+      (λ g. back-applied change)))
     where
       more : Bool
       more = ltb waitingLimit (length (changed (change .edit) (itemsOf r)))
@@ -65,7 +66,8 @@ module _ (r : Row) (whole : length (r .times) ≡ 64) where
   step-back o n =
       split (ltb 0 (r .now .broken)) (λ x. Back (cond x 0 late-place) (cond x (stays r) late .row)) (λ e. back-same 0) (λ e.
       split (ltb (r .now .due) (o .time)) (λ x. Back (cond x 0 own-place) (cond x (stays (brokenRow r n)) own .row)) (λ f. back-broken 0 n) (λ f.
-      split (concerns (r .rule) (o .kind)) (λ x. Back (cond x (at change) 0) (cond x (changedRow r change n) end .row)) (λ g. back-changed change n) (λ g.
+      split (concerns (r .rule) (o .kind)) (λ x. Back (cond x (at change) 0) (cond x (changedRow r change n) end .row)) (λ g. back-changed change n)
+      (λ g.
       split unkept (λ x. Back 0 (cond x (stays (brokenRow r n)) (stays r) .row)) (λ h. back-broken 0 n) (λ h. back-same 0))))
     where
       change : Change
@@ -95,7 +97,8 @@ unfolding movesBy rowStep
 still r o n e = by-tests (ltb 0 (r .now .broken)) (ltb (r .now .due) (o .time)) (o .closes) (concerns (r .rule) (o .kind)) e
   where
     by-tests : (broken late closes own : Bool) → cond broken false (cond late true (cond closes true own)) ≡ false
-        → cond broken (stays r) (cond late (stays (brokenRow r n)) (cond own (changedRow r (decide (r .rule) (r .now .marks) (itemsOf r) (o .stream) (o .time)) n)
+        → cond broken (stays r) (cond late (stays (brokenRow r n))
+        (cond own (changedRow r (decide (r .rule) (r .now .marks) (itemsOf r) (o .stream) (o .time)) n)
         (cond (closes && eqb (r .now .kept) 0) (stays (brokenRow r n)) (stays r)))) .row ≡ r
     by-tests true late closes own e = refl
     by-tests false true closes own e = both e
@@ -109,6 +112,7 @@ pub row-without : (r : Row) (b : Before) (o : Occurrence) (number : ℕ) → len
 unfolding rowWithout savedBy
 row-without r b o number whole other =
     split (movesBy (r .rule) (r .now) o)
-    (λ x. let kept = cond x (savedRow r o number) b in cond (eqb (kept .stamp) number) (backRow (rowStep r o number .row) kept) (rowStep r o number .row) ≡ r)
+    (λ x. let kept = cond x (savedRow r o number) b in cond (eqb (kept .stamp) number) (backRow (rowStep r o number .row) kept)
+    (rowStep r o number .row) ≡ r)
     (λ e. rw (eq-eqb number number refl) (step-back r whole o number number))
     (λ e. rw (ne-eqb (b .stamp) number other) (still r o number e))

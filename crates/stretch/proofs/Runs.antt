@@ -55,9 +55,11 @@ module _ (streams times : List ℕ) (count start : ℕ) (small : count ≤ 256) 
         placed = omega arith;
         same = refl;
         running = λ d e steps run accepted h.
-            subst (λ (r : Row). Running d (sound-of d accepted) steps (run .taken) streams times (run .kept) (few-of steps streams times count run small) start 0 r)
+            subst (λ (r : Row). Running d (sound-of d accepted) steps (run .taken) streams times (run .kept)
+            (few-of steps streams times count run small) start 0 r)
             (sym (is ∙ same-row c d (sym (ap (λ (r : Row). r .rule) is ∙ rule-of c) ∙ e)))
-            (run-start d (sound-of d accepted) steps (run .taken) streams times (run .kept) (few-of steps streams times count run small) start (omega (arith, run .counted, h)));
+            (run-start d (sound-of d accepted) steps (run .taken) streams times (run .kept) (few-of steps streams times count run small) start
+            (omega (arith, run .counted, h)));
       }
 
   module _ (rule : Rule) (r : Row) (size place : ℕ) (to : RunningTo rule r size place) where
@@ -95,11 +97,15 @@ module _ (streams times : List ℕ) (count start : ℕ) (small : count ≤ 256) 
               same = ap (λ (s : RowStep). s .row .rule) is ∙ rule-stays r (seenAs (at streams place) (at times place)) (size + 1) ∙ to .same;
               running = λ c e steps run accepted h.
                   let one-more : suc size ≡ size + 1 = omega arith in
-                  subst (λ (s : RowStep). Running c (sound-of c accepted) steps (run .taken) streams times (run .kept) (few-of steps streams times count run small) start (size + 1) (s .row)) (sym here)
-                  (subst (λ (n : ℕ). Running c (sound-of c accepted) steps (run .taken) streams times (run .kept) (few-of steps streams times count run small) start n
+                  subst (λ (s : RowStep). Running c (sound-of c accepted) steps (run .taken) streams times (run .kept)
+                  (few-of steps streams times count run small) start (size + 1) (s .row)) (sym here)
+                  (subst (λ (n : ℕ). Running c (sound-of c accepted) steps (run .taken) streams times (run .kept)
+                  (few-of steps streams times count run small) start n
                   (rowStep r (seenAs (at streams (start + size)) (at times (start + size))) (size + 1) .row)) one-more
-                  (run-on c (sound-of c accepted) steps (run .taken) streams times (run .kept) (few-of steps streams times count run small) start size r
-                  (to .running c e steps run accepted h) (there steps run) calm-here (subst (λ (s : RowStep). s .row .now .broken ≡ 0) here (omega (arith, unbroken)))));
+                  (run-on c (sound-of c accepted) steps (run .taken) streams times (run .kept)
+                  (few-of steps streams times count run small) start size r
+                  (to .running c e steps run accepted h) (there steps run) calm-here
+                  (subst (λ (s : RowStep). s .row .now .broken ≡ 0) here (omega (arith, unbroken)))));
             }
 
 -- ---- each start
@@ -113,7 +119,8 @@ module _ (c : Constraint) (streams times : List ℕ) (count : ℕ) where
   pub needs-start : (need : List ℕ) → length need ≡ 256 → NeedsTo need 0
   needs-start need whole = record { whole = whole; each = λ i h. absurd (omega (arith, h)) }
 
-  pub needs-more : (need : List ℕ) (start n : ℕ) → NeedsTo need start → start < 256 → NeedsFrom c streams times count start n → NeedsTo (set need start n) (start + 1)
+  pub needs-more : (need : List ℕ) (start n : ℕ) → NeedsTo need start → start < 256 → NeedsFrom c streams times count start n
+      → NeedsTo (set need start n) (start + 1)
   needs-more need start n before small more =
       record {
         whole = length-set need start n ∙ before .whole;

@@ -2,11 +2,11 @@
 -- after the oldest, or when it came. A response to come can be at any time from the clock on, as its stream is empty.
 use Prim.Native.Nat.{ℕ, _+_, _≤_, _<_}
 use native.Mathlib.Omega.{arith}
-use mathlib.Core.Path.{_≡_, refl, sym, ap, _∙_, subst}
-use mathlib.Core.Bool.{true, false, cond}
+use mathlib.Core.Path.{_≡_, refl, sym, ap, _∙_}
+use mathlib.Core.Bool.{cond}
 use mathlib.Core.List.{List, [], _∷_, _++_}
 use lib.ListN.{length, length-append}
-use lib.Dec.{ltb, eqb}
+use lib.Dec.{ltb}
 use borrow.Author.Tests.{ltb-true, ltb-false, ne-eqb}
 use Rattle.constraint.specs.Limits.{lastTime, noLimit}
 use Rattle.constraint.specs.Steps.{at}
@@ -110,7 +110,10 @@ module _ (minimum maximum : ℕ) where
     stimulus-does low high (pending p) =
         rw (ne-eqb high 0 (λ e. omega (arith, p .room)), plus-is t minimum small (omega arith))
         (split (ltb (t + minimum) high) (λ x. StimulusDoes (cond x (pairOf (t + minimum) high) noPair))
-        (λ e. (pending (moved (ltb-true (t + minimum) high e)), omega (arith, ltb-true (t + minimum) high e, latest-some high (λ z. omega (arith, p .room)))))
+        (λ e. (
+          pending (moved (ltb-true (t + minimum) high e)),
+          omega (arith, ltb-true (t + minimum) high e, latest-some high (λ z. omega (arith, p .room))),
+        ))
         (λ e fs gs late m.
         let (j, h, is) = p .oldest in
         let last = asked (stimuli ++ t ∷ []) fs (responses ++ gs) (length stimuli) (omega (arith, longer)) m in
@@ -226,12 +229,14 @@ module _ (minimum maximum : ℕ) where
       absurd (omega (arith, p .small, p .room, latest-some high (λ e. omega (arith, p .room))))
   colour-kept stimuli responses low high (answered a) none = λ i h. (a .some, a .suits i h)
 
-  pub colour-unkept : (stimuli responses : List ℕ) (low high : ℕ) → Pending stimuli responses low high → ¬ MeetsReaction minimum maximum stimuli responses
+  pub colour-unkept : (stimuli responses : List ℕ) (low high : ℕ) → Pending stimuli responses low high
+      → ¬ MeetsReaction minimum maximum stimuli responses
   unfolding MeetsReaction
   colour-unkept stimuli responses low high p m = let (i, h, is) = p .newest in omega (arith, m i h .0, p .no-response)
 
   -- a colour with a last moment waits
-  pub waits : (stimuli responses : List ℕ) (low high : ℕ) → LiveColour stimuli responses low high → latest high < noLimit → Pending stimuli responses low high
+  pub waits : (stimuli responses : List ℕ) (low high : ℕ) → LiveColour stimuli responses low high → latest high < noLimit
+      → Pending stimuli responses low high
   waits stimuli responses low high (quiet q) soon = absurd (omega (arith, latest-none high (q .high-is)))
   waits stimuli responses low high (pending p) soon = p
   waits stimuli responses low high (answered a) soon = absurd (omega (arith, latest-none high (a .high-is)))

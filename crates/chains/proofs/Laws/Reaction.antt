@@ -10,22 +10,22 @@ use mathlib.Core.Logic.{by-cases}
 use lib.ListN.{length, replicate}
 use lib.Dec.{eqb}
 use borrow.Author.Tests.{eqb-true, eqb-false, eq-eqb, ne-eqb}
-use Rattle.constraint.specs.Limits.{lastKind, firstColoured, lastColour, streamCount, lastTime, noLimit}
-use Rattle.constraint.specs.Streams.{stream, kindOf}
+use Rattle.constraint.specs.Limits.{lastKind, firstColoured, lastColour, lastTime, noLimit}
+use Rattle.constraint.specs.Streams.{stream}
 use Rattle.constraint.proofs.Streams.{colours, streams}
 use Rattle.constraint.specs.Steps.{Step, event, tick, at, times, own, clock, closed}
 use Rattle.constraint.specs.Meets.{Meets, MeetsReaction}
-use Rattle.constraint.specs.Continuation.{EventInOrder, Continues, more, Open}
+use Rattle.constraint.specs.Continuation.{more, Open}
 use Rattle.constraint.specs.Waiting.{waiting}
-use Rattle.constraint.specs.Accepted.{KindsFit, KindsSuit, InRange, LowerFirst}
+use Rattle.constraint.specs.Accepted.{KindsSuit, InRange, LowerFirst}
 use Rattle.constraint.specs.declared.Constraint.{Constraint}
 use Rattle.constraint.specs.declared.Constraint.the-variants.{Reaction}
-use Rattle.constraint.proofs.Lists.{split, at-left, at-right, Each, each-left, each-right}
+use Rattle.constraint.proofs.Lists.{split, at-left, at-right, each-left, each-right}
 use Rattle.constraint.proofs.Streams.{stream-below, streams-apart, stream-kind, colour-at}
 use Rattle.constraint.proofs.History.{Accepts, Past, times-append, times-own, times-other, times-tick, clock-event, clock-tick, closed-event}
 use Rattle.constraint.proofs.Continuations.{SameTimes, same-times, of-colour, continues-late}
 use Rattle.constraint.proofs.Verdicts.{open-of-meets}
-use Rattle.machine.specs.Rule.{ruleOf, startWords}
+use Rattle.machine.specs.Rule.{ruleOf}
 use Rattle.machine.specs.Parts.{continuesWith, breaking}
 use Rattle.queue.specs.declared.Edit.the-variants.{Store}
 use Rattle.machine.specs.declared.Marks.{Marks}
@@ -34,9 +34,9 @@ use Rattle.machine.proofs.Exact.{Sound, OfStream, Starts, GoesOn, ByOutcome, Ex
 use Rattle.machine.proofs.SeveralKinds.{kinds-small, kinds-apart, by-place}
 use Rattle.chains.specs.Reaction.{latest, dueBut, afterStimulus, afterResponse, paired, decideReaction}
 use Rattle.chains.specs.declared.reaction.Pair.{Pair}
-use Rattle.chains.proofs.Laws.Words.{lowOf, highOf, stored, dueOf, latest-none, stored-whole, stored-low, stored-high, other-low, other-high}
+use Rattle.chains.proofs.Laws.Words.{lowOf, highOf, stored, dueOf, stored-whole, stored-low, stored-high, other-low, other-high}
 use Rattle.chains.proofs.Laws.Words.{due-stored, due-least, due-found, due-above, due-limit, waitingIn, waiting-few, waiting-fewer}
-use Rattle.chains.proofs.Laws.Colour.{ByPair, Quiet, Pending, LiveColour, quiet, pending, answered, LostColour, GoesAt, stimulus-does}
+use Rattle.chains.proofs.Laws.Colour.{ByPair, Quiet, Pending, LiveColour, quiet, answered, LostColour, GoesAt, stimulus-does}
 use Rattle.chains.proofs.Laws.Colour.{answers, response-does, colour-late, colour-kept, colour-unkept, waits}
 
 -- the remainder of a coloured stream by eight is its colour
@@ -95,7 +95,8 @@ module _ (stimulus response minimum maximum : ℕ) (sound : Sound (Reaction stim
           (λ l. subst P (sym (at-left (colours stimulus) (colours response) i l ∙ colour-at stimulus i (omega arith))) (first i (omega arith)))
           (λ l. let place : 8 + (i - 8) ≡ i = omega arith in
           subst (λ (j : ℕ). P (at (colours stimulus ++ colours response) j)) place
-          (subst P (sym (at-right (colours stimulus) (colours response) (i - 8) ∙ colour-at response (i - 8) (omega arith))) (second (i - 8) (omega arith))))
+          (subst P (sym (at-right (colours stimulus) (colours response) (i - 8) ∙ colour-at response (i - 8) (omega arith)))
+          (second (i - 8) (omega arith))))
 
   -- ---- what holds between the steps and the words
 
@@ -135,7 +136,8 @@ module _ (stimulus response minimum maximum : ℕ) (sound : Sound (Reaction stim
   shut t steps now d few lost (further, follows, meets) =
       lost (times (stream stimulus d) further) (times (stream response d) further)
       (rw now at (continues-late follows (stream response d)))
-      (subst₂ (MeetsReaction minimum maximum) (times-append (stream stimulus d) steps further) (times-append (stream response d) steps further) (meets d few))
+      (subst₂ (MeetsReaction minimum maximum) (times-append (stream stimulus d) steps further) (times-append (stream response d) steps further)
+      (meets d few))
 
   -- an event of one colour, with new words for it
   module _ (steps : List Step) (words : List ℕ) (live : Live steps words) (d s t : ℕ) (few : d ≤ lastColour)
@@ -190,7 +192,8 @@ module _ (stimulus response minimum maximum : ℕ) (sound : Sound (Reaction stim
         })
 
   decides-stimulus : (marks : Marks) (words : List ℕ) (d t : ℕ) → d ≤ lastColour
-      → decideReaction rule marks words (stream stimulus d) t ≡ paired marks words d (afterStimulus minimum maximum (lowOf words d) (highOf words d) t)
+      → decideReaction rule marks words (stream stimulus d) t
+      ≡ paired marks words d (afterStimulus minimum maximum (lowOf words d) (highOf words d) t)
   unfolding decideReaction
   decides-stimulus marks words d t few =
       rw (colour-of stimulus d few, stream-kind stimulus d stimulus-coloured few, eq-eqb stimulus stimulus refl)
@@ -203,7 +206,8 @@ module _ (stimulus response minimum maximum : ℕ) (sound : Sound (Reaction stim
 
   abbrev Does : List Step → Marks → List ℕ → ℕ → ℕ → Type 0
   Does steps marks words s t =
-      ByOutcome (¬ Open c (steps ++ (event s t ∷ []))) (GoesOn (λ m. Live (steps ++ (event s t ∷ []))) due kept words t) (decideReaction rule marks words s t)
+      ByOutcome (¬ Open c (steps ++ (event s t ∷ []))) (GoesOn (λ m. Live (steps ++ (event s t ∷ []))) due kept words t)
+      (decideReaction rule marks words s t)
 
   stimulus-at : (steps : List Step) (marks : Marks) (words : List ℕ) (t : ℕ) → Past steps → Live steps words → (d : ℕ) → d ≤ lastColour
       → Accepts steps (event (stream stimulus d) t) → t ≤ dueOf words → Does steps marks words (stream stimulus d) t
@@ -270,14 +274,16 @@ module _ (stimulus response minimum maximum : ℕ) (sound : Sound (Reaction stim
       let (d, few, is, p) = found steps words live (omega arith) in
       shut t (steps ++ (tick t ∷ [])) (clock-tick t steps) d few
       (rw (times-tick (stream stimulus d) t steps, times-tick (stream response d) t steps)
-      (colour-late minimum maximum (times (stream stimulus d) steps) (times (stream response d) steps) (lowOf words d) (highOf words d) t p (omega (arith, is))))
+      (colour-late minimum maximum (times (stream stimulus d) steps) (times (stream response d) steps) (lowOf words d) (highOf words d) t p
+      (omega (arith, is))))
 
   -- ---- Close
 
   met : (steps : List Step) (words : List ℕ) → Live steps words → noLimit ≤ dueOf words → Meets c steps
   unfolding Meets
   met steps words live none d few =
-      colour-kept minimum maximum (times (stream stimulus d) steps) (times (stream response d) steps) (lowOf words d) (highOf words d) (live .each d few)
+      colour-kept minimum maximum (times (stream stimulus d) steps) (times (stream response d) steps) (lowOf words d) (highOf words d)
+      (live .each d few)
       (omega (arith, due-least words d (omega arith)))
 
   not-met : (steps : List Step) (words : List ℕ) → Live steps words → dueOf words < noLimit → ¬ Meets c steps
@@ -317,7 +323,10 @@ module _ (stimulus response minimum maximum : ℕ) (sound : Sound (Reaction stim
     next-live : Live (steps ++ (answer ∷ [])) next
     next-live =
         live-stored steps words live d (stream response d) moment few others (moment + 1) 0
-        (answered (rw (times-own (stream response d) moment steps, times-other (stream stimulus d) (stream response d) moment steps (across d d few few))
+        (answered (rw (
+          times-own (stream response d) moment steps,
+          times-other (stream stimulus d) (stream response d) moment steps (across d d few few),
+        )
         (answers minimum maximum (times (stream stimulus d) steps) (times (stream response d) steps) (lowOf words d) (highOf words d) moment p
         (omega (arith, p .room)) (omega arith))))
 
@@ -334,7 +343,8 @@ module _ (stimulus response minimum maximum : ℕ) (sound : Sound (Reaction stim
     opens : closed steps ≡ false → clock steps ≤ moment → Open c (steps ++ (answer ∷ [])) → Open c steps
     opens open-still in-time (further, follows, meets) = (
       answer ∷ further,
-      more (stream response d) moment open-still (stream-below response d response-small few) (in-time, λ i h. absurd (omega (arith, p .no-response))) follows,
+      more (stream response d) moment open-still (stream-below response d response-small few)
+          (in-time, λ i h. absurd (omega (arith, p .no-response))) follows,
       subst (Meets c) (append-assoc steps (answer ∷ []) further) meets,
     )
 

@@ -5,15 +5,6 @@ use Rattle.delkuthi.proofs.Telling.{writes-summary}
 use Rattle.delkuthi.proofs.delkuthi_report.Statement.{statement}
 use Rattle.delkuthi.proofs.delkuthi_report.Tie as tie
 
-summary-alone-requires : tie.Need-summary-alone-requires
-summary-alone-requires c κs = search needs
-
-write-requires : tie.Need-write-requires
-write-requires c κs = search needs
-
-same-length : tie.Need-same-length
-same-length c = search needs
-
 returns : tie.Need-returns
 returns c =
     let at-write = c .before .before in
@@ -26,4 +17,4 @@ returns c =
 
 pub delkuthi-report-spec : {M : Type 1} → statement M
 delkuthi-report-spec =
-    tie.close (tie.spec summary-alone-requires write-requires same-length returns)
+    tie.close (tie.spec (λ c κs. search needs) (λ c κs. search needs) (λ c. search needs) returns)

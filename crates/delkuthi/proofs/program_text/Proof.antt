@@ -8,12 +8,6 @@ use Rattle.delkuthi.proofs.Telling.{tells-refusal, tells-summary}
 use Rattle.delkuthi.proofs.program_text.Statement.{statement}
 use Rattle.delkuthi.proofs.program_text.Tie as tie
 
-new-requires : tie.Need-new-requires
-new-requires c κs = search needs
-
-refused-line-requires : tie.Need-refused-line-requires
-refused-line-requires c κs = search needs
-
 returns : tie.Need-returns
 returns c =
     let joined = c .before .before in
@@ -22,12 +16,6 @@ returns c =
       said = too-large (λ small. ⊎-elim (λ w. omega arith) (λ w. omega (arith, ltb-true)) (joined .if1 .came));
       holds = tells-refusal 17 0 (c .refused-line .result) (rw (← c .before .new .ensures) (c .refused-line .ensures));
     }
-
-summary-alone-requires : tie.Need-summary-alone-requires
-summary-alone-requires c κs = search needs
-
-text-of-requires : tie.Need-text-of-requires
-text-of-requires c κs = search needs
 
 returns-2 : tie.Need-returns-2
 returns-2 c =
@@ -39,4 +27,4 @@ returns-2 c =
 
 pub program-text-spec : {M : Type 1} → statement M
 program-text-spec =
-    tie.close (tie.spec new-requires refused-line-requires returns summary-alone-requires text-of-requires returns-2)
+    tie.close (tie.spec (λ c κs. search needs) (λ c κs. search needs) returns (λ c κs. search needs) (λ c κs. search needs) returns-2)

@@ -11,7 +11,7 @@ use lib.ListN.{length, drop, length-drop}
 use lib.Seq.{getD-drop}
 use lib.Dec.{ltb}
 use borrow.Author.Tests.{ltb-true, ltb-false}
-use Rattle.constraint.specs.Limits.{lastTime, noLimit}
+use Rattle.constraint.specs.Limits.{noLimit}
 use Rattle.constraint.specs.Steps.{Step, event, at, times, clock}
 use Rattle.constraint.proofs.Lists.{at-left, at-next, Each, Rising, rising-by}
 use Rattle.constraint.proofs.History.{Accepts, Past}

@@ -5,13 +5,12 @@ use native.Mathlib.Omega.{arith}
 use mathlib.Core.Path.{_≡_, refl, sym, _∙_}
 use mathlib.Core.Bool.{true, false, false≢true}
 use mathlib.Core.List.{List, [], _∷_, _++_}
-use lib.ListN.{length}
 use Rattle.constraint.specs.Limits.{lastTime}
 use Rattle.constraint.specs.Steps.{Step, event, tick, at, own, clock, closed}
 use Rattle.constraint.specs.Meets.{Meets, MeetsStrongSynchronization}
 use Rattle.constraint.specs.Continuation.{Open}
 use Rattle.constraint.specs.Waiting.{waiting, begunIncomplete}
-use Rattle.constraint.specs.Accepted.{kinds, KindsFit}
+use Rattle.constraint.specs.Accepted.{kinds}
 use Rattle.constraint.proofs.Streams.{streams}
 use Rattle.constraint.specs.declared.Constraint.{Constraint}
 use Rattle.constraint.specs.declared.Constraint.the-variants.{StrongSynchronization2, StrongSynchronization3, StrongSynchronization4}
@@ -24,7 +23,7 @@ use Rattle.machine.proofs.Exact.{Sound, OfStream, Starts, GoesOn, ByOutcome, Ex
 use Rattle.machine.proofs.SeveralKinds.{by-place}
 use Rattle.machine.proofs.Oldest.{due-within, due-passed}
 use Rattle.groups.specs.StrongSynchronization.{decideStrongSynchronization}
-use Rattle.groups.proofs.Laws.Columns.{groups-same, behind-same, groups-late, groups-meet, Completes, completes, groups-wait, groups-left-over}
+use Rattle.groups.proofs.Laws.Columns.{groups-same, behind-same, groups-late, groups-meet, completes, groups-wait, groups-left-over}
 use Rattle.groups.proofs.Laws.Counts.{Names}
 use Rattle.groups.proofs.Laws.LiveGroups.{LiveGroups, due, kept, live-none, event-does}
 

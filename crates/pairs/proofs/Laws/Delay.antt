@@ -2,10 +2,10 @@
 -- the oldest is the first that can no longer be answered.
 use Prim.Native.Nat.{ℕ, suc, _+_, _≤_, _<_}
 use native.Mathlib.Omega.{arith}
-use mathlib.Core.Path.{_≡_, refl, sym, ap, _∙_, subst}
+use mathlib.Core.Path.{_≡_, refl, sym, ap, _∙_}
 use mathlib.Core.Bool.{Bool, true, false, cond, _&&_, _||_, or-true, true≢false, false≢true}
 use mathlib.Core.List.{List, [], _∷_, _++_, append-nil}
-use mathlib.Core.Logic.{inl, inr, ⊎-elim}
+use mathlib.Core.Logic.{inr, ⊎-elim}
 use lib.ListN.{length, drop}
 use lib.Dec.{leb, eqb}
 use borrow.Author.Tests.{leb-true, leb-false, le-leb, lt-leb, eqb-true, eq-eqb, ne-eqb}
@@ -239,7 +239,16 @@ module _ (source target lower upper : ℕ) (sound : Sound (Delay source target l
 
   delay-of : OfTwoKinds (Delay source target lower upper) source target (MeetsDelay lower upper) true (unanswered lower upper)
   unfolding Meets waiting
-  delay-of = record { kinds-are = refl; streams-are = refl; kinds-fit = sound .kinds-fit; no-words = refl; meets-are = λ steps. refl; waits-are = refl; waiting-is = λ steps. refl }
+  delay-of = record {
+    kinds-are = refl;
+    streams-are = refl;
+    kinds-fit = sound .kinds-fit;
+    no-words = refl;
+    meets-are = λ steps. refl;
+    waits-are =
+        refl;
+    waiting-is = λ steps. refl;
+  }
 
   pub exactDelay : Exact (Delay source target lower upper) (decideDelay rule)
   exactDelay = exactTwoKinds delay-of (decideDelay rule) delay-laws

@@ -190,5 +190,14 @@ module _ (source target : ℕ) (sound : Sound (Order source target)) where
   unfolding Meets MeetsOrder waiting
   exactOrder =
       exactTwoKinds
-      (record { kinds-are = refl; streams-are = refl; kinds-fit = sound .kinds-fit; no-words = refl; meets-are = λ steps. refl; waits-are = refl; waiting-is = λ steps. refl })
+      (record {
+        kinds-are = refl;
+        streams-are = refl;
+        kinds-fit = sound .kinds-fit;
+        no-words = refl;
+        meets-are = λ steps. refl;
+        waits-are =
+            refl;
+        waiting-is = λ steps. refl;
+      })
       (decideOrder rule) order-laws

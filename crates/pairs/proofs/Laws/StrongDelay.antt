@@ -26,7 +26,7 @@ use Rattle.machine.proofs.Exact.{Sound, GoesOn, ByOutcome, Exact}
 use Rattle.machine.proofs.TwoKinds.{UpTo, Further, Lost, TwoKinds, target-apart, exactTwoKinds}
 use Rattle.machine.proofs.Oldest.{due-each, due-pushed, due-dropped}
 use Rattle.pairs.specs.StrongDelay.{sourceStrongDelay, targetStrongDelay, decideStrongDelay}
-use Rattle.pairs.proofs.Laws.Paired.{Paired, Ahead, Beyond, Pairing, dueEarly, due-ahead, due-beyond, pairing-start, beyond-each}
+use Rattle.pairs.proofs.Laws.Paired.{Paired, Ahead, Pairing, dueEarly, due-ahead, due-beyond, pairing-start, beyond-each}
 use Rattle.pairs.proofs.Laws.Paired.{source-waits, source-partners, target-partners, target-beyond, target-misfits, ahead-rising}
 use Rattle.pairs.proofs.Laws.Paired.{waiting-late, beyond-late, beyond-misfits, beyond-open, ahead-open, pairing-waits, pairing-paired}
 use Rattle.pairs.proofs.Laws.Paired.{paired-none-beyond}
@@ -215,5 +215,14 @@ module _ (source target lower upper : ℕ) (sound : Sound (StrongDelay source ta
   unfolding Meets MeetsStrongDelay waiting
   exactStrongDelay =
       exactTwoKinds
-      (record { kinds-are = refl; streams-are = refl; kinds-fit = sound .kinds-fit; no-words = refl; meets-are = λ steps. refl; waits-are = refl; waiting-is = λ steps. refl })
+      (record {
+        kinds-are = refl;
+        streams-are = refl;
+        kinds-fit = sound .kinds-fit;
+        no-words = refl;
+        meets-are = λ steps. refl;
+        waits-are =
+            refl;
+        waiting-is = λ steps. refl;
+      })
       (decideStrongDelay rule) strong-delay-laws

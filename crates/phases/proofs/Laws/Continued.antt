@@ -2,12 +2,12 @@
 -- and the first one of every continuation is not before the clock.
 use Prim.Native.Nat.{ℕ, _+_, _≤_, _<_}
 use native.Mathlib.Omega.{arith}
-use mathlib.Core.Path.{_≡_, refl, sym, ap, _∙_, subst}
+use mathlib.Core.Path.{_≡_, refl, ap, _∙_}
 use mathlib.Core.Bool.{true, false, cond}
-use mathlib.Core.List.{List, [], _∷_, _++_, map, append-assoc}
+use mathlib.Core.List.{List, [], _∷_, _++_, append-assoc}
 use lib.Dec.{eqb}
 use Rattle.constraint.specs.Limits.{streamCount}
-use Rattle.constraint.specs.Steps.{Step, event, times, among, own, clock, closed}
+use Rattle.constraint.specs.Steps.{Step, event, among, own, clock, closed}
 use Rattle.constraint.specs.Continuation.{Continues, stop, more}
 use Rattle.constraint.proofs.Lists.{split, Each, each-none, each-cons}
 use Rattle.constraint.proofs.History.{own-append, clock-event, closed-event}

@@ -7,21 +7,21 @@ use mathlib.Core.Bool.{Bool, true, false, cond}
 use mathlib.Core.List.{List, [], _∷_, _++_, append-nil, append-assoc}
 use mathlib.Core.Logic.{_↔_, inl, inr}
 use lib.ListN.{length}
-use lib.Dec.{leb, ltb, eqb}
+use lib.Dec.{ltb, eqb}
 use borrow.Author.Tests.{eqb-true, eqb-false, ne-eqb, ltb-true, ltb-false}
-use Rattle.constraint.specs.Limits.{streamCount, lastTime, noLimit, waitingLimit}
-use Rattle.constraint.specs.Steps.{Step, event, tick, at, among, own, clock, closed}
-use Rattle.constraint.specs.Meets.{Meets, MeetsExecutionTime}
-use Rattle.constraint.specs.Continuation.{Continues, Open}
+use Rattle.constraint.specs.Limits.{streamCount, lastTime, noLimit}
+use Rattle.constraint.specs.Steps.{Step, event, at, among, own, clock, closed}
+use Rattle.constraint.specs.Meets.{Meets}
+use Rattle.constraint.specs.Continuation.{Open}
 use Rattle.constraint.specs.Waiting.{waiting}
-use Rattle.constraint.specs.Accepted.{KindsFit, InRange, LowerFirst}
+use Rattle.constraint.specs.Accepted.{InRange, LowerFirst}
 use Rattle.constraint.specs.declared.Constraint.{Constraint}
 use Rattle.constraint.specs.declared.Constraint.the-variants.{ExecutionTime}
 use Rattle.constraint.proofs.Lists.{split, both}
-use Rattle.constraint.proofs.History.{Accepts, Past, own-append, own-tick, clock-tick}
+use Rattle.constraint.proofs.History.{Accepts, own-append, own-tick, clock-tick}
 use Rattle.constraint.proofs.Streams.{among-at}
 use Rattle.machine.specs.Rule.{ruleOf}
-use Rattle.machine.specs.Parts.{noMarks, plus, breaking}
+use Rattle.machine.specs.Parts.{plus, breaking}
 use Rattle.machine.specs.declared.Rule.{Rule}
 use Rattle.machine.specs.declared.Marks.{Marks}
 use Rattle.machine.specs.declared.Change.{Change}
@@ -218,7 +218,8 @@ module _ (start stop preempt resume lower upper : ℕ) (sound : Sound (Execution
             (stands-more (waits (ranOf marks)) (runs (ranOf marks)) (marks .last) stands (λ further. (λ h. h .2, λ h. (from, is, h))))
         turn (fails wrong) = lost-now (waits (ranOf marks)) (marks .last) stands (λ further h. wrong (h .1))
 
-    event-turns : Stands past (phaseIn (phaseOf marks) (ranOf marks)) (marks .last) → Room (phaseIn (phaseOf marks) (ranOf marks)) → t ≤ due marks times
+    event-turns : Stands past (phaseIn (phaseOf marks) (ranOf marks)) (marks .last) → Room (phaseIn (phaseOf marks) (ranOf marks))
+        → t ≤ due marks times
         → Turns past times k t (decideExecutionTime rule marks times k t)
     unfolding decideExecutionTime
     event-turns stands room soon = turn (tells-below t (marks .last))

@@ -67,7 +67,8 @@ module _ (start stop preempt resume lower upper : ℕ) where
 
   abbrev Rest : Phase → ℕ → List (ℕ × ℕ) → Type 0
   Rest idle free es = Executes start stop preempt resume lower upper none free es
-  Rest (runs ran) free es = (s preempted : ℕ) → ran + s + preempted + 1 ≡ free → Executes start stop preempt resume lower upper (some (s, preempted)) free es
+  Rest (runs ran) free es = (s preempted : ℕ) → ran + s + preempted + 1 ≡ free
+      → Executes start stop preempt resume lower upper (some (s, preempted)) free es
   Rest (waits ran) free es =
       (s preempted p : ℕ) → p + 1 ≡ free → ran + s + preempted ≡ p → (before : ℕ) → before ≤ p
       → Executes start stop preempt resume lower upper (some (s, preempted)) before ((preempt, p) ∷ es)

@@ -6,15 +6,6 @@ use Rattle.queue.proofs.Shared.{free}
 use Rattle.queue.proofs.push.Statement.{statement}
 use Rattle.queue.proofs.push.Tie as tie
 
-mul-times : tie.Need-mul-times
-mul-times c = search needs
-
-element-write-times : tie.Need-element-write-times
-element-write-times c = search needs
-
-add-result : tie.Need-add-result
-add-result c = search needs
-
 returns : tie.Need-returns
 unfolding pushRing
 returns c = rw (lt-ltb _ _ (c .if1 .taken), ← c .before .place-of .ensures)
@@ -24,4 +15,5 @@ unfolding pushRing
 returns-2 c = rw (le-ltb _ _ (c .if1 .left))
 
 pub push-spec : {M : Type 1} → statement M
-push-spec = tie.close (tie.spec free mul-times element-write-times add-result returns returns-2)
+push-spec =
+    tie.close (tie.spec free (λ c. search needs) (λ c. search needs) (λ c. search needs) returns returns-2)

@@ -6,12 +6,6 @@ use Rattle.queue.proofs.Shared.{free}
 use Rattle.queue.proofs.put.Statement.{statement}
 use Rattle.queue.proofs.put.Tie as tie
 
-mul-times : tie.Need-mul-times
-mul-times c = search needs
-
-element-write-times : tie.Need-element-write-times
-element-write-times c = search needs
-
 returns : tie.Need-returns
 unfolding putRing
 returns c = rw (lt-ltb _ _ (c .if1 .taken), ← c .before .place-of .ensures)
@@ -21,4 +15,5 @@ unfolding putRing
 returns-2 c = rw (le-ltb _ _ (c .if1 .left))
 
 pub put-spec : {M : Type 1} → statement M
-put-spec = tie.close (tie.spec free mul-times element-write-times returns returns-2)
+put-spec =
+    tie.close (tie.spec free (λ c. search needs) (λ c. search needs) returns returns-2)

@@ -4,14 +4,9 @@ use Rattle.queue.proofs.Shared.{free}
 use Rattle.queue.proofs.time_at.Statement.{statement}
 use Rattle.queue.proofs.time_at.Tie as tie
 
-mul-result : tie.Need-mul-result
-mul-result c = search needs
-
-element-copy-out-result : tie.Need-element-copy-out-result
-element-copy-out-result c = search needs
-
 returns : tie.Need-returns
 returns c = rw (← c .before .place-of .ensures)
 
 pub time-at-spec : {M : Type 1} → statement M
-time-at-spec = tie.close (tie.spec free mul-result element-copy-out-result returns)
+time-at-spec =
+    tie.close (tie.spec free (λ c. search needs) (λ c. search needs) returns)

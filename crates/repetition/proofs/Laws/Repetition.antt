@@ -1,6 +1,6 @@
 -- Repetition: what the row keeps tells the places of the next point, and where each event has one there are points. So the machine's test tells
 -- whether the events still have points, for every span by one argument.
-use Prim.Native.Nat.{ℕ, _+_, _≤_}
+use Prim.Native.Nat.{ℕ, _≤_}
 use native.Mathlib.Omega.{arith}
 use mathlib.Core.Path.{_≡_, refl, ap}
 use mathlib.Core.Bool.{Bool, true, false, cond}

@@ -12,7 +12,8 @@ use Rattle.stretch.proofs.need_from.Statement.{statement}
 use Rattle.stretch.proofs.need_from.Tie as tie
 
 abbrev Inv-loop : tie.InvT-loop
-Inv-loop streams times count start row₀ size₀ at₀ row size at = (small : count ≤ 256) × RunningTo streams times count start small (row₀ .rule) row size at
+Inv-loop streams times count start row₀ size₀ at₀ row size at = (small : count ≤ 256)
+    × RunningTo streams times count start small (row₀ .rule) row size at
 
 abbrev μ-loop : tie.MeasureT-loop
 μ-loop streams times count start row₀ size₀ at₀ row size at = count - at
@@ -22,14 +23,16 @@ loop-holds c =
     let begun = c .before in
     let args = begun .args in (
       begun .pre,
-      to-start (args .streams .now) (args .times .now) (args .count) (args .start) (begun .pre) (args .constraint) (c .begin .result) (c .begin .ensures),
+      to-start (args .streams .now) (args .times .now) (args .count) (args .start) (begun .pre) (args .constraint) (c .begin .result)
+          (c .begin .ensures),
     )
 
 -- the step that the row takes
 taken : (c : tie.After-step Inv-loop μ-loop) →
     let at-loop = c .before .before .before .before .before in
     let args = at-loop .before .before .args in
-    c .step .result ≡ rowStep (at-loop .loop .row) (seenAs (at (args .streams .now) (at-loop .loop .at)) (at (args .times .now) (at-loop .loop .at))) (at-loop .loop .size + 1)
+    c .step .result ≡ rowStep (at-loop .loop .row) (seenAs (at (args .streams .now) (at-loop .loop .at)) (at (args .times .now) (at-loop .loop .at)))
+    (at-loop .loop .size + 1)
 taken c = rw (← c .before .seen .ensures) (c .step .ensures)
 
 returns : tie.Need-returns Inv-loop μ-loop

@@ -4,38 +4,20 @@ use borrow.Author.Tests.{eq-eqb, ne-eqb, lt-ltb, le-ltb}
 use Rattle.chains.proofs.reaction.after_response.Statement.{statement}
 use Rattle.chains.proofs.reaction.after_response.Tie as tie
 
-plus-requires : tie.Need-plus-requires
-plus-requires c κs = search needs
-
-goes-on-requires : tie.Need-goes-on-requires
-goes-on-requires c κs = search needs
-
 returns : tie.Need-returns
 returns c =
     let b = c .before .before in
     rw (c .goes-on .ensures, c .before .plus .ensures, eq-eqb _ _ (b .before .if1 .taken), eq-eqb _ _ (b .if2 .taken))
-
-goes-on-requires-2 : tie.Need-goes-on-requires-2
-goes-on-requires-2 c κs = search needs
 
 returns-2 : tie.Need-returns-2
 returns-2 c =
     let b = c .before in
     rw (c .goes-on2 .ensures, eq-eqb _ _ (b .before .if1 .taken), ne-eqb _ _ (b .if2 .left))
 
-breaks-requires : tie.Need-breaks-requires
-breaks-requires c κs = search needs
-
 returns-3 : tie.Need-returns-3
 returns-3 c =
     let b = c .before in
     rw (c .breaks .ensures, ne-eqb _ _ (b .before .if1 .left), lt-ltb _ _ (b .if3 .taken))
-
-plus-requires-2 : tie.Need-plus-requires-2
-plus-requires-2 c κs = search needs
-
-goes-on-requires-3 : tie.Need-goes-on-requires-3
-goes-on-requires-3 c κs = search needs
 
 returns-4 : tie.Need-returns-4
 returns-4 c =
@@ -44,15 +26,5 @@ returns-4 c =
 
 pub after-response-spec : {M : Type 1} → statement M
 after-response-spec =
-    tie.close
-    (tie.spec
-    plus-requires
-    goes-on-requires
-    returns
-    goes-on-requires-2
-    returns-2
-    breaks-requires
-    returns-3
-    plus-requires-2
-    goes-on-requires-3
-    returns-4)
+    tie.close (tie.spec (λ c κs. search needs) (λ c κs. search needs) returns (λ c κs. search needs) returns-2 (λ c κs. search needs) returns-3 (λ c
+    κs. search needs) (λ c κs. search needs) returns-4)

@@ -4,49 +4,44 @@ use borrow.Author.Tests.{eq-eqb, ne-eqb, lt-ltb, le-ltb}
 use Rattle.chains.proofs.reaction.after_stimulus.Statement.{statement}
 use Rattle.chains.proofs.reaction.after_stimulus.Tie as tie
 
-plus-requires : tie.Need-plus-requires
-plus-requires c κs = search needs
-
-plus-requires-2 : tie.Need-plus-requires-2
-plus-requires-2 c κs = search needs
-
-plus-requires-3 : tie.Need-plus-requires-3
-plus-requires-3 c κs = search needs
-
-goes-on-requires : tie.Need-goes-on-requires
-goes-on-requires c κs = search needs
-
 returns : tie.Need-returns
 returns c =
     let b = c .before .before .before in
-    rw (c .goes-on .ensures, c .before .plus3 .ensures, c .before .before .plus2 .ensures, b .before .before .plus .ensures, eq-eqb _ _ (b .before .if1 .taken), eq-eqb _ _ (b .if2 .taken))
-
-goes-on-requires-2 : tie.Need-goes-on-requires-2
-goes-on-requires-2 c κs = search needs
+    rw (
+      c .goes-on .ensures,
+      c .before .plus3 .ensures,
+      c .before .before .plus2 .ensures,
+      b .before .before .plus .ensures,
+      eq-eqb _ _ (b .before .if1 .taken),
+      eq-eqb _ _ (b .if2 .taken),
+    )
 
 returns-2 : tie.Need-returns-2
 returns-2 c =
     let b = c .before .before in
-    rw (c .goes-on2 .ensures, ← b .before .before .plus .ensures, eq-eqb _ _ (b .before .if1 .taken), ne-eqb _ _ (b .if2 .left), lt-ltb _ _ (c .before .if3 .taken))
-
-breaks-requires : tie.Need-breaks-requires
-breaks-requires c κs = search needs
+    rw (
+      c .goes-on2 .ensures,
+      ← b .before .before .plus .ensures,
+      eq-eqb _ _ (b .before .if1 .taken),
+      ne-eqb _ _ (b .if2 .left),
+      lt-ltb _ _ (c .before .if3 .taken),
+    )
 
 returns-3 : tie.Need-returns-3
 returns-3 c =
     let b = c .before .before in
-    rw (c .breaks .ensures, ← b .before .before .plus .ensures, eq-eqb _ _ (b .before .if1 .taken), ne-eqb _ _ (b .if2 .left), le-ltb _ _ (c .before .if3 .left))
-
-goes-on-requires-3 : tie.Need-goes-on-requires-3
-goes-on-requires-3 c κs = search needs
+    rw (
+      c .breaks .ensures,
+      ← b .before .before .plus .ensures,
+      eq-eqb _ _ (b .before .if1 .taken),
+      ne-eqb _ _ (b .if2 .left),
+      le-ltb _ _ (c .before .if3 .left),
+    )
 
 returns-4 : tie.Need-returns-4
 returns-4 c =
     let b = c .before .before in
     rw (c .goes-on3 .ensures, ← b .before .plus .ensures, ne-eqb _ _ (b .if1 .left), lt-ltb _ _ (c .before .if4 .taken))
-
-breaks-requires-2 : tie.Need-breaks-requires-2
-breaks-requires-2 c κs = search needs
 
 returns-5 : tie.Need-returns-5
 returns-5 c =
@@ -55,18 +50,5 @@ returns-5 c =
 
 pub after-stimulus-spec : {M : Type 1} → statement M
 after-stimulus-spec =
-    tie.close
-    (tie.spec
-    plus-requires
-    plus-requires-2
-    plus-requires-3
-    goes-on-requires
-    returns
-    goes-on-requires-2
-    returns-2
-    breaks-requires
-    returns-3
-    goes-on-requires-3
-    returns-4
-    breaks-requires-2
-    returns-5)
+    tie.close (tie.spec (λ c κs. search needs) (λ c κs. search needs) (λ c κs. search needs) (λ c κs. search needs) returns (λ c κs. search needs)
+    returns-2 (λ c κs. search needs) returns-3 (λ c κs. search needs) returns-4 (λ c κs. search needs) returns-5)

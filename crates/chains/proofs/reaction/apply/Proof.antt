@@ -26,9 +26,11 @@ returns c rule times state past e =
     let words = ring times (state .head) (state .len) in
     let low = getD words (2 * (s .stream % 8)) 0 in
     let high = getD words (2 * (s .stream % 8) + 1) 0 in
-    let pair : a .after-stimulus .result ≡ cond (eqb (kindOf (s .stream)) (rule .first)) (afterStimulus (rule .lower) (rule .upper) low high (s .t)) (afterResponse low high (s .t)) =
+    let pair : a .after-stimulus .result ≡ cond (eqb (kindOf (s .stream)) (rule .first)) (afterStimulus (rule .lower) (rule .upper) low high (s .t))
+    (afterResponse low high (s .t)) =
     a .after-stimulus .ensures ∙ rw (h .word2 .ensures, l .word .ensures, e, ← k .kind-of .ensures, eq-eqb _ _ (rw e at (i .if1 .taken))) refl in
-    c .store .ensures rule times state past e ∙ ap (λ (p : Pair). changedWords rule times state (paired (state .marks) words (s .stream % 8) p) (s .number)) pair
+    c .store .ensures rule times state past e ∙ ap (λ (p : Pair). changedWords rule times state (paired (state .marks) words (s .stream % 8) p)
+    (s .number)) pair
 
 returns-2 : tie.Need-returns-2
 unfolding rowWords numberWords decideReaction
@@ -42,9 +44,11 @@ returns-2 c rule times state past e =
     let words = ring times (state .head) (state .len) in
     let low = getD words (2 * (s .stream % 8)) 0 in
     let high = getD words (2 * (s .stream % 8) + 1) 0 in
-    let pair : a .after-response .result ≡ cond (eqb (kindOf (s .stream)) (rule .first)) (afterStimulus (rule .lower) (rule .upper) low high (s .t)) (afterResponse low high (s .t)) =
+    let pair : a .after-response .result ≡ cond (eqb (kindOf (s .stream)) (rule .first)) (afterStimulus (rule .lower) (rule .upper) low high (s .t))
+    (afterResponse low high (s .t)) =
     a .after-response .ensures ∙ rw (h .word2 .ensures, l .word .ensures, e, ← k .kind-of .ensures, ne-eqb _ _ (rw e at (i .if1 .left))) refl in
-    c .store2 .ensures rule times state past e ∙ ap (λ (p : Pair). changedWords rule times state (paired (state .marks) words (s .stream % 8) p) (s .number)) pair
+    c .store2 .ensures rule times state past e ∙ ap (λ (p : Pair). changedWords rule times state (paired (state .marks) words (s .stream % 8) p)
+    (s .number)) pair
 
 pub apply-spec : {M : Type 1} → statement M
 apply-spec =

@@ -2,7 +2,7 @@
 use native.Mathlib.Omega.{arith}
 use Prim.Native.Nat.{_-_, _≤_}
 use native.Mathlib.Numerals.{add-one}
-use mathlib.Core.Path.{_≡_, refl, subst}
+use mathlib.Core.Path.{_≡_, refl}
 use Rattle.queue.specs.Ring.{ring}
 use Rattle.chains.specs.Reaction.{dueBut}
 use Rattle.chains.proofs.reaction.due_but.Statement.{statement}
@@ -18,26 +18,19 @@ loop-holds : tie.Need-loop-holds Inv-loop μ-loop
 unfolding dueBut
 loop-holds c = (omega arith, refl)
 
-high-of-requires : tie.Need-high-of-requires Inv-loop μ-loop
-high-of-requires c κs = omega arith
-
-latest-requires : tie.Need-latest-requires Inv-loop μ-loop
-latest-requires c κs = tt
-
-smaller-requires : tie.Need-smaller-requires Inv-loop μ-loop
-smaller-requires c κs = tt
-
-add-n : tie.Need-add-n Inv-loop μ-loop
-add-n c = omega arith
-
-loop-less : tie.Need-loop-less Inv-loop μ-loop
-loop-less c = omega arith
-
 loop-again : tie.Need-loop-again Inv-loop μ-loop
 unfolding dueBut
 loop-again c =
-    let at-loop = c .before .before .before .before in
-    (omega arith, rw (add-one (at-loop .loop .n), c .smaller .ensures, c .before .latest .ensures, c .before .before .high-of .ensures, ← at-loop .loop .inv .1))
+    let at-loop = c .before .before .before .before in (
+      omega arith,
+      rw (
+        add-one (at-loop .loop .n),
+        c .smaller .ensures,
+        c .before .latest .ensures,
+        c .before .before .high-of .ensures,
+        ← at-loop .loop .inv .1,
+      ),
+    )
 
 returns : tie.Need-returns Inv-loop μ-loop
 returns c =
@@ -46,15 +39,5 @@ returns c =
 
 pub due-but-spec : {M : Type 1} → statement M
 due-but-spec =
-    tie.close
-    (tie.spec
-    Inv-loop
-    μ-loop
-    loop-holds
-    high-of-requires
-    latest-requires
-    smaller-requires
-    add-n
-    loop-less
-    loop-again
+    tie.close (tie.spec Inv-loop μ-loop loop-holds (λ c κs. omega arith) (λ c κs. tt) (λ c κs. tt) (λ c. omega arith) (λ c. omega arith) loop-again
     returns)

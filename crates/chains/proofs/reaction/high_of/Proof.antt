@@ -7,17 +7,9 @@ use Rattle.chains.proofs.reaction.high_of.Tie as tie
 returns : tie.Need-returns
 returns c = rw (eq-eqb _ _ (c .if1 .taken))
 
-mul-word : tie.Need-mul-word
-mul-word c = search needs
-
-add-word : tie.Need-add-word
-add-word c = search needs
-
-word-requires : tie.Need-word-requires
-word-requires c κs = search needs
-
 returns-2 : tie.Need-returns-2
 returns-2 c = rw (ne-eqb _ _ (c .before .if1 .left)) (c .word .ensures)
 
 pub high-of-spec : {M : Type 1} → statement M
-high-of-spec = tie.close (tie.spec returns mul-word add-word word-requires returns-2)
+high-of-spec =
+    tie.close (tie.spec returns (λ c. search needs) (λ c. search needs) (λ c κs. search needs) returns-2)

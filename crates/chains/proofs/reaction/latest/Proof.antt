@@ -4,9 +4,6 @@ use borrow.Author.Tests.{eq-eqb, ne-eqb}
 use Rattle.chains.proofs.reaction.latest.Statement.{statement}
 use Rattle.chains.proofs.reaction.latest.Tie as tie
 
-sub-result : tie.Need-sub-result
-sub-result c = search needs
-
 returns : tie.Need-returns
 returns c = rw (eq-eqb _ _ (c .if1 .taken))
 
@@ -14,4 +11,5 @@ returns-2 : tie.Need-returns-2
 returns-2 c = rw (ne-eqb _ _ (c .if1 .left))
 
 pub latest-spec : {M : Type 1} → statement M
-latest-spec = tie.close (tie.spec sub-result returns returns-2)
+latest-spec =
+    tie.close (tie.spec (λ c. search needs) returns returns-2)

@@ -16,9 +16,6 @@ past-end [] i h = refl
 past-end (x ∷ list) zero h = absurd (omega arith)
 past-end (x ∷ list) (suc i) h = past-end list i (omega arith)
 
-time-at-requires : tie.Need-time-at-requires
-time-at-requires c κs = search needs
-
 returns : tie.Need-returns
 returns c = c .time-at .ensures ∙ ring-read _ _ _ _ (c .before .if1 .taken)
 
@@ -29,4 +26,5 @@ returns-2 c =
     sym (past-end list (a .i) (omega (arith, ring-length (now (a .times)) (a .head) (a .len), c .if1 .left)))
 
 pub word-spec : {M : Type 1} → statement M
-word-spec = tie.close (tie.spec time-at-requires returns returns-2)
+word-spec =
+    tie.close (tie.spec (λ c κs. search needs) returns returns-2)

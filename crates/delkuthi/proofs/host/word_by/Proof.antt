@@ -3,24 +3,6 @@ use borrow.Author.Needs.{needs}
 use Rattle.delkuthi.proofs.host.word_by.Statement.{statement}
 use Rattle.delkuthi.proofs.host.word_by.Tie as tie
 
-by-requires : tie.Need-by-requires
-by-requires c κs = search needs
-
-enum-told : tie.Need-enum-told
-enum-told c = search needs
-
-enum-known-v : tie.Need-enum-known-v
-enum-known-v c = search needs
-
-enum-told-2 : tie.Need-enum-told-2
-enum-told-2 c = search needs
-
-enum-told-3 : tie.Need-enum-told-3
-enum-told-3 c = search needs
-
-enum-told-4 : tie.Need-enum-told-4
-enum-told-4 c = search needs
-
 returns : tie.Need-returns
 returns c = rw (← c .before .before .by .ensures, c .enum-told .given .1)
 
@@ -34,4 +16,6 @@ returns-4 : tie.Need-returns-4
 returns-4 c = let reads = c .before .before .before in rw (← reads .before .before .by .ensures, reads .v .given .1, c .enum-told4 .given .1)
 
 pub word-by-spec : {M : Type 1} → statement M
-word-by-spec = tie.close (tie.spec by-requires enum-told enum-known-v enum-told-2 enum-told-3 enum-told-4 returns returns-2 returns-3 returns-4)
+word-by-spec =
+    tie.close (tie.spec (λ c κs. search needs) (λ c. search needs) (λ c. search needs) (λ c. search needs) (λ c. search needs) (λ c. search needs)
+    returns returns-2 returns-3 returns-4)

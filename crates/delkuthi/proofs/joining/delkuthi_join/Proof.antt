@@ -16,38 +16,11 @@ answered : (c : tie.After-join) (answer : JoinAnswer) → c .join .result ≡ an
     (now (c .before .before .before .before .before .args .joined)) answer (c .join .last .1 .1 .0)
 answered c answer e = rw e at (c .join .ensures)
 
-enum-known-answer : tie.Need-enum-known-answer
-enum-known-answer c = search needs
-
-enum-known-answer-2 : tie.Need-enum-known-answer-2
-enum-known-answer-2 c = search needs
-
-cast-result : tie.Need-cast-result
-cast-result c = search needs
-
-add-result : tie.Need-add-result
-add-result c = search needs
-
-enum-known-answer-3 : tie.Need-enum-known-answer-3
-enum-known-answer-3 c = search needs
-
-cast-result-2 : tie.Need-cast-result-2
-cast-result-2 c = search needs
-
-add-result-2 : tie.Need-add-result-2
-add-result-2 c = search needs
-
 add-result-3 : tie.Need-add-result-3
 add-result-3 c =
     let at-answer = c .before .before in
     let says = answered (at-answer .before .before .before .before) _ (at-answer .answer3 .given .1) in
     omega (arith, join-small _ _ _ says (at-answer .answer3 .given .0 .0) refl .1, c .place-number3 .ensures)
-
-enum-told : tie.Need-enum-told
-enum-told c = search needs
-
-same-length : tie.Need-same-length
-same-length c = search needs
 
 returns : tie.Need-returns
 returns c =
@@ -55,26 +28,17 @@ returns c =
     let says = answered (at-answer .before .before .before .before) _ (at-answer .answer .given .1) in
     numbers-join _ _ _ _ says (c .place-number .ensures)
 
-same-length-2 : tie.Need-same-length-2
-same-length-2 c = search needs
-
 returns-2 : tie.Need-returns-2
 returns-2 c =
     let at-answer = c .before .before in
     let says = answered (at-answer .before .before .before .before) _ (at-answer .answer2 .given .1) in
     numbers-join _ _ _ _ says (omega (arith, c .place-number2 .ensures))
 
-same-length-3 : tie.Need-same-length-3
-same-length-3 c = search needs
-
 returns-3 : tie.Need-returns-3
 returns-3 c =
     let at-answer = c .before .before in
     let says = answered (at-answer .before .before .before .before) _ (at-answer .answer3 .given .1) in
     numbers-join _ _ _ _ says (omega (arith, c .place-number3 .ensures))
-
-same-length-4 : tie.Need-same-length-4
-same-length-4 c = search needs
 
 returns-4 : tie.Need-returns-4
 returns-4 c =
@@ -83,8 +47,6 @@ returns-4 c =
 
 pub delkuthi-join-spec : {M : Type 1} → statement M
 delkuthi-join-spec =
-    tie.close
-    (tie.spec
-    free enum-known-answer free enum-known-answer-2 free cast-result add-result enum-known-answer-3 free cast-result-2 add-result-2 add-result-3
-    enum-told
-    same-length returns same-length-2 returns-2 same-length-3 returns-3 same-length-4 returns-4)
+    tie.close (tie.spec free (λ c. search needs) free (λ c. search needs) free (λ c. search needs) (λ c. search needs) (λ c. search needs) free (λ
+    c. search needs) (λ c. search needs) add-result-3 (λ c. search needs) (λ c. search needs) returns (λ c. search needs) returns-2 (λ c. search
+    needs) returns-3 (λ c. search needs) returns-4)

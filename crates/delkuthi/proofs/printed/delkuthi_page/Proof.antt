@@ -32,24 +32,6 @@ loop-holds c =
           ∙ filled-none n rows (held-read m n holds rows (at-held .held .ensures .1)),
     )
 
-mul-with-row : tie.Need-mul-with-row Inv-loop μ-loop
-mul-with-row c = omega arith
-
-index-1-with-row : tie.Need-index-1-with-row Inv-loop μ-loop
-index-1-with-row c = omega arith
-
-mul-with-row-2 : tie.Need-mul-with-row-2 Inv-loop μ-loop
-mul-with-row-2 c = omega arith
-
-index-1-with-row-2 : tie.Need-index-1-with-row-2 Inv-loop μ-loop
-index-1-with-row-2 c = omega arith
-
-add-i : tie.Need-add-i Inv-loop μ-loop
-add-i c = omega arith
-
-loop-less : tie.Need-loop-less Inv-loop μ-loop
-loop-less c = omega arith
-
 loop-again : tie.Need-loop-again Inv-loop μ-loop
 loop-again c =
     let at-loop = c .before .before .before .before in
@@ -76,7 +58,6 @@ returns c n holds =
 
 pub delkuthi-page-spec : {M : Type 1} → statement M
 delkuthi-page-spec =
-    tie.close (tie.spec Inv-loop μ-loop (λ c κs. search needs) (λ c κs. search needs) (λ c κs. search needs) loop-holds mul-with-row index-1-with-row
-    (λ c. search needs) (λ c. search needs) mul-with-row-2 index-1-with-row-2 (λ c. search needs) (λ c. search needs)
-    (λ c κs. search needs) add-i loop-less
-    loop-again (λ c κs. search needs) (λ c. search needs) returns)
+    tie.close (tie.spec Inv-loop μ-loop (λ c κs. search needs) (λ c κs. search needs) (λ c κs. search needs) loop-holds (λ c. omega arith) (λ c.
+    omega arith) (λ c. search needs) (λ c. search needs) (λ c. omega arith) (λ c. omega arith) (λ c. search needs) (λ c. search needs) (λ c κs.
+    search needs) (λ c. omega arith) (λ c. omega arith) loop-again (λ c κs. search needs) (λ c. search needs) returns)

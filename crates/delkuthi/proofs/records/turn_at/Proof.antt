@@ -26,26 +26,11 @@ returns c =
     let args = c .before .before .before .args in
     rw (c .going-on .ensures) ((λ fresh m before. turn-close fresh (now (args .bytes)) m (args .place) before (c .before .if1 .taken)), omega arith)
 
-sub-read-record : tie.Need-sub-read-record
-sub-read-record c = search needs
-
-part-read-record-start : tie.Need-part-read-record-start
-part-read-record-start c = search needs
-
-part-read-record-end : tie.Need-part-read-record-end
-part-read-record-end c = search needs
-
-enum-known-kind : tie.Need-enum-known-kind
-enum-known-kind c = search needs
-
 add-going-on : tie.Need-add-going-on
 add-going-on c =
     let at-kind = c .before in
     let there = read (at-kind .before .before) _ (at-kind .kind .given .1) in
     omega (arith, there .size-read, there .there .0 .1)
-
-enum-known-kind-2 : tie.Need-enum-known-kind-2
-enum-known-kind-2 c = search needs
 
 add-going-on-2 : tie.Need-add-going-on-2
 add-going-on-2 c =
@@ -53,17 +38,11 @@ add-going-on-2 c =
     let there = read (at-kind .before .before) _ (at-kind .kind2 .given .1) in
     omega (arith, there .size-read, there .there .0 .1)
 
-enum-known-time : tie.Need-enum-known-time
-enum-known-time c = search needs
-
 add-going-on-3 : tie.Need-add-going-on-3
 add-going-on-3 c =
     let at-time = c .before in
     let there = read (at-time .before .before) _ (at-time .time .given .1) in
     omega (arith, there .size-read, there .there .0 .1)
-
-enum-known-number : tie.Need-enum-known-number
-enum-known-number c = search needs
 
 returns-2 : tie.Need-returns-2
 returns-2 c =
@@ -113,8 +92,5 @@ returns-5 c =
 
 pub turn-at-spec : {M : Type 1} → statement M
 turn-at-spec =
-    tie.close
-    (tie.spec
-    free returns free sub-read-record part-read-record-start part-read-record-end free enum-known-kind add-going-on free enum-known-kind-2
-    add-going-on-2 free
-    enum-known-time add-going-on-3 free enum-known-number free returns-2 returns-3 returns-4 returns-5)
+    tie.close (tie.spec free returns free (λ c. search needs) (λ c. search needs) (λ c. search needs) free (λ c. search needs) add-going-on free (λ
+    c. search needs) add-going-on-2 free (λ c. search needs) add-going-on-3 free (λ c. search needs) free returns-2 returns-3 returns-4 returns-5)

@@ -30,17 +30,11 @@ abbrev μ-loop : tie.MeasureT-loop
 loop-holds : tie.Need-loop-holds Inv-loop μ-loop
 loop-holds c = λ m gathers rows steps stands. lines-none rows steps (c .args .text)
 
-place-requires : tie.Need-place-requires Inv-loop μ-loop
-place-requires c κs = tt
-
 mul-step : tie.Need-mul-step Inv-loop μ-loop
 mul-step c = omega (arith, placed (c .place .result) (c .before .before .loop .row) (c .place .ensures))
 
 element-copy-out-step : tie.Need-element-copy-out-step Inv-loop μ-loop
 element-copy-out-step c = placed (c .place .result) (c .before .before .loop .row) (c .place .ensures)
-
-by-requires : tie.Need-by-requires Inv-loop μ-loop
-by-requires c κs = tt
 
 -- the row reads what is read off the numbers
 reads : (c : tie.After-by Inv-loop μ-loop) (m : Monitor) → Gathers m (c .before .before .before .before .before .args .t2 .answer)
@@ -54,15 +48,6 @@ reads c m gathers =
     gathered-reads summary m gathers row (c .by .result)
     (c .by .ensures ∙ ap (λ (k : ℕ). verdictBy row (summary .len) (summary .closed) (getD (summary .steps) k 0)) (at-place .place .ensures))
 
-enum-known-verdict : tie.Need-enum-known-verdict Inv-loop μ-loop
-enum-known-verdict c = search needs
-
-row-line-requires : tie.Need-row-line-requires Inv-loop μ-loop
-row-line-requires c κs = tt
-
-enum-told : tie.Need-enum-told Inv-loop μ-loop
-enum-told c = search needs
-
 returns : tie.Need-returns Inv-loop μ-loop
 returns c =
     let at-by = c .before .before in
@@ -74,12 +59,6 @@ returns c =
           (past-rows rows steps (at-loop .loop .row) (stands-reads rows steps m stands (at-loop .loop .row) _
           (rw (c .enum-told .given .1) at (reads at-by m gathers))));
     }
-
-add-row : tie.Need-add-row Inv-loop μ-loop
-add-row c = omega arith
-
-loop-less : tie.Need-loop-less Inv-loop μ-loop
-loop-less c = omega arith
 
 loop-again : tie.Need-loop-again Inv-loop μ-loop
 loop-again c =
@@ -104,20 +83,5 @@ returns-2 c =
 
 pub row-lines-spec : {M : Type 1} → statement M
 row-lines-spec =
-    tie.close
-    (tie.spec
-    Inv-loop
-    μ-loop
-    loop-holds
-    place-requires
-    mul-step
-    element-copy-out-step
-    by-requires
-    enum-known-verdict
-    row-line-requires
-    enum-told
-    returns
-    add-row
-    loop-less
-    loop-again
-    returns-2)
+    tie.close (tie.spec Inv-loop μ-loop loop-holds (λ c κs. tt) mul-step element-copy-out-step (λ c κs. tt) (λ c. search needs) (λ c κs. tt) (λ c.
+    search needs) returns (λ c. omega arith) (λ c. omega arith) loop-again returns-2)

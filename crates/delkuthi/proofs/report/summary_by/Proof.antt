@@ -38,21 +38,6 @@ loop-holds c =
           (gathers-none n (args .answer) (rows-there m n holds)),
     )
 
-mul-step : tie.Need-mul-step Inv-loop μ-loop
-mul-step c = omega arith
-
-index-1-step : tie.Need-index-1-step Inv-loop μ-loop
-index-1-step c = omega arith
-
-with-step-requires : tie.Need-with-step-requires Inv-loop μ-loop
-with-step-requires c κs = omega arith
-
-add-i : tie.Need-add-i Inv-loop μ-loop
-add-i c = omega arith
-
-loop-less : tie.Need-loop-less Inv-loop μ-loop
-loop-less c = omega arith
-
 loop-again : tie.Need-loop-again Inv-loop μ-loop
 loop-again c =
     let at-loop = c .before .before .before in
@@ -84,6 +69,6 @@ returns c =
 
 pub summary-by-spec : {M : Type 1} → statement M
 summary-by-spec =
-    tie.close (tie.spec Inv-loop μ-loop (λ c. search needs) (λ c. search needs) (λ c. search needs) (λ c κs. search needs) (λ c κs. search needs)
-    (λ c κs. search needs) loop-holds mul-step index-1-step (λ c. search needs) (λ c. search needs) with-step-requires add-i loop-less
-    loop-again returns)
+    tie.close (tie.spec Inv-loop μ-loop (λ c. search needs) (λ c. search needs) (λ c. search needs) (λ c κs. search needs) (λ c κs. search needs) (λ
+    c κs. search needs) loop-holds (λ c. omega arith) (λ c. omega arith) (λ c. search needs) (λ c. search needs) (λ c κs. omega arith) (λ c. omega
+    arith) (λ c. omega arith) loop-again returns)

@@ -7,27 +7,6 @@ use Rattle.table.specs.declared.ReadAnswer.{ReadAnswer}
 use Rattle.delkuthi.proofs.report.text_of.Statement.{statement}
 use Rattle.delkuthi.proofs.report.text_of.Tie as tie
 
-enum-told : tie.Need-enum-told
-enum-told c = search needs
-
-new-requires : tie.Need-new-requires
-new-requires c κs = search needs
-
-closed-line-requires : tie.Need-closed-line-requires
-closed-line-requires c κs = search needs
-
-row-lines-requires : tie.Need-row-lines-requires
-row-lines-requires c κs = search needs
-
-enum-known-answer : tie.Need-enum-known-answer
-enum-known-answer c = search needs
-
-new-requires-2 : tie.Need-new-requires-2
-new-requires-2 c κs = search needs
-
-refused-line-requires : tie.Need-refused-line-requires
-refused-line-requires c κs = search needs
-
 returns : tie.Need-returns
 returns c =
     let at-line = c .before in
@@ -48,14 +27,5 @@ returns-2 c =
 
 pub text-of-spec : {M : Type 1} → statement M
 text-of-spec =
-    tie.close
-    (tie.spec
-    enum-told
-    new-requires
-    closed-line-requires
-    row-lines-requires
-    enum-known-answer
-    new-requires-2
-    refused-line-requires
-    returns
-    returns-2)
+    tie.close (tie.spec (λ c. search needs) (λ c κs. search needs) (λ c κs. search needs) (λ c κs. search needs) (λ c. search needs) (λ c κs. search
+    needs) (λ c κs. search needs) returns returns-2)

@@ -16,18 +16,6 @@ use Rattle.delkuthi.proofs.stamped.delkuthi_stamps.Tie as tie
 refusal-small : (n place m at : ℕ) → 0 < n → n < 256 → StampedAnswer.Refused n place ≡ StampedAnswer.Refused m at → (0 < m) × (m < 256)
 refusal-small n place m at above below e = let same : n ≡ m = cc in (omega (arith, same, above), omega (arith, same, below))
 
-enum-known-answer : tie.Need-enum-known-answer
-enum-known-answer c = search needs
-
-enum-known-answer-2 : tie.Need-enum-known-answer-2
-enum-known-answer-2 c = search needs
-
-cast-result : tie.Need-cast-result
-cast-result c = search needs
-
-add-result : tie.Need-add-result
-add-result c = search needs
-
 returns : tie.Need-returns
 returns c =
     let at-answer = c .before .before in
@@ -55,5 +43,4 @@ returns-2 c =
 
 pub delkuthi-stamps-spec : {M : Type 1} → statement M
 delkuthi-stamps-spec =
-    tie.close
-    (tie.spec free enum-known-answer free enum-known-answer-2 free cast-result add-result returns returns-2)
+    tie.close (tie.spec free (λ c. search needs) free (λ c. search needs) free (λ c. search needs) (λ c. search needs) returns returns-2)

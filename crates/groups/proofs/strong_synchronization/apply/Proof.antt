@@ -19,7 +19,13 @@ returns c rule times state past e =
     let k = i .before .before in
     let waited = w .one-more-waits .ensures rule times state past e in
     let counted = c .count .ensures rule _ _ (ap (λ m. getD m 1 []) waited) in
-    rw (counted, waited, ring-length, ← rw e at (k .count-at .ensures), not-true (ltb (k .count-at .result) (state .len)) (rw e at (i .if1 .taken))) refl
+    rw (
+      counted,
+      waited,
+      ring-length,
+      ← rw e at (k .count-at .ensures),
+      not-true (ltb (k .count-at .result) (state .len)) (rw e at (i .if1 .taken)),
+    ) refl
 
 returns-2 : tie.Need-returns-2
 unfolding rowWords numberWords changedWords decideStrongSynchronization

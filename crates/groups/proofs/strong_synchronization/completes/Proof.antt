@@ -9,7 +9,8 @@ returns c =
     let i = c .before .before .before in
     let k = i .before .before .before .before in
     let f = k .before .before .before .before in
-    rw (← f .before .gets .ensures, f .if1 .taken, ← k .before .gets2 .ensures, k .if2 .taken, ← i .before .gets3 .ensures, i .if3 .taken) (c .gets4 .ensures)
+    rw (← f .before .gets .ensures, f .if1 .taken, ← k .before .gets2 .ensures, k .if2 .taken, ← i .before .gets3 .ensures, i .if3 .taken)
+    (c .gets4 .ensures)
 
 returns-2 : tie.Need-returns-2
 returns-2 c =

@@ -4,9 +4,6 @@ use borrow.Author.Tests.{eq-eqb, ne-eqb}
 use Rattle.groups.proofs.strong_synchronization.has.Statement.{statement}
 use Rattle.groups.proofs.strong_synchronization.has.Tie as tie
 
-cast-if1 : tie.Need-cast-if1
-cast-if1 c = search needs
-
 returns : tie.Need-returns
 returns c = rw (eq-eqb _ _ (c .if1 .taken))
 
@@ -14,4 +11,5 @@ returns-2 : tie.Need-returns-2
 returns-2 c = rw (ne-eqb _ _ (c .if1 .left))
 
 pub has-spec : {M : Type 1} → statement M
-has-spec = tie.close (tie.spec cast-if1 returns returns-2)
+has-spec =
+    tie.close (tie.spec (λ c. search needs) returns returns-2)

@@ -18,7 +18,8 @@ returns c h e s =
     let v = c .before in
     let i = v .before .before in
     let a = i .before .before .args in
-    let past : ltb (h .soonest) (a .time) ≡ true = ap (λ (x : ℕ). ltb x (a .time)) (sym (number-at h s (now (a .m)) e 4)) ∙ lt-ltb _ _ (i .if1 .taken) in
+    let past : ltb (h .soonest) (a .time) ≡ true = ap (λ (x : ℕ). ltb x (a .time)) (sym (number-at h s (now (a .m)) e 4))
+    ∙ lt-ltb _ _ (i .if1 .taken) in
     rw past (c .pass .ensures h e s ∙ ap (λ (o : Occurrence). wordsOf (passed h o)) (v .event-of .ensures))
 
 returns-2 : tie.Need-returns-2

@@ -34,7 +34,8 @@ returns-2 c =
     let f = i .before in
     let a = f .before .before .args in
     taken-stores (now (a .m)) Call.Close 0
-    (λ h e s. own-number h Call.Close _ 0 (f .first-refusal .ensures h e s) (omega (arith, i .if1 .left)) refl) 0 (c .put-soonest .last .0) (omega arith) (λ some. absurd (some refl))
+    (λ h e s. own-number h Call.Close _ 0 (f .first-refusal .ensures h e s) (omega (arith, i .if1 .left)) refl) 0 (c .put-soonest .last .0)
+    (omega arith) (λ some. absurd (some refl))
     (λ h e s going.
     let clock = number-at h s (now (a .m)) e 0 in
     let counted = k .count-tick .ensures h e s going ∙ ap (λ (x : ℕ). wordsOf (countedTo h x 0)) clock in

@@ -16,14 +16,20 @@ use Rattle.lent.proofs.calls.coloured_refusal.Statement.{statement}
 use Rattle.lent.proofs.calls.coloured_refusal.Tie as tie
 
 returns : tie.Need-returns
-returns c = (λ z. absurd (omega (arith, z, c .if1 .taken)), λ h e s. first-number h (Call.ColouredEvent (c .before .before .args .kind) (c .before .before .args .colour) (c .before .before .args .time)) _ (c .before .first-refusal .ensures h e s) (c .if1 .taken))
+returns c = (
+  λ z. absurd (omega (arith, z, c .if1 .taken)),
+  λ h e s. first-number h
+      (Call.ColouredEvent (c .before .before .args .kind) (c .before .before .args .colour) (c .before .before .args .time)) _
+      (c .before .first-refusal .ensures h e s) (c .if1 .taken),
+)
 
 returns-2 : tie.Need-returns-2
 returns-2 c =
     let a = c .before .before .before .args in (
       λ z. absurd (omega (arith, z)),
       λ h e s.
-          own-number h (Call.ColouredEvent (a .kind) (a .colour) (a .time)) _ _ (c .before .before .first-refusal .ensures h e s) (omega (arith, c .before .if1 .left)) (rw (lt-ltb lastKind (a .kind) (c .if2 .taken)) refl),
+          own-number h (Call.ColouredEvent (a .kind) (a .colour) (a .time)) _ _ (c .before .before .first-refusal .ensures h e s)
+          (omega (arith, c .before .if1 .left)) (rw (lt-ltb lastKind (a .kind) (c .if2 .taken)) refl),
     )
 
 returns-3 : tie.Need-returns-3
@@ -32,7 +38,8 @@ returns-3 c =
     let a = f .before .args in (
       λ z. absurd (omega (arith, z)),
       λ h e s.
-          own-number h (Call.ColouredEvent (a .kind) (a .colour) (a .time)) _ _ (f .first-refusal .ensures h e s) (omega (arith, c .before .before .if1 .left))
+          own-number h (Call.ColouredEvent (a .kind) (a .colour) (a .time)) _ _ (f .first-refusal .ensures h e s)
+          (omega (arith, c .before .before .if1 .left))
           (rw (le-ltb lastKind (a .kind) (c .before .if2 .left), lt-ltb (a .kind) firstColoured (c .if3 .taken)) refl),
     )
 
@@ -42,8 +49,13 @@ returns-4 c =
     let a = f .before .args in (
       λ z. absurd (omega (arith, z)),
       λ h e s.
-          own-number h (Call.ColouredEvent (a .kind) (a .colour) (a .time)) _ _ (f .first-refusal .ensures h e s) (omega (arith, c .before .before .before .if1 .left))
-          (rw (le-ltb lastKind (a .kind) (c .before .before .if2 .left), le-ltb (a .kind) firstColoured (c .before .if3 .left), lt-ltb lastColour (a .colour) (c .if4 .taken)) refl),
+          own-number h (Call.ColouredEvent (a .kind) (a .colour) (a .time)) _ _ (f .first-refusal .ensures h e s)
+          (omega (arith, c .before .before .before .if1 .left))
+          (rw (
+            le-ltb lastKind (a .kind) (c .before .before .if2 .left),
+            le-ltb (a .kind) firstColoured (c .before .if3 .left),
+            lt-ltb lastColour (a .colour) (c .if4 .taken),
+          ) refl),
     )
 
 returns-5 : tie.Need-returns-5
@@ -55,9 +67,17 @@ returns-5 c =
     let a = f .before .args in (
       λ z. (omega (arith, i .before .if3 .left), (omega (arith, i .before .before .if2 .left), omega (arith, i .if4 .left))),
       λ h e s.
-          own-number h (Call.ColouredEvent (a .kind) (a .colour) (a .time)) _ _ (f .first-refusal .ensures h e s) (omega (arith, i .before .before .before .if1 .left))
-          (rw (le-ltb lastKind (a .kind) (i .before .before .if2 .left), le-ltb (a .kind) firstColoured (i .before .if3 .left), le-ltb lastColour (a .colour) (i .if4 .left), lt-ltb (stream (a .kind) (a .colour)) streamCount (omega (arith, t .stream-of .ensures .0, t .stream-of .ensures .1)))
-          (c .time-refusal .ensures ∙ ap₂ (timeRefusal (a .time)) (number-at h s (now (a .m)) e 0) (q .free-at .ensures h e s ∙ ap (λ (k : ℕ). getD (h .monitor .next) k 0) (t .stream-of .ensures .0)))),
+          own-number h (Call.ColouredEvent (a .kind) (a .colour) (a .time)) _ _ (f .first-refusal .ensures h e s)
+          (omega (arith, i .before .before .before .if1 .left))
+          (rw (
+            le-ltb lastKind (a .kind) (i .before .before .if2 .left),
+            le-ltb (a .kind) firstColoured (i .before .if3 .left),
+            le-ltb lastColour (a .colour) (i .if4 .left),
+            lt-ltb (stream (a .kind) (a .colour)) streamCount
+                (omega (arith, t .stream-of .ensures .0, t .stream-of .ensures .1)),
+          )
+          (c .time-refusal .ensures ∙ ap₂ (timeRefusal (a .time)) (number-at h s (now (a .m)) e 0)
+          (q .free-at .ensures h e s ∙ ap (λ (k : ℕ). getD (h .monitor .next) k 0) (t .stream-of .ensures .0)))),
     )
 
 pub coloured-refusal-spec : {M : Type 1} → statement M

@@ -14,14 +14,19 @@ use Rattle.lent.proofs.calls.event_refusal.Statement.{statement}
 use Rattle.lent.proofs.calls.event_refusal.Tie as tie
 
 returns : tie.Need-returns
-returns c = (λ z. absurd (omega (arith, z, c .if1 .taken)), λ h e s. first-number h (Call.Event (c .before .before .args .kind) (c .before .before .args .time)) _ (c .before .first-refusal .ensures h e s) (c .if1 .taken))
+returns c = (
+  λ z. absurd (omega (arith, z, c .if1 .taken)),
+  λ h e s. first-number h
+      (Call.Event (c .before .before .args .kind) (c .before .before .args .time)) _ (c .before .first-refusal .ensures h e s) (c .if1 .taken),
+)
 
 returns-2 : tie.Need-returns-2
 returns-2 c =
     let a = c .before .before .before .args in (
       λ z. absurd (omega (arith, z)),
       λ h e s.
-          own-number h (Call.Event (a .kind) (a .time)) _ _ (c .before .before .first-refusal .ensures h e s) (omega (arith, c .before .if1 .left)) (rw (lt-ltb lastKind (a .kind) (c .if2 .taken)) refl),
+          own-number h (Call.Event (a .kind) (a .time)) _ _ (c .before .before .first-refusal .ensures h e s) (omega (arith, c .before .if1 .left))
+          (rw (lt-ltb lastKind (a .kind) (c .if2 .taken)) refl),
     )
 
 returns-3 : tie.Need-returns-3
@@ -44,7 +49,11 @@ returns-4 c =
       λ z. small,
       λ h e s.
           own-number h (Call.Event (a .kind) (a .time)) _ _ (f .first-refusal .ensures h e s) (omega (arith, i .before .before .if1 .left))
-          (rw (le-ltb lastKind (a .kind) (i .before .if2 .left), lt-leb firstColoured (a .kind) (i .if3 .left), lt-ltb (a .kind) streamCount (omega (arith, small)))
+          (rw (
+            le-ltb lastKind (a .kind) (i .before .if2 .left),
+            lt-leb firstColoured (a .kind) (i .if3 .left),
+            lt-ltb (a .kind) streamCount (omega (arith, small)),
+          )
           (c .time-refusal .ensures ∙ ap₂ (timeRefusal (a .time)) (number-at h s (now (a .m)) e 0) (q .free-at .ensures h e s))),
     )
 

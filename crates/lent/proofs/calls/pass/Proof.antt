@@ -23,7 +23,8 @@ returns c h e s =
     let soon : t .soonest .result ≡ soonestAll h = t .soonest .ensures h e s ∙ ap (soonestOf (h .monitor .rows)) held in
     let past : ltb (soonestAll h) (a .o .time) ≡ true = ap (λ (x : ℕ). ltb x (a .o .time)) (sym soon) ∙ lt-ltb _ _ (i .if1 .taken) in
     let stopped = d .ends .ensures h e s ∙ ap₂ (λ (x y : ℕ). wordsOf (ended h x (a .o) y)) held (number-at h s (now (a .m)) e 1) in
-    rw past (c .put-soonest .ensures (ended h (heldRows (h .monitor)) (a .o) (h .monitor .count)) stopped (shaped-ended h (heldRows (h .monitor)) (a .o) (h .monitor .count) s))
+    rw past (c .put-soonest .ensures (ended h (heldRows (h .monitor)) (a .o) (h .monitor .count)) stopped
+    (shaped-ended h (heldRows (h .monitor)) (a .o) (h .monitor .count) s))
 
 returns-2 : tie.Need-returns-2
 returns-2 c h e s =

@@ -31,7 +31,8 @@ returns-2 c h e s =
     let due : eqb (h .monitor .count % 32) 0 ≡ true =
     ap (λ (n : ℕ). eqb (n % 32) 0) (sym (number-at h s (now (a .m)) e 1)) ∙ eq-eqb _ _ (t .if2 .taken) in
     rw (none, due)
-    (c .smaller .ensures ∙ ap (min 1) (u .minus .ensures) ∙ ap (λ (n : ℕ). min 1 (waitingLimit - n)) (f .fullest .ensures h e s ∙ ap (fullest (h .monitor)) (d .held .ensures .1 h e s)))
+    (c .smaller .ensures ∙ ap (min 1) (u .minus .ensures) ∙ ap (λ (n : ℕ). min 1 (waitingLimit - n))
+    (f .fullest .ensures h e s ∙ ap (fullest (h .monitor)) (d .held .ensures .1 h e s)))
 
 returns-3 : tie.Need-returns-3
 returns-3 c h e s =
@@ -44,5 +45,6 @@ returns-3 c h e s =
 
 pub room-for-spec : {M : Type 1} → statement M
 room-for-spec =
-    tie.close (tie.spec (λ c. search needs) (λ c. search needs) (λ c. search needs) returns (λ c. search needs) (λ c. search needs) (λ c. search needs)
+    tie.close (tie.spec (λ c. search needs) (λ c. search needs) (λ c. search needs) returns (λ c. search needs) (λ c. search needs)
+    (λ c. search needs)
     (λ c κs. search needs) (λ c κs. c .held .ensures .0) (λ c κs. search needs) (λ c κs. search needs) returns-2 returns-3)

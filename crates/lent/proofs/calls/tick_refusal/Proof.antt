@@ -18,7 +18,8 @@ returns c h e s = first-number h (Call.Tick (c .before .before .args .time)) _ (
 returns-2 : tie.Need-returns-2
 returns-2 c h e s =
     let a = c .before .before .before .args in
-    own-number h (Call.Tick (a .time)) _ _ (c .before .before .first-refusal .ensures h e s) (omega (arith, c .before .if1 .left)) (rw (lt-ltb lastTime (a .time) (c .if2 .taken)) refl)
+    own-number h (Call.Tick (a .time)) _ _ (c .before .before .first-refusal .ensures h e s) (omega (arith, c .before .if1 .left))
+    (rw (lt-ltb lastTime (a .time) (c .if2 .taken)) refl)
 
 returns-3 : tie.Need-returns-3
 returns-3 c h e s =

@@ -40,7 +40,8 @@ back-requires : tie.Need-back-requires
 back-requires c κs = c .held .ensures .0
 
 put-free-requires : tie.Need-put-free-requires
-put-free-requires c κs = rw (c .before .before .place-in .ensures) (place-small (getD (getD (getD (c .before .before .before .before .back .last .0) 32 []) 0 []) 6 0))
+put-free-requires c κs = rw (c .before .before .place-in .ensures)
+    (place-small (getD (getD (getD (c .before .before .before .before .back .last .0) 32 []) 0 []) 6 0))
 
 returns-2 : tie.Need-returns-2
 returns-2 c =

@@ -26,15 +26,6 @@ loop-holds c = (omega arith, (omega arith, λ h s lies. lies))
 enlist-kind-requires : tie.Need-enlist-kind-requires Inv-loop μ-loop
 enlist-kind-requires c κs = (c .before .before .before .pre, omega arith)
 
-put-end-requires : tie.Need-put-end-requires Inv-loop μ-loop
-put-end-requires c κs = omega arith
-
-add-kind : tie.Need-add-kind Inv-loop μ-loop
-add-kind c = omega arith
-
-loop-less : tie.Need-loop-less Inv-loop μ-loop
-loop-less c = omega arith
-
 loop-again : tie.Need-loop-again Inv-loop μ-loop
 unfolding listedTo
 loop-again c =
@@ -68,4 +59,5 @@ returns c h s lies =
 
 pub enlist-spec : {M : Type 1} → statement M
 enlist-spec =
-    tie.close (tie.spec Inv-loop μ-loop loop-holds enlist-kind-requires put-end-requires add-kind loop-less loop-again returns)
+    tie.close (tie.spec Inv-loop μ-loop loop-holds enlist-kind-requires (λ c κs. omega arith) (λ c. omega arith) (λ c. omega arith) loop-again
+    returns)

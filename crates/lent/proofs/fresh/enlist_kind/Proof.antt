@@ -27,12 +27,6 @@ loop-holds c =
 enter-requires : tie.Need-enter-requires Inv-loop μ-loop
 enter-requires c κs = (omega arith, omega arith)
 
-add-i : tie.Need-add-i Inv-loop μ-loop
-add-i c = omega arith
-
-loop-less : tie.Need-loop-less Inv-loop μ-loop
-loop-less c = omega arith
-
 loop-again : tie.Need-loop-again Inv-loop μ-loop
 loop-again c =
     let l = c .before .before .before in
@@ -62,4 +56,4 @@ returns c =
 
 pub enlist-kind-spec : {M : Type 1} → statement M
 enlist-kind-spec =
-    tie.close (tie.spec Inv-loop μ-loop loop-holds enter-requires add-i loop-less loop-again returns)
+    tie.close (tie.spec Inv-loop μ-loop loop-holds enter-requires (λ c. omega arith) (λ c. omega arith) loop-again returns)

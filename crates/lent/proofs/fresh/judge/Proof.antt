@@ -9,15 +9,6 @@ use Rattle.lent.proofs.Refusals.{refused-small}
 use Rattle.lent.proofs.fresh.judge.Statement.{statement}
 use Rattle.lent.proofs.fresh.judge.Tie as tie
 
-judge-requires : tie.Need-judge-requires
-judge-requires c κs = search needs
-
-enum-told : tie.Need-enum-told
-enum-told c = search needs
-
-enum-known-answer : tie.Need-enum-known-answer
-enum-known-answer c = search needs
-
 -- the refusal that was read
 refusal : (c : tie.After-answer)
     → ReadsTable (now (c .before .before .before .before .args .table)) (table-refused (c .answer .given .0 .0) (c .answer .given .0 .1 .0))
@@ -28,9 +19,6 @@ small c = refused-small (now (c .before .before .before .before .args .table)) _
 
 mul-t8 : tie.Need-mul-t8
 mul-t8 c = omega (arith, small (c .before) .1)
-
-cast-t9 : tie.Need-cast-t9
-cast-t9 c = search needs
 
 add-t10 : tie.Need-add-t10
 add-t10 c = omega (arith, small (c .before) .1)
@@ -47,4 +35,5 @@ returns-2 c =
     }
 
 pub judge-spec : {M : Type 1} → statement M
-judge-spec = tie.close (tie.spec judge-requires enum-told enum-known-answer mul-t8 cast-t9 add-t10 returns returns-2)
+judge-spec =
+    tie.close (tie.spec (λ c κs. search needs) (λ c. search needs) (λ c. search needs) mul-t8 (λ c. search needs) add-t10 returns returns-2)

@@ -28,24 +28,6 @@ abbrev μ-loop : tie.MeasureT-loop
 loop-holds : tie.Need-loop-holds Inv-loop μ-loop
 loop-holds c = (omega arith, λ rows reads long. (scan-start _ rows reads, put-none _ (after rows [])))
 
-row-at-requires : tie.Need-row-at-requires Inv-loop μ-loop
-row-at-requires c κs = tt
-
-mul-begin : tie.Need-mul-begin Inv-loop μ-loop
-mul-begin c = omega arith
-
-index-1-begin : tie.Need-index-1-begin Inv-loop μ-loop
-index-1-begin c = omega arith
-
-begin-requires : tie.Need-begin-requires Inv-loop μ-loop
-begin-requires c κs = tt
-
-add-i : tie.Need-add-i Inv-loop μ-loop
-add-i c = omega arith
-
-loop-less : tie.Need-loop-less Inv-loop μ-loop
-loop-less c = omega arith
-
 loop-again : tie.Need-loop-again Inv-loop μ-loop
 loop-again c =
     let d = c .before .before in
@@ -67,4 +49,5 @@ returns c rows reads long =
 
 pub put-rows-spec : {M : Type 1} → statement M
 put-rows-spec =
-    tie.close (tie.spec Inv-loop μ-loop loop-holds row-at-requires mul-begin index-1-begin begin-requires add-i loop-less loop-again returns)
+    tie.close (tie.spec Inv-loop μ-loop loop-holds (λ c κs. tt) (λ c. omega arith) (λ c. omega arith) (λ c κs. tt) (λ c. omega arith) (λ c. omega
+    arith) loop-again returns)

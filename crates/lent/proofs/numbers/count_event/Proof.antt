@@ -24,9 +24,12 @@ returns c h e s going =
     let counted = c .count .ensures (h₁ .monitor) (h₁ .soonest) (h₁ .room) (take 48 (h₁ .monitor .next)) (h₁ .ends) block going in
     let free = f .free-at .ensures h e s in
     ap₂ (λ (m : Words) (b : List (List ℕ)). set m 32 b) stored counted
-    ∙ ap (λ (k : ℕ). set (wordsOf h₁) 32 (numberArray (countedMonitor (h₁ .monitor) (a .stream) k (a .time) 0) (h .soonest) (h .room) (take 48 (h₁ .monitor .next)) ∷ h .ends ∷ [])) free
-    ∙ block-written h₁ wide (withMonitor h (countedMonitor (h₁ .monitor) (a .stream) (getD (h .monitor .next) (a .stream) 0) (a .time) 0)) refl refl refl
-    ∙ ap (λ (k : ℕ). wordsOf (withMonitor h (countedMonitor (h₁ .monitor) (a .stream) (getD (h .monitor .next) (a .stream) 0) (a .time) k))) (sym going)
+    ∙ ap (λ (k : ℕ). set (wordsOf h₁) 32 (numberArray (countedMonitor (h₁ .monitor) (a .stream) k (a .time) 0) (h .soonest) (h .room)
+    (take 48 (h₁ .monitor .next)) ∷ h .ends ∷ [])) free
+    ∙ block-written h₁ wide (withMonitor h (countedMonitor (h₁ .monitor) (a .stream) (getD (h .monitor .next) (a .stream) 0)
+    (a .time) 0)) refl refl refl
+    ∙ ap (λ (k : ℕ). wordsOf (withMonitor h (countedMonitor (h₁ .monitor) (a .stream) (getD (h .monitor .next) (a .stream) 0) (a .time) k)))
+    (sym going)
 
 pub count-event-spec : {M : Type 1} → statement M
 count-event-spec =

@@ -18,7 +18,8 @@ returns c h e s going =
     let counted = c .count .ensures (h .monitor) (h .soonest) (h .room) (take 48 (h .monitor .next)) (h .ends) block going in
     let free = f .free-at .ensures h e s in
     ap₂ (λ (m : Words) (b : List (List ℕ)). set m 32 b) e counted
-    ∙ ap (λ (k : ℕ). set (wordsOf h) 32 (numberArray (countedMonitor (h .monitor) 0 k (a .time) 0) (h .soonest) (h .room) (take 48 (h .monitor .next)) ∷ h .ends ∷ [])) free
+    ∙ ap (λ (k : ℕ). set (wordsOf h) 32 (numberArray (countedMonitor (h .monitor) 0 k (a .time) 0) (h .soonest) (h .room)
+    (take 48 (h .monitor .next)) ∷ h .ends ∷ [])) free
     ∙ block-written h s (countedTo h (a .time) 0) refl refl refl
 
 pub count-tick-spec : {M : Type 1} → statement M

@@ -26,14 +26,20 @@ returns-2 c h e s =
     let going = ap (λ m. getD (getD (getD m 32 []) 0 []) 2 0) e ∙ ap (λ (b : List (List ℕ)). getD (getD b 0 []) 2 0) (numbers-read h s) in
     let count = ap (λ m. getD (getD (getD m 32 []) 0 []) 1 0) e ∙ ap (λ (b : List (List ℕ)). getD (getD b 0 []) 1 0) (numbers-read h s) in
     let more : lastCount ≤ h .monitor .count = omega (arith, count, c .if2 .taken) in
-    rw (le-ltb 0 (h .monitor .closed) (none-closed (h .monitor .closed) _ (sym going) (c .before .before .if1 .left)), le-leb lastCount (h .monitor .count) more) refl
+    rw (
+      le-ltb 0 (h .monitor .closed) (none-closed (h .monitor .closed) _ (sym going) (c .before .before .if1 .left)),
+      le-leb lastCount (h .monitor .count) more,
+    ) refl
 
 returns-3 : tie.Need-returns-3
 returns-3 c h e s =
     let going = ap (λ m. getD (getD (getD m 32 []) 0 []) 2 0) e ∙ ap (λ (b : List (List ℕ)). getD (getD b 0 []) 2 0) (numbers-read h s) in
     let count = ap (λ m. getD (getD (getD m 32 []) 0 []) 1 0) e ∙ ap (λ (b : List (List ℕ)). getD (getD b 0 []) 1 0) (numbers-read h s) in
     let less : h .monitor .count < lastCount = omega (arith, count, c .if2 .left) in
-    rw (le-ltb 0 (h .monitor .closed) (none-closed (h .monitor .closed) _ (sym going) (c .before .before .if1 .left)), lt-leb lastCount (h .monitor .count) less) refl
+    rw (
+      le-ltb 0 (h .monitor .closed) (none-closed (h .monitor .closed) _ (sym going) (c .before .before .if1 .left)),
+      lt-leb lastCount (h .monitor .count) less,
+    ) refl
 
 pub first-refusal-spec : {M : Type 1} → statement M
 first-refusal-spec =

@@ -19,7 +19,8 @@ returns-2 c h e s =
     let i = c .before .before .args .stream in
     let small : i - 48 < 128 = omega (arith, c .before .if1 .left, c .before .before .pre) in
     let place : 48 + (i - 48) ≡ i = omega (arith, c .before .if1 .left) in
-    ap (λ m. getD (getD (getD m 34 []) ((i - 48) / 64) []) ((i - 48) % 64) 0) e ∙ coloured-free h s (i - 48) small ∙ ap (λ (k : ℕ). getD (h .monitor .next) k 0) place
+    ap (λ m. getD (getD (getD m 34 []) ((i - 48) / 64) []) ((i - 48) % 64) 0) e ∙ coloured-free h s (i - 48) small
+    ∙ ap (λ (k : ℕ). getD (h .monitor .next) k 0) place
 
 pub free-at-spec : {M : Type 1} → statement M
 free-at-spec =

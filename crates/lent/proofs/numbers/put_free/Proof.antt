@@ -14,7 +14,8 @@ use Rattle.lent.proofs.numbers.put_free.Tie as tie
 returns : tie.Need-returns
 returns c h e s =
     let a = c .before .args in
-    ap (λ m. set m 32 (set (getD m 32 []) 0 (set (getD (getD m 32 []) 0 []) (16 + a .stream) (a .time)))) e ∙ plain-written h s (a .stream) (a .time) (c .if1 .taken)
+    ap (λ m. set m 32 (set (getD m 32 []) 0 (set (getD (getD m 32 []) 0 []) (16 + a .stream) (a .time)))) e
+    ∙ plain-written h s (a .stream) (a .time) (c .if1 .taken)
 
 returns-2 : tie.Need-returns-2
 returns-2 c h e s =

@@ -19,12 +19,6 @@ abbrev μ-loop : tie.MeasureT-loop
 loop-holds : tie.Need-loop-holds Inv-loop μ-loop
 loop-holds c = (omega arith, λ h e s. refl)
 
-add-named : tie.Need-add-named Inv-loop μ-loop
-add-named c = omega arith
-
-named-requires : tie.Need-named-requires Inv-loop μ-loop
-named-requires c κs = omega arith
-
 crowds-at-requires : tie.Need-crowds-at-requires Inv-loop μ-loop
 crowds-at-requires c κs = c .named .ensures .0
 
@@ -39,12 +33,6 @@ returns c h e s =
     let row = d .named .ensures .1 h e s in
     let yes : crowdedAt h _ (a .o) ≡ true = ap (λ (k : ℕ). crowdedAt h k (a .o)) (sym row) ∙ sym (w .crowds-at .ensures h e s) ∙ c .if1 .taken in
     sym (crowded-there h (a .first) j (a .o) yes (a .n) small)
-
-add-j : tie.Need-add-j Inv-loop μ-loop
-add-j c = omega arith
-
-loop-less : tie.Need-loop-less Inv-loop μ-loop
-loop-less c = omega arith
 
 loop-again : tie.Need-loop-again Inv-loop μ-loop
 loop-again c =
@@ -70,4 +58,5 @@ returns-2 c h e s =
 
 pub crowds-spec : {M : Type 1} → statement M
 crowds-spec =
-    tie.close (tie.spec Inv-loop μ-loop loop-holds add-named named-requires crowds-at-requires returns add-j loop-less loop-again returns-2)
+    tie.close (tie.spec Inv-loop μ-loop loop-holds (λ c. omega arith) (λ c κs. omega arith) crowds-at-requires returns (λ c. omega arith) (λ c.
+    omega arith) loop-again returns-2)

@@ -20,24 +20,6 @@ abbrev μ-loop : tie.MeasureT-loop
 loop-holds : tie.Need-loop-holds Inv-loop μ-loop
 loop-holds c = (omega arith, λ h e s. refl)
 
-mul-filled : tie.Need-mul-filled Inv-loop μ-loop
-mul-filled c = omega arith
-
-index-1-filled : tie.Need-index-1-filled Inv-loop μ-loop
-index-1-filled c = omega arith
-
-filled-requires : tie.Need-filled-requires Inv-loop μ-loop
-filled-requires c κs = tt
-
-larger-requires : tie.Need-larger-requires Inv-loop μ-loop
-larger-requires c κs = tt
-
-add-i : tie.Need-add-i Inv-loop μ-loop
-add-i c = omega arith
-
-loop-less : tie.Need-loop-less Inv-loop μ-loop
-loop-less c = omega arith
-
 loop-again : tie.Need-loop-again Inv-loop μ-loop
 loop-again c =
     let f = c .before in
@@ -60,4 +42,5 @@ returns c h e s =
 
 pub fullest-spec : {M : Type 1} → statement M
 fullest-spec =
-    tie.close (tie.spec Inv-loop μ-loop loop-holds mul-filled index-1-filled filled-requires larger-requires add-i loop-less loop-again returns)
+    tie.close (tie.spec Inv-loop μ-loop loop-holds (λ c. omega arith) (λ c. omega arith) (λ c κs. tt) (λ c κs. tt) (λ c. omega arith) (λ c. omega
+    arith) loop-again returns)

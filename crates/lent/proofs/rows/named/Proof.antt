@@ -35,5 +35,6 @@ returns-2 c =
 
 pub named-spec : {M : Type 1} → statement M
 named-spec =
-    tie.close (tie.spec (λ c. search needs) (λ c. search needs) (λ c. search needs) (λ c. search needs) returns (λ c. search needs) (λ c. search needs)
+    tie.close (tie.spec (λ c. search needs) (λ c. search needs) (λ c. search needs) (λ c. search needs) returns (λ c. search needs)
+    (λ c. search needs)
     (λ c. search needs) (λ c. search needs) returns-2)

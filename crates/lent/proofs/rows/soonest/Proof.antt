@@ -26,27 +26,6 @@ abbrev μ-loop : tie.MeasureT-loop
 loop-holds : tie.Need-loop-holds Inv-loop μ-loop
 loop-holds c = (omega arith, λ h e s. refl)
 
-mul-smaller : tie.Need-mul-smaller Inv-loop μ-loop
-mul-smaller c = omega arith
-
-index-1-smaller : tie.Need-index-1-smaller Inv-loop μ-loop
-index-1-smaller c = omega arith
-
-index-2-smaller : tie.Need-index-2-smaller Inv-loop μ-loop
-index-2-smaller c = search needs
-
-index-3-smaller : tie.Need-index-3-smaller Inv-loop μ-loop
-index-3-smaller c = search needs
-
-smaller-requires : tie.Need-smaller-requires Inv-loop μ-loop
-smaller-requires c κs = tt
-
-add-i : tie.Need-add-i Inv-loop μ-loop
-add-i c = omega arith
-
-loop-less : tie.Need-loop-less Inv-loop μ-loop
-loop-less c = omega arith
-
 loop-again : tie.Need-loop-again Inv-loop μ-loop
 unfolding Stored.wordsOf rowWords numberWords
 loop-again c =
@@ -69,5 +48,5 @@ returns c h e s =
 
 pub soonest-spec : {M : Type 1} → statement M
 soonest-spec =
-    tie.close (tie.spec Inv-loop μ-loop loop-holds mul-smaller index-1-smaller index-2-smaller index-3-smaller smaller-requires add-i loop-less
-    loop-again returns)
+    tie.close (tie.spec Inv-loop μ-loop loop-holds (λ c. omega arith) (λ c. omega arith) (λ c. search needs) (λ c. search needs) (λ c κs. tt) (λ c.
+    omega arith) (λ c. omega arith) loop-again returns)

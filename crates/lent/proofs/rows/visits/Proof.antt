@@ -1,4 +1,5 @@
--- Entry after entry: before the turn of number j the rows of the first j have taken the event; the soonest time is kept beside, and stored at the end.
+-- Entry after entry: before the turn of number j the rows of the first j have taken the event; the soonest time is kept beside, and stored at the
+-- end.
 use Prim.Native.Nat.{ℕ, _+_, _-_, _≤_, _<_, min}
 use mathlib.Core.Path.{_≡_, sym, ap, ap₂, _∙_}
 use native.Mathlib.Omega.{arith}
@@ -35,41 +36,17 @@ loop-holds c =
     let m = now (c .before .before .args .m) in
     (omega arith, λ h e s. (e, (number-at h s m e 4, number-at h s m e 11)))
 
-add-named : tie.Need-add-named Inv-loop μ-loop
-add-named c = omega arith
-
-named-requires : tie.Need-named-requires Inv-loop μ-loop
-named-requires c κs = omega arith
-
 mul-event : tie.Need-mul-event Inv-loop μ-loop
 mul-event c = omega (arith, c .named .ensures .0)
 
 index-1-event : tie.Need-index-1-event Inv-loop μ-loop
 index-1-event c = omega (arith, c .named .ensures .0)
 
-event-requires : tie.Need-event-requires Inv-loop μ-loop
-event-requires c κs = tt
-
 mul-smaller : tie.Need-mul-smaller Inv-loop μ-loop
 mul-smaller c = omega (arith, c .before .before .named .ensures .0)
 
 index-1-smaller : tie.Need-index-1-smaller Inv-loop μ-loop
 index-1-smaller c = omega (arith, c .before .before .named .ensures .0)
-
-index-2-smaller : tie.Need-index-2-smaller Inv-loop μ-loop
-index-2-smaller c = search needs
-
-index-3-smaller : tie.Need-index-3-smaller Inv-loop μ-loop
-index-3-smaller c = search needs
-
-smaller-requires : tie.Need-smaller-requires Inv-loop μ-loop
-smaller-requires c κs = tt
-
-add-j : tie.Need-add-j Inv-loop μ-loop
-add-j c = omega arith
-
-loop-less : tie.Need-loop-less Inv-loop μ-loop
-loop-less c = omega arith
 
 mul-room-in : tie.Need-mul-room-in Inv-loop μ-loop
 mul-room-in c = omega (arith, c .before .before .before .before .named .ensures .0)
@@ -93,7 +70,8 @@ loop-again c =
           let so-far = l .before .loop .inv .1 h e s in
           let h′ = unstored h (a .first) j (a .stream) (a .t) (a .number) in
           let wide = shaped-soonest (visited h (a .first) j o (a .number)) (h .soonest) (shaped-visited h (a .first) j o (a .number) s) in
-          let row : i ≡ rowNamed h (a .first + j) = d .named .ensures .1 h′ (so-far .0) wide ∙ visited-named h (a .first) j o (a .number) (a .first + j) in
+          let row : i ≡ rowNamed h (a .first + j) = d .named .ensures .1 h′ (so-far .0) wide
+          ∙ visited-named h (a .first) j o (a .number) (a .first + j) in
           let there : i < 32 = d .named .ensures .0 in
           let r = rowAt (h′ .monitor) i in
           let b = keptAt (h′ .monitor) i in
@@ -111,7 +89,8 @@ loop-again c =
             stored ∙ ap (λ (y : Lent). wordsOf (withSoonest y (h .soonest))) next,
             (
               w .smaller .ensures ∙ ap₂ min (so-far .1 .0) due ∙ ap (λ (y : Lent). y .soonest) next,
-              room ∙ (λ k. Stored.roomIn (rowAt (visitAt (visited h (a .first) j o (a .number)) (row k) o (a .number) .monitor) (row k)) (so-far .1 .1 k))
+              room ∙ (λ k. Stored.roomIn (rowAt (visitAt (visited h (a .first) j o (a .number)) (row k) o (a .number) .monitor) (row k))
+                  (so-far .1 .1 k))
                   ∙ ap (λ (k : ℕ). roomAfter h (a .first) k o (a .number)) (sym (add-one j)),
             ),
           ),
@@ -134,7 +113,7 @@ returns c h e s =
 
 pub visits-spec : {M : Type 1} → statement M
 visits-spec =
-    tie.close (tie.spec Inv-loop μ-loop (λ c. search needs) (λ c. search needs) (λ c. search needs) (λ c. search needs) (λ c. search needs)
-    (λ c. search needs) loop-holds add-named named-requires mul-event index-1-event event-requires mul-smaller index-1-smaller index-2-smaller
-    index-3-smaller smaller-requires mul-room-in index-1-room-in (λ c κs. tt) add-j loop-less loop-again (λ c. search needs) (λ c. search needs)
-    (λ c. search needs) (λ c. search needs) (λ c. search needs) (λ c. search needs) returns)
+    tie.close (tie.spec Inv-loop μ-loop (λ c. search needs) (λ c. search needs) (λ c. search needs) (λ c. search needs) (λ c. search needs) (λ c.
+    search needs) loop-holds (λ c. omega arith) (λ c κs. omega arith) mul-event index-1-event (λ c κs. tt) mul-smaller index-1-smaller (λ c. search
+    needs) (λ c. search needs) (λ c κs. tt) mul-room-in index-1-room-in (λ c κs. tt) (λ c. omega arith) (λ c. omega arith) loop-again (λ c. search
+    needs) (λ c. search needs) (λ c. search needs) (λ c. search needs) (λ c. search needs) (λ c. search needs) returns)

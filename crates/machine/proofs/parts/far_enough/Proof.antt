@@ -7,9 +7,6 @@ use Rattle.queue.proofs.Shared.{free, leb-same}
 use Rattle.machine.proofs.parts.far_enough.Statement.{statement}
 use Rattle.machine.proofs.parts.far_enough.Tie as tie
 
-sub-reaches : tie.Need-sub-reaches
-sub-reaches c = search needs
-
 returns : tie.Need-returns
 returns c = rw (eq-eqb _ _ (c .if1 .taken))
 
@@ -20,4 +17,5 @@ returns-2 c =
     (leb-same (a .last - 1 + a .minimum) (a .t) (a .last + a .minimum) (a .t + 1) (omega arith) (omega arith))
 
 pub far-enough-spec : {M : Type 1} → statement M
-far-enough-spec = tie.close (tie.spec sub-reaches free returns returns-2)
+far-enough-spec =
+    tie.close (tie.spec (λ c. search needs) free returns returns-2)

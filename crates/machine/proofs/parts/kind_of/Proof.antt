@@ -4,17 +4,12 @@ use borrow.Author.Tests.{lt-ltb, le-ltb}
 use Rattle.machine.proofs.parts.kind_of.Statement.{statement}
 use Rattle.machine.proofs.parts.kind_of.Tie as tie
 
-cast-base : tie.Need-cast-base
-cast-base c = search needs
-
 returns : tie.Need-returns
 returns c = rw (lt-ltb _ _ (c .if1 .taken))
-
-add-result : tie.Need-add-result
-add-result c = search needs
 
 returns-2 : tie.Need-returns-2
 returns-2 c = rw (le-ltb _ _ (c .if1 .left))
 
 pub kind-of-spec : {M : Type 1} → statement M
-kind-of-spec = tie.close (tie.spec cast-base returns add-result returns-2)
+kind-of-spec =
+    tie.close (tie.spec (λ c. search needs) returns (λ c. search needs) returns-2)

@@ -1,5 +1,4 @@
 -- What the row is becomes its past, the place being that of the push; the ring is the one that is pushed to.
-use Prim.Native.Nat.{ℕ}
 use mathlib.Core.Path.{_≡_, refl, _∙_}
 use Rattle.queue.specs.Ring.{ringOf, pushRing, dropRing}
 use Rattle.machine.specs.Words.{rowWords, numberWords}
@@ -16,7 +15,8 @@ returns c rule times state past e =
     let p = l .before .before in
     let a = p .before .before .args in
     let kept = k .keep .ensures rule times state past e in
-    let pushed : ringOf (c .push .last .0) (p .place-of .result) (c .push .result) ≡ pushRing (a .word) (dropRing (a .dropped) (ringOf times (state .head) (state .len))) =
+    let pushed : ringOf (c .push .last .0) (p .place-of .result) (c .push .result)
+    ≡ pushRing (a .word) (dropRing (a .dropped) (ringOf times (state .head) (state .len))) =
     c .push .ensures ∙ rw (l .left .ensures, p .place-of .ensures, kept, e) refl in
     rw (← pushed, kept, o .place-of2 .ensures, l .left .ensures, p .place-of .ensures, e) refl
 

@@ -16,9 +16,11 @@ returns c rule times state past e =
     let p = l .before .before in
     let a = p .before .before .args in
     let kept = k .keep .ensures rule times state past e in
-    let one : ringOf (f .push .last .0) (p .place-of .result) (f .push .result) ≡ pushRing (a .first) (dropRing (a .dropped) (ringOf times (state .head) (state .len))) =
+    let one : ringOf (f .push .last .0) (p .place-of .result) (f .push .result)
+    ≡ pushRing (a .first) (dropRing (a .dropped) (ringOf times (state .head) (state .len))) =
     f .push .ensures ∙ rw (l .left .ensures, p .place-of .ensures, kept, e) refl in
-    let both : ringOf (c .push2 .last .0) (p .place-of .result) (c .push2 .result) ≡ pushRing (a .second) (pushRing (a .first) (dropRing (a .dropped) (ringOf times (state .head) (state .len)))) =
+    let both : ringOf (c .push2 .last .0) (p .place-of .result) (c .push2 .result)
+    ≡ pushRing (a .second) (pushRing (a .first) (dropRing (a .dropped) (ringOf times (state .head) (state .len)))) =
     c .push2 .ensures ∙ rw (← one, kept) refl in
     rw (← both, kept, o .place-of2 .ensures, l .left .ensures, p .place-of .ensures, e) refl
 

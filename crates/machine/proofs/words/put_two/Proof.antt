@@ -15,7 +15,8 @@ returns c rule times state past e =
     let a = o .before .before .before .before .args in
     let kept = k .keep .ensures rule times state past e in
     let both : ringOf (c .put-pair .last .0) (state .head) (state .len)
-    ≡ putRing (a .place + 1) (a .second) (putRing (a .place) (a .first) (ringOf times (state .head) (state .len))) = rw (e, kept) at (c .put-pair .ensures) in
+    ≡ putRing (a .place + 1) (a .second) (putRing (a .place) (a .first) (ringOf times (state .head) (state .len))) =
+    rw (e, kept) at (c .put-pair .ensures) in
     rw (← both, kept, o .place-of .ensures, e) refl
 
 pub put-two-spec : {M : Type 1} → statement M

@@ -21,7 +21,8 @@ module _ (lower t : ℕ) where
   abbrev Passed : List ℕ → ℕ → Type 0
   Passed sources n = (i : ℕ) → i < n → leb (getD sources i 0 + lower) t ≡ true
 
-  stopped : (sources : List ℕ) (n : ℕ) → n < length sources → Passed sources n → leb (getD sources n 0 + lower) t ≡ false → answeredBy lower t sources ≡ n
+  stopped : (sources : List ℕ) (n : ℕ) → n < length sources → Passed sources n → leb (getD sources n 0 + lower) t ≡ false
+      → answeredBy lower t sources ≡ n
   unfolding answeredBy
   stopped [] n h passed e = absurd (omega arith)
   stopped (s ∷ sources) zero h passed e = rw e
@@ -72,9 +73,6 @@ returns c =
     stops (a .lower) (a .t) (a .times .now) (a .head) (a .len) _ (b .before .loop .inv .2) _ (s .ensures) _ (r .ensures) (b .loop-test .taken)
     (not-true _ (c .if2 .taken))
 
-add-n : tie.Need-add-n Inv-loop μ-loop
-add-n c = omega arith
-
 loop-less : tie.Need-loop-less Inv-loop μ-loop
 loop-less c =
     let d = c .before .before .before in
@@ -101,4 +99,5 @@ returns-3 c =
     ends (a .lower) (a .t) (a .times .now) (a .head) (a .len) _ (c .before .loop .inv .2) (inl (c .loop-test .left))
 
 pub answered-spec : {M : Type 1} → statement M
-answered-spec = tie.close (tie.spec Inv-loop μ-loop loop-holds free free returns add-n loop-less loop-again returns-2 returns-3)
+answered-spec =
+    tie.close (tie.spec Inv-loop μ-loop loop-holds free free returns (λ c. omega arith) loop-less loop-again returns-2 returns-3)

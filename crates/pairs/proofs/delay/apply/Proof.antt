@@ -13,7 +13,12 @@ returns c rule times state past e =
     let i = c .before .before in
     let a = i .before in
     let f = a .before .before in
-    rw (c .fewer-wait .ensures rule times state past e, eq-eqb _ _ (rw e at (f .if1 .taken)), ← rw e at (a .answered-at-once .ensures), i .if2 .taken) refl
+    rw (
+      c .fewer-wait .ensures rule times state past e,
+      eq-eqb _ _ (rw e at (f .if1 .taken)),
+      ← rw e at (a .answered-at-once .ensures),
+      i .if2 .taken,
+    ) refl
 
 returns-2 : tie.Need-returns-2
 unfolding rowWords numberWords decideDelay
@@ -21,7 +26,12 @@ returns-2 c rule times state past e =
     let i = c .before .before in
     let a = i .before in
     let f = a .before .before in
-    rw (c .one-more-waits .ensures rule times state past e, eq-eqb _ _ (rw e at (f .if1 .taken)), ← rw e at (a .answered-at-once .ensures), i .if2 .left) refl
+    rw (
+      c .one-more-waits .ensures rule times state past e,
+      eq-eqb _ _ (rw e at (f .if1 .taken)),
+      ← rw e at (a .answered-at-once .ensures),
+      i .if2 .left,
+    ) refl
 
 returns-3 : tie.Need-returns-3
 unfolding rowWords numberWords changedWords decideDelay

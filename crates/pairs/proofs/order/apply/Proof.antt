@@ -22,13 +22,17 @@ use Rattle.pairs.proofs.order.apply.Tie as tie
 -- a change to other marks, as the words have it
 going-to : (rule : Rule) (times : List ℕ) (state : State) (marks : Marks) (number : ℕ)
     → changedWords rule times state (changesTo marks) number
-    ≡ rowWords rule times (goingOn (dropRing 0 (ringOf times (state .head) (state .len))) marks (changesTo marks .due) (changesTo marks .kept)) (pastOf times state 0 number)
+    ≡ rowWords rule times (goingOn (dropRing 0 (ringOf times (state .head) (state .len))) marks (changesTo marks .due) (changesTo marks .kept))
+    (pastOf times state 0 number)
 unfolding changedWords changesTo
 going-to rule times state marks number = either (eqb (marks .last) 0) noLimit (marks .last - 1) (eqb (marks .first) 0) false
   where
-    either : (b : Bool) (d f : ℕ) (k l : Bool) → changedWords rule times state (cond b (continuesWith (Drop 0) marks d k) (continuesWith (Drop 0) marks f l)) number
+    either : (b : Bool) (d f : ℕ) (k l : Bool) → changedWords rule times state
+        (cond b (continuesWith (Drop 0) marks d k) (continuesWith (Drop 0) marks f l)) number
         ≡ rowWords rule times
-        (goingOn (dropRing 0 (ringOf times (state .head) (state .len))) marks (cond b (continuesWith (Drop 0) marks d k) (continuesWith (Drop 0) marks f l) .due) (cond b (continuesWith (Drop 0) marks d k) (continuesWith (Drop 0) marks f l) .kept))
+        (goingOn (dropRing 0 (ringOf times (state .head) (state .len))) marks
+        (cond b (continuesWith (Drop 0) marks d k) (continuesWith (Drop 0) marks f l) .due)
+        (cond b (continuesWith (Drop 0) marks d k) (continuesWith (Drop 0) marks f l) .kept))
         (pastOf times state 0 number)
     either true d f k l = refl
     either false d f k l = refl
@@ -40,7 +44,14 @@ returns c rule times state past e =
     let i = b .before in
     let s = i .before .before .before .before in
     let stayed = s .stay .ensures rule times state past e in
-    rw (c .store .ensures rule _ _ (ap (λ w. getD w 1 []) stayed), c .before .plus .ensures, stayed, eq-eqb _ _ (rw stayed at (i .if1 .taken)), eq-eqb _ _ (rw stayed at (b .if2 .taken)), going-to) refl
+    rw (
+      c .store .ensures rule _ _ (ap (λ w. getD w 1 []) stayed),
+      c .before .plus .ensures,
+      stayed,
+      eq-eqb _ _ (rw stayed at (i .if1 .taken)),
+      eq-eqb _ _ (rw stayed at (b .if2 .taken)),
+      going-to,
+    ) refl
 
 returns-2 : tie.Need-returns-2
 unfolding rowWords numberWords decideOrder
@@ -49,7 +60,13 @@ returns-2 c rule times state past e =
     let i = b .before in
     let s = i .before .before .before .before in
     let stayed = s .stay .ensures rule times state past e in
-    rw (c .store2 .ensures rule _ _ (ap (λ w. getD w 1 []) stayed), stayed, eq-eqb _ _ (rw stayed at (i .if1 .taken)), ne-eqb _ _ (rw stayed at (b .if2 .left)), going-to) refl
+    rw (
+      c .store2 .ensures rule _ _ (ap (λ w. getD w 1 []) stayed),
+      stayed,
+      eq-eqb _ _ (rw stayed at (i .if1 .taken)),
+      ne-eqb _ _ (rw stayed at (b .if2 .left)),
+      going-to,
+    ) refl
 
 returns-3 : tie.Need-returns-3
 unfolding rowWords numberWords decideOrder
@@ -58,7 +75,14 @@ returns-3 c rule times state past e =
     let i = b .before in
     let s = i .before .before .before .before in
     let stayed = s .stay .ensures rule times state past e in
-    rw (c .store3 .ensures rule _ _ (ap (λ w. getD w 1 []) stayed), c .before .plus2 .ensures, stayed, ne-eqb _ _ (rw stayed at (i .if1 .left)), eq-eqb _ _ (rw stayed at (b .if3 .taken)), going-to) refl
+    rw (
+      c .store3 .ensures rule _ _ (ap (λ w. getD w 1 []) stayed),
+      c .before .plus2 .ensures,
+      stayed,
+      ne-eqb _ _ (rw stayed at (i .if1 .left)),
+      eq-eqb _ _ (rw stayed at (b .if3 .taken)),
+      going-to,
+    ) refl
 
 returns-4 : tie.Need-returns-4
 unfolding rowWords numberWords decideOrder
@@ -67,7 +91,13 @@ returns-4 c rule times state past e =
     let i = b .before in
     let s = i .before .before .before .before in
     let stayed = s .stay .ensures rule times state past e in
-    rw (c .store4 .ensures rule _ _ (ap (λ w. getD w 1 []) stayed), stayed, ne-eqb _ _ (rw stayed at (i .if1 .left)), ne-eqb _ _ (rw stayed at (b .if3 .left)), going-to) refl
+    rw (
+      c .store4 .ensures rule _ _ (ap (λ w. getD w 1 []) stayed),
+      stayed,
+      ne-eqb _ _ (rw stayed at (i .if1 .left)),
+      ne-eqb _ _ (rw stayed at (b .if3 .left)),
+      going-to,
+    ) refl
 
 pub apply-spec : {M : Type 1} → statement M
 apply-spec =

@@ -13,7 +13,8 @@ unfolding numberWords changesTo
 returns c rule state past e =
     let i = c .before .before .before in
     let a = i .before .args in
-    c .settle .ensures rule _ past (ap (λ w. set (set w 10 (a .early)) 11 (a .ahead)) e) ∙ rw (eq-eqb _ _ (i .if1 .taken), c .before .one-if .ensures) refl
+    c .settle .ensures rule _ past (ap (λ w. set (set w 10 (a .early)) 11 (a .ahead)) e)
+    ∙ rw (eq-eqb _ _ (i .if1 .taken), c .before .one-if .ensures) refl
 
 returns-2 : tie.Need-returns-2
 unfolding numberWords changesTo

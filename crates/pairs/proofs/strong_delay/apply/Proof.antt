@@ -1,5 +1,5 @@
 -- A source waits unless there is a target beyond; a target takes the oldest source that waits, if that is long enough before it, or is one beyond.
-use mathlib.Core.Path.{refl, ap, _∙_}
+use mathlib.Core.Path.{refl, ap}
 use mathlib.Core.List.{[]}
 use lib.ListN.{getD, set}
 use borrow.Author.Tests.{eq-eqb, ne-eqb}
@@ -14,13 +14,21 @@ returns : tie.Need-returns
 unfolding rowWords numberWords changedWords decideStrongDelay sourceStrongDelay
 returns c rule times state past e =
     let i = c .before .before in
-    rw (c .one-more-waits .ensures rule times state past e, eq-eqb _ _ (rw e at (i .before .before .if1 .taken)), eq-eqb _ _ (rw e at (i .if2 .taken))) refl
+    rw (
+      c .one-more-waits .ensures rule times state past e,
+      eq-eqb _ _ (rw e at (i .before .before .if1 .taken)),
+      eq-eqb _ _ (rw e at (i .if2 .taken)),
+    ) refl
 
 returns-2 : tie.Need-returns-2
 unfolding rowWords numberWords changedWords decideStrongDelay sourceStrongDelay
 returns-2 c rule times state past e =
     let i = c .before .before in
-    rw (c .fewer-wait .ensures rule times state past e, eq-eqb _ _ (rw e at (i .before .before .if1 .taken)), ne-eqb _ _ (rw e at (i .if2 .left))) refl
+    rw (
+      c .fewer-wait .ensures rule times state past e,
+      eq-eqb _ _ (rw e at (i .before .before .if1 .taken)),
+      ne-eqb _ _ (rw e at (i .if2 .left)),
+    ) refl
 
 returns-3 : tie.Need-returns-3
 unfolding rowWords numberWords changedWords decideStrongDelay targetStrongDelay
@@ -32,7 +40,15 @@ returns-3 c rule times state past e =
     let f = n .before .before .before .before in
     let stayed = s .stay .ensures rule times state past e in
     let done = c .settle .ensures rule _ _ (ap (λ w. getD (set w 1 (set (getD w 1 []) 10 (p .plus .result))) 1 []) stayed) in
-    rw (done, p .plus .ensures, stayed, ne-eqb _ _ (rw e at (f .if1 .left)), none-left-ring, eq-eqb _ _ (rw e at (n .if3 .taken)), eq-eqb _ _ (rw e at (i .if4 .taken))) refl
+    rw (
+      done,
+      p .plus .ensures,
+      stayed,
+      ne-eqb _ _ (rw e at (f .if1 .left)),
+      none-left-ring,
+      eq-eqb _ _ (rw e at (n .if3 .taken)),
+      eq-eqb _ _ (rw e at (i .if4 .taken)),
+    ) refl
 
 returns-4 : tie.Need-returns-4
 unfolding rowWords numberWords changedWords decideStrongDelay targetStrongDelay
@@ -40,7 +56,13 @@ returns-4 c rule times state past e =
     let i = c .before .before in
     let n = i .before in
     let f = n .before .before .before .before in
-    rw (c .break-at .ensures rule times state past e, ne-eqb _ _ (rw e at (f .if1 .left)), none-left-ring, eq-eqb _ _ (rw e at (n .if3 .taken)), ne-eqb _ _ (rw e at (i .if4 .left))) refl
+    rw (
+      c .break-at .ensures rule times state past e,
+      ne-eqb _ _ (rw e at (f .if1 .left)),
+      none-left-ring,
+      eq-eqb _ _ (rw e at (n .if3 .taken)),
+      ne-eqb _ _ (rw e at (i .if4 .left)),
+    ) refl
 
 returns-5 : tie.Need-returns-5
 unfolding rowWords numberWords decideStrongDelay targetStrongDelay
@@ -50,7 +72,15 @@ returns-5 c rule times state past e =
     let o = r .before in
     let n = o .before .before in
     let f = n .before .before .before .before in
-    rw (c .fewer-wait2 .ensures rule times state past e, ne-eqb _ _ (rw e at (f .if1 .left)), none-left-ring, ne-eqb _ _ (rw e at (n .if3 .left)), ← rw e at (o .front .ensures), ← rw e at (r .reaches .ensures), i .if5 .taken) refl
+    rw (
+      c .fewer-wait2 .ensures rule times state past e,
+      ne-eqb _ _ (rw e at (f .if1 .left)),
+      none-left-ring,
+      ne-eqb _ _ (rw e at (n .if3 .left)),
+      ← rw e at (o .front .ensures),
+      ← rw e at (r .reaches .ensures),
+      i .if5 .taken,
+    ) refl
 
 returns-6 : tie.Need-returns-6
 unfolding rowWords numberWords changedWords decideStrongDelay targetStrongDelay
@@ -60,7 +90,15 @@ returns-6 c rule times state past e =
     let o = r .before in
     let n = o .before .before in
     let f = n .before .before .before .before in
-    rw (c .break-at2 .ensures rule times state past e, ne-eqb _ _ (rw e at (f .if1 .left)), none-left-ring, ne-eqb _ _ (rw e at (n .if3 .left)), ← rw e at (o .front .ensures), ← rw e at (r .reaches .ensures), i .if5 .left) refl
+    rw (
+      c .break-at2 .ensures rule times state past e,
+      ne-eqb _ _ (rw e at (f .if1 .left)),
+      none-left-ring,
+      ne-eqb _ _ (rw e at (n .if3 .left)),
+      ← rw e at (o .front .ensures),
+      ← rw e at (r .reaches .ensures),
+      i .if5 .left,
+    ) refl
 
 pub apply-spec : {M : Type 1} → statement M
 apply-spec =

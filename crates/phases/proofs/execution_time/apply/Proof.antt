@@ -16,7 +16,11 @@ returns-2 : tie.Need-returns-2
 unfolding rowWords numberWords decideExecutionTime
 returns-2 c rule times state past e =
     let i = c .before .before in
-    rw (c .apply-idle .ensures rule times state past e, le-ltb _ _ (rw e at (i .before .before .if1 .left)), eq-eqb _ _ (rw e at (i .if2 .taken))) refl
+    rw (
+      c .apply-idle .ensures rule times state past e,
+      le-ltb _ _ (rw e at (i .before .before .if1 .left)),
+      eq-eqb _ _ (rw e at (i .if2 .taken)),
+    ) refl
 
 returns-3 : tie.Need-returns-3
 unfolding rowWords numberWords decideExecutionTime

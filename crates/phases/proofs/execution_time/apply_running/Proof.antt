@@ -16,7 +16,8 @@ returns c rule times state past e =
     let q = f .before .before in
     let m = q .before in
     let p = m .before .before in
-    let ran : q .plus2 .result ≡ ranTo (state .marks) (p .before .before .args .t) = q .plus2 .ensures ∙ rw (m .minus .ensures, p .plus .ensures, e) refl in
+    let ran : q .plus2 .result ≡ ranTo (state .marks) (p .before .before .args .t) = q .plus2 .ensures
+    ∙ rw (m .minus .ensures, p .plus .ensures, e) refl in
     rw (c .enter .ensures rule times state past e, ← ran, eq-eqb _ _ (rw e at (f .if1 .taken)), rw e at (i .if2 .taken)) refl
 
 returns-2 : tie.Need-returns-2
@@ -28,7 +29,8 @@ returns-2 c rule times state past e =
     let q = j .before .before in
     let m = q .before in
     let p = m .before .before in
-    let ran : q .plus2 .result ≡ ranTo (state .marks) (p .before .before .args .t) = q .plus2 .ensures ∙ rw (m .minus .ensures, p .plus .ensures, e) refl in
+    let ran : q .plus2 .result ≡ ranTo (state .marks) (p .before .before .args .t) = q .plus2 .ensures
+    ∙ rw (m .minus .ensures, p .plus .ensures, e) refl in
     rw (c .enter2 .ensures rule times state past e, ← ran, eq-eqb _ _ (rw e at (f .if3 .taken)), rw e at (i .if4 .taken))
     (⊎-elim
     (λ w. rw (eq-eqb _ _ (rw e at (w .0 .taken)), rw e at (w .2 .left)) refl)
@@ -43,7 +45,8 @@ returns-3 c rule times state past e =
     let q = j .before .before in
     let m = q .before in
     let p = m .before .before in
-    let ran : q .plus2 .result ≡ ranTo (state .marks) (p .before .before .args .t) = q .plus2 .ensures ∙ rw (m .minus .ensures, p .plus .ensures, e) refl in
+    let ran : q .plus2 .result ≡ ranTo (state .marks) (p .before .before .args .t) = q .plus2 .ensures
+    ∙ rw (m .minus .ensures, p .plus .ensures, e) refl in
     rw (c .break-at .ensures rule times state past e, ← ran)
     (⊎-elim
     (λ w. rw (eq-eqb _ _ (rw e at (w .0 .taken)), rw e at (w .2 .left))

@@ -28,7 +28,8 @@ returns-2 c stream rule times state past e =
     let m = n .before .before in
     let a = m .before .before .before .args in
     let strides : s .stride .result ≡ stride (rule .lower) = rw e at (s .stride .ensures) in
-    let low : l .larger .result ≡ lowest rule (state .marks) (a .t) = l .larger .ensures ∙ rw (p .plus .ensures, strides, m .minus .ensures, e) refl in
+    let low : l .larger .result ≡ lowest rule (state .marks) (a .t) = l .larger .ensures
+    ∙ rw (p .plus .ensures, strides, m .minus .ensures, e) refl in
     let high : h .latest .result ≡ highest rule (state .marks) (a .t) = rw e at (h .latest .ensures) in
     rw (
       c .place2 .ensures rule times state past e,
@@ -56,7 +57,8 @@ returns-3 c stream rule times state past e =
     let m = n .before .before in
     let a = m .before .before .before .args in
     let strides : s .stride .result ≡ stride (rule .lower) = rw e at (s .stride .ensures) in
-    let low : l .larger .result ≡ lowest rule (state .marks) (a .t) = l .larger .ensures ∙ rw (p .plus .ensures, strides, m .minus .ensures, e) refl in
+    let low : l .larger .result ≡ lowest rule (state .marks) (a .t) = l .larger .ensures
+    ∙ rw (p .plus .ensures, strides, m .minus .ensures, e) refl in
     let high : h .latest .result ≡ highest rule (state .marks) (a .t) = rw e at (h .latest .ensures) in
     rw (
       c .break-at .ensures rule times state past e,

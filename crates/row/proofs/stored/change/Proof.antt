@@ -31,64 +31,75 @@ formIn row = getD (getD row 1 []) 0 0
 
 module _ (g : Rule → Marks → List ℕ → ℕ → ℕ → Change) (entry exit : List (List ℕ)) (stream t number : ℕ) (P : ℕ → Type 0) where
   -- what one machine makes of the words, where it is the one that is chosen
-  by-type : Applies g entry stream t number exit → ((rule : Rule) → P (rule .form) → decide rule ≡ g rule) → P (formIn entry) → Applies decide entry stream t number exit
+  by-type : Applies g entry stream t number exit → ((rule : Rule) → P (rule .form) → decide rule ≡ g rule) → P (formIn entry)
+      → Applies decide entry stream t number exit
   unfolding rowWords numberWords
   by-type made chosen is rule times state past e =
       made rule times state past e
-      ∙ ap (λ machine. changedWords rule times state (machine (state .marks) (ring times (state .head) (state .len)) stream t) number) (sym (chosen rule (subst P (ap formIn e) is)))
+      ∙ ap (λ machine. changedWords rule times state (machine (state .marks) (ring times (state .head) (state .len)) stream t) number)
+      (sym (chosen rule (subst P (ap formIn e) is)))
 
 returns : tie.Need-returns
 returns c =
     let a = c .before .before .before .before .args in
-    by-type decideDelay (now (a .row)) (c .apply .last .0) (a .stream) (a .t) (a .number) (λ n. n ≡ 1) (c .apply .ensures) (λ rule is. form-1 (rule .form) _ _ _ _ _ _ _ _ _ is)
+    by-type decideDelay (now (a .row)) (c .apply .last .0) (a .stream) (a .t) (a .number) (λ n. n ≡ 1) (c .apply .ensures)
+    (λ rule is. form-1 (rule .form) _ _ _ _ _ _ _ _ _ is)
     (c .before .before .match .keys1)
 
 returns-2 : tie.Need-returns-2
 returns-2 c =
     let a = c .before .before .before .before .args in
-    by-type decideStrongDelay (now (a .row)) (c .apply2 .last .0) (a .stream) (a .t) (a .number) (λ n. n ≡ 2) (c .apply2 .ensures) (λ rule is. form-2 (rule .form) _ _ _ _ _ _ _ _ _ is)
+    by-type decideStrongDelay (now (a .row)) (c .apply2 .last .0) (a .stream) (a .t) (a .number) (λ n. n ≡ 2) (c .apply2 .ensures)
+    (λ rule is. form-2 (rule .form) _ _ _ _ _ _ _ _ _ is)
     (c .before .before .match .keys2)
 
 returns-3 : tie.Need-returns-3
 returns-3 c =
     let a = c .before .before .before .before .args in
-    by-type decideRepeat (now (a .row)) (c .apply3 .last .0) (a .stream) (a .t) (a .number) (λ n. (n ≡ 3) ⊎ (n ≡ 5)) (c .apply3 .ensures (a .stream)) (λ rule is. form-3-5 (rule .form) _ _ _ _ _ _ _ _ _ is)
+    by-type decideRepeat (now (a .row)) (c .apply3 .last .0) (a .stream) (a .t) (a .number) (λ n. (n ≡ 3) ⊎ (n ≡ 5)) (c .apply3 .ensures (a .stream))
+    (λ rule is. form-3-5 (rule .form) _ _ _ _ _ _ _ _ _ is)
     (c .before .before .match .keys3)
 
 returns-4 : tie.Need-returns-4
 returns-4 c =
     let a = c .before .before .before .before .args in
-    by-type decideSporadic (now (a .row)) (c .apply4 .last .0) (a .stream) (a .t) (a .number) (λ n. n ≡ 4) (c .apply4 .ensures (a .stream)) (λ rule is. form-4 (rule .form) _ _ _ _ _ _ _ _ _ is)
+    by-type decideSporadic (now (a .row)) (c .apply4 .last .0) (a .stream) (a .t) (a .number) (λ n. n ≡ 4) (c .apply4 .ensures (a .stream))
+    (λ rule is. form-4 (rule .form) _ _ _ _ _ _ _ _ _ is)
     (c .before .before .match .keys4)
 
 returns-5 : tie.Need-returns-5
 returns-5 c =
     let a = c .before .before .before .before .args in
-    by-type decideOrder (now (a .row)) (c .apply5 .last .0) (a .stream) (a .t) (a .number) (λ n. n ≡ 6) (c .apply5 .ensures) (λ rule is. form-6 (rule .form) _ _ _ _ _ _ _ _ _ is)
+    by-type decideOrder (now (a .row)) (c .apply5 .last .0) (a .stream) (a .t) (a .number) (λ n. n ≡ 6) (c .apply5 .ensures)
+    (λ rule is. form-6 (rule .form) _ _ _ _ _ _ _ _ _ is)
     (c .before .before .match .keys5)
 
 returns-6 : tie.Need-returns-6
 returns-6 c =
     let a = c .before .before .before .before .args in
-    by-type decideExecutionTime (now (a .row)) (c .apply6 .last .0) (a .stream) (a .t) (a .number) (λ n. n ≡ 8) (c .apply6 .ensures) (λ rule is. form-8 (rule .form) _ _ _ _ _ _ _ _ _ is)
+    by-type decideExecutionTime (now (a .row)) (c .apply6 .last .0) (a .stream) (a .t) (a .number) (λ n. n ≡ 8) (c .apply6 .ensures)
+    (λ rule is. form-8 (rule .form) _ _ _ _ _ _ _ _ _ is)
     (c .before .before .match .keys6)
 
 returns-7 : tie.Need-returns-7
 returns-7 c =
     let a = c .before .before .before .before .args in
-    by-type decideReaction (now (a .row)) (c .apply7 .last .0) (a .stream) (a .t) (a .number) (λ n. n ≡ 9) (c .apply7 .ensures) (λ rule is. form-9 (rule .form) _ _ _ _ _ _ _ _ _ is)
+    by-type decideReaction (now (a .row)) (c .apply7 .last .0) (a .stream) (a .t) (a .number) (λ n. n ≡ 9) (c .apply7 .ensures)
+    (λ rule is. form-9 (rule .form) _ _ _ _ _ _ _ _ _ is)
     (c .before .before .match .keys7)
 
 returns-8 : tie.Need-returns-8
 returns-8 c =
     let a = c .before .before .before .before .args in
-    by-type decideRepetition (now (a .row)) (c .apply8 .last .0) (a .stream) (a .t) (a .number) (λ n. n ≡ 10) (c .apply8 .ensures (a .stream)) (λ rule is. form-10 (rule .form) _ _ _ _ _ _ _ _ _ is)
+    by-type decideRepetition (now (a .row)) (c .apply8 .last .0) (a .stream) (a .t) (a .number) (λ n. n ≡ 10) (c .apply8 .ensures (a .stream))
+    (λ rule is. form-10 (rule .form) _ _ _ _ _ _ _ _ _ is)
     (c .before .before .match .keys8)
 
 returns-9 : tie.Need-returns-9
 returns-9 c =
     let a = c .before .before .before .before .args in
-    by-type decideStrongSynchronization (now (a .row)) (c .apply9 .last .0) (a .stream) (a .t) (a .number) (NoneOf) (c .apply9 .ensures) (λ rule is. form-none (rule .form) _ _ _ _ _ _ _ _ _ is)
+    by-type decideStrongSynchronization (now (a .row)) (c .apply9 .last .0) (a .stream) (a .t) (a .number) (NoneOf) (c .apply9 .ensures)
+    (λ rule is. form-none (rule .form) _ _ _ _ _ _ _ _ _ is)
     (c .before .before .match .rest)
 
 pub change-spec : {M : Type 1} → statement M

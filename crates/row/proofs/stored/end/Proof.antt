@@ -68,7 +68,8 @@ returns-5 c r b e =
     let own = ap (λ m. concerns (ruleAt (getD m 1 [])) (s .before .before .before .args .o .kind)) (sym e)
     ∙ ap (λ w. concerns w (s .before .before .before .args .o .kind)) (sym (u .rule-at .ensures)) ∙ sym (k .concerns .ensures) ∙ x .if4 .left in
     let unkept = ap (λ m. eqb (at 18 m) 0) (sym e) ∙ eq-eqb _ _ (f .if5 .taken) in
-    rw (goes, early, not-false (s .before .before .before .args .o .closes) (t .if3 .left), own, unkept) (c .break-at2 .ensures (r .rule) (r .times) (r .now) (pastOf b) e)
+    rw (goes, early, not-false (s .before .before .before .args .o .closes) (t .if3 .left), own, unkept)
+    (c .break-at2 .ensures (r .rule) (r .times) (r .now) (pastOf b) e)
 
 returns-6 : tie.Need-returns-6
 unfolding wordsOf rowWords numberWords endsBy endedState
@@ -85,7 +86,8 @@ returns-6 c r b e =
     let own = ap (λ m. concerns (ruleAt (getD m 1 [])) (s .before .before .before .args .o .kind)) (sym e)
     ∙ ap (λ w. concerns w (s .before .before .before .args .o .kind)) (sym (u .rule-at .ensures)) ∙ sym (k .concerns .ensures) ∙ x .if4 .left in
     let kept = ap (λ m. eqb (at 18 m) 0) (sym e) ∙ ne-eqb _ _ (f .if5 .left) in
-    rw (goes, early, not-false (s .before .before .before .args .o .closes) (t .if3 .left), own, kept) (c .keep .ensures (r .rule) (r .times) (r .now) (pastOf b) e)
+    rw (goes, early, not-false (s .before .before .before .args .o .closes) (t .if3 .left), own, kept)
+    (c .keep .ensures (r .rule) (r .times) (r .now) (pastOf b) e)
 
 pub end-spec : {M : Type 1} → statement M
 end-spec =

@@ -20,7 +20,11 @@ returns : tie.Need-returns
 unfolding rowWords numberWords changedWords decideRepeat
 returns c stream rule times state past e =
     let i = c .before .before in
-    rw (c .break-at .ensures rule times state past e, ← rw e at (i .before .far-enough .ensures), not-true (i .before .far-enough .result) (i .if1 .taken)) refl
+    rw (
+      c .break-at .ensures rule times state past e,
+      ← rw e at (i .before .far-enough .ensures),
+      not-true (i .before .far-enough .result) (i .if1 .taken),
+    ) refl
 
 returns-2 : tie.Need-returns-2
 unfolding rowWords numberWords changedWords decideRepeat
@@ -54,7 +58,13 @@ returns-3 c stream rule times state past e =
     ⊎-elim (λ b. b .6 ∙ rw (le-ltb _ _ (rw e at (b .0 .taken))) refl) (λ b. b .1 ∙ rw (lt-ltb _ _ (rw e at (b .0 .left))) refl) (j .if2 .came) in
     let reached : spanReached rule kept (a .t) ≡ true =
     ⊎-elim
-    (λ b. rw (ring-length, le-ltb _ _ (rw e at (b .0 .taken)), ← rw e at (b .2 .ensures), ← rw e at (b .4 .ensures), not-false (b .4 .result) (b .5 .left)) refl)
+    (λ b. rw (
+      ring-length,
+      le-ltb _ _ (rw e at (b .0 .taken)),
+      ← rw e at (b .2 .ensures),
+      ← rw e at (b .4 .ensures),
+      not-false (b .4 .result) (b .5 .left),
+    ) refl)
     (λ b. rw (ring-length, lt-ltb _ _ (rw e at (b .0 .left))) refl)
     (j .if2 .came) in
     rw (
@@ -66,7 +76,8 @@ returns-3 c stream rule times state past e =
       ring-length,
       left,
     )
-    (ap (λ (due : ℕ). changedWords rule times state (continuesWith (Push (leaving rule (state .len)) (a .t)) (withLast (state .marks) (plus (a .t) 1)) due true) (a .number))
+    (ap (λ (due : ℕ). changedWords rule times state (continuesWith (Push (leaving rule (state .len)) (a .t))
+    (withLast (state .marks) (plus (a .t) 1)) due true) (a .number))
     (sym (due-or-pushed (rule .upper) (a .t) (drop (leaving rule (state .len)) kept))))
 
 pub apply-spec : {M : Type 1} → statement M

@@ -24,7 +24,8 @@ test o r = crowdedBy (r .rule) (r .now) o
 abbrev Inv-loop : tie.InvT-loop
 Inv-loop m n o i₀ i =
     (i ≤ n)
-    × ((h : Lent) → m ≡ wordsOf h → Shaped h → firstMarked n (test o) 0 (h .monitor .rows) ≡ firstMarked (n - i) (test o) i (drop i (h .monitor .rows)))
+    × ((h : Lent) → m ≡ wordsOf h → Shaped h → firstMarked n (test o) 0 (h .monitor .rows)
+    ≡ firstMarked (n - i) (test o) i (drop i (h .monitor .rows)))
 
 abbrev μ-loop : tie.MeasureT-loop
 μ-loop m n o i₀ i = n - i
@@ -33,12 +34,6 @@ loop-holds : tie.Need-loop-holds Inv-loop μ-loop
 loop-holds c =
     let a = c .args in
     let all : a .n ≡ a .n - 0 = omega arith in (omega arith, λ h e s. ap (λ (k : ℕ). firstMarked k (test (a .o)) 0 (h .monitor .rows)) all)
-
-index-of : tie.Need-index-1-crowds Inv-loop μ-loop
-index-of c = omega arith
-
-cast-result : tie.Need-cast-result Inv-loop μ-loop
-cast-result c = omega arith
 
 returns : tie.Need-returns Inv-loop μ-loop
 returns c h e s =
@@ -72,6 +67,5 @@ returns-2 c h e s =
 
 pub first-crowded-spec : {M : Type 1} → statement M
 first-crowded-spec =
-    tie.close
-    (tie.spec Inv-loop μ-loop loop-holds (λ c. omega arith) index-of (λ c κs. search needs) cast-result returns
-    (λ c. omega arith) (λ c. omega arith) loop-again returns-2)
+    tie.close (tie.spec Inv-loop μ-loop loop-holds (λ c. omega arith) (λ c. omega arith) (λ c κs. search needs) (λ c. omega arith) returns (λ c.
+    omega arith) (λ c. omega arith) loop-again returns-2)

@@ -20,10 +20,9 @@ use Rattle.constraint.specs.declared.Constraint.the-variants.{Delay, Str
 use Rattle.constraint.specs.declared.Constraint.the-variants.{StrongSynchronization3, StrongSynchronization4}
 use Rattle.constraint.specs.declared.Constraint.the-variants.{ExecutionTime, Reaction, Repetition}
 use Rattle.constraint.proofs.Lists.{split, both, Each, each-none, each-cons, each-left, each-right, Rising, rising-right, rising-across}
-use Rattle.constraint.proofs.Lists.{rising-snoc}
 use Rattle.constraint.proofs.Streams.{colour-at, among-at}
 use Rattle.constraint.proofs.History.{times-append, times-own, times-tick, own-append, own-tick, own-close, clock-append, clock-later}
-use Rattle.constraint.proofs.History.{clock-event, clock-tick, clock-close, closed-event, closed-tick, closed-close, Accepts, with-time}
+use Rattle.constraint.proofs.History.{clock-event, clock-tick, clock-close, closed-event, closed-tick, closed-close, Accepts}
 
 -- ---- a row looks only at its own events and the clock
 
@@ -130,17 +129,6 @@ continues-clock (more {steps = steps} {further = further} j t o kind order rest)
     let on : clock (steps ++ (event j t ∷ [])) ≤ clock (steps ++ (event j t ∷ further)) =
     subst (λ (all : List Step). clock (steps ++ (event j t ∷ [])) ≤ clock all) (append-assoc steps (event j t ∷ []) further) (continues-clock rest) in
     omega (arith, clock-event j t steps, order .0)
-
--- with those recorded, its times of a kind rise strictly
-pub continues-rising : {steps further : List Step} → Continues steps further → (k : ℕ) → Rising (times k steps)
-    → Rising (times k steps ++ times k further)
-unfolding times
-continues-rising (stop {steps = steps}) k r = rw (append-nil (times k steps)) r
-continues-rising (more {steps = steps} {further = further} j t o kind order rest) k r =
-    subst Rising (sym (times-append k (steps ++ (event j t ∷ [])) further) ∙ ap (times k) (append-assoc steps (event j t ∷ []) further)
-    ∙ times-append k steps (event j t ∷ further))
-    (continues-rising rest k (with-time k j t steps Rising
-    (λ e. rising-snoc (times k steps) t r (subst (λ (i : ℕ). Each (λ s. s < t) (times i steps)) e (order .1))) r))
 
 -- "After the close only the empty one is left."
 pub continues-closed : {steps further : List Step} → closed steps ≡ true → Continues steps further → further ≡ []

@@ -41,11 +41,6 @@ pub same-test : {asked other : Type 0} → (asked → other) → (other → aske
 same-test f g true d = f d
 same-test f g false d = λ h. d (g h)
 
--- a test that says "no" answers "no" to what asks more
-pub no-test : {asked more : Type 0} → (more → asked) → (b : Bool) → Decides asked b → b ≡ false → Decides more b
-no-test g true d e = never (cc)
-no-test g false d e = λ h. d (g h)
-
 pub test-le : (m n : ℕ) → Decides (m ≤ n) (leb m n)
 test-le m n = go (leb m n) refl
   where

@@ -1,22 +1,17 @@
 -- The record of some rows holds those rows, a row put in its next entry makes the record of one row more, and a row for which there is no entry
 -- makes a record that is refused.
-use Prim.Native.Nat.{ℕ, zero, suc, _+_, _-_, _≤_, _<_, max}
-use mathlib.Core.Path.{_≡_, refl, sym, ap, subst⁻¹, _∙_}
+use Prim.Native.Nat.{ℕ, zero, suc, _+_, _-_, _<_}
+use mathlib.Core.Path.{_≡_, refl, sym, ap, _∙_}
 use mathlib.Core.List.{List, [], _∷_, _++_, map, map-append, append-assoc}
 use mathlib.Core.Option.{some}
-use native.Mathlib.Numerals.{add-one}
 use native.Mathlib.Omega.{arith}
-use lib.ListN.{length, getD, getElem?, set, take, replicate, length-append, length-map, length-take, length-replicate, replicate-append-replicate}
-use lib.Seq.{set-at, take-suc, take-append-le, take-append-seam}
+use lib.ListN.{length, getD, getElem?, set, take, replicate, length-append, length-map}
+use lib.Seq.{set-at, take-append-seam}
 use Rattle.constraint.specs.Limits.{rowLimit}
-use Rattle.constraint.specs.Questions.{Judged}
-use Rattle.constraint.specs.Accepted.{Accepted, rowsQuestions}
-use Rattle.constraint.specs.Records.{filler, rowsOf, tableOf, entryOf, withOneMore, Adds}
-use Rattle.constraint.specs.declared.Answer.the-variants.{Refused}
+use Rattle.constraint.specs.Records.{filler, rowsOf, tableOf, entryOf, withOneMore}
 use Rattle.constraint.specs.declared.Constraint.{Constraint}
 use Rattle.constraint.specs.declared.Entry.{Entry}
 use Rattle.constraint.specs.declared.Table.{Table}
-use Rattle.constraint.proofs.Accepted.{rows-one-more}
 
 -- the rows of the entries that no row was put in
 unused : ℕ → List Constraint
@@ -70,25 +65,3 @@ record-rows rows =
     ap (λ (l : List Constraint). take (length rows) (l ++ replicate (length rows) filler)) (entries-rows (rows ++ unused (length rows)))
     ∙ ap (take (length rows)) (append-assoc rows (unused (length rows)) (replicate (length rows) filler))
     ∙ take-append-seam rows (unused (length rows) ++ replicate (length rows) filler)
-
--- a row for which there is no entry: of 32 accepted rows the next is refused with 3
-pub record-full : (table r : Table) (c : Constraint) → Adds table c r → table .count ≡ rowLimit → Accepted (rowsOf table)
-    → Judged (rowsQuestions 0 (rowsOf r) []) (Refused 3)
-unfolding rowsOf
-record-full table r c adds full accepted =
-    let n = table .count in
-    let entries : List Constraint = map (λ (entry : Entry). entry .constraint) (table .rows) in
-    let listed : List Constraint = entries ++ replicate n filler in
-    let long : n ≤ length listed = omega (arith, length-append entries (replicate n filler), length-replicate n filler) in
-    let made : r ≡ record { rows = table .rows; count = suc n } = adds .full (omega arith) ∙ (λ i. record { rows = table .rows; count = more i }) in
-    subst⁻¹ (λ (rows : List Constraint). Judged (rowsQuestions 0 rows []) (Refused 3))
-    (ap rowsOf made
-    ∙ ap (take (suc n)) (ap (λ (l : List Constraint). entries ++ l)
-    (ap (λ (k : ℕ). replicate k filler) (sym (add-one n)) ∙ sym (replicate-append-replicate n 1 filler))
-    ∙ sym (append-assoc entries (replicate n filler) (filler ∷ [])))
-    ∙ take-suc (listed ++ (filler ∷ [])) n filler (omega (arith, length-append listed (filler ∷ [])))
-    ∙ ap (λ (l : List Constraint). l ++ (getD (listed ++ (filler ∷ [])) n filler ∷ [])) (take-append-le n listed (filler ∷ []) long))
-    (rows-one-more 0 (take n listed) (getD (listed ++ (filler ∷ [])) n filler) (omega (arith, length-take n listed)) accepted)
-  where
-    more : max (table .count) (rowLimit + 1) ≡ suc (table .count)
-    more = omega arith

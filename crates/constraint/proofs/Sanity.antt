@@ -18,7 +18,6 @@ use Rattle.constraint.specs.Meets.{stopped}
 use Rattle.constraint.specs.Meets.{Meets, MeetsDelay, MeetsStrongDelay, MeetsRepeat, MeetsSporadic, MeetsBurst, MeetsOrder}
 use Rattle.constraint.specs.Meets.{MeetsStrongSynchronization, MeetsExecutionTime, MeetsReaction, MeetsRepetition}
 use Rattle.constraint.specs.Waiting.{answered}
-use Rattle.constraint.specs.Continuation.{BrokenAt}
 use Rattle.constraint.specs.Questions.{Question, Judged}
 use Rattle.constraint.specs.Run.{questions, Request, Left, requestQuestions, leftBy, Run, done, request}
 use Rattle.constraint.specs.declared.Call.{Call}
@@ -29,7 +28,6 @@ use Rattle.constraint.specs.declared.Constraint.the-variants.{Delay, Str
 use Rattle.constraint.specs.declared.Constraint.the-variants.{StrongSynchronization3, StrongSynchronization4}
 use Rattle.constraint.specs.declared.Constraint.the-variants.{ExecutionTime, Reaction, Repetition}
 use Rattle.constraint.proofs.Judged.{judged-yes, judged-no, judged-once}
-use Rattle.constraint.proofs.Verdicts.{open-of-meets}
 
 -- ---- lists of requests
 
@@ -92,11 +90,6 @@ meets-none (ExecutionTime start stop preempt resume lower upper) = no-event
 meets-none (Reaction stimulus response minimum maximum) = λ colour few i h. absurd (omega arith)
 meets-none (Repetition kind span lower upper jitter) =
     ([], record { one-each = refl; near = λ i h. absurd (omega arith); rise = λ i h. absurd (omega arith); apart = λ i h. absurd (omega arith) })
-
--- so the step at which a row broke is one that was taken
-pub broken-counted : (c : Constraint) (steps : List Step) (n : ℕ) → BrokenAt c steps n → 0 < n
-broken-counted c steps zero b = absurd (b .after (open-of-meets c [] (meets-none c)))
-broken-counted c steps (suc n) b = omega arith
 
 -- ---- a Delay with a limit
 

@@ -13,10 +13,9 @@ use Rattle.constraint.specs.Limits.{lastKind, firstColoured, lastColour,
 use Rattle.constraint.specs.Streams.{stream, kindOf}
 use Rattle.constraint.specs.Steps.{at, among}
 use Rattle.constraint.specs.Types.{kind, coloured, count, span, Field, byte, time, fieldsOf}
-use Rattle.constraint.specs.Accepted.{kindsIn, KindsFit, SortsFit}
+use Rattle.constraint.specs.Accepted.{kindsIn, SortsFit}
 use Rattle.constraint.specs.declared.Constraint.{Constraint}
-use Rattle.constraint.proofs.Lists.{split, both, or-true, Each, each-none, each-cons, each-append}
-use Rattle.constraint.proofs.FittingKinds.{kinds-first, kinds-rest}
+use Rattle.constraint.proofs.Lists.{split, both, or-true}
 
 -- ---- a row's streams
 
@@ -132,17 +131,3 @@ among-kinds s (byte coloured x ∷ fields) h =
 among-kinds s (byte count x ∷ fields) h = among-kinds s fields (h .1)
 among-kinds s (byte (span limit) x ∷ fields) h = among-kinds s fields (h .1)
 among-kinds s (time role x ∷ fields) h = among-kinds s fields (h .1)
-
--- a row's streams are streams
-pub streams-small : (fields : List Field) → KindsFit (kindsIn fields) → Each (λ s. s < streamCount) (streamsIn fields)
-streams-small [] fit = each-none (λ s. s < streamCount)
-streams-small (byte kind x ∷ fields) fit =
-    each-cons (λ s. s < streamCount) x (streamsIn fields) (omega (arith, kinds-first x (kindsIn fields) fit .0))
-    (streams-small fields (kinds-rest x (kindsIn fields) fit))
-streams-small (byte coloured x ∷ fields) fit =
-    each-append (λ s. s < streamCount) (colours x) (streamsIn fields)
-    (λ c h. omega (arith, colour-at x c (omega arith), kinds-first x (kindsIn fields) fit .0))
-    (streams-small fields (kinds-rest x (kindsIn fields) fit))
-streams-small (byte count x ∷ fields) fit = streams-small fields fit
-streams-small (byte (span limit) x ∷ fields) fit = streams-small fields fit
-streams-small (time role x ∷ fields) fit = streams-small fields fit

@@ -20,6 +20,3 @@ sum-exact t bound h k = omega arith
 pub point-sum-exact : (point upper jitter : ℕ) → point ≤ lastTime → upper ≤ lastTime → jitter ≤ lastTime
     → (plus (plus point upper) jitter ≡ point + upper + jitter) × (point + upper + jitter ≤ largestSum)
 point-sum-exact point upper jitter h k l = (omega arith, omega arith)
-
-pub next-exact : (t : ℕ) → t ≤ lastTime → plus t 1 ≡ t + 1
-next-exact t h = omega arith

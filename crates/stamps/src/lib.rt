@@ -17,7 +17,8 @@ ghost use lib.Dec.{leb};
 ghost use Rattle.machine.specs.Parts.{plus};
 ghost use Rattle.constraint.specs.Stamps.{AnswersStamps};
 ghost use Rattle.stamps.specs.Words.{spelling};
-ghost use Rattle.stamps.specs.Machine.{nextLow, nextHigh, noStamps, firstStamp, pairFits, laterStamp, stampAfter, callAfter, closeVerdict, stampsVerdict, PassesStamps, Finds};
+ghost use Rattle.stamps.specs.Machine.{nextLow, nextHigh, noStamps, firstStamp, pairFits, laterStamp, stampAfter, callAfter, closeVerdict};
+ghost use Rattle.stamps.specs.Machine.{stampsVerdict, PassesStamps, Finds};
 
 // A Repeat row of span 1, and by how much its stamps are late at most.
 pub struct Asked {

@@ -106,9 +106,6 @@ module _ (c : Constraint) (sound : Sound c) where
     step-at : (i : ℕ) → i < length steps → getD steps i close ≡ stepAs (at streams i) (at times i)
     step-at i h = kept i h (omega arith)
 
-    rest-at : (i : ℕ) → start + i < length steps → getD rest i close ≡ stepAs (at streams (start + i)) (at times (start + i))
-    rest-at i h = getD-drop start steps i close ∙ step-at (start + i) h
-
     part-size : (size : ℕ) → start + size ≤ length steps → length (part size) ≡ size
     part-size size h = length-take-le size rest (omega (arith, h, length-drop start steps))
 

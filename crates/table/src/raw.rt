@@ -4,7 +4,6 @@ use super::body::length_of;
 use super::body::row_of;
 use constraint::Answer;
 use constraint::Table;
-ghost use mathlib.Core.Path.{_≡_};
 ghost use Prim.Native.Nat.{_+_, _*_, _≤_};
 ghost use lib.ListN.{length};
 ghost use Rattle.constraint.specs.Records.{Decides};

@@ -170,6 +170,3 @@ decimal-value x fits = digits-value 20 x (omega arith) fits
 -- no leading zeros: the first digit is 0 of the number 0 alone, which is one digit
 pub decimal-first : (x : ℕ) → x < 10 ^ 20 → 0 < x → 48 < at (decimal x) 0
 decimal-first x fits positive = digits-first 20 x (omega arith) fits positive
-
-pub decimal-zero : decimal 0 ≡ 48 ∷ []
-decimal-zero = digits-one 20 0 (omega arith) (omega arith)

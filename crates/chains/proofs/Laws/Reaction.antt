@@ -60,9 +60,6 @@ module _ (stimulus response minimum maximum : ℕ) (sound : Sound (Reaction stim
   unfolding KindsSuit
   response-coloured = sound .kinds-suit .1 .0
 
-  stimulus-small : stimulus ≤ lastKind
-  stimulus-small = kinds-small (stimulus ∷ response ∷ []) (sound .kinds-fit) 0 (omega arith)
-
   response-small : response ≤ lastKind
   response-small = kinds-small (stimulus ∷ response ∷ []) (sound .kinds-fit) 1 (omega arith)
 

@@ -16,7 +16,7 @@ pub const ROWS: usize = NUMBERS + 3;
 pub const SOONEST: usize = NUMBERS + 4;
 /// Whether the last step may be withdrawn, and what it changed beside the rows.
 pub const LAST_STEP: Range<usize> = NUMBERS + 5..NUMBERS + 11;
-/// How many events may come before a row can be crowded.
+/// 1 while a place is free in every row.
 pub const ROOM: usize = NUMBERS + 11;
 
 /// What a row was before its last step, two times that this step overwrote, and its number.

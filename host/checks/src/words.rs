@@ -16,7 +16,7 @@ pub const ROWS: usize = NUMBERS + 3;
 pub const SOONEST: usize = NUMBERS + 4;
 /// Whether the last step may be withdrawn, and what it changed beside the rows.
 pub const LAST_STEP: Range<usize> = NUMBERS + 5..NUMBERS + 11;
-/// How many events may come before a row can be crowded.
+/// 1 while a place is free in every row.
 pub const ROOM: usize = NUMBERS + 11;
 
 /// What a row was before its last step, two times that this step overwrote, and its number.
@@ -34,7 +34,7 @@ fn stamp(monitor: &Monitor, row: usize) -> u64 {
 pub fn of_withdrawals(place: usize) -> Option<&'static str> {
     match place {
         SOONEST => Some("the time before which no row is due: 0 after a withdrawal, and found anew at the next step"),
-        ROOM => Some("how many events may come before a row can be crowded: an event that is withdrawn is counted too"),
+        ROOM => Some("1 while a place is free in every row: 0 stays where an event that is withdrawn has filled one"),
         _ if LAST_STEP.contains(&place) => {
             Some("whether the last step may be withdrawn, and what it changed beside the rows")
         }
@@ -44,7 +44,7 @@ pub fn of_withdrawals(place: usize) -> Option<&'static str> {
 }
 
 /// The words after the withdrawal of a step, by those before the step and after it. Those before it are put back, but for: no row
-/// that the step changed has a past, no step may be withdrawn, every row is to be looked at, and the event is counted.
+/// that the step changed has a past, no step may be withdrawn, every row is to be looked at, and a row that the step has filled is not known to be free again.
 pub fn withdrawn(before: &Monitor, stepped: &Monitor) -> Monitor {
     let mut words = *before.words();
     for row in (0..ROW_LIMIT).filter(|row| stamp(stepped, *row) == stepped.steps()) {
@@ -56,22 +56,21 @@ pub fn withdrawn(before: &Monitor, stepped: &Monitor) -> Monitor {
     Monitor::from_words(words)
 }
 
-/// How many events may come before a row can be crowded, after a step that is taken: as many as before it, or after an event one
-/// less. Where none could, an event after every 32 steps finds it anew, and then it is less than fit in the row in which most wait.
+/// Whether a place is free in every row, after a step that is taken: 1 only where fewer than 64 wait in each. An event after every 32
+/// steps finds it anew where it was 0; else only an event changes it, from 1 to 0.
 ///
 /// # Panics
 /// If it is another number.
 pub fn room_after(before: &Monitor, stepped: &Monitor, event: bool) {
     let (room, then) = (stepped.words()[ROOM], before.words()[ROOM]);
+    let waiting = |monitor: &Monitor| (0..monitor.rows()).map(|row| monitor.row_waiting(row)).max().unwrap_or(0);
+    assert!(room == 0 || (room == 1 && waiting(stepped) < 64), "{room} where {} wait", waiting(stepped));
     if !event {
         assert_eq!(room, then, "after no event");
-        return;
-    }
-    let waiting = (0..before.rows()).map(|row| before.row_waiting(row) as u64).max().unwrap_or(0);
-    if then == 0 && before.steps() % 32 == 0 {
-        assert!(room <= 63 - waiting.min(63), "room for {room} where {waiting} wait");
-    } else {
-        assert_eq!(room, then.saturating_sub(1), "where {waiting} wait");
+    } else if then == 1 {
+        assert!(room == 1 || waiting(stepped) == 64, "0 where {} wait", waiting(stepped));
+    } else if before.steps() % 32 != 0 {
+        assert_eq!(room, 0, "where {} wait", waiting(stepped));
     }
 }
 

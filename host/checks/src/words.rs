@@ -44,7 +44,8 @@ pub fn of_withdrawals(place: usize) -> Option<&'static str> {
 }
 
 /// The words after the withdrawal of a step, by those before the step and after it. Those before it are put back, but for: no row
-/// that the step changed has a past, no step may be withdrawn, every row is to be looked at, and a row that the step has filled is not known to be free again.
+/// that the step changed has a past, no step may be withdrawn, every row is to be looked at, and a row that the step has filled is not
+/// known to have a free place again.
 pub fn withdrawn(before: &Monitor, stepped: &Monitor) -> Monitor {
     let mut words = *before.words();
     for row in (0..ROW_LIMIT).filter(|row| stamp(stepped, *row) == stepped.steps()) {

@@ -2,21 +2,30 @@
 use Prim.Native.Nat.{ℕ, suc, _+_, _≤_, _<_}
 use native.Mathlib.Omega.{arith}
 use mathlib.Core.Path.{_≡_, refl, sym, ap, subst, _∙_}
-use mathlib.Core.Bool.{true, false}
+use mathlib.Core.Bool.{Bool, true, false, cond, _&&_}
 use mathlib.Core.List.{List, [], _∷_}
-use mathlib.Core.Logic.{by-cases}
+use mathlib.Core.Logic.{by-cases, ⊎-elim}
 use native.Mathlib.Decide.{ℕ-discrete}
-use lib.ListN.{length, set, replicate, length-set}
+use lib.ListN.{getD, length, set, replicate, length-set}
+use lib.Dec.{ltb, eqb}
 use lib.Seq.{getD-set-same, getD-set-other}
 use Rattle.constraint.specs.Steps.{Step, at}
 use Rattle.constraint.specs.Accepted.{Accepted}
 use Rattle.constraint.specs.declared.Constraint.{Constraint}
 use Rattle.machine.specs.Rule.{ruleOf}
 use Rattle.machine.specs.declared.Rule.{Rule}
-use Rattle.row.specs.Machine.{rowFrom, freshState, rowOf, rowStep}
+use Rattle.machine.specs.Words.{numberWords, rowWords, ruleAt}
+use Rattle.row.specs.Machine.{concerns, rowFrom, freshState, rowOf, brokenRow, applied, rowStep}
 use Rattle.row.specs.declared.Row.{Row}
 use Rattle.row.specs.declared.RowStep.{RowStep}
-use Rattle.row.proofs.Apart.{rule-stays}
+use Rattle.row.specs.declared.Before.{Before}
+use Rattle.row.specs.declared.Occurrence.{Occurrence}
+use Rattle.row.specs.Undo.{noBefore}
+use Rattle.row.specs.Apart.{crowdedBy, changeBy, withChange, steppedRow}
+use Rattle.row.specs.Stored.{wordsOf}
+use Rattle.row.proofs.Engine.{engine}
+use Rattle.row.proofs.Steps.{Fits, Going}
+use Rattle.row.proofs.Crowding.{step-crowds, step-by, crowded-known}
 use Rattle.row.proofs.Exact.{Sound}
 use Rattle.monitor.proofs.Demand.{accepted-sound}
 use Rattle.stretch.specs.Machine.{seenAs, RunOf, NeedsFrom}
@@ -32,9 +41,30 @@ same-row : (c d : Constraint) → ruleOf c ≡ ruleOf d → rowOf c ≡ rowOf d
 unfolding rowOf
 same-row c d e = ap (λ (rule : Rule). rowFrom rule (replicate 64 0) (freshState rule)) e
 
-pub rule-of : (c : Constraint) → rowOf c .rule ≡ ruleOf c
+rule-of : (c : Constraint) → rowOf c .rule ≡ ruleOf c
 unfolding rowOf
 rule-of c = refl
+
+-- the rule of the row that lies in words
+abbrev pub ruleIn : List (List ℕ) → Rule
+ruleIn words = ruleAt (getD words 1 [])
+
+pub rule-lies : (c : Constraint) (words : List (List ℕ)) → words ≡ wordsOf (rowOf c) noBefore → ruleIn words ≡ ruleOf c
+unfolding wordsOf rowWords numberWords rowOf
+rule-lies c words is = ap ruleIn is
+
+-- a step keeps it
+same-rule : (rule : Rule) (b : Bool) (x y : Row) → x .rule ≡ rule → y .rule ≡ rule → cond b x y .rule ≡ rule
+same-rule rule true x y p q = p
+same-rule rule false x y p q = q
+
+stepped-rule : (r : Row) (o : Occurrence) (number : ℕ) → steppedRow o number r .rule ≡ r .rule
+unfolding steppedRow withChange brokenRow applied
+stepped-rule r o number =
+    same-rule (r .rule) (ltb 0 (r .now .broken)) _ _ refl
+    (same-rule (r .rule) (ltb (r .now .due) (o .time)) _ _ refl
+    (same-rule (r .rule) (concerns (r .rule) (o .kind)) _ _ (same-rule (r .rule) (changeBy r o .breaks) _ _ refl refl)
+    (same-rule (r .rule) (o .closes && eqb (r .now .kept) 0) _ _ refl refl)))
 
 module _ (streams times : List ℕ) (count start : ℕ) (small : count ≤ 256) where
   -- the row is that of a run over the constraint
@@ -49,17 +79,29 @@ module _ (streams times : List ℕ) (count start : ℕ) (small : count ≤ 256) 
     pub same : r .rule ≡ rule
     pub running : (c : Constraint) → rule ≡ ruleOf c → RunningOver c r size
 
-  pub to-start : (c : Constraint) (fresh : Row) → fresh ≡ rowOf c → RunningTo (fresh .rule) fresh 0 start
-  to-start c fresh is =
+  -- such a row lies in the words, which began with those of the rule
+  pub record Lies (entry words : List (List ℕ)) (size place : ℕ) : Type 0 where
+    pub row : Row
+    pub before : Before
+    pub lies : words ≡ wordsOf row before
+    pub to : RunningTo (ruleIn entry) row size place
+
+  pub to-start : (c : Constraint) (words : List (List ℕ)) → words ≡ wordsOf (rowOf c) noBefore → Lies words words 0 start
+  to-start c words is =
       record {
-        placed = omega arith;
-        same = refl;
-        running = λ d e steps run accepted h.
-            subst (λ (r : Row). Running d (sound-of d accepted) steps (run .taken) streams times (run .kept)
-            (few-of steps streams times count run small) start 0 r)
-            (sym (is ∙ same-row c d (sym (ap (λ (r : Row). r .rule) is ∙ rule-of c) ∙ e)))
-            (run-start d (sound-of d accepted) steps (run .taken) streams times (run .kept) (few-of steps streams times count run small) start
-            (omega (arith, run .counted, h)));
+        row = rowOf c;
+        before = noBefore;
+        lies = is;
+        to = record {
+          placed = omega arith;
+          same = rule-of c ∙ sym (rule-lies c words is);
+          running = λ d e steps run accepted h.
+              subst (λ (r : Row). Running d (sound-of d accepted) steps (run .taken) streams times (run .kept)
+              (few-of steps streams times count run small) start 0 r)
+              (sym (same-row c d (sym (rule-lies c words is) ∙ e)))
+              (run-start d (sound-of d accepted) steps (run .taken) streams times (run .kept) (few-of steps streams times count run small) start
+              (omega (arith, run .counted, h)));
+        };
       }
 
   module _ (rule : Rule) (r : Row) (size place : ℕ) (to : RunningTo rule r size place) where
@@ -69,43 +111,59 @@ module _ (streams times : List ℕ) (count start : ℕ) (small : count ≤ 256) 
         (to .running c e steps run accepted h) (omega (arith, end, to .placed, run .counted))
 
     -- a step of the row
-    module _ (more : place < count) (stepped : RowStep) (is : stepped ≡ rowStep r (seenAs (at streams place) (at times place)) (size + 1)) where
+    module _ (more : place < count) where
+      abbrev o : Occurrence
+      o = seenAs (at streams place) (at times place)
+
       there : (steps : List Step) → RunOf steps streams times count → start + size < length steps
       there steps run = omega (arith, more, to .placed, run .counted)
 
-      here : stepped ≡ rowStep r (seenAs (at streams (start + size)) (at times (start + size))) (size + 1)
-      here = is ∙ ap (λ (i : ℕ). rowStep r (seenAs (at streams i) (at times i)) (size + 1)) (to .placed)
+      here : rowStep r (seenAs (at streams (start + size)) (at times (start + size))) (size + 1) ≡ rowStep r o (size + 1)
+      here = ap (λ (i : ℕ). rowStep r (seenAs (at streams i) (at times i)) (size + 1)) (sym (to .placed))
 
-      pub to-crowded : stepped .crowded ≡ true → (c : Constraint) → rule ≡ ruleOf c → NeedsFrom c streams times count start 257
+      -- at most 64 wait in a row of a run, so the question for 64 is answered as its step would
+      crowd-is : (c : Constraint) (sound : Sound c) (steps : List Step) → Fits c (engine c sound) steps r → r .now .broken ≡ 0
+          → rowStep r (seenAs (at streams (start + size)) (at times (start + size))) (size + 1) .crowded ≡ crowdedBy (r .rule) (r .now) o
+      crowd-is c sound steps f unbroken =
+          ap (λ (s : RowStep). s .crowded) here ∙ step-crowds r o (size + 1)
+          ∙ sym (crowded-known r o (⊎-elim (λ (g : Going c (engine c sound) steps (r .times) (r .now)). g .room)
+          (λ b. absurd (omega (arith, b .counted, unbroken))) (f .state)))
+
+      pub to-crowded : crowdedBy (r .rule) (r .now) o ≡ true → (c : Constraint) → rule ≡ ruleOf c → NeedsFrom c streams times count start 257
       to-crowded crowded c e steps run accepted h =
+          let running = to .running c e steps run accepted h in
           run-crowded c (sound-of c accepted) steps (run .taken) streams times (run .kept) (few-of steps streams times count run small) start size r
-          (to .running c e steps run accepted h) (there steps run) (ap (λ (s : RowStep). s .crowded) (sym here) ∙ crowded)
+          running (there steps run) (crowd-is c (sound-of c accepted) _ (running .fits) (running .unbroken) ∙ crowded)
 
-      module _ (calm : stepped .crowded ≡ false) where
-        calm-here : rowStep r (seenAs (at streams (start + size)) (at times (start + size))) (size + 1) .crowded ≡ false
-        calm-here = ap (λ (s : RowStep). s .crowded) (sym here) ∙ calm
+      module _ (calm : crowdedBy (r .rule) (r .now) o ≡ false) where
+        stepped-is : rowStep r (seenAs (at streams (start + size)) (at times (start + size))) (size + 1) .crowded ≡ false
+            → rowStep r (seenAs (at streams (start + size)) (at times (start + size))) (size + 1) .row ≡ steppedRow o (size + 1) r
+        stepped-is e =
+            ap (λ (s : RowStep). s .row) (here ∙ step-by r o (size + 1) false (ap (λ (s : RowStep). s .crowded) (sym here) ∙ e))
 
-        pub to-broken : 0 < stepped .row .now .broken → (c : Constraint) → rule ≡ ruleOf c → NeedsFrom c streams times count start (size + 1)
+        pub to-broken : 0 < steppedRow o (size + 1) r .now .broken → (c : Constraint) → rule ≡ ruleOf c
+            → NeedsFrom c streams times count start (size + 1)
         to-broken broken c e steps run accepted h =
+            let running = to .running c e steps run accepted h in
+            let quiet = crowd-is c (sound-of c accepted) _ (running .fits) (running .unbroken) ∙ calm in
             run-broken c (sound-of c accepted) steps (run .taken) streams times (run .kept) (few-of steps streams times count run small) start size r
-            (to .running c e steps run accepted h) (there steps run) calm-here (subst (λ (s : RowStep). 0 < s .row .now .broken) here broken)
+            running (there steps run) quiet (subst (λ (x : Row). 0 < x .now .broken) (sym (stepped-is quiet)) broken)
 
-        pub to-next : stepped .row .now .broken ≤ 0 → RunningTo rule (stepped .row) (size + 1) (place + 1)
+        pub to-next : steppedRow o (size + 1) r .now .broken ≤ 0 → RunningTo rule (steppedRow o (size + 1) r) (size + 1) (place + 1)
         to-next unbroken =
             record {
               placed = omega (arith, to .placed);
-              same = ap (λ (s : RowStep). s .row .rule) is ∙ rule-stays r (seenAs (at streams place) (at times place)) (size + 1) ∙ to .same;
+              same = stepped-rule r o (size + 1) ∙ to .same;
               running = λ c e steps run accepted h.
+                  let running = to .running c e steps run accepted h in
+                  let quiet = crowd-is c (sound-of c accepted) _ (running .fits) (running .unbroken) ∙ calm in
                   let one-more : suc size ≡ size + 1 = omega arith in
-                  subst (λ (s : RowStep). Running c (sound-of c accepted) steps (run .taken) streams times (run .kept)
-                  (few-of steps streams times count run small) start (size + 1) (s .row)) (sym here)
-                  (subst (λ (n : ℕ). Running c (sound-of c accepted) steps (run .taken) streams times (run .kept)
-                  (few-of steps streams times count run small) start n
-                  (rowStep r (seenAs (at streams (start + size)) (at times (start + size))) (size + 1) .row)) one-more
-                  (run-on c (sound-of c accepted) steps (run .taken) streams times (run .kept)
-                  (few-of steps streams times count run small) start size r
-                  (to .running c e steps run accepted h) (there steps run) calm-here
-                  (subst (λ (s : RowStep). s .row .now .broken ≡ 0) here (omega (arith, unbroken)))));
+                  subst (λ (n : ℕ). Running c (sound-of c accepted) steps (run .taken) streams times (run .kept)
+                  (few-of steps streams times count run small) start n (steppedRow o (size + 1) r)) one-more
+                  (subst (λ (x : Row). Running c (sound-of c accepted) steps (run .taken) streams times (run .kept)
+                  (few-of steps streams times count run small) start (suc size) x) (stepped-is quiet)
+                  (run-on c (sound-of c accepted) steps (run .taken) streams times (run .kept) (few-of steps streams times count run small) start size r
+                  running (there steps run) quiet (subst (λ (x : Row). x .now .broken ≡ 0) (sym (stepped-is quiet)) (omega (arith, unbroken)))));
             }
 
 -- ---- each start
@@ -119,8 +177,7 @@ module _ (c : Constraint) (streams times : List ℕ) (count : ℕ) where
   pub needs-start : (need : List ℕ) → length need ≡ 256 → NeedsTo need 0
   needs-start need whole = record { whole = whole; each = λ i h. absurd (omega (arith, h)) }
 
-  pub needs-more : (need : List ℕ) (start n : ℕ) → NeedsTo need start → start < 256 → NeedsFrom c streams times count start n
-      → NeedsTo (set need start n) (start + 1)
+  pub needs-more : (need : List ℕ) (start n : ℕ) → NeedsTo need start → start < 256 → NeedsFrom c streams times count start n → NeedsTo (set need start n) (start + 1)
   needs-more need start n before small more =
       record {
         whole = length-set need start n ∙ before .whole;

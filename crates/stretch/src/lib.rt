@@ -5,10 +5,12 @@ use constraint::STREAM_COUNT;
 use constraint::StretchAnswer;
 use constraint::Table;
 use machine::parts::kind_of;
+use machine::words::BROKEN;
 use monitor::calls;
 use order::Order;
+use queue::SIZE;
 use row::Occurrence;
-use row::Row;
+use row::stored;
 use table::ReadAnswer;
 ghost use mathlib.Core.Path.{_≡_};
 ghost use Prim.Native.Nat.{ℕ, _≤_, _<_};
@@ -122,21 +124,19 @@ fn need_from(
     requires { ⌜ count ≤ 256 ⌝ }
     ensures { λ r. ⌜ NeedsFrom constraint (now (streams .entry)) (now (times .entry)) count start r ⌝ }
 {
-    let mut row = Row::begin(constraint);
+    let mut words = [[0u64; SIZE]; 2];
+    stored::begin(&mut words, constraint);
     let mut size: usize = 0;
     let mut at = start;
     while at < count {
         let o = seen(streams[at], times[at]);
-        at = at + 1;
-        size = size + 1;
-        let stepped = row.step(o, size as u64);
-        if stepped.crowded {
+        if stored::crowds(&words, o) {
             return NEVER;
         }
-        let next = stepped.row;
-        row = next;
-        let state = next.now;
-        if 0 < state.broken {
+        at = at + 1;
+        size = size + 1;
+        stored::step(&mut words, o, size as u64);
+        if 0 < words[1][BROKEN] {
             return size;
         }
     }

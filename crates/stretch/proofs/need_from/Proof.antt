@@ -1,86 +1,118 @@
--- The loop steps one row from record to record: it ends where the row breaks, where a step crowds it, or behind the last record.
+-- The loop steps one row where it lies, from record to record: it ends where the row breaks, where a step crowds it, or behind the last record.
 use native.Mathlib.Omega.{arith}
-use Prim.Native.Nat.{_-_, _≤_, _+_}
-use mathlib.Core.Path.{_≡_}
+use Prim.Native.Nat.{ℕ, _-_, _≤_, _<_, _+_}
+use mathlib.Core.Path.{_≡_, sym, ap, subst, _∙_}
+use mathlib.Core.List.{List, []}
+use lib.ListN.{getD}
 use Rattle.queue.proofs.Shared.{free}
 use borrow.Author.Needs.{needs}
-use Rattle.row.specs.Machine.{rowStep}
+use Rattle.machine.specs.Words.{rowWords, numberWords}
+use Rattle.row.specs.declared.Row.{Row}
+use Rattle.row.specs.Apart.{crowdedBy, steppedRow}
+use Rattle.row.specs.Undo.{savedBy}
+use Rattle.row.specs.Stored.{wordsOf}
 use Rattle.constraint.specs.Steps.{at}
 use Rattle.stretch.specs.Machine.{seenAs}
-use Rattle.stretch.proofs.Runs.{RunningTo, to-start, to-end, to-crowded, to-broken, to-next, rule-of}
+use Rattle.stretch.proofs.Runs.{Lies, to-start, to-end, to-crowded, to-broken, to-next, rule-lies}
 use Rattle.stretch.proofs.need_from.Statement.{statement}
 use Rattle.stretch.proofs.need_from.Tie as tie
 
 abbrev Inv-loop : tie.InvT-loop
-Inv-loop streams times count start row₀ size₀ at₀ row size at = (small : count ≤ 256)
-    × RunningTo streams times count start small (row₀ .rule) row size at
+Inv-loop streams times count start words₀ size₀ at₀ words size at = (small : count ≤ 256) × Lies streams times count start small words₀ words size at
 
 abbrev μ-loop : tie.MeasureT-loop
-μ-loop streams times count start row₀ size₀ at₀ row size at = count - at
+μ-loop streams times count start words₀ size₀ at₀ words size at = count - at
 
 loop-holds : tie.Need-loop-holds Inv-loop μ-loop
 loop-holds c =
-    let begun = c .before in
+    let begun = c .before .before in
     let args = begun .args in (
       begun .pre,
-      to-start (args .streams .now) (args .times .now) (args .count) (args .start) (begun .pre) (args .constraint) (c .begin .result)
-          (c .begin .ensures),
+      to-start (args .streams .now) (args .times .now) (args .count) (args .start) (begun .pre) (args .constraint) _ (c .begin .ensures),
     )
 
--- the step that the row takes
-taken : (c : tie.After-step Inv-loop μ-loop) →
-    let at-loop = c .before .before .before .before .before in
-    let args = at-loop .before .before .args in
-    c .step .result ≡ rowStep (at-loop .loop .row) (seenAs (at (args .streams .now) (at-loop .loop .at)) (at (args .times .now) (at-loop .loop .at)))
-    (at-loop .loop .size + 1)
-taken c = rw (← c .before .seen .ensures) (c .step .ensures)
+-- the answer to the question for 64, and the words after the step
+asked : (c : tie.After-crowds Inv-loop μ-loop) →
+    let at-loop = c .before .before .before .before .before .before in
+    let args = at-loop .before .before .before .args in
+    let r = at-loop .loop .inv .1 .row in
+    c .crowds .result ≡ crowdedBy (r .rule) (r .now) (seenAs (at (args .streams .now) (at-loop .loop .at)) (at (args .times .now) (at-loop .loop .at)))
+asked c =
+    let at-loop = c .before .before .before .before .before .before in
+    let lying = at-loop .loop .inv .1 in
+    rw (← c .before .before .seen .ensures) (c .crowds .ensures (lying .row) (lying .before) (lying .lies))
+
+stepped : (c : tie.After-step Inv-loop μ-loop) →
+    let at-loop = c .before .before .before .before .before .before .before .before .before in
+    let args = at-loop .before .before .before .args in
+    let lying = at-loop .loop .inv .1 in
+    let o = seenAs (at (args .streams .now) (at-loop .loop .at)) (at (args .times .now) (at-loop .loop .at)) in
+    c .step .last .0 ≡ wordsOf (steppedRow o (at-loop .loop .size + 1) (lying .row)) (savedBy o (at-loop .loop .size + 1) (lying .row) (lying .before))
+stepped c =
+    let seen = c .before .before .before .before .before in
+    let at-loop = seen .before .before .before .before in
+    let lying = at-loop .loop .inv .1 in
+    rw (← seen .seen .ensures) (c .step .ensures (lying .row) (lying .before) (lying .lies))
 
 returns : tie.Need-returns Inv-loop μ-loop
 returns c =
-    let s = c .before in
-    let in-loop = s .before .before .before .before in
+    let q = c .before in
+    let in-loop = q .before .before .before .before .before in
     let at-loop = in-loop .before in
     let begin = at-loop .before in
-    let args = begin .before .args in
+    let args = begin .before .before .args in
     let inv = at-loop .loop .inv in
-    to-crowded (args .streams .now) (args .times .now) (args .count) (args .start) (inv .0) _ _ _ _ (inv .1) (in-loop .loop-test .taken)
-    (s .step .result) (taken s) (c .if1 .taken) (args .constraint) (rw (begin .begin .ensures) (rule-of (args .constraint)))
+    to-crowded (args .streams .now) (args .times .now) (args .count) (args .start) (inv .0) _ _ _ _ (inv .1 .to) (in-loop .loop-test .taken)
+    (sym (asked q) ∙ c .if1 .taken) (args .constraint) (rule-lies (args .constraint) _ (begin .begin .ensures))
+
+-- a row that lies in words is broken by the word that says so
+broken-word : (words : List (List ℕ)) (r : Row) → (b : _) → words ≡ wordsOf r b → getD (getD words 1 []) 19 0 ≡ r .now .broken
+unfolding wordsOf rowWords numberWords
+broken-word words r b e = ap (λ m. getD (getD m 1 []) 19 0) e
 
 returns-2 : tie.Need-returns-2 Inv-loop μ-loop
 returns-2 c =
-    let e = c .before .before .before .before in
-    let s = e .before in
-    let in-loop = s .before .before .before .before in
+    let s = c .before .before in
+    let e = s .before .before in
+    let q = e .before in
+    let in-loop = q .before .before .before .before .before in
     let at-loop = in-loop .before in
     let begin = at-loop .before in
-    let args = begin .before .args in
+    let args = begin .before .before .args in
     let inv = at-loop .loop .inv in
-    to-broken (args .streams .now) (args .times .now) (args .count) (args .start) (inv .0) _ _ _ _ (inv .1) (in-loop .loop-test .taken)
-    (s .step .result) (taken s) (e .if1 .left) (c .if2 .taken) (args .constraint) (rw (begin .begin .ensures) (rule-of (args .constraint)))
+    to-broken (args .streams .now) (args .times .now) (args .count) (args .start) (inv .0) _ _ _ _ (inv .1 .to) (in-loop .loop-test .taken)
+    (sym (asked q) ∙ e .if1 .left) (subst (λ (n : ℕ). 0 < n) (broken-word _ _ _ (stepped s)) (c .if2 .taken))
+    (args .constraint) (rule-lies (args .constraint) _ (begin .begin .ensures))
 
 loop-again : tie.Need-loop-again Inv-loop μ-loop
 loop-again c =
-    let e = c .before .before .before .before in
-    let s = e .before in
-    let in-loop = s .before .before .before .before in
+    let s = c .before .before in
+    let e = s .before .before in
+    let q = e .before in
+    let in-loop = q .before .before .before .before .before in
     let at-loop = in-loop .before in
-    let args = at-loop .before .before .args in
+    let args = at-loop .before .before .before .args in
     let inv = at-loop .loop .inv in (
       inv .0,
-      to-next (args .streams .now) (args .times .now) (args .count) (args .start) (inv .0) _ _ _ _ (inv .1) (in-loop .loop-test .taken)
-          (s .step .result) (taken s) (e .if1 .left) (c .if2 .left),
+      record {
+        row = _;
+        before = _;
+        lies = stepped s;
+        to = to-next (args .streams .now) (args .times .now) (args .count) (args .start) (inv .0) _ _ _ _ (inv .1 .to) (in-loop .loop-test .taken)
+            (sym (asked q) ∙ e .if1 .left) (subst (λ (n : ℕ). n ≤ 0) (broken-word _ _ _ (stepped s)) (c .if2 .left));
+      },
     )
 
 returns-3 : tie.Need-returns-3 Inv-loop μ-loop
 returns-3 c =
     let at-loop = c .before in
     let begin = at-loop .before in
-    let args = begin .before .args in
+    let args = begin .before .before .args in
     let inv = at-loop .loop .inv in
-    to-end (args .streams .now) (args .times .now) (args .count) (args .start) (inv .0) _ _ _ _ (inv .1) (c .loop-test .left) (args .constraint)
-    (rw (begin .begin .ensures) (rule-of (args .constraint)))
+    to-end (args .streams .now) (args .times .now) (args .count) (args .start) (inv .0) _ _ _ _ (inv .1 .to) (c .loop-test .left) (args .constraint)
+    (rule-lies (args .constraint) _ (begin .begin .ensures))
 
 pub need-from-spec : {M : Type 1} → statement M
 need-from-spec =
-    tie.close (tie.spec Inv-loop μ-loop free loop-holds (λ c. search needs) (λ c. search needs) (λ c. search needs) (λ c. search needs) free
-    (λ c. search needs) (λ c. search needs) free returns returns-2 (λ c. omega arith) loop-again returns-3)
+    tie.close (tie.spec Inv-loop μ-loop free loop-holds (λ c. search needs) (λ c. search needs) (λ c. search needs) (λ c. search needs) free free
+    returns (λ c. search needs) (λ c. search needs) free (λ c. search needs) (λ c. search needs) returns-2 (λ c. omega arith) loop-again returns-3)

@@ -162,7 +162,8 @@ module _ (streams times : List ℕ) (count start : ℕ) (small : count ≤ 256) 
                   (few-of steps streams times count run small) start n (steppedRow o (size + 1) r)) one-more
                   (subst (λ (x : Row). Running c (sound-of c accepted) steps (run .taken) streams times (run .kept)
                   (few-of steps streams times count run small) start (suc size) x) (stepped-is quiet)
-                  (run-on c (sound-of c accepted) steps (run .taken) streams times (run .kept) (few-of steps streams times count run small) start size r
+                  (run-on c (sound-of c accepted) steps (run .taken) streams times (run .kept)
+                  (few-of steps streams times count run small) start size r
                   running (there steps run) quiet (subst (λ (x : Row). x .now .broken ≡ 0) (sym (stepped-is quiet)) (omega (arith, unbroken)))));
             }
 
@@ -177,7 +178,8 @@ module _ (c : Constraint) (streams times : List ℕ) (count : ℕ) where
   pub needs-start : (need : List ℕ) → length need ≡ 256 → NeedsTo need 0
   needs-start need whole = record { whole = whole; each = λ i h. absurd (omega (arith, h)) }
 
-  pub needs-more : (need : List ℕ) (start n : ℕ) → NeedsTo need start → start < 256 → NeedsFrom c streams times count start n → NeedsTo (set need start n) (start + 1)
+  pub needs-more : (need : List ℕ) (start n : ℕ) → NeedsTo need start → start < 256 → NeedsFrom c streams times count start n
+      → NeedsTo (set need start n) (start + 1)
   needs-more need start n before small more =
       record {
         whole = length-set need start n ∙ before .whole;

@@ -36,7 +36,8 @@ asked : (c : tie.After-crowds Inv-loop μ-loop) →
     let at-loop = c .before .before .before .before .before .before in
     let args = at-loop .before .before .before .args in
     let r = at-loop .loop .inv .1 .row in
-    c .crowds .result ≡ crowdedBy (r .rule) (r .now) (seenAs (at (args .streams .now) (at-loop .loop .at)) (at (args .times .now) (at-loop .loop .at)))
+    c .crowds .result ≡ crowdedBy (r .rule) (r .now) (seenAs (at (args .streams .now) (at-loop .loop .at))
+    (at (args .times .now) (at-loop .loop .at)))
 asked c =
     let at-loop = c .before .before .before .before .before .before in
     let lying = at-loop .loop .inv .1 in
@@ -47,7 +48,8 @@ stepped : (c : tie.After-step Inv-loop μ-loop) →
     let args = at-loop .before .before .before .args in
     let lying = at-loop .loop .inv .1 in
     let o = seenAs (at (args .streams .now) (at-loop .loop .at)) (at (args .times .now) (at-loop .loop .at)) in
-    c .step .last .0 ≡ wordsOf (steppedRow o (at-loop .loop .size + 1) (lying .row)) (savedBy o (at-loop .loop .size + 1) (lying .row) (lying .before))
+    c .step .last .0 ≡ wordsOf (steppedRow o (at-loop .loop .size + 1) (lying .row))
+    (savedBy o (at-loop .loop .size + 1) (lying .row) (lying .before))
 stepped c =
     let seen = c .before .before .before .before .before in
     let at-loop = seen .before .before .before .before in

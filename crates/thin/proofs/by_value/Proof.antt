@@ -1,0 +1,66 @@
+-- The step by value keeps its contract, and its number says its answer: no refusal has the number 0.
+use Prim.Native.Nat.{ℕ, zero, suc}
+use native.Mathlib.Omega.{arith}
+use mathlib.Core.Path.{_≡_, refl, sym, _∙_, ap, subst}
+use mathlib.Core.Bool.{Bool, true, false, cond}
+use borrow.Author.Needs.{needs}
+use Rattle.constraint.specs.Run.{asks}
+use Rattle.constraint.specs.declared.Answer.{Answer}
+use Rattle.constraint.specs.declared.Answer.the-variants.{Taken, Refused}
+use Rattle.constraint.specs.declared.Call.{Call}
+use Rattle.monitor.specs.Machine.{refuses, takes, crowds, nextFor, refusalBy, takenCall, steppedBy, stepOf}
+use Rattle.monitor.specs.Contract.{Steps}
+use Rattle.monitor.specs.declared.Monitor.{Monitor}
+use Rattle.monitor.specs.declared.Stepped.{Stepped}
+use Rattle.monitor.proofs.Answers.{refused-by}
+use Rattle.thin.specs.Number.{answerFrom, steppedFrom}
+use Rattle.thin.proofs.by_value.Statement.{statement}
+use Rattle.thin.proofs.by_value.Tie as tie
+
+abbrev numberOf : Answer → ℕ
+numberOf Taken = 0
+numberOf (Refused n) = n
+
+-- the number of its answer says the answer
+abbrev Told : Stepped → Type 0
+Told s = answerFrom (numberOf (s .answer)) ≡ s .answer
+
+told-by : (m : Monitor) (call : Call) (n : ℕ) → Told (steppedBy m call n)
+told-by m call zero = by-crowd (crowds m call)
+  where
+    by-crowd : (b : Bool) → Told (cond b (refuses 12 m) (takes (takenCall m call)))
+    by-crowd true = refl
+    by-crowd false = refl
+told-by m call (suc n) = subst Told (refused-by m call (suc n) (omega arith)) refl
+
+step-told : (m : Monitor) (call : Call) → Told (stepOf m call)
+unfolding stepOf
+step-told m call = told-by m call (refusalBy call (m .closed) (m .count) (m .clock) (nextFor m call))
+
+numbered : (m : Monitor) (call : Call) (s : Stepped) (n : ℕ) → Steps m (asks call) s → n ≡ numberOf (s .answer)
+    → Steps m (asks call) (steppedFrom n (s .monitor))
+numbered m call s n steps e =
+    subst (λ (a : Answer). Steps m (asks call) (record { answer = a; monitor = s .monitor }))
+    (sym (ap answerFrom e ∙ subst Told (sym (steps .equals)) (step-told m call))) steps
+
+step-requires : tie.Need-step-requires
+step-requires c κs = search needs
+
+enum-told : tie.Need-enum-told
+enum-told c = search needs
+
+enum-known-answer : tie.Need-enum-known-answer
+enum-known-answer c = search needs
+
+returns : tie.Need-returns
+returns c =
+    let stepped = c .before .before .before in
+    numbered _ _ (stepped .step .result) 0 (stepped .step .ensures) (rw (c .enum-told .given .1))
+
+returns-2 : tie.Need-returns-2
+returns-2 c =
+    let stepped = c .before .before .before .before in
+    numbered _ _ (stepped .step .result) (c .before .answer .given .0 .0) (stepped .step .ensures) (rw (c .before .answer .given .1))
+
+pub by-value-spec : {M : Type 1} → statement M
+by-value-spec = tie.close (tie.spec step-requires enum-told enum-known-answer returns returns-2)

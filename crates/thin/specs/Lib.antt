@@ -1,0 +1,2 @@
+-- The thin step on a monitor that is lent.
+pub mod Number

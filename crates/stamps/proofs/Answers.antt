@@ -22,6 +22,7 @@ use Rattle.monitor.proofs.FittingRows.{sound-at}
 use Rattle.table.proofs.AcceptedRows.{read-accepted}
 use Rattle.stamps.specs.Machine.{PassesStamps, Finds}
 use Rattle.stamps.specs.declared.Passed.{Passed}
+use Rattle.stamps.specs.declared.Asked.{Asked}
 use Rattle.stamps.specs.declared.RowAsked.{RowAsked}
 
 -- a row that is there has a number below theirs
@@ -37,6 +38,10 @@ lower-small k lower upper sound = sound .in-range .2 .0
 event-plain : (k lower upper : ℕ) → Sound (Repeat k 1 lower upper) → k < firstColoured
 unfolding KindsSuit
 event-plain k lower upper sound = sound .kinds-suit .0
+
+-- the row's fields and the range
+abbrev askedOf : RowAsked → ℕ → Asked
+askedOf found late = record { event = found .event; lower = found .lower; upper = found .upper; late = late }
 
 module _ (bytes recording : List ℕ) (i late : ℕ) (rows : List Constraint) (read : ReadsTable bytes (table-of rows)) (table : Table)
     (holds : table ≡ tableOf rows)

@@ -40,6 +40,7 @@ indexes =
       no-ticks = λ i l. absurd (omega (arith, l));
       no-sooner = λ i l. absurd (omega (arith, l));
       roomy = record {
+        room-mark = omega arith;
         now-few = λ i l. absurd (omega (arith, l));
         then-few = λ i l. absurd (omega (arith, l));
         now-room = λ i l. absurd (omega (arith, l));

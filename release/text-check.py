@@ -28,6 +28,8 @@ IMPORT = re.compile(r"^(?P<before>(?:ghost )?use )(?P<module>[^\s{;]+?)(?:\.\{(?
 TOKENS = re.compile(r"\[\]|[^\s(){};,.\"⌜⌝⟦⟧@]+")
 # What a line of proofs declares; what the proof of a function is called goes by the function's name.
 DECLARED = re.compile(r"^\s*(?:(?:pub|abbrev|unfoldable|opaque|data|record|private)\s+)*([^\s(){}.,;:]+)(?:\s+(?:\([^)]*\)|\{[^}]*\}))*\s+:(?:\s|$)")
+# A module with parameters declares no name, and what stands in its line is used.
+MODULE = re.compile(r"\s*(?:pub )?module\b")
 COMMENT = re.compile(r"(?:^|\s)(?:--|//).*")
 
 
@@ -125,6 +127,8 @@ def declarations(text):
         if declared:
             found.append((declared[1], number, set()))
             line = line[declared.end(1):]
+        elif MODULE.match(line):
+            found.append((None, number, set()))
         words = TOKENS.findall(line)
         if found:
             found[-1][2].update(words[1:] if words and words[0] == found[-1][0] else words)
@@ -153,7 +157,7 @@ def idle(texts):
         whole = has_other_users(name, file, name)
         return not (whole or name.endswith("-spec") or ("_" in name and all(has_other_users(part, file, name) for part in parts)))
 
-    return {file: [(name, number) for name, number, _ in names if is_idle(file, name)] for file, names in declared.items()}
+    return {file: [(name, number) for name, number, _ in names if name and is_idle(file, name)] for file, names in declared.items()}
 
 
 def look():

@@ -335,6 +335,9 @@ pub fn room_in(row: &[[u64; SIZE]; 2], room: u64) -> u64
 {
     let len = row[1][words::LEN];
     if 62 < len {
+        if room == 0 {
+            return 0;
+        }
         let filled = filled_by(row[1][words::FORM], row[1][words::SPAN], len);
         return smaller(room, minus(64, filled));
     }

@@ -1,14 +1,15 @@
 -- The numbers stand at their places among the row's words.
-use Prim.Native.Nat.{ℕ}
+use Prim.Native.Nat.{ℕ, _-_, min}
 use mathlib.Core.Path.{_≡_, refl, sym, ap, _∙_}
 use mathlib.Core.List.{List, []}
 use mathlib.Core.Bool.{true, false}
 use lib.ListN.{getD}
 use lib.Dec.{ltb}
+use native.Mathlib.Omega.{arith}
 use borrow.Author.Tests.{lt-ltb, le-ltb}
 use denote.Ref.{now}
 use Rattle.machine.specs.Words.{rowWords, numberWords}
-use Rattle.row.specs.Stored.{wordsOf}
+use Rattle.row.specs.Stored.{wordsOf, filledBy}
 use borrow.Author.Needs.{needs}
 use Rattle.row.proofs.stored.room_in.Statement.{statement}
 use Rattle.row.proofs.stored.room_in.Tie as tie
@@ -16,16 +17,28 @@ use Rattle.row.proofs.stored.room_in.Tie as tie
 returns : tie.Need-returns
 unfolding wordsOf rowWords numberWords
 returns c w b e =
+    let t = c .before in
+    let a = t .before .before .args in
+    let len : getD (getD (now (a .row)) 1 []) 16 0 ≡ w .now .len = ap (λ (x : List (List ℕ)). getD (getD x 1 []) 16 0) e in
+    let full : ltb 62 (w .now .len) ≡ true = ap (ltb 62) (sym len) ∙ lt-ltb _ _ (t .if1 .taken) in
+    rw full (least (a .room) (64 - filledBy (w .rule .form) (w .rule .span) (w .now .len)) (c .if2 .taken))
+  where
+    least : (room left : ℕ) → room ≡ 0 → 0 ≡ min room left
+    least room left none = omega (arith, none)
+
+returns-2 : tie.Need-returns-2
+unfolding wordsOf rowWords numberWords
+returns-2 c w b e =
     let f = c .before .before in
-    let t = f .before .before .before in
+    let t = f .before .before .before .before in
     let row = t .before .before .args .row in
     let len : getD (getD (now row) 1 []) 16 0 ≡ w .now .len = ap (λ (x : List (List ℕ)). getD (getD x 1 []) 16 0) e in
     let full : ltb 62 (w .now .len) ≡ true = ap (ltb 62) (sym len) ∙ lt-ltb _ _ (t .if1 .taken) in
     rw (full, c .smaller .ensures, c .before .minus .ensures, f .filled-by .ensures, e) refl
 
-returns-2 : tie.Need-returns-2
+returns-3 : tie.Need-returns-3
 unfolding wordsOf rowWords numberWords
-returns-2 c w b e =
+returns-3 c w b e =
     let row = c .before .before .args .row in
     let len : getD (getD (now row) 1 []) 16 0 ≡ w .now .len = ap (λ (x : List (List ℕ)). getD (getD x 1 []) 16 0) e in
     let few : ltb 62 (w .now .len) ≡ false = ap (ltb 62) (sym len) ∙ le-ltb _ _ (c .if1 .left) in
@@ -33,5 +46,5 @@ returns-2 c w b e =
 
 pub room-in-spec : {M : Type 1} → statement M
 room-in-spec =
-    tie.close (tie.spec (λ c. search needs) (λ c. search needs) (λ c. search needs) (λ c. search needs) (λ c. search needs) (λ c. search needs)
-    (λ c κs. search needs) (λ c κs. search needs) (λ c κs. search needs) returns returns-2)
+    tie.close (tie.spec (λ c. search needs) (λ c. search needs) returns (λ c. search needs) (λ c. search needs) (λ c. search needs) (λ c. search needs)
+    (λ c κs. search needs) (λ c κs. search needs) (λ c κs. search needs) returns-2 returns-3)

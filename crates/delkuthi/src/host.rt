@@ -6,6 +6,7 @@ use lent::fresh;
 use machine::words;
 use monitor::RowVerdict;
 use monitor::verdicts;
+ghost use Prim.Native.Nat.{_≤_};
 ghost use mathlib.Core.Path.{_≡_};
 ghost use Rattle.constraint.specs.declared.Call.{Call};
 ghost use Rattle.monitor.specs.Contract.{verdictIn, stepIn};
@@ -142,10 +143,10 @@ pub extern "C" fn delkuthi_row_step(m: &Words, row: u64) -> u64
     step_by(row, lent::held(m), lent::closed(m), broken)
 }
 
-// The number of rows.
+// The number of rows, at most 32 whatever was lent.
 #[no_mangle]
 pub extern "C" fn delkuthi_rows(m: &Words) -> u64
-    ensures { λ r. ⌜ ReadOff (now (m .entry)) NumberOfRows r ⌝ }
+    ensures { λ r. ⌜ ((r ≤ 32) × ReadOff (now (m .entry)) NumberOfRows r) ⌝ }
 {
     lent::held(m) as u64
 }

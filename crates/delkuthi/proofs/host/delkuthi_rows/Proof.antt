@@ -7,7 +7,10 @@ use Rattle.delkuthi.proofs.host.delkuthi_rows.Statement.{statement}
 use Rattle.delkuthi.proofs.host.delkuthi_rows.Tie as tie
 
 returns : tie.Need-returns
-returns c m holds = rows-kept m (c .held .result) (len-read (now (c .before .args .m)) m holds (c .held .result) (c .held .ensures .1))
+returns c = (
+  c .held .ensures .0,
+  λ m holds. rows-kept m (c .held .result) (len-read (now (c .before .args .m)) m holds (c .held .result) (c .held .ensures .1)),
+)
 
 pub delkuthi-rows-spec : {M : Type 1} → statement M
 delkuthi-rows-spec = tie.close (tie.spec (λ c κs. search needs) returns)

@@ -117,10 +117,10 @@
  *
  * THE TABLE
  *
- * One byte 1, then the rows; the first is row 0. Each row has a length field of
- * two bytes and, as many bytes as it says, its type and its fields. Kinds, n,
- * span and maximum take one byte, all other fields eight, the most significant
- * byte first.
+ * One byte 1, then the rows; the first is row 0. Each row has a length field
+ * of two bytes and, as many bytes as it says, its type and its fields. Kinds,
+ * n, span and maximum take one byte, all other fields eight, the most
+ * significant byte first.
  *
  *   type                      fields                                   length
  *   1 Delay                   source, target, lower, upper                 19
@@ -166,17 +166,17 @@
  *                 several sources, and further targets do no harm. A source
  *                 that has no target breaks the row once the clock is past
  *                 s + upper, and at the close. Without an upper limit the
- *                 target may come however late, and only the close breaks
- *                 the row.
+ *                 target may come however late, and only the close breaks the
+ *                 row.
  *   2 StrongDelay The first target belongs to the first source, the second to
  *                 the second, and so on, and each comes lower to upper after
  *                 its source. A target too early, or one too many, breaks the
  *                 row at once, a source without its target as in Delay.
  *   3 Repeat      Of span + 1 events in a row the last comes lower to upper
- *                 after the first. Silence counts from the first event on:
- *                 the row breaks once the clock is past (the oldest event that
- *                 has none span places after it) + upper. Without an upper
- *                 limit silence breaks nothing. The close breaks nothing.
+ *                 after the first. Silence counts from the first event on: the
+ *                 row breaks once the clock is past (the oldest event that has
+ *                 none span places after it) + upper. Without an upper limit
+ *                 silence breaks nothing. The close breaks nothing.
  *   4 Sporadic    Each event is 0 to jitter after a hidden point of its own.
  *                 The points are at least 0, rise, and are lower to upper
  *                 apart; the events are at least minimum apart. With lower =
@@ -203,14 +203,14 @@
  *                 preempt and a resume, a stop, and again from a start, no two
  *                 at the same time. The running time, stop minus start less
  *                 the stretches from preempt to resume, is lower to upper. An
- *                 event that may not come next breaks the row, and so does
- *                 the clock once the running time is past upper, a preempt
- *                 after which no time is left to run, and a close after a
- *                 start and before its stop.
+ *                 event that may not come next breaks the row, and so does the
+ *                 clock once the running time is past upper, a preempt after
+ *                 which no time is left to run, and a close after a start and
+ *                 before its stop.
  *   9 Reaction    Each stimulus needs a response of its colour, and it is the
  *                 first response of that colour in the whole recording that
- *                 has to come minimum to maximum after it. So all stimuli of
- *                 a colour share one response, and one that comes before any
+ *                 has to come minimum to maximum after it. So all stimuli of a
+ *                 colour share one response, and one that comes before any
  *                 stimulus is it already. Later responses do not count. A
  *                 colour that has stimuli and no response breaks the row once
  *                 the clock is past its first stimulus + maximum, as soon as
@@ -578,6 +578,8 @@ static inline delkuthi_row delkuthi_row_time(delkuthi_row row, size_t place,
     return row;
 }
 
+/* A function for each type. */
+
 static inline delkuthi_row delkuthi_delay(uint8_t source, uint8_t target,
                                           uint64_t lower, uint64_t upper)
 {
@@ -627,17 +629,6 @@ static inline delkuthi_row delkuthi_order(uint8_t source, uint8_t target)
     return delkuthi_row_bytes(6, source, target);
 }
 
-/* Of coloured kinds. */
-static inline delkuthi_row delkuthi_reaction(uint8_t stimulus,
-                                             uint8_t response,
-                                             uint64_t minimum,
-                                             uint64_t maximum)
-{
-    delkuthi_row row = delkuthi_row_bytes(9, stimulus, response);
-
-    return delkuthi_row_time(delkuthi_row_time(row, 3, minimum), 11, maximum);
-}
-
 /* Of n kinds, 2 to 4; a row of another n is refused with 4. */
 static inline delkuthi_row delkuthi_strong_synchronization(
     const uint8_t *kinds, uint8_t n, uint64_t tolerance)
@@ -661,6 +652,17 @@ static inline delkuthi_row delkuthi_execution_time(uint8_t start, uint8_t stop,
     row.body[3] = preempt;
     row.body[4] = resume;
     return delkuthi_row_time(delkuthi_row_time(row, 5, lower), 13, upper);
+}
+
+/* Of coloured kinds. */
+static inline delkuthi_row delkuthi_reaction(uint8_t stimulus,
+                                             uint8_t response,
+                                             uint64_t minimum,
+                                             uint64_t maximum)
+{
+    delkuthi_row row = delkuthi_row_bytes(9, stimulus, response);
+
+    return delkuthi_row_time(delkuthi_row_time(row, 3, minimum), 11, maximum);
 }
 
 static inline delkuthi_row delkuthi_repetition(uint8_t event, uint8_t span,

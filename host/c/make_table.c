@@ -16,6 +16,7 @@
 static delkuthi_row row_of(unsigned type, const uint8_t *b, const uint64_t *t)
 {
     switch (type) {
+    /* Made by release/row-types.py, to the end of the list. */
     case 1:
         return delkuthi_delay(b[0], b[1], t[0], t[1]);
     case 2:
@@ -28,12 +29,12 @@ static delkuthi_row row_of(unsigned type, const uint8_t *b, const uint64_t *t)
         return delkuthi_burst(b[0], b[1], t[0], t[1]);
     case 6:
         return delkuthi_order(b[0], b[1]);
-    case 9:
-        return delkuthi_reaction(b[0], b[1], t[0], t[1]);
     case 7:
         return delkuthi_strong_synchronization(b + 1, b[0], t[0]);
     case 8:
         return delkuthi_execution_time(b[0], b[1], b[2], b[3], t[0], t[1]);
+    case 9:
+        return delkuthi_reaction(b[0], b[1], t[0], t[1]);
     default:
         return delkuthi_repetition(b[0], b[1], t[0], t[1], t[2]);
     }

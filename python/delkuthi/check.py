@@ -30,8 +30,6 @@ IDLE = ", never exercised"
 UNEXERCISED = f"kept{IDLE}"
 #: So many steps are given to the monitor before its rows are asked.
 CHUNK = 1024
-#: The types in which something waits.
-_WAITING = ("Delay", "StrongDelay", "StrongSynchronization")
 _SIGNAL, _PAIR = itemgetter(0), itemgetter(0, 1)
 
 
@@ -394,4 +392,4 @@ def _refusal(table: Table, moments: Moments, refused: StepRefused) -> str:
 
 def _waits(row: Row, kind: int) -> bool:
     """Can an event of this kind begin to wait in the row?"""
-    return row.type.name in _WAITING and kind in (row.kinds if "kinds" in row.values else row.kinds[:1])
+    return row.type.waits and kind in (row.kinds if "kinds" in row.values else row.kinds[:1])

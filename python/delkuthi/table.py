@@ -8,8 +8,9 @@ from pathlib import Path
 from typing import Iterable, Mapping
 
 from . import library as lib
+from .fields import MOST, RowType
 from .library import Refused
-from .rowtypes import MOST, BY_NAME, RowType, Value, row_values
+from .rowtypes import BY_NAME, Value, row_values
 from .signals import is_coloured, parts, signals_of
 from .sources import CanSource, CsvSource, KeySource, Source
 from .split import Part, split

@@ -14,12 +14,13 @@ import difflib
 import re
 import unicodedata
 from pathlib import Path
-from typing import Any, Iterator
+from typing import Any, Iterator, Sequence
 
 from . import library as lib
+from .fields import MOST, Field, RowType
 from .library import Refused
 from .numbering import TooMany, executed_events, numbered
-from .rowtypes import MOST, BY_NAME, TYPES, Field, Value
+from .rowtypes import BY_NAME, TYPES, Value
 from .signals import is_coloured
 from .source_text import GRAMMAR as SOURCES
 from .source_text import quoted, read_source, source_text
@@ -101,16 +102,20 @@ def _blank(text: str) -> str:
                    for c in text)
 
 
+def form_lines(types: Sequence[RowType]) -> Iterator[str]:
+    """The lines of the grammar that have a form for each row type."""
+    width = max(len(row_type.name) for row_type in types)
+    for row_type in types:
+        form = re.sub(r"\{(\w+):(\w+)\}", lambda match: match[1].upper(), row_type.form)
+        yield f"    {row_type.name:{width}}  {form}"
+        if row_type.name == "ExecutionTime":
+            yield f"    {'':{width}}  task STRING [without waiting], LOWER .. UPPER; or isr, or runnable"
+
+
 def grammar() -> str:
     """The whole grammar, with a line for each row type."""
-    lines = [*(line[4:] for line in GRAMMAR.rstrip().splitlines()), *SOURCES.splitlines(), "form:"]
-    width = max(len(row_type.name) for row_type in TYPES)
-    for row_type in TYPES:
-        form = re.sub(r"\{(\w+):(\w+)\}", lambda match: match[1].upper(), row_type.form)
-        lines.append(f"    {row_type.name:{width}}  {form}")
-        if row_type.name == "ExecutionTime":
-            lines.append(f"    {'':{width}}  task STRING [without waiting], LOWER .. UPPER; or isr, or runnable")
-    limited = [row_type.name for row_type in TYPES if any(part.role == "limit" for part in row_type.fields)]
+    lines = [*(line[4:] for line in GRAMMAR.rstrip().splitlines()), *SOURCES.splitlines(), "form:", *form_lines(TYPES)]
+    limited = [row_type.name for row_type in TYPES if row_type.has("limit")]
     lines.append("A kind is an event's name or its number; KINDS are two to four of them. A time is a number, with a unit")
     lines.append(f"behind it where the table has one. An UPPER of {', '.join(limited[:-1])} and {limited[-1]} may be the word none.")
     return "\n".join(lines) + "\n"

@@ -3,8 +3,9 @@ from dataclasses import replace
 
 from hypothesis import strategies as st
 
+from delkuthi.fields import MOST
 from delkuthi.library import FIRST_COLOURED, LAST_TIME, NO_LIMIT
-from delkuthi.rowtypes import MOST, TYPES
+from delkuthi.rowtypes import TYPES
 from delkuthi.signals import signal
 from delkuthi.table import CanSource, CsvSource, Event, KeySource, Row, Table
 from delkuthi.units import UNITS

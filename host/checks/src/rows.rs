@@ -2,34 +2,34 @@
 
 use delkuthi::Row;
 use model::Constraint;
-use model::types::{
-    Burst, Delay, ExecutionTime, Field, Order, Reaction, Repeat, Repetition, Sporadic, StrongDelay,
-    StrongSynchronization,
-};
+use model::types::{self, Field};
 
 /// The row as the Rust crate has it.
 pub fn row_of(row: &Constraint) -> Row<'_> {
     match *row {
-        Constraint::Delay(Delay { source, target, lower, upper }) => Row::Delay { source, target, lower, upper },
-        Constraint::StrongDelay(StrongDelay { source, target, lower, upper }) => {
+        // Made by release/row-types.py, to the end of the list.
+        Constraint::Delay(types::Delay { source, target, lower, upper }) => Row::Delay { source, target, lower, upper },
+        Constraint::StrongDelay(types::StrongDelay { source, target, lower, upper }) => {
             Row::StrongDelay { source, target, lower, upper }
         }
-        Constraint::Repeat(Repeat { event, span, lower, upper }) => Row::Repeat { event, span, lower, upper },
-        Constraint::Sporadic(Sporadic { event, lower, upper, jitter, minimum }) => {
+        Constraint::Repeat(types::Repeat { event, span, lower, upper }) => Row::Repeat { event, span, lower, upper },
+        Constraint::Sporadic(types::Sporadic { event, lower, upper, jitter, minimum }) => {
             Row::Sporadic { event, lower, upper, jitter, minimum }
         }
-        Constraint::Burst(Burst { event, maximum, length, minimum }) => Row::Burst { event, maximum, length, minimum },
-        Constraint::Order(Order { source, target }) => Row::Order { source, target },
-        Constraint::StrongSynchronization(StrongSynchronization { ref kinds, tolerance }) => {
+        Constraint::Burst(types::Burst { event, maximum, length, minimum }) => {
+            Row::Burst { event, maximum, length, minimum }
+        }
+        Constraint::Order(types::Order { source, target }) => Row::Order { source, target },
+        Constraint::StrongSynchronization(types::StrongSynchronization { ref kinds, tolerance }) => {
             Row::StrongSynchronization { kinds, tolerance }
         }
-        Constraint::ExecutionTime(ExecutionTime { start, stop, preempt, resume, lower, upper }) => {
+        Constraint::ExecutionTime(types::ExecutionTime { start, stop, preempt, resume, lower, upper }) => {
             Row::ExecutionTime { start, stop, preempt, resume, lower, upper }
         }
-        Constraint::Reaction(Reaction { stimulus, response, minimum, maximum }) => {
+        Constraint::Reaction(types::Reaction { stimulus, response, minimum, maximum }) => {
             Row::Reaction { stimulus, response, minimum, maximum }
         }
-        Constraint::Repetition(Repetition { event, span, lower, upper, jitter }) => {
+        Constraint::Repetition(types::Repetition { event, span, lower, upper, jitter }) => {
             Row::Repetition { event, span, lower, upper, jitter }
         }
     }

@@ -17,6 +17,7 @@ const ASKED: usize = crate::ROW_LIMIT + 1;
 #[derive(Clone, Copy, Debug, PartialEq, Eq, Hash)]
 #[allow(missing_docs)]
 pub enum Row<'a> {
+    // Made by release/row-types.py, to the end of the list.
     /// After each source a target, `lower` to `upper` later.
     Delay { source: u8, target: u8, lower: u64, upper: u64 },
     /// The same, and the targets belong to the sources one by one.
@@ -58,6 +59,7 @@ impl Row<'_> {
     /// The row's type byte and fields, as many bytes as the longest has.
     fn body(&self) -> [u8; ROW_SIZE] {
         match *self {
+            // Made by release/row-types.py, to the end of the list.
             Row::Delay { source, target, lower, upper } => body(&[1, source, target], &[lower, upper]),
             Row::StrongDelay { source, target, lower, upper } => body(&[2, source, target], &[lower, upper]),
             Row::Repeat { event, span, lower, upper } => body(&[3, event, span], &[lower, upper]),
@@ -66,9 +68,6 @@ impl Row<'_> {
             }
             Row::Burst { event, maximum, length, minimum } => body(&[5, event, maximum], &[length, minimum]),
             Row::Order { source, target } => body(&[6, source, target], &[]),
-            Row::Reaction { stimulus, response, minimum, maximum } => {
-                body(&[9, stimulus, response], &[minimum, maximum])
-            }
             Row::StrongSynchronization { kinds, tolerance } => {
                 let n = kinds.len().min(4);
                 let mut bytes = [7, kinds.len().min(255) as u8, 0, 0, 0, 0];
@@ -77,6 +76,9 @@ impl Row<'_> {
             }
             Row::ExecutionTime { start, stop, preempt, resume, lower, upper } => {
                 body(&[8, start, stop, preempt, resume], &[lower, upper])
+            }
+            Row::Reaction { stimulus, response, minimum, maximum } => {
+                body(&[9, stimulus, response], &[minimum, maximum])
             }
             Row::Repetition { event, span, lower, upper, jitter } => body(&[10, event, span], &[lower, upper, jitter]),
         }

@@ -1,5 +1,7 @@
 //! The row types (§4.5): a file for each, with all that the model says of it, and here the list of them.
 
+// Made by release/row-types.py.
+
 mod burst;
 mod delay;
 mod execution_time;
@@ -21,6 +23,8 @@ pub use repetition::{Repetition, repetition};
 pub use sporadic::{Sporadic, sporadic};
 pub use strong_delay::{StrongDelay, strong_delay};
 pub use strong_synchronization::{StrongSynchronization, synchronization};
+
+// End of what is made.
 
 use crate::continuation::Event;
 use crate::limits::{FIRST_COLOURED, LAST_COLOUR, LAST_TIME, NO_LIMIT, stream};
@@ -250,6 +254,7 @@ macro_rules! row_types {
 }
 
 row_types! {
+    // Made by release/row-types.py, to the end of the list.
     1 => Delay,
     2 => StrongDelay,
     3 => Repeat,

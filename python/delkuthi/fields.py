@@ -1,0 +1,92 @@
+"""What a row type is: a number, a name, a form, words, and what says why such a row is broken and what it measures.
+
+The form says the grammar of the row in the text, how it is printed, and the order and sizes of its bytes: ``{name:role}``
+is a field, everything else stands as written. The roles:
+
+========  =======================================  ==================
+role      text                                     bytes
+========  =======================================  ==================
+kind      an event's name, or a kind's number      1
+kinds     two to four of them                      1 for n, then n
+coloured  the same as ``kind``, of a coloured one  1
+count     a whole number, 1 to 64                  1
+few       a whole number, 1 to 8                   1
+time      a number, with a unit if there is one    8
+limit     the same, or ``none``: no upper limit    8, or 2^64 - 1
+========  =======================================  ==================
+"""
+from __future__ import annotations
+
+import re
+from dataclasses import dataclass, field
+from typing import TYPE_CHECKING, Callable, Iterator
+
+if TYPE_CHECKING:
+    from .measure import RowMeasuring
+    from .reasons import Case, Reason, Times, Window
+    from .table import Row
+
+#: How many bytes a field of each role has; of ``kinds`` the number is in the first.
+SIZES = {"kind": 1, "coloured": 1, "count": 1, "few": 1, "time": 8, "limit": 8}
+
+#: The largest number that a field of these roles may have.
+MOST = {"count": 64, "few": 8}
+
+
+@dataclass(frozen=True)
+class Field:
+    """A field of a row: its name, and its role."""
+
+    name: str
+    role: str
+
+
+@dataclass(frozen=True)
+class RowType:
+    """A row type. Of its words, blanks and line ends are alike."""
+
+    number: int
+    name: str
+    form: str
+    #: What it asks in short; in a sentence with the fields' names, for the Rust crate; in full, for the header; for the manual.
+    says: str
+    means: str = field(compare=False)
+    asks: str = field(compare=False)
+    manual: str = field(compare=False)
+    #: What it measures, and of what there is one value each, for the manual.
+    measures: str = field(compare=False)
+    each: str = field(compare=False)
+    #: Why a row is broken, where its events may come, and what takes its measure.
+    reason: Callable[[Case], Reason | None] = field(compare=False)
+    windows: Callable[[Row, Times], Iterator[Window]] = field(compare=False)
+    measuring: Callable[[Row], RowMeasuring] = field(compare=False)
+    #: The field of which each event is an instance to be judged, and how many events come before the first instance.
+    instance: tuple[str, int | str] = field(compare=False)
+    #: Whether something waits in such a row.
+    waits: bool = field(default=False, compare=False)
+    parts: tuple[str | Field, ...] = field(init=False, compare=False)
+
+    def __post_init__(self) -> None:
+        parts: list[str | Field] = []
+        for match in re.finditer(r"\{(\w+):(\w+)\}|(->|\.\.|,|\w+)", self.form):
+            parts.append(match[3] if match[3] else Field(match[1], match[2]))
+        object.__setattr__(self, "parts", tuple(parts))
+
+    @property
+    def fields(self) -> tuple[Field, ...]:
+        """The fields in the order of the bytes."""
+        return tuple(part for part in self.parts if isinstance(part, Field))
+
+    def has(self, role: str) -> bool:
+        """Has it a field of this role?"""
+        return any(part.role == role for part in self.fields)
+
+    @property
+    def bounds(self) -> tuple[str, str] | None:
+        """The names of the two fields of which the first may not be above the second, if there are such."""
+        if ".." not in self.parts:
+            return None
+        place = self.parts.index("..")
+        lower, upper = self.parts[place - 1], self.parts[place + 1]
+        assert isinstance(lower, Field) and isinstance(upper, Field)
+        return lower.name, upper.name

@@ -1,0 +1,82 @@
+"""Burst: at most maximum events in each length."""
+from __future__ import annotations
+
+from typing import TYPE_CHECKING, Iterator
+
+from ..fields import RowType
+from ..measure import Instance, margin_of
+from ..reasons import Blamed, Case, Reason, Times, Window, gap, plain
+from .repeat import Spans
+
+if TYPE_CHECKING:
+    from ..table import Row
+
+
+def reason(case: Case) -> Reason | None:
+    """The first event that is one too many, or too close."""
+    kind, maximum = case.number("event"), case.number("maximum")
+    length, minimum = case.number("length"), case.number("minimum")
+    times = case.times("event")
+    for index in range(1, len(times)):
+        one = Blamed(kind, index)
+        if times[index] - times[index - 1] < minimum:
+            return gap(case, one, Blamed(kind, index - 1), minimum)
+        if index >= maximum and times[index] - times[index - maximum] < length:
+            first = Blamed(kind, index - maximum)
+            inside, early = times[index] - times[index - maximum], times[index - maximum] + length - times[index]
+            return plain(f"{case.event(one)} is number {maximum + 1} within {case.long(inside)}, from {case.event(first)} on: "
+                         f"{case.long(early)} too early, at most {maximum} in {case.long(length)} are asked", first, one)
+    return None
+
+
+def windows(row: Row, times: Times) -> Iterator[Window]:
+    """From the first event of each burst the stretch that may have no more than maximum."""
+    kind, end = row.number("event"), -1
+    for time in times.get(kind, ()):
+        if time >= end:
+            end = time + row.number("length")
+            yield Window(kind, time, end, wanted=False)
+
+
+class Bursts(Spans):
+    """The distance over maximum places; the margin is to the length and to the least distance of neighbours."""
+
+    span_field = "maximum"
+
+    def limits(self) -> tuple[int | None, int | None]:
+        return self.values["length"], None
+
+    def take(self, time: int, place: int) -> None:
+        if self.last:
+            gap, minimum, sides = time - self.last[-1][0], self.values["minimum"], []
+            if minimum:
+                sides.append(gap - minimum)
+            if len(self.last) == self.span:
+                value = time - self.last[0][0]
+                side = margin_of(value, self.values["length"], None)
+                sides += [] if side is None else [side]
+                self.measure.add(value, time, place, min(sides, default=None))
+            else:
+                self._gap(gap, time, place, min(sides, default=None))
+        self.last.append((time, place))
+
+    def _gap(self, gap: int, time: int, place: int, margin: int | None) -> None:
+        """An event before the first whole span is judged by its gap alone; what it measures is no distance over the span."""
+        self.measure.judged += 1
+        if margin is not None and margin < 0:
+            self.measure.outside += 1
+            if self.measure.worst is None or self.measure.worst.margin is None or margin < self.measure.worst.margin:
+                self.measure.worst = Instance(gap, time, place, margin)
+
+
+TYPE = RowType(
+    5, "Burst", "{event:kind} maximum {maximum:count}, length {length:time}, minimum {minimum:time}",
+    says="at most maximum events in each length",
+    means="At most `maximum` events in each stretch shorter than `length`, at least `minimum` apart.",
+    asks="""The event maximum places after another is at least length after it, so that shorter stretches have at most maximum
+        events; neighbours are at least minimum apart. Silence and the close break nothing.""",
+    manual="""any stretch shorter than length has at most maximum events, and neighbours are at least minimum apart. Silence
+        breaks nothing.""",
+    measures="distance over maximum places; the least distance of neighbours counts in the margin", each="each event but the first",
+    reason=reason, windows=windows, measuring=Bursts, instance=("event", 1),
+)

@@ -1,0 +1,85 @@
+"""Delay: after each source a target."""
+from __future__ import annotations
+
+from bisect import bisect_left
+from collections import deque
+from typing import TYPE_CHECKING, Iterator
+
+from ..fields import RowType
+from ..library import NO_LIMIT
+from ..measure import WAITING, RowMeasuring, Taker, margin_of
+from ..reasons import Blamed, Case, Reason, Times, Window, unanswered, until
+
+if TYPE_CHECKING:
+    from ..table import Row
+
+
+def reason(case: Case) -> Reason | None:
+    """A source without a target in its stretch."""
+    lower, upper = case.number("lower"), case.number("upper")
+    targets = case.times("target")
+    for index, time in enumerate(case.times("source")):
+        place = bisect_left(targets, time + lower)
+        if place < len(targets) and (upper == NO_LIMIT or targets[place] <= time + upper):
+            continue
+        source, target = Blamed(case.number("source"), index), Blamed(case.number("target"), place)
+        return unanswered(case, source, target, None if upper == NO_LIMIT else upper, lower)
+    return None
+
+
+def windows(row: Row, times: Times) -> Iterator[Window]:
+    """For each source the stretch in which its target has to come."""
+    for time in times.get(row.number("source"), ()):
+        yield Window(row.number("target"), time + row.number("lower"), until(time, row.number("upper")))
+
+
+class Delays(RowMeasuring):
+    """For each source the time to the first target that is not too early for it."""
+
+    quantity = "latency"
+
+    def __init__(self, row: Row):
+        super().__init__(row)
+        self.lower, self.upper = self.values["lower"], self.values["upper"]
+        self.waiting: deque[tuple[int, int]] = deque()
+        #: The last target, which answers a source that is given after it at the same time.
+        self.target = -1, 0
+
+    def takers(self) -> dict[int, Taker]:
+        return {self.values["source"]: self.take_source, self.values["target"]: self.take_target}
+
+    def take_source(self, time: int, place: int) -> None:
+        if self.lower == 0 and self.target[0] == time:
+            self.measure.add(0, time, self.target[1], margin_of(0, 0, self.upper))
+            return
+        # Of a source whose time is over when the next one comes no later target is the answer.
+        while self.waiting and self._over(time) or len(self.waiting) >= WAITING:
+            self.measure.miss(*self.waiting.popleft())
+        self.waiting.append((time, place))
+
+    def _over(self, time: int) -> bool:
+        return self.upper is not None and time > self.waiting[0][0] + self.upper
+
+    def take_target(self, time: int, place: int) -> None:
+        self.target = time, place
+        while self.waiting and self.waiting[0][0] + self.lower <= time:
+            value = time - self.waiting.popleft()[0]
+            self.measure.add(value, time, place, margin_of(value, self.lower, self.upper))
+
+    def end(self, clock: int, closed: bool) -> None:
+        while self.waiting and (closed or self._over(clock)):
+            self.measure.miss(*self.waiting.popleft())
+
+
+TYPE = RowType(
+    1, "Delay", "{source:kind} -> {target:kind}, {lower:time} .. {upper:limit}",
+    says="after each source a target",
+    means="After each source a target, `lower` to `upper` later.",
+    asks="""For each source, at time s, a target comes at s + lower or later and at s + upper or earlier. One target may answer
+        several sources, and further targets do no harm. A source that has no target breaks the row once the clock is past s +
+        upper, and at the close. Without an upper limit the target may come however late, and only the close breaks the row.""",
+    manual="""after each source a target comes from lower to upper later. One target may answer several sources, and further
+        targets do no harm.""",
+    measures="latency: to the first target that is not too early", each="each source",
+    reason=reason, windows=windows, measuring=Delays, instance=("source", 0), waits=True,
+)

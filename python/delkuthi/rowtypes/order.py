@@ -1,0 +1,58 @@
+"""Order: as many targets as sources, none before its source."""
+from __future__ import annotations
+
+from typing import TYPE_CHECKING, Iterator
+
+from ..fields import RowType
+from ..reasons import Blamed, Case, Reason, Times, Window, alone, unanswered
+from .strong_delay import Pairs
+
+if TYPE_CHECKING:
+    from ..table import Row
+
+
+def reason(case: Case) -> Reason | None:
+    """The first pair that is the wrong way round, or whoever has no partner."""
+    source, target = case.number("source"), case.number("target")
+    sources, targets = case.times("source"), case.times("target")
+    for index, (begin, end) in enumerate(zip(sources, targets)):
+        if end < begin:
+            return alone(case, Blamed(target, index), Blamed(source, index), "")
+    if len(targets) > len(sources):
+        return alone(case, Blamed(target, len(sources)), Blamed(source, len(sources)), "at its time or before")
+    if len(sources) > len(targets):
+        return unanswered(case, Blamed(source, len(targets)), Blamed(target, len(targets)), None)
+    return None
+
+
+def windows(row: Row, times: Times) -> Iterator[Window]:
+    """For each source the stretch up to its target, unless that came before it."""
+    targets = times.get(row.number("target"), ())
+    for index, time in enumerate(times.get(row.number("source"), ())):
+        if index >= len(targets) or targets[index] >= time:
+            yield Window(row.number("target"), time, targets[index] if index < len(targets) else None)
+
+
+class Lags(Pairs):
+    """The lag from each source to its target."""
+
+    quantity = "lag"
+
+    def limits(self) -> tuple[int | None, int | None]:
+        return 0, None
+
+    def margin(self, value: int, lower: int) -> int | None:
+        return value
+
+
+TYPE = RowType(
+    6, "Order", "{source:kind} -> {target:kind}",
+    says="as many targets as sources, none before its source",
+    means="The targets belong to the sources one by one, none before its source.",
+    asks="""The first target belongs to the first source, the second to the second, and so on, and none is before its source. A
+        source may wait for its target as long as it likes, until the close.""",
+    manual="""the first target belongs to the first source, the second to the second, and so on, and none is before its source. A
+        source may wait for its target as long as it likes, until the end of the recording.""",
+    measures="lag from each source to its target", each="each pair",
+    reason=reason, windows=windows, measuring=Lags, instance=("source", 0),
+)

@@ -1,0 +1,126 @@
+"""Reaction: after each stimulus the first response of its colour."""
+from __future__ import annotations
+
+from typing import TYPE_CHECKING, Iterator
+
+from ..fields import RowType
+from ..measure import WAITING, RowMeasuring, Taker, margin_of
+from ..reasons import Blamed, Case, Reason, Times, Window, plain, unanswered
+from ..signals import colours
+
+if TYPE_CHECKING:
+    from ..table import Row
+
+
+def reason(case: Case) -> Reason | None:
+    """A colour whose first response is missing, or too early or too late for a stimulus, or can suit no more all of them."""
+    minimum, maximum = case.number("minimum"), case.number("maximum")
+    for stimulus, response in zip(colours(case.number("stimulus")), colours(case.number("response"))):
+        stimuli, responses = case.of(stimulus).times, case.of(response).times
+        for index, time in enumerate(stimuli):
+            asked, first = Blamed(stimulus, index), Blamed(response, 0)
+            if responses and responses[0] < time + minimum:
+                return _reacted_early(case, asked, first)
+            due = time + maximum
+            if responses and responses[0] > due or not responses and (case.closed or case.clock > due):
+                return unanswered(case, asked, first, maximum, minimum)
+            if not responses and time + minimum > stimuli[0] + maximum:
+                return plain(f"{case.event(asked)} asks for {case.name(response)} from {case.moment(time + minimum)} on, and "
+                             f"{case.event(Blamed(stimulus, 0))} for the same one, the first of its colour, by "
+                             f"{case.moment(stimuli[0] + maximum)}", Blamed(stimulus, 0), asked)
+    return None
+
+
+def _reacted_early(case: Case, asked: Blamed, first: Blamed) -> Reason:
+    begin, end, minimum = case.time(asked), case.time(first), case.number("minimum")
+    name = f"{case.event(first)}, the first of its colour in the recording,"
+    if end < begin:
+        return plain(f"{name} came {case.long(begin - end)} before {case.event(asked)}", first, asked)
+    return plain(f"{name} came {case.long(end - begin)} after {case.event(asked)}: {case.long(begin + minimum - end)} early, at least "
+                 f"{case.long(minimum)} is asked", first, asked)
+
+
+def windows(row: Row, times: Times) -> Iterator[Window]:
+    """For each colour with a stimulus the stretch in which its first response suits all of them."""
+    minimum, maximum = row.number("minimum"), row.number("maximum")
+    for stimulus, response in zip(colours(row.number("stimulus")), colours(row.number("response"))):
+        stimuli = times.get(stimulus, ())
+        if len(stimuli) and stimuli[-1] + minimum <= stimuli[0] + maximum:
+            yield Window(response, stimuli[-1] + minimum, stimuli[0] + maximum)
+
+
+class _Colour:
+    """The stimuli of a colour that wait for its first response, and that response."""
+
+    def __init__(self) -> None:
+        self.waiting: list[tuple[int, int]] = []
+        self.response: tuple[int, int] | None = None
+
+
+class Reactions(RowMeasuring):
+    """For each stimulus the time to the first response of its colour. A stimulus after that response has none: it is missing."""
+
+    quantity = "latency"
+
+    def limits(self) -> tuple[int | None, int | None]:
+        return self.values["minimum"], self.values["maximum"]
+
+    def takers(self) -> dict[int, Taker]:
+        self.lower, self.upper = self.values["minimum"], self.values["maximum"]
+        self.colours = [_Colour() for _ in colours(self.values["stimulus"])]
+        found: dict[int, Taker] = {}
+        for colour, stimulus, response in zip(self.colours, colours(self.values["stimulus"]), colours(self.values["response"])):
+            found[stimulus] = self._stimulus(colour)
+            found[response] = self._response(colour)
+        return found
+
+    def _add(self, begin: int, time: int, place: int) -> None:
+        self.measure.add(time - begin, time, place, margin_of(time - begin, self.lower, self.upper))
+
+    def _stimulus(self, colour: _Colour) -> Taker:
+        def take(time: int, place: int) -> None:
+            if colour.response is None:
+                # The first and the last one are always kept: they have the greatest and the least latency.
+                if len(colour.waiting) >= WAITING:
+                    colour.waiting.pop()
+                    self.measure.judged += 1
+                colour.waiting.append((time, place))
+            elif colour.response[0] == time:
+                self._add(time, *colour.response)
+            else:
+                self.measure.miss(time, place)
+
+        return take
+
+    def _response(self, colour: _Colour) -> Taker:
+        def take(time: int, place: int) -> None:
+            if colour.response is None:
+                colour.response = time, place
+                for begin, _ in colour.waiting:
+                    self._add(begin, time, place)
+                colour.waiting.clear()
+
+        return take
+
+    def end(self, clock: int, closed: bool) -> None:
+        for colour in self.colours:
+            for begin, place in colour.waiting:
+                if closed or clock > begin + self.upper or begin + self.lower > colour.waiting[0][0] + self.upper:
+                    self.measure.miss(begin, place)
+
+
+TYPE = RowType(
+    9, "Reaction", "{stimulus:coloured} -> {response:coloured}, {minimum:time} .. {maximum:time}",
+    says="after each stimulus the first response of its colour",
+    means="The first response of a colour comes `minimum` to `maximum` after each stimulus of that colour.",
+    asks="""Each stimulus needs a response of its colour, and it is the first response of that colour in the whole recording that
+        has to come minimum to maximum after it. So all stimuli of a colour share one response, and one that comes before any
+        stimulus is it already. Later responses do not count. A colour that has stimuli and no response breaks the row once the
+        clock is past its first stimulus + maximum, as soon as no time is left that suits all its stimuli, and at the close.""",
+    manual="""each stimulus needs a response of its colour, and it is the first response of that colour in the whole recording
+        that comes minimum to maximum after it. So a request that is repeated in one colour breaks the row: in the picture the
+        second `ask/1` finds the answer to the first, which came long before it. Give each request a colour of its own, 0 to 7, or
+        take a Delay or a StrongDelay, where each request has its own answer.""",
+    measures="latency: from each stimulus to the first response of its colour in the whole recording", each="each stimulus",
+    reason=reason, windows=windows, measuring=Reactions, instance=("stimulus", 0),
+)

@@ -1,0 +1,76 @@
+"""Repeat: from each event to the one span places on."""
+from __future__ import annotations
+
+from collections import deque
+from typing import TYPE_CHECKING, Iterator
+
+from ..fields import RowType
+from ..library import NO_LIMIT
+from ..measure import RowMeasuring, Taker, margin_of
+from ..reasons import Blamed, Case, Reason, Times, Window, gap, silent, until
+
+if TYPE_CHECKING:
+    from ..table import Row
+
+
+def reason(case: Case) -> Reason | None:
+    """The first two that are too close or too far apart, or the last that had no successor in time."""
+    kind, span = case.number("event"), case.number("span")
+    lower, upper = case.number("lower"), case.number("upper")
+    times = case.times("event")
+    for index in range(span, len(times)):
+        apart, one, before = times[index] - times[index - span], Blamed(kind, index), Blamed(kind, index - span)
+        if apart < lower:
+            return gap(case, one, before, lower)
+        if upper != NO_LIMIT and apart > upper:
+            return gap(case, one, before, None, upper)
+    first = max(len(times) - span, 0)
+    if upper != NO_LIMIT and first < len(times) and case.clock > times[first] + upper:
+        return silent(case, Blamed(kind, first), times[first] + upper, f", at most {case.long(upper)} is asked")
+    return None
+
+
+def windows(row: Row, times: Times) -> Iterator[Window]:
+    """For each event the stretch in which the one span places on has to come."""
+    for time in times.get(row.number("event"), ()):
+        yield Window(row.number("event"), time + row.number("lower"), until(time, row.number("upper")))
+
+
+class Spans(RowMeasuring):
+    """The distance over the span: from each event to the one span places on."""
+
+    quantity = "distance"
+    span_field = "span"
+
+    def __init__(self, row: Row):
+        super().__init__(row)
+        self.span: int = self.values[self.span_field]
+        self.lower, self.upper = self.limits()
+        self.last: deque[tuple[int, int]] = deque(maxlen=self.span)
+
+    def takers(self) -> dict[int, Taker]:
+        return {self.values["event"]: self.take}
+
+    def take(self, time: int, place: int) -> None:
+        if len(self.last) == self.span:
+            value = time - self.last[0][0]
+            self.measure.add(value, time, place, margin_of(value, self.lower or 0, self.upper))
+        self.last.append((time, place))
+
+    def end(self, clock: int, closed: bool) -> None:
+        if self.upper is not None and self.last and clock > self.last[0][0] + self.upper:
+            self.measure.miss(*self.last[0])
+
+
+TYPE = RowType(
+    3, "Repeat", "{event:kind} span {span:count}, {lower:time} .. {upper:limit}",
+    says="from each event to the one span places on",
+    means="Of `span` + 1 events in a row the last comes `lower` to `upper` after the first.",
+    asks="""Of span + 1 events in a row the last comes lower to upper after the first. Silence counts from the first event on: the
+        row breaks once the clock is past (the oldest event that has none span places after it) + upper. Without an upper limit
+        silence breaks nothing. The close breaks nothing.""",
+    manual="""from each event to the one span places after it it takes from lower to upper. A signal that falls silent breaks the
+        row too, once upper is over.""",
+    measures="distance over the span", each="each event span places after another",
+    reason=reason, windows=windows, measuring=Spans, instance=("event", "span"),
+)

@@ -1,0 +1,118 @@
+"""Sporadic: each event at most jitter after its point, the points so far apart."""
+from __future__ import annotations
+
+from typing import TYPE_CHECKING, Iterator, Sequence
+
+from ..fields import RowType
+from ..library import NO_LIMIT
+from ..measure import HiddenPoints
+from ..reasons import Blamed, Case, Reason, Times, Window, gap, misplaced, plain, silent
+
+if TYPE_CHECKING:
+    from ..table import Row
+
+#: From when on, and up to when at the latest (``None``: however late), an event can come.
+Stretch = tuple[int, "int | None"]
+
+
+def _points(row: Row, times: Sequence[int]) -> Iterator[Stretch]:
+    """For each event the stretch in which it could come by those before it, and for the next one."""
+    lower, upper, jitter, minimum = (row.number(name) for name in ("lower", "upper", "jitter", "minimum"))
+    apart = max(lower, 1)
+    first: int | None = None
+    last = 0
+    for index, time in enumerate(times):
+        if first is None:
+            yield 0, None
+            first, last = max(time - jitter, 0), time
+            continue
+        limit = None if upper == NO_LIMIT else last + upper
+        yield max(first + apart, times[index - 1] + minimum), None if limit is None else limit + jitter
+        first = max(first + apart, time - jitter)
+        last = time if limit is None else min(limit, time)
+    if first is not None:
+        yield max(first + apart, times[-1] + minimum), None if upper == NO_LIMIT else last + upper + jitter
+
+
+def reason(case: Case) -> Reason | None:
+    """The first event for which no point is left."""
+    kind, minimum = case.number("event"), case.number("minimum")
+    times = case.times("event")
+    allowed = list(_points(case.row, times))
+    for index, time in enumerate(times):
+        one = Blamed(kind, index)
+        if index and time - times[index - 1] < minimum:
+            return gap(case, one, Blamed(kind, index - 1), minimum)
+        if index and case.number("upper") < max(case.number("lower"), 1):
+            return plain(f"{case.event(one)} is a second one, and points that rise are more than upper apart", one)
+        if found := misplaced(case, one, *allowed[index]):
+            return found
+    if times:
+        last = allowed[-1][1]
+        if last is not None and case.clock > last:
+            return silent(case, Blamed(kind, len(times) - 1), last, "")
+    return None
+
+
+def windows(row: Row, times: Times) -> Iterator[Window]:
+    """For each event but the first the stretch in which it can come after those before it."""
+    kind = row.number("event")
+    for begin, end in list(_points(row, times.get(kind, ())))[1:]:
+        yield Window(kind, begin, end)
+
+
+class Gaps(HiddenPoints):
+    """The gap from each event to the next."""
+
+    quantity = "gap"
+
+    def __init__(self, row: Row):
+        super().__init__(row)
+        self.apart: int = max(self.values["lower"], 1)
+        self.upper: int | None = self.values["upper"]
+        self.minimum: int = self.values["minimum"]
+
+    def margin(self, time: int) -> int | None:
+        if not self.points:
+            return None
+        first, last = self.points[0]
+        begin, gap = first + self.apart, time - self.before[-1]
+        sides = [time - begin] if self.values["lower"] or time < begin else []
+        if self.minimum:
+            sides.append(gap - self.minimum)
+        if self.upper is not None:
+            sides += [last + self.upper + self.jitter - time, *([self.upper - self.apart] if self.upper < self.apart else [])]
+        return min(sides, default=None)
+
+    def step(self, time: int) -> None:
+        if not self.points:
+            self.points.append((max(time - self.jitter, 0), time))
+            return
+        first, last = self.points.popleft()
+        later = time if self.upper is None else min(last + self.upper, time)
+        self.points.append((max(first + self.apart, time - self.jitter), later))
+
+    def end(self, clock: int, closed: bool) -> None:
+        if self.upper is not None and self.points and clock > self.points[0][1] + self.upper + self.jitter:
+            self.measure.miss(self.before[-1], self.place)
+
+    place = 0
+
+    def take(self, time: int, place: int) -> None:
+        super().take(time, place)
+        self.place = place
+
+
+TYPE = RowType(
+    4, "Sporadic", "{event:kind}, {lower:time} .. {upper:limit}, jitter {jitter:time}, minimum {minimum:time}",
+    says="each event at most jitter after its point, the points so far apart",
+    means="Each event is 0 to `jitter` after a hidden point; the points are `lower` to `upper` apart.",
+    asks="""Each event is 0 to jitter after a hidden point of its own. The points are at least 0, rise, and are lower to upper
+        apart; the events are at least minimum apart. With lower = upper it is a periodic signal. Silence counts from the first
+        event on: the row breaks once the clock is past (the last place that the last point can have) + upper + jitter. Without an
+        upper limit silence breaks nothing. The close breaks nothing.""",
+    manual="""each event is 0 to jitter after a point of its own, and neighbouring points are lower to upper apart; neighbouring
+        events are at least minimum apart. With lower = upper it is a periodic signal with jitter, whose clock may not wander.""",
+    measures="gap to the event before", each="each event but the first",
+    reason=reason, windows=windows, measuring=Gaps, instance=("event", 1),
+)

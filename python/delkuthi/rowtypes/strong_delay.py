@@ -1,0 +1,112 @@
+"""StrongDelay: after each source its own target."""
+from __future__ import annotations
+
+from collections import deque
+from typing import TYPE_CHECKING
+
+from ..fields import RowType
+from ..measure import WAITING, RowMeasuring, Taker, margin_of
+from ..reasons import Blamed, Case, Reason, alone, plain, unanswered
+from .delay import windows
+
+if TYPE_CHECKING:
+    from ..table import Row
+
+
+def reason(case: Case) -> Reason | None:
+    """The first pair that is wrong, or whoever has no partner."""
+    source, target = case.number("source"), case.number("target")
+    lower, upper = case.number("lower"), case.number("upper")
+    sources, targets = case.times("source"), case.times("target")
+    for index, (begin, end) in enumerate(zip(sources, targets)):
+        one, other = Blamed(source, index), Blamed(target, index)
+        if end < begin:
+            return alone(case, other, one, "")
+        if end < begin + lower:
+            return plain(f"{case.event(other)} came {case.long(end - begin)} after its source, {case.event(one)}: "
+                         f"{case.long(begin + lower - end)} early, at least {case.long(lower)} is asked", one, other)
+        if end > begin + upper:
+            return unanswered(case, one, other, upper)
+    if len(targets) > len(sources):
+        return alone(case, Blamed(target, len(sources)), Blamed(source, len(sources)), "that it could belong to")
+    if len(sources) > len(targets):
+        return unanswered(case, Blamed(source, len(targets)), Blamed(target, len(targets)), upper)
+    return None
+
+
+class Pairs(RowMeasuring):
+    """For the first source and the first target, the second and the second, and so on, the time between them."""
+
+    quantity = "latency"
+
+    def __init__(self, row: Row):
+        super().__init__(row)
+        self.lower, self.upper = self.limits()
+        self.waiting: deque[tuple[int, int]] = deque()
+        #: Sources that are counted and not kept, behind those that are.
+        self.uncounted = 0
+        #: A target whose source may still come at the same time.
+        self.early: tuple[int, int] | None = None
+
+    def takers(self) -> dict[int, Taker]:
+        return {self.values["source"]: self.take_source, self.values["target"]: self.take_target}
+
+    def _add(self, begin: int, time: int, place: int) -> None:
+        value, lower = time - begin, self.lower or 0
+        self.measure.add(value, time, place, self.margin(value, lower))
+
+    def margin(self, value: int, lower: int) -> int | None:
+        return margin_of(value, lower, self.upper)
+
+    def _settle(self, time: int) -> None:
+        """A target that had no source up to its time has none."""
+        if self.early is not None and self.early[0] < time:
+            self.measure.miss(*self.early)
+            self.early = None
+
+    def take_source(self, time: int, place: int) -> None:
+        self._settle(time)
+        if self.early is not None:
+            self._add(time, *self.early)
+            self.early = None
+            return
+        while self.upper is not None and self.waiting and time > self.waiting[0][0] + self.upper:
+            self.measure.miss(*self.waiting.popleft())
+        if self.uncounted or len(self.waiting) >= WAITING:
+            self.uncounted += 1
+        else:
+            self.waiting.append((time, place))
+
+    def take_target(self, time: int, place: int) -> None:
+        self._settle(time)
+        if self.waiting:
+            self._add(self.waiting.popleft()[0], time, place)
+        elif self.uncounted:
+            self.uncounted -= 1
+            self.measure.judged += 1
+        else:
+            self.early = time, place
+
+    def end(self, clock: int, closed: bool) -> None:
+        self._settle(clock + closed)
+        if self.early is not None and self.lower:
+            self.measure.miss(*self.early)
+        over = self.waiting if closed else [one for one in self.waiting if self.upper is not None and clock > one[0] + self.upper]
+        for one in over:
+            self.measure.miss(*one)
+        if closed and self.uncounted:
+            self.measure.judged += self.uncounted
+            self.measure.missing += self.uncounted
+
+
+TYPE = RowType(
+    2, "StrongDelay", "{source:kind} -> {target:kind}, {lower:time} .. {upper:time}",
+    says="after each source its own target",
+    means="The same, and the targets belong to the sources one by one.",
+    asks="""The first target belongs to the first source, the second to the second, and so on, and each comes lower to upper after
+        its source. A target too early, or one too many, breaks the row at once, a source without its target as in Delay.""",
+    manual="""the first target belongs to the first source, the second to the second, and so on, each from lower to upper after
+        its source. A target too early, or one too many, breaks the row at once.""",
+    measures="latency: from the first source to the first target, the second to the second, and so on", each="each pair",
+    reason=reason, windows=windows, measuring=Pairs, instance=("source", 0), waits=True,
+)

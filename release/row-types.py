@@ -1,0 +1,327 @@
+#!/usr/bin/env python3
+"""What follows from the list of row types is made from it: tables and limits in the documents, makers in C and Rust, other lists of the types.
+
+    row-types.py            says which parts differ from the list, and what a type still lacks; status 1 where there is such
+    row-types.py --write    writes the parts anew
+
+The list is python/delkuthi/rowtypes, a file for each type. Each part stands between two texts of its file: in code from a comment that says so to
+the end of the list, in documents and in the header between what stands around it. What a type lacks is written by hand: its section of the contract,
+its file in the model, its row in examples/rows.
+"""
+import re
+import sys
+from importlib import import_module
+from os.path import commonprefix
+from pathlib import Path
+from textwrap import fill
+
+ROOT = Path(__file__).resolve().parent.parent
+sys.dont_write_bytecode = True
+sys.path.insert(0, str(ROOT / "python"))
+from delkuthi.fields import MOST, SIZES
+from delkuthi.text import form_lines
+
+LIST = "python/delkuthi/rowtypes"
+TYPES = sorted((import_module(f"delkuthi.rowtypes.{file.stem}").TYPE for file in (ROOT / LIST).glob("[!_]*.py")), key=lambda one: one.number)
+
+
+def text_of(path):
+    return (ROOT / path).read_text(encoding="utf-8") if (ROOT / path).is_file() else ""
+
+
+def snake(row_type):
+    """The name of a type in C, and of its files."""
+    return re.sub(r"(?<!^)(?=[A-Z])", "_", row_type.name).lower()
+
+
+def having(role):
+    return [row_type for row_type in TYPES if row_type.has(role)]
+
+
+def listed(words, last="and"):
+    """``a, b and c``"""
+    return f" {last} ".join([", ".join(words[:-1]), words[-1]] if len(words) > 1 else words)
+
+
+def one(name):
+    """``a Burst``, ``an Order``"""
+    return f"{'an' if name[0] in 'AEIOUaeiou' else 'a'} {name}"
+
+
+def small(row_type):
+    """The fields of one byte, and those of eight; kinds, which come first where there are any, are neither."""
+    sizes = [SIZES.get(part.role, 0) for part in row_type.fields]
+    assert sizes == sorted(sizes) and (sizes[0] or 1 not in sizes), f"{row_type.name}: kinds and counts stand before times"
+    return [part.name for part in row_type.fields if SIZES.get(part.role) == 1], [part.name for part in row_type.fields if SIZES.get(part.role) == 8]
+
+
+def wrapped(text, width, first="", other=""):
+    """The words in lines; where a 0 stands for a blank none is broken."""
+    lines = fill(" ".join(text.split()), width, initial_indent=first, subsequent_indent=other, break_long_words=False, break_on_hyphens=False)
+    return lines.replace("\0", " ")
+
+
+def length(row_type):
+    """What the length field of such a row says: the type and the fields; the n of kinds is added to it."""
+    known = 1 + sum(SIZES.get(part.role, 1) for part in row_type.fields)
+    return f"{known} + n" if row_type.has("kinds") else str(known)
+
+
+def names(row_type, kinds):
+    """The fields' names in their order."""
+    return [kinds if part.role == "kinds" else part.name for part in row_type.fields]
+
+
+def declared(row_type, form, kinds, byte="u8", time="u64"):
+    """The fields as a program declares them."""
+    return [kinds if part.role == "kinds" else form.format(name=part.name, size=byte if SIZES[part.role] == 1 else time)
+            for part in row_type.fields]
+
+
+def counted():
+    """The names of the fields that are counts: those that no time has, and the others with their types."""
+    found = list(dict.fromkeys((part.name, row_type.name) for row_type in TYPES for part in row_type.fields if part.role in MOST))
+    times = {name for row_type in TYPES for name in small(row_type)[1]}
+    own = list(dict.fromkeys(name for name, _ in found if name not in times))
+    return own, [f"the {name} of {one(row_type)}" for name, row_type in found if name in times]
+
+
+def spans():
+    """How far counts go."""
+    own, others = counted()
+    few = [f", the {part.name} of type {row_type.number} from 1 to {MOST['few']}" for row_type in TYPES for part in row_type.fields
+           if part.role == "few"]
+    counts = listed([name + "s" for name in own]).capitalize() + (f", and {listed(others)}," if others else "")
+    return f"{counts} go from 1 to {MOST['count']}{''.join(few)}."
+
+
+# Documents.
+
+def contract():
+    """§4.4 to §4.7."""
+    own, others = counted()
+    bytes_each = listed(["A kind", "an n", *map(one, own), *others])
+    lines = [f"| {t.number} | {t.name} | {', '.join(names(t, 'n (2, 3 or 4), n kinds'))} | {length(t)} |\n" for t in TYPES]
+    marked = listed([str(t.number) for t in having("limit")])
+    texts = (f"**4.4** {bytes_each} are one byte each. All other fields are times, of eight bytes each.",
+             "**4.5** The types, their fields, and what the length field has to say:",
+             f"**4.6** {spans()} Times go as far as §1.1 says.",
+             f"**4.7** Where upper is 2^64 − 1, eight bytes 255, there is no upper limit. Types {marked} have this mark; everywhere else that "
+             "number is a time out of range.")
+    first, second, third, fourth = (wrapped(text, 123) + "\n\n" for text in texts)
+    return first + second + "| type | name | fields | length |\n|---|---|---|---|\n" + "".join(lines) + "\n" + third + fourth
+
+
+def grammar():
+    """The lines of the grammar that have the types."""
+    return "".join(f"    {line}\n" for line in form_lines(TYPES))
+
+
+def asked():
+    """What each row asks, in the manual: with the example of which there is a picture."""
+    rows, found = text_of("examples/rows/rows.txt"), []
+    for t in TYPES:
+        example = re.search(rf'^"[^"]*" +{t.name} (.*)$', rows, re.M)
+        words = f"**{t.name}** `{example[1] if example else ''}`: {t.manual}"
+        found.append(f"{wrapped(words, 145)}\n\n![{t.name}](pictures/{t.name}.svg)\n\n")
+    return "".join(found)
+
+
+def measured():
+    return "".join(f"| {t.name} | {t.measures} | {t.each} |\n" for t in TYPES)
+
+
+# C.
+
+def comment(text, first=" * ", other=" * "):
+    """Lines of a comment; a sum is not broken."""
+    return wrapped(re.sub(r"\s\+\s+", "\0+\0", text), 79, first, other) + "\n"
+
+
+def header_line(row_type):
+    """A type, its fields and its length, in columns; where there is no room for all fields, the times have a line of their own."""
+    fields, first = ", ".join(names(row_type, "n from 2 to 4, n kinds")), f" *  {row_type.number:2} {row_type.name:22}  "
+    if len(fields) > 40:
+        kinds, fields = map(", ".join, small(row_type))
+        first = f"{first}{kinds},\n{' *'.ljust(len(first))}"
+    return f"{first}{fields:40}{length(row_type):>7}\n"
+
+
+def header_table():
+    """The table, what its fields may be, and where it has no limit."""
+    marked = listed([str(t.number) for t in having("limit")], "or")
+    coloured = listed([one(t.name) for t in having("coloured")])
+    size = f"""One byte 1, then the rows; the first is row 0. Each row has a length field of two bytes and, as many bytes as it says, its type
+        and its fields. Kinds, n, {listed(list(dict.fromkeys(part.name for t in TYPES for part in t.fields if part.role in MOST)))} take one byte,
+        all other fields eight, the most significant byte first."""
+    kinds = f"The kinds of {coloured} are coloured ones, those of all other types plain ones. Its maximum is a time, as its minimum is."
+    limit = f"{spans()} Where the upper of type {marked} is 2^64 - 1, DELKUTHI_NO_LIMIT, there is no upper limit."
+    table = " *   type                      fields                                   length\n" + "".join(map(header_line, TYPES))
+    return " *\n".join([comment(size), table, comment(kinds), comment(limit)]) + " *\n"
+
+
+def header_asks():
+    """What each row asks, in full; a long name has a line of its own."""
+    def said(row_type):
+        first, other = f" *  {row_type.number:2} {row_type.name:11} ", " *".ljust(19)
+        return comment(row_type.asks, first, other) if len(first) == len(other) else first.rstrip() + "\n" + comment(row_type.asks, other, other)
+
+    return "".join(map(said, TYPES))
+
+
+def limited():
+    """The types that may have no upper limit."""
+    return f"The upper of {one(listed([t.name for t in having('limit')], 'or'))} that has no upper limit."
+
+
+def c_head(row_type):
+    """The head of the function that makes a row of a type, with as many parameters in a line as there is room for."""
+    head = f"static inline delkuthi_row delkuthi_{snake(row_type)}("
+    parameters = declared(row_type, "{size}\0{name}", "const\0uint8_t\0*kinds, uint8_t\0n", "uint8_t", "uint64_t")
+    indent = len(head) if len(head) + max(map(len, parameters)) < 79 else 4
+    lines = wrapped(f"{', '.join(parameters)})", 79, " " * indent, " " * indent)
+    return head + (lines.lstrip() if indent > 4 else "\n" + lines)
+
+
+def c_maker(row_type):
+    """The function that makes a row of a type by its fields."""
+    (singles, times), kinds = small(row_type), row_type.has("kinds")
+    start = f"delkuthi_row_bytes({row_type.number}, " + ", ".join([*(["n"] if kinds else singles), "0"][:2]) + ")"
+    words = "/* Of coloured kinds. */\n" * row_type.has("coloured")
+    words += "/* Of n kinds, 2 to 4; a row of another n is refused with 4. */\n" * kinds
+    if not times and len(singles) <= 2:
+        return f"{words}{c_head(row_type)}\n{{\n    return {start};\n}}\n\n"
+    body = [f"    delkuthi_row row = {start};", *["    size_t i;"] * kinds, ""]
+    if kinds:
+        body += ["    for (i = 0; i < n && i < 4; i++)", "        row.body[2 + i] = kinds[i];"]
+    body += [f"    row.body[{place}] = {name};" for place, name in enumerate(singles[2:], 3)]
+    places = [f"{2 + 8 * i} + i" if kinds else str(1 + len(singles) + 8 * i) for i in range(len(times))]
+    made = [f"delkuthi_row_time(row, {place}, {name})" for place, name in zip(places, times)]
+    made = [f"delkuthi_row_time({made[i]}, {places[i + 1]}, {times[i + 1]})" if i + 1 < len(made) else made[i] for i in range(0, len(made), 2)]
+    body += [f"    row = {call};" for call in made[:-1]] + [f"    return {call};" for call in made[-1:] or ["row"]]
+    return f"{words}{c_head(row_type)}\n{{\n" + "\n".join(body) + "\n}\n\n"
+
+
+def c_cases():
+    """The row of each type by its bytes and its times; the last is what is left."""
+    def case(row_type):
+        singles, times = small(row_type)
+        given = ["b + 1, b[0]"] if row_type.has("kinds") else [f"b[{i}]" for i in range(len(singles))]
+        start = "default" if row_type is TYPES[-1] else f"case {row_type.number}"
+        return f"    {start}:\n        return delkuthi_{snake(row_type)}({', '.join(given + [f't[{i}]' for i in range(len(times))])});\n"
+
+    return "".join(map(case, TYPES))
+
+
+# Rust.
+
+def rust_arm(indent, pattern, value):
+    """An arm of a match, as rustfmt has it."""
+    line = f"{indent}{pattern} => {value},\n"
+    return line if len(line) <= 121 else f"{indent}{pattern} => {{\n{indent}    {value}\n{indent}}}\n"
+
+
+def rust_rows():
+    """The variants of a row."""
+    fields = {t.name: ", ".join(declared(t, "{name}: {size}", "kinds: &'a [u8]")) for t in TYPES}
+    return "".join(f"    /// {t.means}\n    {t.name} {{ {fields[t.name]} }},\n" for t in TYPES)
+
+
+def rust_bodies():
+    """The bytes of a row by its type."""
+    def arm(row_type):
+        singles, times = small(row_type)
+        pattern, indent = f"Row::{row_type.name} {{ {', '.join(names(row_type, 'kinds'))} }}", " " * 12
+        if not row_type.has("kinds"):
+            return rust_arm(indent, pattern, f"body(&[{', '.join([str(row_type.number), *singles])}], &[{', '.join(times)}])")
+        lines = ("let n = kinds.len().min(4);", f"let mut bytes = [{row_type.number}, kinds.len().min(255) as u8, 0, 0, 0, 0];",
+                 "bytes[2..2 + n].copy_from_slice(&kinds[..n]);", f"body(&bytes[..2 + n], &[{', '.join(times)}])")
+        return f"{indent}{pattern} => {{\n" + "".join(f"{indent}    {line}\n" for line in lines) + f"{indent}}}\n"
+
+    return "".join(map(arm, TYPES))
+
+
+def rust_checks():
+    """From the model's rows to the crate's."""
+    def arm(row_type):
+        fields = ", ".join(names(row_type, "kinds"))
+        pattern = f"Constraint::{row_type.name}(types::{row_type.name} {{ {fields.replace('kinds', 'ref kinds')} }})"
+        return rust_arm(" " * 8, pattern, f"Row::{row_type.name} {{ {fields} }}")
+
+    return "".join(map(arm, TYPES))
+
+
+def model_modules():
+    """The model's files, and what they have for others."""
+    files = sorted(map(snake, TYPES))
+    public = {file: sorted(re.findall(r"^pub (?:struct|enum|fn) (\w+)", text_of(f"host/model/src/types/{file}.rs"), re.M)) for file in files}
+    return "".join(f"mod {file};\n" for file in files) + "\n" + "".join(f"pub use {file}::{{{', '.join(public[file])}}};\n" for file in files)
+
+
+def model_list():
+    return "".join(f"    {t.number} => {t.name},\n" for t in TYPES)
+
+
+# Python.
+
+def python_list():
+    """The files of the package, and their types in the order of their numbers."""
+    files, types = ", ".join(sorted(map(snake, TYPES))), ", ".join(f"{snake(t)}.TYPE" for t in TYPES)
+    files, types = (wrapped(words, 126, "    ", "    ") for words in (files, types))
+    return f"from . import (\n{files},\n)\n\nTYPES: tuple[RowType, ...] = (\n{types},\n)\n"
+
+
+MADE, LISTED, END = "Made by release/row-types.py.", "Made by release/row-types.py, to the end of the list.", "End of what is made."
+# A file, the two texts between which a part stands, and what makes the part.
+PARTS = (
+    ("docs/CONTRACT.md", "order of §4.5.\n\n", "**4.8** ", contract),
+    ("python/README.md", "    form:\n", "    A kind is an event's name", grammar),
+    ("python/README.md", "type in full, with its corners.\n\n", "## What a verdict says\n", asked),
+    ("python/README.md", "| type | what it measures | an instance |\n|---|---|---|\n", "\n`outside`", measured),
+    ("include/delkuthi.h", " * THE TABLE\n *\n", " * A host need not count", header_table),
+    ("include/delkuthi.h", " * each type, from clause 5.1 on.\n *\n", " *\n *\n * A BENCH LOOP", header_asks),
+    ("include/delkuthi.h", "DELKUTHI_STEP_STACK    1024\n\n", "#define DELKUTHI_NO_LIMIT", lambda: f"/* {limited()} */\n"),
+    ("include/delkuthi.h", "/* A function for each type. */\n", "/* The table writer;", lambda: "\n" + "".join(map(c_maker, TYPES))),
+    ("host/c/make_table.c", f"    /* {LISTED} */\n", "    }\n}\n", c_cases),
+    ("host/delkuthi/src/table.rs", "TABLE_LIMIT: usize = 1153;\n", "pub const NO_LIMIT", lambda: f"/// {limited()}\n"),
+    ("host/delkuthi/src/table.rs", f"pub enum Row<'a> {{\n    // {LISTED}\n", "}\n\n", rust_rows),
+    ("host/delkuthi/src/table.rs", f"            // {LISTED}\n", "        }\n    }\n}\n", rust_bodies),
+    ("host/checks/src/rows.rs", f"        // {LISTED}\n", "    }\n}\n", rust_checks),
+    ("host/model/src/types.rs", f"// {MADE}\n\n", f"\n// {END}\n", model_modules),
+    ("host/model/src/types.rs", f"row_types! {{\n    // {LISTED}\n", "}\n", model_list),
+    (f"{LIST}/__init__.py", f"# {MADE}\n", f"# {END}\n", python_list),
+)
+
+
+def lacking(row_type):
+    """What is written by hand for a type and is not there."""
+    fields = "".join(f"    pub {field},\n" for field in declared(row_type, "{name}: {size}", "kinds: Vec<u8>"))
+    wanted = (("docs/CONTRACT.md", f"\n### 5.{row_type.number} {row_type.name}: {', '.join(names(row_type, 'n kinds'))}\n"),
+              (f"host/model/src/types/{snake(row_type)}.rs", f"\npub struct {row_type.name} {{\n{fields}}}\n"),
+              ("examples/rows/rows.txt", f" {row_type.name} "))
+    return [f"{path}: lacks {text.strip()}" for path, text in wanted if text not in text_of(path)]
+
+
+def main():
+    if sys.argv[1:] not in ([], ["--write"]):
+        print(__doc__, file=sys.stderr)
+        return 2
+    wrong = [line for row_type in TYPES for line in lacking(row_type)]
+    for path, first, last, make in PARTS:
+        before, begin, rest = text_of(path).partition(first)
+        part, end, after = rest.partition(last)
+        made = make()
+        if not begin or not end or first in rest:
+            wrong.append(f"{path}: there is no part, or several, from {first.strip()!r} to {last.strip()!r}")
+        elif part != made and sys.argv[1:]:
+            (ROOT / path).write_text(before + begin + made + end + after, encoding="utf-8")
+        elif part != made:
+            same = len(commonprefix([part, made]))
+            line = (before + begin + part[:same]).count("\n") + 1
+            wrong.append(f"{path}:{line}: not what the list of types says: release/row-types.py --write")
+    print("\n".join(wrong), end="\n" if wrong else "")
+    return 1 if wrong else 0
+
+
+if __name__ == "__main__":
+    sys.exit(main())

@@ -253,9 +253,12 @@ def rust_checks():
 
 def model_modules():
     """The model's files, and what they have for others."""
-    files = sorted(map(snake, TYPES))
-    public = {file: sorted(re.findall(r"^pub (?:struct|enum|fn) (\w+)", text_of(f"host/model/src/types/{file}.rs"), re.M)) for file in files}
-    return "".join(f"mod {file};\n" for file in files) + "\n" + "".join(f"pub use {file}::{{{', '.join(public[file])}}};\n" for file in files)
+    def public(row_type):
+        return sorted([row_type.name, *re.findall(r"^pub (?:struct|enum|fn) (\w+)", text_of(f"host/model/src/types/{snake(row_type)}.rs"), re.M)])
+
+    sorted_types = sorted(TYPES, key=snake)
+    uses = "".join(f"pub use {snake(t)}::{{{', '.join(public(t))}}};\n" for t in sorted_types)
+    return "".join(f"mod {snake(t)};\n" for t in sorted_types) + "\n" + uses
 
 
 def model_list():
@@ -293,13 +296,18 @@ PARTS = (
 )
 
 
+# The roles that have another name in the model.
+ROLES = {"count": "Count(SPAN_LIMIT)", "few": "Count(REPETITION_SPAN_LIMIT)"}
+
+
 def lacking(row_type):
     """What is written by hand for a type and is not there."""
-    fields = "".join(f"    pub {field},\n" for field in declared(row_type, "{name}: {size}", "kinds: Vec<u8>"))
+    fields = ", ".join(f"{part.name}: {ROLES.get(part.role, part.role.capitalize())}" for part in row_type.fields)
+    bounds = f"    {' <= '.join(row_type.bounds)}\n" if row_type.bounds else ""
     wanted = (("docs/CONTRACT.md", f"\n### 5.{row_type.number} {row_type.name}: {', '.join(names(row_type, 'n kinds'))}\n"),
-              (f"host/model/src/types/{snake(row_type)}.rs", f"\npub struct {row_type.name} {{\n{fields}}}\n"),
+              (f"host/model/src/types/{snake(row_type)}.rs", f"\n    {row_type.name} {{ {fields} }}\n{bounds}}}\n"),
               ("examples/rows/rows.txt", f" {row_type.name} "))
-    return [f"{path}: lacks {text.strip()}" for path, text in wanted if text not in text_of(path)]
+    return [f"{path}: lacks {' '.join(text.split())}" for path, text in wanted if text not in text_of(path)]
 
 
 def main():

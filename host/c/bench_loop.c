@@ -80,16 +80,6 @@ static int bench(const uint8_t *table, size_t table_length)
 static struct file recording;
 static size_t place = 1; // behind the version byte
 
-static uint64_t time_of(const uint8_t *bytes)
-{
-    uint64_t time = 0;
-    int i;
-
-    for (i = 0; i < 8; i++)
-        time = time << 8 | bytes[i];
-    return time;
-}
-
 // The next record: its length of two bytes is 9 for an event, 10 for one with
 // a colour, 8 for a tick. In version 1 there are no colours: 255 is none.
 int next_step(uint64_t until, uint8_t *kind, uint8_t *colour, uint64_t *time)

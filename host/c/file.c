@@ -50,3 +50,13 @@ void free_file(struct file *file)
 {
     free_block(file->bytes);
 }
+
+uint64_t time_of(const uint8_t *bytes)
+{
+    uint64_t time = 0;
+    int i;
+
+    for (i = 0; i < 8; i++)
+        time = time << 8 | bytes[i];
+    return time;
+}

@@ -22,4 +22,7 @@ uint8_t *block_of(size_t length);
 /* Lets go of memory that block_of gave. */
 void free_block(uint8_t *block);
 
+/* The time in eight bytes of a file, the highest first. */
+uint64_t time_of(const uint8_t *bytes);
+
 #endif

@@ -55,17 +55,6 @@ static int page(void)
     return asked(size, size, 1) && asked(size, size - 1, 0) && asked(size, size + 1, 0) && asked(size, 1, 0);
 }
 
-/* Makes a time of eight bytes, the highest first. */
-static uint64_t time_of(const uint8_t *bytes)
-{
-    uint64_t time = 0;
-    int i;
-
-    for (i = 0; i < 8; i++)
-        time = time << 8 | bytes[i];
-    return time;
-}
-
 int main(int argc, char **argv)
 {
     struct file table, recording;

@@ -30,7 +30,7 @@ def test_a_new_type_is_made(tmp_path):
     said = subprocess.run([sys.executable, tmp_path / PROGRAM], capture_output=True, text=True)
     assert said.returncode == 1
     assert "docs/CONTRACT.md: lacks ### 5.11 WeakOrder: source, target\n" in said.stdout
-    assert "host/model/src/types/weak_order.rs: lacks pub struct WeakOrder {\n" in said.stdout
+    assert "host/model/src/types/weak_order.rs: lacks WeakOrder { source: Kind, target: Kind } }\n" in said.stdout
     assert re.search(r"^include/delkuthi\.h:\d+: not what the list of types says", said.stdout, re.M)
     subprocess.run([sys.executable, tmp_path / PROGRAM, "--write"], capture_output=True)
     lines = {"docs/CONTRACT.md": "| 11 | WeakOrder | source, target | 3 |\n", "python/README.md": "| WeakOrder | lag from each source to its",

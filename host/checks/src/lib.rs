@@ -7,6 +7,7 @@ pub mod hosts;
 pub mod pages;
 pub mod places;
 pub mod program;
+pub mod refusals;
 pub mod release;
 pub mod reports;
 pub mod rows;

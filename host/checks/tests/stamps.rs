@@ -2,9 +2,10 @@
 //! Clauses: §8.25, §12.1 to §12.6.
 
 use checks::contract::{blocks, text};
+use checks::refusals;
 use checks::reports::report_in;
 use delkuthi::REPORT_LIMIT;
-use model::random::{Random, damage};
+use model::random::Random;
 use model::types::{Delay, Reaction, Repeat};
 use model::{Constraint, LAST_TIME, NO_LIMIT, Refusal, Stamped, Stamps, Step, recording_bytes, stamped, table_bytes};
 use std::collections::HashSet;
@@ -16,11 +17,7 @@ fn library(table: &[u8], recording: &[u8], row: u64, late: u64) -> Result<Stampe
         delkuthi::Stamped::Broken => Stamped::Broken,
         delkuthi::Stamped::Unsure => Stamped::Unsure,
     };
-    let refusal = |refusal: delkuthi::Refusal| Refusal {
-        number: refusal.number(),
-        place: usize::try_from(refusal.place().expect("a place")).expect("a place in memory"),
-    };
-    delkuthi::stamped(table, recording, row, late).map(word).map_err(refusal)
+    delkuthi::stamped(table, recording, row, late).map(word).map_err(refusals::refusal)
 }
 
 /// What else a recording has beside the row's events.
@@ -147,23 +144,14 @@ fn refusals_in_their_order() {
                 _ => Step::Event { kind: random.below(2) as u8, time: random.below(20) },
             })
             .collect();
-        let (mut table, mut recording) = (table_bytes(&rows), recording_bytes(&steps));
-        if random.chance(30) {
-            damage(&mut random, &mut table);
-        }
-        if random.chance(20) {
-            damage(&mut random, &mut recording);
-        }
+        let (table, recording) = refusals::files(&mut random, &rows, &steps);
         let row = random.below(6);
         let late = *random.pick(&[0, 1, 3, LAST_TIME, LAST_TIME + 1]);
         let expected = stamped(&table, &recording, row, late);
         assert_eq!(library(&table, &recording, row, late), expected, "{table:?} {recording:?} {row} {late}");
         seen.insert(expected.map_or_else(|refusal| refusal.number, |word| 100 + word as u8));
     }
-    for number in [1, 2, 4, 5, 6, 7, 9, 10, 11, 13, 14, 15, 18, 19, 25, 100, 101, 102] {
-        assert!(seen.contains(&number), "{number} was not seen");
-    }
-    assert!(!seen.contains(&12) && !seen.contains(&8));
+    refusals::demand(&seen, &[1, 2, 4, 5, 6, 7, 9, 10, 11, 13, 14, 15, 18, 19, 25, 100, 101, 102]);
 }
 
 /// The examples of section 12 of the contract.

@@ -3,9 +3,10 @@
 
 use checks::contract::{blocks, text};
 use checks::places::root;
+use checks::refusals;
 use checks::reports::report_in;
 use delkuthi::REPORT_LIMIT;
-use model::random::{Random, damage};
+use model::random::Random;
 use model::types::{
     burst, delay, execution_time, order, reaction, repeat, repetition, sporadic, strong_delay, synchronization,
 };
@@ -24,11 +25,7 @@ fn library(table: &[u8], recording: &[u8], row: u64) -> Result<Stretch, Refusal>
         length: found.length.into(),
         tried: found.tried as usize,
     };
-    let refusal = |refusal: delkuthi::Refusal| Refusal {
-        number: refusal.number(),
-        place: usize::try_from(refusal.place().expect("a place")).expect("a place in memory"),
-    };
-    delkuthi::shortest_stretch(table, recording, row).map(stretch).map_err(refusal)
+    delkuthi::shortest_stretch(table, recording, row).map(stretch).map_err(refusals::refusal)
 }
 
 /// The library's answer for one row and these records.
@@ -172,22 +169,13 @@ fn refusals_in_their_order() {
                 _ => Step::Event { kind: random.below(2) as u8, time: random.below(20) },
             })
             .collect();
-        let (mut table, mut recording) = (table_bytes(&rows), recording_bytes(&steps));
-        if random.chance(30) {
-            damage(&mut random, &mut table);
-        }
-        if random.chance(20) {
-            damage(&mut random, &mut recording);
-        }
+        let (table, recording) = refusals::files(&mut random, &rows, &steps);
         let row = *random.pick(&[0, 1, 2, 3, 4, 32, u64::MAX]);
         let expected = shortest_stretch(&table, &recording, row);
         assert_eq!(library(&table, &recording, row), expected, "{table:?} {recording:?} {row}");
         seen.insert(expected.map_or_else(|refusal| refusal.number, |_| 100));
     }
-    for number in [1, 2, 4, 5, 6, 7, 9, 10, 11, 13, 14, 15, 18, 19, 23, 100] {
-        assert!(seen.contains(&number), "{number} was not seen");
-    }
-    assert!(!seen.contains(&12) && !seen.contains(&8));
+    refusals::demand(&seen, &[1, 2, 4, 5, 6, 7, 9, 10, 11, 13, 14, 15, 18, 19, 23, 100]);
 }
 
 /// The examples of section 14 of the contract.

@@ -8,7 +8,7 @@ use model::random::Random;
 use model::random::calls::calls;
 use model::random::seen::Seen;
 use model::random::tables::{any_table, table};
-use model::types::{Delay, Reaction, Repeat, StrongDelay, StrongSynchronization};
+use model::types::{Delay, Reaction, Repeat, StrongDelay, synchronization};
 use model::{Answer, Constraint, LAST_COUNT, Step, Verdict};
 
 fn withdraw(monitor: &mut Monitor) -> Answer {
@@ -133,15 +133,13 @@ fn at_the_end_of_the_count() {
 
 /// Rows in which something waits, with the kinds 0 to 3 at most, and far from being due.
 fn waiting_rows() -> Vec<Constraint> {
-    let group =
-        |n: u8| Constraint::StrongSynchronization(StrongSynchronization { kinds: (0..n).collect(), tolerance: 5_000 });
     vec![
         Constraint::Delay(Delay { source: 0, target: 1, lower: 0, upper: 5_000 }),
         Constraint::Delay(Delay { source: 0, target: 1, lower: 60, upper: 5_000 }),
         Constraint::StrongDelay(StrongDelay { source: 0, target: 1, lower: 0, upper: 5_000 }),
-        group(2),
-        group(3),
-        group(4),
+        synchronization(2, 5_000),
+        synchronization(3, 5_000),
+        synchronization(4, 5_000),
     ]
 }
 

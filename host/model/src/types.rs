@@ -32,9 +32,8 @@ use crate::random::Random;
 use crate::random::tables::Draw;
 use crate::steps::{Events, History};
 
-/// What the model says of a row of one type. The functions but [`RowType::fields`] and those on bytes and random rows are for
-/// rows that pass questions 4 to 7 and 18.
-pub trait RowType {
+/// What goes by the fields of a type alone: made by [`row_type`] of their names and roles.
+pub trait Fields {
     /// The row of the fields that are given, if they are, asked for in the order of the bytes (§4.5).
     fn read(given: &mut dyn Given) -> Option<Self>
     where
@@ -44,10 +43,51 @@ pub trait RowType {
     fn fields(&self) -> Vec<Field>;
 
     /// The two times of which the first may not be above the second, if there are such (§8.7).
-    fn bounds(&self) -> Option<(u64, u64)> {
-        None
-    }
+    fn bounds(&self) -> Option<(u64, u64)>;
+}
 
+/// Makes a type of its fields, each with its role ([`Field`]), and of the bounds that it has.
+macro_rules! row_type {
+    ($(#[$words:meta])* $name:ident { $($field:ident: $role:ident $(($most:expr))?),* } $($lower:ident <= $upper:ident)?) => {
+        $(#[$words])*
+        #[derive(Clone, Debug, PartialEq, Eq)]
+        pub struct $name {
+            $(pub $field: row_type!(@type $role),)*
+        }
+
+        impl $crate::types::Fields for $name {
+            fn read(given: &mut dyn $crate::types::Given) -> Option<$name> {
+                Some($name { $($field: row_type!(@read $role, given, stringify!($field))?,)* })
+            }
+
+            fn fields(&self) -> Vec<$crate::types::Field> {
+                vec![$(row_type!(@field $role $(($most))?, self.$field),)*]
+            }
+
+            fn bounds(&self) -> Option<(u64, u64)> {
+                row_type!(@bounds $(self.$lower, self.$upper)?)
+            }
+        }
+    };
+    (@type Time) => { u64 };
+    (@type Limit) => { u64 };
+    (@type Kinds) => { Vec<u8> };
+    (@type $byte:ident) => { u8 };
+    (@read Time, $given:expr, $name:expr) => { $given.time($name) };
+    (@read Limit, $given:expr, $name:expr) => { $given.time($name) };
+    (@read Kinds, $given:expr, $name:expr) => { $given.kinds($name) };
+    (@read $byte:ident, $given:expr, $name:expr) => { $given.byte($name) };
+    (@field Count($most:expr), $value:expr) => { $crate::types::Field::Count { value: $value, most: $most } };
+    (@field Kinds, $value:expr) => { $crate::types::Field::Kinds($value.clone()) };
+    (@field $role:ident, $value:expr) => { $crate::types::Field::$role($value) };
+    (@bounds) => { None };
+    (@bounds $lower:expr, $upper:expr) => { Some(($lower, $upper)) };
+}
+pub(crate) use row_type;
+
+/// What the model says of a row of one type. The functions but those on random rows are for rows that pass questions 4 to 7
+/// and 18.
+pub trait RowType: Fields {
     /// Is the definition true of all these events together, at the clock that they close at (§5.1 to §5.10)?
     fn meets(&self, events: &dyn Events) -> bool;
 

@@ -1,36 +1,18 @@
 //! Burst (§5.5): at most maximum events in each length.
 
-use super::{Constraint, Field, Given, RowType};
+use super::{Constraint, RowType, row_type};
 use crate::limits::{NO_LIMIT, SPAN_LIMIT};
 use crate::meets::{at_least_apart, spans_apart};
 use crate::random::Random;
 use crate::random::tables::{Draw, odd_kind, odd_span, odd_time};
 use crate::steps::Events;
 
-/// A row of type 5.
-#[derive(Clone, Debug, PartialEq, Eq)]
-pub struct Burst {
-    pub event: u8,
-    pub maximum: u8,
-    pub length: u64,
-    pub minimum: u64,
+row_type! {
+    /// A row of type 5.
+    Burst { event: Kind, maximum: Count(SPAN_LIMIT), length: Time, minimum: Time }
 }
 
 impl RowType for Burst {
-    fn read(given: &mut dyn Given) -> Option<Burst> {
-        Some(Burst {
-            event: given.byte("event")?,
-            maximum: given.byte("maximum")?,
-            length: given.time("length")?,
-            minimum: given.time("minimum")?,
-        })
-    }
-
-    fn fields(&self) -> Vec<Field> {
-        let maximum = Field::Count { value: self.maximum, most: SPAN_LIMIT };
-        vec![Field::Kind(self.event), maximum, Field::Time(self.length), Field::Time(self.minimum)]
-    }
-
     /// What a Repeat without an upper limit asks of the events, and a least distance.
     fn meets(&self, events: &dyn Events) -> bool {
         let times = events.times(self.event);

@@ -1,6 +1,6 @@
 //! Delay (§5.1): after each source a target.
 
-use super::{Constraint, Field, Given, RowType};
+use super::{Constraint, RowType, row_type};
 use crate::continuation::Event;
 use crate::limits::NO_LIMIT;
 use crate::meets::apart;
@@ -9,13 +9,10 @@ use crate::random::Random;
 use crate::random::tables::{Draw, odd_kind, odd_time};
 use crate::steps::{Events, History};
 
-/// A row of type 1.
-#[derive(Clone, Debug, PartialEq, Eq)]
-pub struct Delay {
-    pub source: u8,
-    pub target: u8,
-    pub lower: u64,
-    pub upper: u64,
+row_type! {
+    /// A row of type 1.
+    Delay { source: Kind, target: Kind, lower: Time, upper: Limit }
+    lower <= upper
 }
 
 impl Delay {
@@ -34,23 +31,6 @@ impl Delay {
 }
 
 impl RowType for Delay {
-    fn read(given: &mut dyn Given) -> Option<Delay> {
-        Some(Delay {
-            source: given.byte("source")?,
-            target: given.byte("target")?,
-            lower: given.time("lower")?,
-            upper: given.time("upper")?,
-        })
-    }
-
-    fn fields(&self) -> Vec<Field> {
-        vec![Field::Kind(self.source), Field::Kind(self.target), Field::Time(self.lower), Field::Limit(self.upper)]
-    }
-
-    fn bounds(&self) -> Option<(u64, u64)> {
-        Some((self.lower, self.upper))
-    }
-
     /// Each source has a target in its interval.
     fn meets(&self, events: &dyn Events) -> bool {
         self.without_target(events).is_empty()

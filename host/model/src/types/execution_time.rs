@@ -1,20 +1,15 @@
 //! ExecutionTime (§5.8): from each start to its stop, without what lies from preempt to resume.
 
-use super::{Constraint, Field, Given, RowType};
+use super::{Constraint, RowType, row_type};
 use crate::continuation::Event;
 use crate::random::Random;
 use crate::random::tables::{Draw, odd_kind, odd_time};
 use crate::steps::{Events, History};
 
-/// A row of type 8.
-#[derive(Clone, Debug, PartialEq, Eq)]
-pub struct ExecutionTime {
-    pub start: u8,
-    pub stop: u8,
-    pub preempt: u8,
-    pub resume: u8,
-    pub lower: u64,
-    pub upper: u64,
+row_type! {
+    /// A row of type 8.
+    ExecutionTime { start: Kind, stop: Kind, preempt: Kind, resume: Kind, lower: Time, upper: Time }
+    lower <= upper
 }
 
 impl ExecutionTime {
@@ -26,26 +21,6 @@ impl ExecutionTime {
 }
 
 impl RowType for ExecutionTime {
-    fn read(given: &mut dyn Given) -> Option<ExecutionTime> {
-        Some(ExecutionTime {
-            start: given.byte("start")?,
-            stop: given.byte("stop")?,
-            preempt: given.byte("preempt")?,
-            resume: given.byte("resume")?,
-            lower: given.time("lower")?,
-            upper: given.time("upper")?,
-        })
-    }
-
-    fn fields(&self) -> Vec<Field> {
-        let kinds = [self.start, self.stop, self.preempt, self.resume].map(Field::Kind);
-        kinds.into_iter().chain([Field::Time(self.lower), Field::Time(self.upper)]).collect()
-    }
-
-    fn bounds(&self) -> Option<(u64, u64)> {
-        Some((self.lower, self.upper))
-    }
-
     /// The events are those of whole executions, one after the other, each of which runs for lower to upper.
     fn meets(&self, events: &dyn Events) -> bool {
         let executions = Executions::of(self, events);

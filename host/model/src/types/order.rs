@@ -1,28 +1,18 @@
 //! Order (§5.6): as many targets as sources, none before its source.
 
-use super::{Constraint, Field, Given, RowType};
+use super::{Constraint, RowType, row_type};
 use crate::continuation::Event;
 use crate::open::partners;
 use crate::random::Random;
 use crate::random::tables::{Draw, odd_kind};
 use crate::steps::{Events, History};
 
-/// A row of type 6.
-#[derive(Clone, Debug, PartialEq, Eq)]
-pub struct Order {
-    pub source: u8,
-    pub target: u8,
+row_type! {
+    /// A row of type 6.
+    Order { source: Kind, target: Kind }
 }
 
 impl RowType for Order {
-    fn read(given: &mut dyn Given) -> Option<Order> {
-        Some(Order { source: given.byte("source")?, target: given.byte("target")? })
-    }
-
-    fn fields(&self) -> Vec<Field> {
-        vec![Field::Kind(self.source), Field::Kind(self.target)]
-    }
-
     /// Sources and targets pair up, and no target is before its source.
     fn meets(&self, events: &dyn Events) -> bool {
         let (sources, targets) = (events.times(self.source), events.times(self.target));

@@ -1,6 +1,6 @@
 //! Reaction (§5.9): after each stimulus the first response of its colour.
 
-use super::{Constraint, Demand, Field, Given, RowType};
+use super::{Constraint, Demand, RowType, row_type};
 use crate::continuation::Event;
 use crate::limits::{FIRST_COLOURED, LAST_COLOUR, LAST_KIND, stream};
 use crate::meets::between;
@@ -8,13 +8,10 @@ use crate::random::Random;
 use crate::random::tables::{Draw, different, odd_kind, odd_time};
 use crate::steps::{Events, History};
 
-/// A row of type 9.
-#[derive(Clone, Debug, PartialEq, Eq)]
-pub struct Reaction {
-    pub stimulus: u8,
-    pub response: u8,
-    pub minimum: u64,
-    pub maximum: u64,
+row_type! {
+    /// A row of type 9.
+    Reaction { stimulus: Coloured, response: Coloured, minimum: Time, maximum: Time }
+    minimum <= maximum
 }
 
 impl Reaction {
@@ -35,24 +32,6 @@ impl Reaction {
 }
 
 impl RowType for Reaction {
-    fn read(given: &mut dyn Given) -> Option<Reaction> {
-        Some(Reaction {
-            stimulus: given.byte("stimulus")?,
-            response: given.byte("response")?,
-            minimum: given.time("minimum")?,
-            maximum: given.time("maximum")?,
-        })
-    }
-
-    fn fields(&self) -> Vec<Field> {
-        let (minimum, maximum) = (Field::Time(self.minimum), Field::Time(self.maximum));
-        vec![Field::Coloured(self.stimulus), Field::Coloured(self.response), minimum, maximum]
-    }
-
-    fn bounds(&self) -> Option<(u64, u64)> {
-        Some((self.minimum, self.maximum))
-    }
-
     fn meets(&self, events: &dyn Events) -> bool {
         (0..=LAST_COLOUR).all(|colour| self.meets_in(colour, events))
     }

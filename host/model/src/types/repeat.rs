@@ -1,19 +1,16 @@
 //! Repeat (§5.3): from each event to the one span places on.
 
-use super::{Constraint, Field, Given, RowType};
+use super::{Constraint, RowType, row_type};
 use crate::limits::SPAN_LIMIT;
 use crate::meets::{not_later, spans_apart};
 use crate::random::Random;
 use crate::random::tables::{Draw, odd_kind, odd_span, odd_time};
 use crate::steps::Events;
 
-/// A row of type 3.
-#[derive(Clone, Debug, PartialEq, Eq)]
-pub struct Repeat {
-    pub event: u8,
-    pub span: u8,
-    pub lower: u64,
-    pub upper: u64,
+row_type! {
+    /// A row of type 3.
+    Repeat { event: Kind, span: Count(SPAN_LIMIT), lower: Time, upper: Limit }
+    lower <= upper
 }
 
 impl Repeat {
@@ -25,24 +22,6 @@ impl Repeat {
 }
 
 impl RowType for Repeat {
-    fn read(given: &mut dyn Given) -> Option<Repeat> {
-        Some(Repeat {
-            event: given.byte("event")?,
-            span: given.byte("span")?,
-            lower: given.time("lower")?,
-            upper: given.time("upper")?,
-        })
-    }
-
-    fn fields(&self) -> Vec<Field> {
-        let span = Field::Count { value: self.span, most: SPAN_LIMIT };
-        vec![Field::Kind(self.event), span, Field::Time(self.lower), Field::Limit(self.upper)]
-    }
-
-    fn bounds(&self) -> Option<(u64, u64)> {
-        Some((self.lower, self.upper))
-    }
-
     /// Events span places apart are lower to upper apart, and those without such a one are not silent for too long.
     fn meets(&self, events: &dyn Events) -> bool {
         let (times, clock) = (events.times(self.event), events.clock());

@@ -1,20 +1,16 @@
 //! Repetition (§5.10): each event at most jitter after its point, the points span places apart so far apart.
 
-use super::{Constraint, Field, Given, RowType};
+use super::{Constraint, RowType, row_type};
 use crate::hidden_points::Spacing;
 use crate::limits::{NO_LIMIT, REPETITION_SPAN_LIMIT, SPAN_LIMIT};
 use crate::random::Random;
 use crate::random::tables::{Draw, odd_kind, odd_time};
 use crate::steps::Events;
 
-/// A row of type 10.
-#[derive(Clone, Debug, PartialEq, Eq)]
-pub struct Repetition {
-    pub event: u8,
-    pub span: u8,
-    pub lower: u64,
-    pub upper: u64,
-    pub jitter: u64,
+row_type! {
+    /// A row of type 10.
+    Repetition { event: Kind, span: Count(REPETITION_SPAN_LIMIT), lower: Time, upper: Time, jitter: Time }
+    lower <= upper
 }
 
 impl Repetition {
@@ -25,26 +21,6 @@ impl Repetition {
 }
 
 impl RowType for Repetition {
-    fn read(given: &mut dyn Given) -> Option<Repetition> {
-        Some(Repetition {
-            event: given.byte("event")?,
-            span: given.byte("span")?,
-            lower: given.time("lower")?,
-            upper: given.time("upper")?,
-            jitter: given.time("jitter")?,
-        })
-    }
-
-    fn fields(&self) -> Vec<Field> {
-        let span = Field::Count { value: self.span, most: REPETITION_SPAN_LIMIT };
-        let times = [Field::Time(self.lower), Field::Time(self.upper), Field::Time(self.jitter)];
-        [Field::Kind(self.event), span].into_iter().chain(times).collect()
-    }
-
-    fn bounds(&self) -> Option<(u64, u64)> {
-        Some((self.lower, self.upper))
-    }
-
     /// The events have hidden points.
     fn meets(&self, events: &dyn Events) -> bool {
         self.spacing().has_points(events.times(self.event))

@@ -1,42 +1,19 @@
 //! Sporadic (§5.4): each event at most jitter after its point, the points so far apart.
 
-use super::{Constraint, Field, Given, RowType};
+use super::{Constraint, RowType, row_type};
 use crate::hidden_points::Spacing;
 use crate::meets::at_least_apart;
 use crate::random::Random;
 use crate::random::tables::{Draw, odd_kind, odd_time};
 use crate::steps::Events;
 
-/// A row of type 4.
-#[derive(Clone, Debug, PartialEq, Eq)]
-pub struct Sporadic {
-    pub event: u8,
-    pub lower: u64,
-    pub upper: u64,
-    pub jitter: u64,
-    pub minimum: u64,
+row_type! {
+    /// A row of type 4.
+    Sporadic { event: Kind, lower: Time, upper: Limit, jitter: Time, minimum: Time }
+    lower <= upper
 }
 
 impl RowType for Sporadic {
-    fn read(given: &mut dyn Given) -> Option<Sporadic> {
-        Some(Sporadic {
-            event: given.byte("event")?,
-            lower: given.time("lower")?,
-            upper: given.time("upper")?,
-            jitter: given.time("jitter")?,
-            minimum: given.time("minimum")?,
-        })
-    }
-
-    fn fields(&self) -> Vec<Field> {
-        let (jitter, minimum) = (Field::Time(self.jitter), Field::Time(self.minimum));
-        vec![Field::Kind(self.event), Field::Time(self.lower), Field::Limit(self.upper), jitter, minimum]
-    }
-
-    fn bounds(&self) -> Option<(u64, u64)> {
-        Some((self.lower, self.upper))
-    }
-
     /// The events have hidden points, the last of which is not too long before the clock, and are at least minimum apart.
     fn meets(&self, events: &dyn Events) -> bool {
         let times = events.times(self.event);

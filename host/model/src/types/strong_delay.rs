@@ -1,6 +1,6 @@
 //! StrongDelay (§5.2): after each source its own target.
 
-use super::{Constraint, Field, Given, RowType};
+use super::{Constraint, RowType, row_type};
 use crate::continuation::Event;
 use crate::meets::between;
 use crate::open::partners;
@@ -8,33 +8,13 @@ use crate::random::Random;
 use crate::random::tables::{Draw, odd_kind, odd_time};
 use crate::steps::{Events, History};
 
-/// A row of type 2.
-#[derive(Clone, Debug, PartialEq, Eq)]
-pub struct StrongDelay {
-    pub source: u8,
-    pub target: u8,
-    pub lower: u64,
-    pub upper: u64,
+row_type! {
+    /// A row of type 2.
+    StrongDelay { source: Kind, target: Kind, lower: Time, upper: Time }
+    lower <= upper
 }
 
 impl RowType for StrongDelay {
-    fn read(given: &mut dyn Given) -> Option<StrongDelay> {
-        Some(StrongDelay {
-            source: given.byte("source")?,
-            target: given.byte("target")?,
-            lower: given.time("lower")?,
-            upper: given.time("upper")?,
-        })
-    }
-
-    fn fields(&self) -> Vec<Field> {
-        vec![Field::Kind(self.source), Field::Kind(self.target), Field::Time(self.lower), Field::Time(self.upper)]
-    }
-
-    fn bounds(&self) -> Option<(u64, u64)> {
-        Some((self.lower, self.upper))
-    }
-
     /// Sources and targets pair up, each target lower to upper after its source.
     fn meets(&self, events: &dyn Events) -> bool {
         let (sources, targets) = (events.times(self.source), events.times(self.target));

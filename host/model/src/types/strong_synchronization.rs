@@ -1,28 +1,18 @@
 //! StrongSynchronization (§5.7): the events of all kinds in groups within tolerance.
 
-use super::{Constraint, Field, Given, RowType};
+use super::{Constraint, RowType, row_type};
 use crate::continuation::Event;
 use crate::open::earliest;
 use crate::random::Random;
 use crate::random::tables::{Draw, odd_kind, odd_time};
 use crate::steps::{Events, History};
 
-/// A row of type 7. The n is the number of kinds.
-#[derive(Clone, Debug, PartialEq, Eq)]
-pub struct StrongSynchronization {
-    pub kinds: Vec<u8>,
-    pub tolerance: u64,
+row_type! {
+    /// A row of type 7. The n is the number of kinds.
+    StrongSynchronization { kinds: Kinds, tolerance: Time }
 }
 
 impl RowType for StrongSynchronization {
-    fn read(given: &mut dyn Given) -> Option<StrongSynchronization> {
-        Some(StrongSynchronization { kinds: given.kinds("kinds")?, tolerance: given.time("tolerance")? })
-    }
-
-    fn fields(&self) -> Vec<Field> {
-        vec![Field::Kinds(self.kinds.clone()), Field::Time(self.tolerance)]
-    }
-
     /// The kinds' events form whole groups, none wider than tolerance.
     fn meets(&self, events: &dyn Events) -> bool {
         let together = |one: &[u64], other: &[u64]| {

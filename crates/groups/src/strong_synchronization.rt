@@ -1,7 +1,5 @@
 // StrongSynchronization: the times are the first times of the groups begun and not complete; first to fourth say how
 // many of these groups have an event of that kind.
-use machine::Marks;
-use machine::Rule;
 use machine::numbers::NO_KIND;
 use machine::parts;
 use machine::words;
@@ -9,7 +7,7 @@ use queue::SIZE;
 use queue::minus;
 ghost use mathlib.Core.Path.{_≡_};
 ghost use Prim.Native.Nat.{ℕ};
-ghost use Rattle.machine.specs.Words.{Past, numberWords, withMarks, ruleAt, marksAt, Applies};
+ghost use Rattle.machine.specs.Words.{Past, numberWords, withMarks, ruleAt, marksAt, askedOf, Applies};
 ghost use Rattle.machine.specs.declared.Rule.{Rule};
 ghost use Rattle.machine.specs.declared.State.{State};
 ghost use Rattle.groups.specs.StrongSynchronization.{fillsStrongSynchronization, countOf, oneMore, counted, has, complete, withoutOldest};
@@ -88,32 +86,16 @@ fn forget(w: &mut [u64; SIZE])
 }
 
 // Whether an event begins one more group, where there is no room.
-pub fn fills(rule: Rule, marks: Marks, len: usize, kind: u64) -> bool
-    ensures { λ r. ⌜ ((t : ℕ) → r ≡ fillsStrongSynchronization rule marks len kind t) ⌝ }
+pub fn fills(w: &[u64; SIZE], kind: u64) -> bool
+    ensures { λ r. ⌜ ((t : ℕ) → r ≡ askedOf fillsStrongSynchronization (now (w .entry)) kind t) ⌝ }
 {
-    if len < SIZE {
+    if w[words::LEN] < SIZE as u64 {
         return false;
     }
-    if count_of(rule, marks, kind) < len as u64 {
+    if count_at(w, kind) < w[words::LEN] {
         return false;
     }
     true
-}
-
-// How many of the groups have an event of the kind.
-fn count_of(rule: Rule, marks: Marks, kind: u64) -> u64
-    ensures { λ r. ⌜ r ≡ countOf rule marks kind ⌝ }
-{
-    if kind == rule.first {
-        return marks.first;
-    }
-    if kind == rule.second {
-        return marks.second;
-    }
-    if kind == rule.third {
-        return marks.third;
-    }
-    marks.fourth
 }
 
 // The count of a kind, with one more where the event is of that kind.

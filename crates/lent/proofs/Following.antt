@@ -368,13 +368,14 @@ module _ (q : ℕ → Bool) where
   any-last [] i = or-none (q i)
   any-last (j ∷ is) i = ap (λ (b : Bool). q j || b) (any-last is i) ∙ or-assoc (q j) (anyIn is) (q i)
 
--- the same mark
-pub any-same : (p q : ℕ → Bool) (test : ℕ → Bool) (n : ℕ) → ((i : ℕ) → i < n → p i ≡ q i) → anyIn p (numbers test n) ≡ anyIn q (numbers test n)
+-- the same mark of those that pass the test
+pub any-same : (p q : ℕ → Bool) (test : ℕ → Bool) (n : ℕ) → ((i : ℕ) → i < n → test i ≡ true → p i ≡ q i)
+    → anyIn p (numbers test n) ≡ anyIn q (numbers test n)
 any-same p q test zero same = refl
 any-same p q test (suc n) same =
     let so-far = any-same p q test n (λ i l. same i (omega (arith, l))) in
     split (test n) (λ b. anyIn p (numbers test n ++ cond b (n ∷ []) []) ≡ anyIn q (numbers test n ++ cond b (n ∷ []) []))
-    (λ e. any-last p (numbers test n) n ∙ ap₂ (λ (a b : Bool). a || b) so-far (same n (omega arith)) ∙ sym (any-last q (numbers test n) n))
+    (λ e. any-last p (numbers test n) n ∙ ap₂ (λ (a b : Bool). a || b) so-far (same n (omega arith) e) ∙ sym (any-last q (numbers test n) n))
     (λ e. ap (anyIn p) (append-nil (numbers test n)) ∙ so-far ∙ ap (anyIn q) (sym (append-nil (numbers test n))))
 
 -- a mark that only rows have that pass the test

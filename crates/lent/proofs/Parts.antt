@@ -11,6 +11,8 @@ use lib.Seq.{getD-take, getD-drop, getD-append-add, take-set-lt, take-set-le, dr
 use lib.Dec.{ltb}
 use borrow.Author.Tests.{ltb-true, ltb-false}
 use Rattle.constraint.proofs.Lists.{split}
+use Rattle.row.specs.Apart.{endsBy, endedState}
+use Rattle.row.specs.Machine.{eventAt, tickAt}
 use Rattle.row.specs.declared.Before.{Before}
 use Rattle.row.specs.declared.Occurrence.{Occurrence}
 use Rattle.row.specs.declared.Row.{Row}
@@ -18,7 +20,7 @@ use Rattle.machine.specs.Parts.{plus}
 use Rattle.monitor.specs.declared.Monitor.{Monitor}
 use Rattle.lent.specs.Layout.{Lent, Words, halves, numberArray, numberBlock, wordsOf, rowBlocks, Shaped, rowNamed, startOf, heldRows}
 use Rattle.lent.specs.Steps.{withRow, withSoonest, withRoom, withNext, countedOn, countedTo, visited, ended, backed, soonestAll, passed, begun}
-use Rattle.lent.specs.Steps.{crowdedAt, crowded, rowCount}
+use Rattle.lent.specs.Steps.{crowdedAt, crowded, endAt, rowCount}
 use Rattle.lent.proofs.Blocks.{last-read, last-written}
 
 -- ---- two halves
@@ -152,15 +154,28 @@ or-true true = refl
 or-true false = refl
 
 -- one of the rows is crowded where the row of an entry is
-pub crowded-there : (h : Lent) (first j : ℕ) (o : Occurrence) → crowdedAt h (rowNamed h (first + j)) o ≡ true → (n : ℕ) → j < n → crowded h first n o
-    ≡ true
-crowded-there h first j o there zero small = absurd (omega (arith, small))
-crowded-there h first j o there (suc n) small =
-    split (ltb j n) (λ _. (crowded h first n o || crowdedAt h (rowNamed h (first + n)) o) ≡ true)
-    (λ e. ap (λ (b : Bool). b || crowdedAt h (rowNamed h (first + n)) o) (crowded-there h first j o there n (ltb-true j n e)))
+pub crowded-there : (h : Lent) (first j s t : ℕ) → crowdedAt h (rowNamed h (first + j)) s t ≡ true → (n : ℕ) → j < n → crowded h first n s t ≡ true
+crowded-there h first j s t there zero small = absurd (omega (arith, small))
+crowded-there h first j s t there (suc n) small =
+    split (ltb j n) (λ _. (crowded h first n s t || crowdedAt h (rowNamed h (first + n)) s t) ≡ true)
+    (λ e. ap (λ (b : Bool). b || crowdedAt h (rowNamed h (first + n)) s t) (crowded-there h first j s t there n (ltb-true j n e)))
     (λ e.
     let last : n ≡ j = omega (arith, ltb-false j n e, small) in
-    ap (λ (b : Bool). crowded h first n o || b) (ap (λ (k : ℕ). crowdedAt h (rowNamed h (first + k)) o) last ∙ there) ∙ or-true (crowded h first n o))
+    ap (λ (b : Bool). crowded h first n s t || b) (ap (λ (k : ℕ). crowdedAt h (rowNamed h (first + k)) s t) last ∙ there)
+    ∙ or-true (crowded h first n s t))
+
+-- ---- the clock before an event
+
+-- a row sees the time alone of what does not close the recording
+ended-alone : (h : Lent) (n s t number : ℕ) → ended h n (tickAt t) number ≡ ended h n (eventAt s t) number
+unfolding endsBy endedState
+ended-alone h zero s t number = refl
+ended-alone h (suc n) s t number = ap (λ (x : Lent). endAt x n (eventAt s t) number) (ended-alone h n s t number)
+
+pub begun-alone : (h : Lent) (s t : ℕ) → begun h (tickAt t) ≡ begun h (eventAt s t)
+begun-alone h s t =
+    ap (λ (x : Lent). cond (ltb (h .soonest) t) (cond (ltb (soonestAll h) t) (withSoonest x 0) (withSoonest h (soonestAll h))) h)
+    (ended-alone h (heldRows (h .monitor)) s t (h .monitor .count))
 
 -- ---- each part keeps its size
 

@@ -4,7 +4,7 @@ use Prim.Native.Nat.{ℕ, zero, suc, _+_, _-_, _%_, _<_, _≤_, min}
 use native.Mathlib.Nat.{le-trans}
 use native.Mathlib.Omega.{arith}
 use mathlib.Core.Path.{_≡_, refl, sym, _∙_, ap, subst}
-use mathlib.Core.Bool.{Bool, false, cond, _||_}
+use mathlib.Core.Bool.{Bool, true, false, cond, _||_}
 use mathlib.Core.List.{List, [], _∷_}
 use lib.ListN.{length}
 use lib.Dec.{ltb, eqb}
@@ -13,7 +13,7 @@ use Rattle.constraint.proofs.Lists.{split}
 use Rattle.row.specs.Machine.{rowStep, eventAt}
 use Rattle.row.specs.Stored.{larger, filledIn}
 use Rattle.row.specs.declared.Occurrence.{Occurrence}
-use Rattle.row.proofs.Crowding.{crowds, step-crowds, crowded-known}
+use Rattle.row.proofs.Crowding.{crowds, step-crowds, full-known}
 use Rattle.row.proofs.Filling.{room-free, taken-few}
 use Rattle.monitor.specs.Machine.{noRow, anyFirst}
 use Rattle.monitor.specs.declared.Monitor.{Monitor}
@@ -94,11 +94,11 @@ module _ (h : Lent) (few : Roomy h) where
 
 -- ---- the question
 
-crowd-is : (h : Lent) (first n : ℕ) (o : Occurrence) → crowded h first n o ≡ anyIn (λ i. crowdedAt h i o) (namedRows h first n)
-crowd-is h first zero o = refl
-crowd-is h first (suc n) o =
-    ap (λ (b : Bool). b || crowdedAt h (rowNamed h (first + n)) o) (crowd-is h first n o)
-    ∙ sym (any-last (λ i. crowdedAt h i o) (namedRows h first n) (rowNamed h (first + n)))
+crowd-is : (h : Lent) (first n s t : ℕ) → crowded h first n s t ≡ anyIn (λ i. crowdedAt h i s t) (namedRows h first n)
+crowd-is h first zero s t = refl
+crowd-is h first (suc n) s t =
+    ap (λ (b : Bool). b || crowdedAt h (rowNamed h (first + n)) s t) (crowd-is h first n s t)
+    ∙ sym (any-last (λ i. crowdedAt h i s t) (namedRows h first n) (rowNamed h (first + n)))
 
 none-in : (is : List ℕ) → anyIn (λ i. false) is ≡ false
 none-in [] = refl
@@ -115,21 +115,22 @@ module _ (h : Lent) (ix : Indexes h) (kind stream time : ℕ) (small : kind < 64
   test = isOf (h .monitor) kind
 
   -- of the rows of the kind, of all rows
-  listed-crowd : crowded h (startOf h kind) (rowCount h kind) o ≡ anyIn (λ i. crowdedAt h i o) (numbers test held)
-  listed-crowd = crowd-is h (startOf h kind) (rowCount h kind) o ∙ ap (anyIn (λ i. crowdedAt h i o)) (ix .listed kind small)
+  listed-crowd : crowded h (startOf h kind) (rowCount h kind) stream time ≡ anyIn (λ i. crowdedAt h i stream time) (numbers test held)
+  listed-crowd =
+      crowd-is h (startOf h kind) (rowCount h kind) stream time ∙ ap (anyIn (λ i. crowdedAt h i stream time)) (ix .listed kind small)
 
-  all-crowd : anyIn (λ i. crowdedAt h i o) (numbers test held) ≡ anyFirst held (crowds o) (h .monitor .rows)
+  all-crowd : anyIn (λ i. crowdedAt h i stream time) (numbers test held) ≡ anyFirst held (crowds o) (h .monitor .rows)
   all-crowd =
-      any-same (λ i. crowdedAt h i o) (λ i. crowds o (rowAt (h .monitor) i)) test held
-      (λ i l. crowded-known (rowAt (h .monitor) i) o (ix .roomy .now-few i l))
+      any-same (λ i. crowdedAt h i stream time) (λ i. crowds o (rowAt (h .monitor) i)) test held
+      (λ i l own. full-known (rowAt (h .monitor) i) o (ix .roomy .now-few i l) (subst (λ (k : ℕ). isOf (h .monitor) k i ≡ true) (sym kind-is) own))
       ∙ any-numbers (crowds o) test (h .monitor .rows) held (omega (arith, ix .shaped .rows-there))
       (λ i l out. calm (rowAt (h .monitor) i) o (subst (λ (k : ℕ). isOf (h .monitor) k i ≡ false) (sym kind-is) out))
 
   -- none where there is room
-  free-crowd : 0 < h .room → anyIn (λ i. crowdedAt h i o) (numbers test held) ≡ false
+  free-crowd : 0 < h .room → anyIn (λ i. crowdedAt h i stream time) (numbers test held) ≡ false
   free-crowd some =
-      any-same (λ i. crowdedAt h i o) (λ i. false) test held
-      (λ i l. room-free (rowAt (h .monitor) i .rule) (rowAt (h .monitor) i .now) o
+      any-same (λ i. crowdedAt h i stream time) (λ i. false) test held
+      (λ i l _. room-free (rowAt (h .monitor) i .rule) (rowAt (h .monitor) i .now) stream time
       (less (takenIn (rowAt (h .monitor) i .rule) (rowAt (h .monitor) i .now .len)) (h .room) (ix .roomy .now-room i l) some))
       ∙ none-in (numbers test held)
     where
@@ -138,7 +139,7 @@ module _ (h : Lent) (ix : Indexes h) (kind stream time : ℕ) (small : kind < 64
 
   pub crowd-known : crowdedOn h kind stream time ≡ anyFirst held (crowds o) (h .monitor .rows)
   crowd-known =
-      split (ltb 0 (h .room)) (λ b. ltb 0 (h .room) ≡ b → cond b false (crowded h (startOf h kind) (rowCount h kind) o)
+      split (ltb 0 (h .room)) (λ b. ltb 0 (h .room) ≡ b → cond b false (crowded h (startOf h kind) (rowCount h kind) stream time)
       ≡ anyFirst held (crowds o) (h .monitor .rows))
       (λ _ e. sym (free-crowd (ltb-true 0 (h .room) e)) ∙ all-crowd) (λ _ _. listed-crowd ∙ all-crowd) refl
 

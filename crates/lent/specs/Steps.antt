@@ -1,7 +1,7 @@
 -- What a call and a withdrawal make of a lent monitor, part by part.
 use Prim.Native.Nat.{ℕ, zero, suc, _+_, _-_, _%_, min}
 use mathlib.Core.Path.{_≡_}
-use mathlib.Core.Bool.{Bool, false, cond, _||_}
+use mathlib.Core.Bool.{Bool, true, false, cond, _||_}
 use mathlib.Core.List.{List}
 use lib.ListN.{getD, set}
 use lib.Dec.{ltb, eqb}
@@ -10,7 +10,7 @@ use Rattle.constraint.specs.Streams.{stream}
 use Rattle.constraint.specs.declared.Call.{Call}
 use Rattle.constraint.specs.Run.{Request, asks, withdraws}
 use Rattle.machine.specs.Parts.{plus}
-use Rattle.row.specs.Apart.{crowdedBy}
+use Rattle.row.specs.Apart.{fullFor}
 use Rattle.row.specs.Undo.{rowWithout, keptWithout}
 use Rattle.row.specs.Stored.{eventRow, eventSaves, endedRow, endedSaves, larger, filledIn, roomIn}
 use Rattle.row.specs.declared.Before.{Before}
@@ -35,6 +35,10 @@ withRoom h room = record { monitor = h .monitor; soonest = h .soonest; room = ro
 
 abbrev pub withRow : Lent → ℕ → Row → Before → Lent
 withRow h i r b = withMonitor h (withRows (h .monitor) (set (h .monitor .rows) i r) (set (h .monitor .before) i b))
+
+-- what a function on words promises that makes of each monitor another
+abbrev pub Turns : Words → (Lent → Lent) → Words → Type 0
+Turns entry turn exit = (h : Lent) → entry ≡ wordsOf h → Shaped h → exit ≡ wordsOf (turn h)
 
 -- ---- an event goes to the rows of its kind
 
@@ -77,12 +81,12 @@ backed h (suc n) number = backAt (backed h n number) n number
 
 -- ---- the question for 64, of the rows of a kind
 
-abbrev pub crowdedAt : Lent → ℕ → Occurrence → Bool
-crowdedAt h i o = crowdedBy (rowAt (h .monitor) i .rule) (rowAt (h .monitor) i .now) o
+abbrev pub crowdedAt : Lent → ℕ → ℕ → ℕ → Bool
+crowdedAt h i stream t = fullFor (rowAt (h .monitor) i .rule) (rowAt (h .monitor) i .now) stream t
 
-abbrev pub crowded : Lent → ℕ → ℕ → Occurrence → Bool
-crowded h first zero o = false
-crowded h first (suc n) o = crowded h first n o || crowdedAt h (rowNamed h (first + n)) o
+abbrev pub crowded : Lent → ℕ → ℕ → ℕ → ℕ → Bool
+crowded h first zero stream t = false
+crowded h first (suc n) stream t = crowded h first n stream t || crowdedAt h (rowNamed h (first + n)) stream t
 
 -- ---- whether there is room in every row
 
@@ -91,11 +95,13 @@ abbrev pub fullest : Monitor → ℕ → ℕ
 fullest m zero = 0
 fullest m (suc n) = larger (fullest m n) (filledIn (rowAt m n) (keptAt m n))
 
--- 1 while a place is free in every row; where that is not known it is found anew at every 32nd step
+-- 1 where a place is found free in every row, which is looked for at every 32nd step
+abbrev pub roomFound : Lent → ℕ
+roomFound h = cond (eqb (h .monitor .count % 32) 0) (min 1 (waitingLimit - fullest (h .monitor) (heldRows (h .monitor)))) 0
+
+-- 1 while a place is free in every row
 abbrev pub roomFor : Lent → ℕ
-roomFor h =
-    cond (ltb 0 (h .room)) (h .room)
-    (cond (eqb (h .monitor .count % 32) 0) (min 1 (waitingLimit - fullest (h .monitor) (heldRows (h .monitor)))) 0)
+roomFor h = cond (ltb 0 (h .room)) (h .room) (roomFound h)
 
 abbrev pub roomed : Lent → Lent
 roomed h = withRoom h (roomFor h)
@@ -177,7 +183,7 @@ abbrev pub begun : Lent → Occurrence → Lent
 begun h o = cond (ltb (h .soonest) (o .time)) (passed h o) h
 
 abbrev pub crowdedOn : Lent → ℕ → ℕ → ℕ → Bool
-crowdedOn h kind stream time = cond (ltb 0 (h .room)) false (crowded h (startOf h kind) (rowCount h kind) (eventAt stream time))
+crowdedOn h kind stream time = cond (ltb 0 (h .room)) false (crowded h (startOf h kind) (rowCount h kind) stream time)
 
 -- the rows of a kind after an event of it, and whether there is room
 abbrev pub heardOn : Lent → ℕ → ℕ → Occurrence → ℕ → Lent
@@ -186,6 +192,12 @@ heardOn h first n o number = withRoom (visited h first n o number) (roomAfter h 
 abbrev pub leftOn : Lent → ℕ → ℕ → ℕ → Lent
 leftOn h kind stream time =
     heardOn (begun (countedOn (roomed h) stream time) (eventAt stream time)) (startOf h kind) (rowCount h kind) (eventAt stream time) (nextNumber h)
+
+-- what the question on words promises: where a row is crowded nothing is stored, else the mark for room
+pub record Asks (entry : Words) (kind stream time : ℕ) (crowds : Bool) (exit : Words) : Type 0 where
+  pub untouched : crowds ≡ true → exit ≡ entry
+  pub asked : (h : Lent) → entry ≡ wordsOf h → Shaped h → crowds ≡ crowdedOn h kind stream time
+  pub marked : (h : Lent) → entry ≡ wordsOf h → Shaped h → crowds ≡ false → exit ≡ wordsOf (roomed h)
 
 -- what the function on words promises of it
 pub record OnStream (entry : Words) (kind stream time number : ℕ) (exit : Words) : Type 0 where

@@ -33,10 +33,10 @@ ghost use Prim.Native.Nat.{_<_, _≤_};
 ghost use mathlib.Core.Path.{_≡_};
 ghost use Rattle.constraint.specs.declared.Call.{Call};
 ghost use Rattle.constraint.specs.Run.{asks, withdraws};
-ghost use Rattle.row.specs.Machine.{eventAt};
+ghost use Rattle.row.specs.Machine.{eventAt, tickAt};
 ghost use Rattle.lent.specs.Layout.{Lent, wordsOf, Shaped};
 ghost use Rattle.constraint.specs.Streams.{stream};
-ghost use Rattle.lent.specs.Steps.{crowdedOn, roomFor, passed, begun, OnStream, refusalOf, Stores};
+ghost use Rattle.lent.specs.Steps.{Turns, roomFound, passed, begun, Asks, OnStream, refusalOf, Stores};
 
 const NO_EVENT: u64 = 65;
 
@@ -55,13 +55,19 @@ pub fn event_of(stream: usize, time: u64) -> Occurrence
     }
 }
 
-// The rows to which the clock goes, where one may be overdue.
-fn pass(m: &mut Words, o: Occurrence)
-    ensures { λ _. ⌜ ((h : Lent) → now (m .entry) ≡ wordsOf h → Shaped h → now (m .exit) ≡ wordsOf (passed h o)) ⌝ }
+// The rows to which the clock goes, where one may be overdue: they see nothing else of the step yet.
+fn pass(m: &mut Words, time: u64)
+    ensures { λ _. ⌜ Turns (now (m .entry)) (λ h. passed h (tickAt time)) (now (m .exit)) ⌝ }
 {
     let rows = held(m);
     let soonest = rows::soonest(m, rows);
-    if soonest < o.time {
+    if soonest < time {
+        let o = Occurrence {
+            kind: NO_EVENT,
+            stream: NO_STREAM,
+            time,
+            closes: false,
+        };
         let number = m[NUMBERS][0][COUNT];
         rows::ends(m, rows, o, number);
         put_soonest(m, 0);
@@ -71,46 +77,37 @@ fn pass(m: &mut Words, o: Occurrence)
 }
 
 // The same, if the soonest due time says so.
-fn begin(m: &mut Words, o: Occurrence)
-    ensures { λ _. ⌜ ((h : Lent) → now (m .entry) ≡ wordsOf h → Shaped h → now (m .exit) ≡ wordsOf (begun h o)) ⌝ }
-{
-    if m[NUMBERS][0][SOONEST] < o.time {
-        pass(m, o);
-    }
-}
-
-// The same before an event, of which the rows see nothing else yet.
-fn begin_event(m: &mut Words, stream: usize, time: u64)
-    ensures { λ _. ⌜ ((h : Lent) → now (m .entry) ≡ wordsOf h → Shaped h → now (m .exit) ≡ wordsOf (begun h (eventAt stream time))) ⌝ }
+fn begin(m: &mut Words, time: u64)
+    ensures { λ _. ⌜ Turns (now (m .entry)) (λ h. begun h (tickAt time)) (now (m .exit)) ⌝ }
 {
     if m[NUMBERS][0][SOONEST] < time {
-        pass(m, event_of(stream, time));
+        pass(m, time);
     }
 }
 
-// Whether an event crowds a row of its kind: not looked at while there is room.
-fn crowds_on(m: &Words, kind: usize, stream: usize, time: u64) -> bool
-    requires { ⌜ kind < 64 ⌝ }
-    ensures { λ r. ⌜ ((h : Lent) → now (m .entry) ≡ wordsOf h → Shaped h → r ≡ crowdedOn h kind stream time) ⌝ }
+// 1 where a place is found free in every row: looked for at every 32nd step.
+fn room_found(m: &Words) -> u64
+    ensures { λ r. ⌜ ((h : Lent) → now (m .entry) ≡ wordsOf h → Shaped h → r ≡ roomFound h) ⌝ }
 {
-    if 0 < m[NUMBERS][0][ROOM] {
-        return false;
-    }
-    rows::crowds_of(m, kind, event_of(stream, time))
-}
-
-// 1 while a place is free in every row: where that is not known it is found anew at every 32nd step.
-fn room_for(m: &Words) -> u64
-    ensures { λ r. ⌜ ((h : Lent) → now (m .entry) ≡ wordsOf h → Shaped h → r ≡ roomFor h) ⌝ }
-{
-    let room = m[NUMBERS][0][ROOM];
-    if 0 < room {
-        return room;
-    }
     if m[NUMBERS][0][COUNT] % 32 == 0 {
         return smaller(1, minus(64, rows::fullest(m, held(m))));
     }
     0
+}
+
+// Whether an event crowds a row of its kind: the rows are asked only where no room is marked, and where none is crowded the mark is set anew.
+fn crowds_on(m: &mut Words, kind: usize, stream: usize, time: u64) -> bool
+    requires { ⌜ kind < 64 ⌝ }
+    ensures { λ r. ⌜ Asks (now (m .entry)) kind stream time r (now (m .exit)) ⌝ }
+{
+    if 0 < m[NUMBERS][0][ROOM] {
+        return false;
+    }
+    if rows::crowds_of(m, kind, stream as u64, time) {
+        return true;
+    }
+    put_room(m, room_found(m));
+    false
 }
 
 // An event of a stream that is answered with no number but 12.
@@ -121,9 +118,8 @@ fn event_on(m: &mut Words, kind: usize, stream: usize, time: u64) -> u8
     if crowds_on(m, kind, stream, time) {
         return 12;
     }
-    put_room(m, room_for(m));
     count_event(m, stream, time);
-    begin_event(m, stream, time);
+    begin(m, time);
     rows::visits_of(m, kind, stream as u64, time);
     0
 }
@@ -223,13 +219,7 @@ pub fn tick(m: &mut Words, time: u64) -> u8
         return refusal;
     }
     count_tick(m, time);
-    let o = Occurrence {
-        kind: NO_EVENT,
-        stream: NO_STREAM,
-        time,
-        closes: false,
-    };
-    begin(m, o);
+    begin(m, time);
     0
 }
 

@@ -26,7 +26,7 @@ ghost use lib.Dec.{ltb, leb};
 ghost use Rattle.constraint.specs.Limits.{lastCount};
 ghost use Rattle.monitor.specs.declared.Monitor.{Monitor};
 ghost use Rattle.lent.specs.Layout.{Lent, wordsOf, Shaped, numberArray};
-ghost use Rattle.lent.specs.Steps.{withSoonest, withRoom, withNext, withClosed, countedMonitor, countedOn, countedTo, uncountedMonitor};
+ghost use Rattle.lent.specs.Steps.{Turns, withSoonest, withRoom, withNext, withClosed, countedMonitor, countedOn, countedTo, uncountedMonitor};
 
 // The first free time of a stream.
 pub fn free_at(m: &Words, stream: usize) -> u64
@@ -43,7 +43,7 @@ pub fn free_at(m: &Words, stream: usize) -> u64
 // Another first free time of a stream.
 pub fn put_free(m: &mut Words, stream: usize, time: u64)
     requires { ⌜ stream < 176 ⌝ }
-    ensures { λ _. ⌜ ((h : Lent) → now (m .entry) ≡ wordsOf h → Shaped h → now (m .exit) ≡ wordsOf (withNext h (set (h .monitor .next) stream time))) ⌝ }
+    ensures { λ _. ⌜ Turns (now (m .entry)) (λ h. withNext h (set (h .monitor .next) stream time)) (now (m .exit)) ⌝ }
 {
     if stream < 48 {
         m[NUMBERS][0][PLAIN + stream] = time;
@@ -68,14 +68,14 @@ pub fn first_refusal(m: &Words) -> u8
 
 // Another soonest time to look.
 pub fn put_soonest(m: &mut Words, time: u64)
-    ensures { λ _. ⌜ ((h : Lent) → now (m .entry) ≡ wordsOf h → Shaped h → now (m .exit) ≡ wordsOf (withSoonest h time)) ⌝ }
+    ensures { λ _. ⌜ Turns (now (m .entry)) (λ h. withSoonest h time) (now (m .exit)) ⌝ }
 {
     m[NUMBERS][0][SOONEST] = time;
 }
 
 // Another mark for whether there is room.
 pub fn put_room(m: &mut Words, room: u64)
-    ensures { λ _. ⌜ ((h : Lent) → now (m .entry) ≡ wordsOf h → Shaped h → now (m .exit) ≡ wordsOf (withRoom h room)) ⌝ }
+    ensures { λ _. ⌜ Turns (now (m .entry)) (λ h. withRoom h room) (now (m .exit)) ⌝ }
 {
     m[NUMBERS][0][ROOM] = room;
 }
@@ -116,7 +116,7 @@ pub fn count_tick(m: &mut Words, time: u64)
 
 // The recording is closed.
 pub fn shut(m: &mut Words)
-    ensures { λ _. ⌜ ((h : Lent) → now (m .entry) ≡ wordsOf h → Shaped h → now (m .exit) ≡ wordsOf (withClosed h 1)) ⌝ }
+    ensures { λ _. ⌜ Turns (now (m .entry)) (λ h. withClosed h 1) (now (m .exit)) ⌝ }
 {
     m[NUMBERS][0][OPEN] = 0;
 }

@@ -8,16 +8,14 @@ use crate::Words;
 use constraint::NO_LIMIT;
 use machine::parts::smaller;
 use machine::words::DUE;
-use machine::words::LEN;
-use queue::left;
 use row::Occurrence;
 use row::stored;
 use row::stored::larger;
-ghost use Prim.Native.Nat.{_+_, _<_, _≤_};
+ghost use Prim.Native.Nat.{_-_, _<_, _≤_};
 ghost use mathlib.Core.Path.{_≡_};
 ghost use Rattle.row.specs.Machine.{eventAt};
 ghost use Rattle.lent.specs.Layout.{Lent, wordsOf, Shaped, rowNamed, startOf, endOf};
-ghost use Rattle.lent.specs.Steps.{heardOn, ended, soonestOf, crowdedAt, crowded, fullest, backed, rowCount};
+ghost use Rattle.lent.specs.Steps.{Turns, heardOn, ended, soonestOf, crowded, fullest, backed, rowCount};
 
 // The row that an entry names, whatever the word is.
 fn named(m: &Words, place: usize) -> usize
@@ -50,20 +48,20 @@ fn start_of(m: &Words, kind: usize) -> usize
     end_of(m, kind - 1)
 }
 
-// The rows that n entries name, from one on, after an event that concerns them, which is the step of that number.
-fn visits(m: &mut Words, first: usize, n: usize, stream: u64, t: u64, number: u64)
-    requires { ⌜ first + n ≤ 128 ⌝ }
-    ensures { λ _. ⌜ ((h : Lent) → now (m .entry) ≡ wordsOf h → Shaped h → now (m .exit) ≡ wordsOf (heardOn h first n (eventAt stream t) number)) ⌝ }
+// The rows that the entries from a first to an end name, after an event that concerns them, which is the step of that number.
+fn visits(m: &mut Words, first: usize, end: usize, stream: u64, t: u64, number: u64)
+    requires { ⌜ end ≤ 128 ⌝ }
+    ensures { λ _. ⌜ Turns (now (m .entry)) (λ h. heardOn h first (end - first) (eventAt stream t) number) (now (m .exit)) ⌝ }
 {
     let mut soonest = m[NUMBERS][0][SOONEST];
     let mut room = m[NUMBERS][0][ROOM];
-    let mut j = 0;
-    while j < n {
-        let i = named(m, first + j);
+    let mut place = first;
+    while place < end {
+        let i = named(m, place);
         stored::event(&mut m[i], stream, t, number);
         soonest = smaller(soonest, m[i][1][DUE]);
         room = stored::room_in(&m[i], room);
-        j += 1;
+        place += 1;
     }
     m[NUMBERS][0][SOONEST] = soonest;
     m[NUMBERS][0][ROOM] = room;
@@ -72,49 +70,36 @@ fn visits(m: &mut Words, first: usize, n: usize, stream: u64, t: u64, number: u6
 // The rows of a kind after an event of it, which is the step that the count says.
 pub fn visits_of(m: &mut Words, kind: usize, stream: u64, t: u64)
     requires { ⌜ kind < 64 ⌝ }
-    ensures { λ _. ⌜ ((h : Lent) → now (m .entry) ≡ wordsOf h → Shaped h → now (m .exit) ≡ wordsOf (heardOn h (startOf h kind) (rowCount h kind) (eventAt stream t) (h .monitor .count))) ⌝ }
+    ensures { λ _. ⌜ Turns (now (m .entry)) (λ h. heardOn h (startOf h kind) (rowCount h kind) (eventAt stream t) (h .monitor .count)) (now (m .exit)) ⌝ }
 {
     let first = start_of(m, kind);
-    let n = left(end_of(m, kind), first);
+    let end = end_of(m, kind);
     let number = m[NUMBERS][0][COUNT];
-    visits(m, first, n, stream, t, number);
+    visits(m, first, end, stream, t, number);
 }
 
-// Whether what occurs crowds row i, in which at most 64 wait: one in which fewer than 63 wait is not looked at further.
-fn crowds_at(m: &Words, i: usize, o: Occurrence) -> bool
-    requires { ⌜ i < 32 ⌝ }
-    ensures { λ r. ⌜ ((h : Lent) → now (m .entry) ≡ wordsOf h → Shaped h → r ≡ crowdedAt h i o) ⌝ }
+// Whether an event crowds one of the rows that the entries from a first to an end name, which it concerns.
+fn crowds(m: &Words, first: usize, end: usize, stream: u64, t: u64) -> bool
+    requires { ⌜ end ≤ 128 ⌝ }
+    ensures { λ r. ⌜ ((h : Lent) → now (m .entry) ≡ wordsOf h → Shaped h → r ≡ crowded h first (end - first) stream t) ⌝ }
 {
-    if m[i][1][LEN] < 63 {
-        return false;
-    }
-    stored::crowds(&m[i], o)
-}
-
-// Whether what occurs crowds one of the rows that n entries name, from one on.
-fn crowds(m: &Words, first: usize, n: usize, o: Occurrence) -> bool
-    requires { ⌜ first + n ≤ 128 ⌝ }
-    ensures { λ r. ⌜ ((h : Lent) → now (m .entry) ≡ wordsOf h → Shaped h → r ≡ crowded h first n o) ⌝ }
-{
-    let mut j = 0;
-    while j < n {
-        let i = named(m, first + j);
-        if crowds_at(m, i, o) {
+    let mut place = first;
+    while place < end {
+        let i = named(m, place);
+        if stored::full_for(&m[i], stream, t) {
             return true;
         }
-        j += 1;
+        place += 1;
     }
     false
 }
 
-// Whether what occurs crowds a row of a kind.
-pub fn crowds_of(m: &Words, kind: usize, o: Occurrence) -> bool
+// Whether an event crowds a row of its kind.
+pub fn crowds_of(m: &Words, kind: usize, stream: u64, t: u64) -> bool
     requires { ⌜ kind < 64 ⌝ }
-    ensures { λ r. ⌜ ((h : Lent) → now (m .entry) ≡ wordsOf h → Shaped h → r ≡ crowded h (startOf h kind) (rowCount h kind) o) ⌝ }
+    ensures { λ r. ⌜ ((h : Lent) → now (m .entry) ≡ wordsOf h → Shaped h → r ≡ crowded h (startOf h kind) (rowCount h kind) stream t) ⌝ }
 {
-    let first = start_of(m, kind);
-    let n = left(end_of(m, kind), first);
-    crowds(m, first, n, o)
+    crowds(m, start_of(m, kind), end_of(m, kind), stream, t)
 }
 
 // How many places are taken in the fullest of the first n rows.
@@ -148,7 +133,7 @@ pub fn soonest(m: &Words, n: usize) -> u64
 // The first n rows, where the clock or the close alone goes to them.
 pub fn ends(m: &mut Words, n: usize, o: Occurrence, number: u64)
     requires { ⌜ n ≤ 32 ⌝ }
-    ensures { λ _. ⌜ ((h : Lent) → now (m .entry) ≡ wordsOf h → Shaped h → now (m .exit) ≡ wordsOf (ended h n o number)) ⌝ }
+    ensures { λ _. ⌜ Turns (now (m .entry)) (λ h. ended h n o number) (now (m .exit)) ⌝ }
 {
     let mut i = 0;
     while i < n {
@@ -160,7 +145,7 @@ pub fn ends(m: &mut Words, n: usize, o: Occurrence, number: u64)
 // The first n rows without the step of that number.
 pub fn back(m: &mut Words, n: usize, number: u64)
     requires { ⌜ n ≤ 32 ⌝ }
-    ensures { λ _. ⌜ ((h : Lent) → now (m .entry) ≡ wordsOf h → Shaped h → now (m .exit) ≡ wordsOf (backed h n number)) ⌝ }
+    ensures { λ _. ⌜ Turns (now (m .entry)) (λ h. backed h n number) (now (m .exit)) ⌝ }
 {
     let mut i = 0;
     while i < n {

@@ -59,6 +59,10 @@ ruleAt w =
 abbrev pub marksAt : List ℕ → Marks
 marksAt w = record { last = getD w 10 0; first = getD w 11 0; second = getD w 12 0; third = getD w 13 0; fourth = getD w 14 0 }
 
+-- a question that goes by a row's numbers, its marks and how many times it keeps, asked of its words
+abbrev pub askedOf : (Rule → Marks → ℕ → ℕ → ℕ → Bool) → List ℕ → ℕ → ℕ → Bool
+askedOf test w s t = test (ruleAt w) (marksAt w) (getD w 16 0) s t
+
 -- ---- what an event makes of them
 
 -- what is kept of a row before a step that writes from a place on

@@ -22,7 +22,7 @@ answeredAtOnce lower last t = eqb lower 0 && eqb last (plus t 1)
 -- 64 waiting, one more waits: a source that is not answered at once
 unfoldable pub fillsDelay : Rule → Marks → ℕ → ℕ → ℕ → Bool
 fillsDelay rule marks len kind t =
-    cond (ltb len waitingLimit) false (cond (eqb kind (rule .first)) (cond (answeredAtOnce (rule .lower) (marks .last) t) false true) false)
+    cond (eqb kind (rule .first)) (cond (ltb len waitingLimit) false (cond (answeredAtOnce (rule .lower) (marks .last) t) false true)) false
 
 -- a source waits unless it is answered at once; a target leaves with those that it answers
 unfoldable pub decideDelay : Rule → Marks → List ℕ → ℕ → ℕ → Change

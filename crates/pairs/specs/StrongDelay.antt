@@ -13,7 +13,7 @@ use Rattle.machine.specs.declared.Change.{Change}
 
 -- 64 waiting, one more waits: a source, and no target is beyond
 unfoldable pub fillsStrongDelay : Rule → Marks → ℕ → ℕ → ℕ → Bool
-fillsStrongDelay rule marks len kind t = cond (ltb len waitingLimit) false (cond (eqb kind (rule .first)) (eqb (earlyOf marks) 0) false)
+fillsStrongDelay rule marks len kind t = cond (eqb kind (rule .first)) (cond (ltb len waitingLimit) false (eqb (earlyOf marks) 0)) false
 
 -- a source: one that waits, or the partner of the target beyond
 unfoldable pub sourceStrongDelay : Rule → Marks → List ℕ → ℕ → Change

@@ -1,13 +1,11 @@
 // Delay: the times are the waiting sources; last is one more than the last target's time.
-use machine::Marks;
-use machine::Rule;
 use machine::parts;
 use machine::words;
 use queue::SIZE;
 use queue::time_at;
 ghost use mathlib.Core.Path.{_≡_};
 ghost use Rattle.queue.specs.Ring.{ring};
-ghost use Rattle.machine.specs.Words.{Applies};
+ghost use Rattle.machine.specs.Words.{askedOf, Applies};
 ghost use Rattle.pairs.specs.Delay.{answeredBy, answeredAtOnce, fillsDelay, decideDelay};
 
 // What an event makes of the row, where it lies.
@@ -31,19 +29,19 @@ pub fn apply(row: &mut [[u64; SIZE]; 2], stream: u64, t: u64, number: u64)
 }
 
 // Whether an event lets one more wait, where there is no room.
-pub fn fills(rule: Rule, marks: Marks, len: usize, kind: u64, t: u64) -> bool
-    ensures { λ r. ⌜ r ≡ fillsDelay rule marks len kind t ⌝ }
+pub fn fills(w: &[u64; SIZE], kind: u64, t: u64) -> bool
+    ensures { λ r. ⌜ r ≡ askedOf fillsDelay (now (w .entry)) kind t ⌝ }
 {
-    if len < SIZE {
+    if kind != w[words::FIRST] {
         return false;
     }
-    if kind == rule.first {
-        if answered_at_once(rule.lower, marks.last, t) {
-            return false;
-        }
-        return true;
+    if w[words::LEN] < SIZE as u64 {
+        return false;
     }
-    false
+    if answered_at_once(w[words::LOWER], w[words::LAST], t) {
+        return false;
+    }
+    true
 }
 
 // How many of the waiting sources a target at t answers, from the oldest on.

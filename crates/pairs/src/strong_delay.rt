@@ -1,13 +1,11 @@
 // StrongDelay: the times are the sources beyond the number of targets; last is one more than the time of a target beyond
 // the number of sources.
-use machine::Marks;
-use machine::Rule;
 use machine::parts;
 use machine::words;
 use queue::SIZE;
 ghost use mathlib.Core.Path.{_≡_};
 ghost use Prim.Native.Nat.{ℕ};
-ghost use Rattle.machine.specs.Words.{Applies};
+ghost use Rattle.machine.specs.Words.{askedOf, Applies};
 ghost use Rattle.pairs.specs.StrongDelay.{fillsStrongDelay, decideStrongDelay};
 
 // One more than the time of a target beyond the number of sources.
@@ -48,14 +46,14 @@ pub fn apply(row: &mut [[u64; SIZE]; 2], stream: u64, t: u64, number: u64)
 }
 
 // Whether an event lets one more wait, where there is no room.
-pub fn fills(rule: Rule, marks: Marks, len: usize, kind: u64) -> bool
-    ensures { λ r. ⌜ ((t : ℕ) → r ≡ fillsStrongDelay rule marks len kind t) ⌝ }
+pub fn fills(w: &[u64; SIZE], kind: u64) -> bool
+    ensures { λ r. ⌜ ((t : ℕ) → r ≡ askedOf fillsStrongDelay (now (w .entry)) kind t) ⌝ }
 {
-    if len < SIZE {
+    if kind != w[words::FIRST] {
         return false;
     }
-    if kind == rule.first {
-        return marks.last == 0;
+    if w[words::LEN] < SIZE as u64 {
+        return false;
     }
-    false
+    w[EARLY] == 0
 }

@@ -1,8 +1,6 @@
 // Repetition: for the hidden point of each of the last span events, or of all while they are fewer, the places where it can be, from
 // a low to a high. These stand in turn, the oldest first, and an event puts in two numbers.
 use constraint::NO_LIMIT;
-use machine::Marks;
-use machine::Rule;
 use machine::parts;
 use machine::words;
 use queue::SIZE;
@@ -11,8 +9,7 @@ use queue::time_at;
 ghost use mathlib.Core.Path.{_≡_};
 ghost use Prim.Native.Nat.{ℕ};
 ghost use Rattle.queue.specs.Ring.{ring};
-ghost use Rattle.machine.specs.Words.{Applies};
-ghost use Rattle.machine.specs.declared.Marks.{Marks};
+ghost use Rattle.machine.specs.Words.{askedOf, Applies};
 ghost use Rattle.repetition.specs.Repetition.{fillsRepetition, firstHigh, decideRepetition};
 
 // What an event makes of the row, where it lies. Its point comes at most upper behind the oldest that is kept, less one place for each point that is
@@ -44,10 +41,10 @@ pub fn apply(row: &mut [[u64; SIZE]; 2], t: u64, number: u64)
 }
 
 // Whether an event lets two more numbers come, where there is no room for two.
-pub fn fills(rule: Rule, len: usize) -> bool
-    ensures { λ r. ⌜ ((marks : Marks) (kind t : ℕ) → r ≡ fillsRepetition rule marks len kind t) ⌝ }
+pub fn fills(w: &[u64; SIZE]) -> bool
+    ensures { λ r. ⌜ ((kind t : ℕ) → r ≡ askedOf fillsRepetition (now (w .entry)) kind t) ⌝ }
 {
-    ((len / 2) as u64) < rule.span
+    w[words::LEN] / 2 < w[words::SPAN]
 }
 
 // The last place where the oldest point can be; t where there is none.

@@ -32,7 +32,7 @@ use Rattle.chains.specs.declared.reaction.Pair.{Pair}
 use Rattle.chains.specs.Reaction.{afterStimulus, afterResponse, dueBut, paired, decideReaction}
 use Rattle.repetition.specs.Repetition.{hasPlace, placed, fillsRepetition, decideRepetition}
 use Rattle.row.specs.Machine.{decide, concerns, itemsOf, brokenRow, applied, stays, crowding, changedRow, rowStep}
-use Rattle.row.specs.Apart.{fills, crowdedBy, changeBy, withChange, steppedRow}
+use Rattle.row.specs.Apart.{fills, fullFor, crowdedBy, changeBy, withChange, steppedRow}
 use Rattle.row.specs.declared.Occurrence.{Occurrence}
 use Rattle.row.specs.declared.Row.{Row}
 use Rattle.row.specs.declared.RowStep.{RowStep}
@@ -146,12 +146,12 @@ module _ (times : List ℕ) (many : 63 ≤ length times) (few : length times ≤
       let once : Bool = answeredAtOnce (rule .lower) (marks .last) t in
       let target : Change = waits (rule .upper) times (Drop (answeredBy (rule .lower) t times)) (withLast marks (plus t 1)) in
       split (eqb kind (rule .first))
-      (λ a. cond (ltb n waitingLimit) false (cond a (cond once false true) false)
+      (λ a. cond a (cond (ltb n waitingLimit) false (cond once false true)) false
       ≡ crowds-of (cond a (waits (rule .upper) times (cond once (Drop 0) (Push 0 t)) marks) target) times)
       (λ _. split once
       (λ b. cond (ltb n waitingLimit) false (cond b false true) ≡ crowds-of (waits (rule .upper) times (cond b (Drop 0) (Push 0 t)) marks) times)
       (λ _. never (ltb n waitingLimit) ∙ sym (dropped 0)) (λ _. sym (pushed t)))
-      (λ _. never (ltb n waitingLimit) ∙ sym (dropped (answeredBy (rule .lower) t times)))
+      (λ _. sym (dropped (answeredBy (rule .lower) t times)))
 
   target-calm : (rule : Rule) (marks : Marks) (t : ℕ) → Calm (targetStrongDelay rule marks times t)
   unfolding targetStrongDelay
@@ -166,13 +166,13 @@ module _ (times : List ℕ) (many : 63 ≤ length times) (few : length times ≤
   unfolding fillsStrongDelay decideStrongDelay sourceStrongDelay
   strong-delay rule marks kind t =
       split (eqb kind (rule .first))
-      (λ a. cond (ltb n waitingLimit) false (cond a (eqb (earlyOf marks) 0) false)
+      (λ a. cond a (cond (ltb n waitingLimit) false (eqb (earlyOf marks) 0)) false
       ≡ crowds-of (cond a (waits (rule .upper) times (cond (eqb (earlyOf marks) 0) (Push 0 t) (Drop 0)) (withLast marks 0))
       (targetStrongDelay rule marks times t)) times)
       (λ _. split (eqb (earlyOf marks) 0)
       (λ b. cond (ltb n waitingLimit) false b ≡ crowds-of (waits (rule .upper) times (cond b (Push 0 t) (Drop 0)) (withLast marks 0)) times)
       (λ _. sym (pushed t)) (λ _. never (ltb n waitingLimit) ∙ sym (dropped 0)))
-      (λ _. never (ltb n waitingLimit) ∙ sym (target-calm rule marks t))
+      (λ _. sym (target-calm rule marks t))
 
   replaced : (t : ℕ) → ltb 64 (length (drop 1 times ++ (t ∷ []))) ≡ false
   replaced t = rw (length-append (drop 1 times) (t ∷ []), length-drop 1 times) (le-ltb 64 (n - 1 + 1) (omega (arith, few, many)))
@@ -184,11 +184,11 @@ module _ (times : List ℕ) (many : 63 ≤ length times) (few : length times ≤
       let reached : Bool = leb (front times + rule .lower) t in
       let on : Bool → Change = λ s. continuesWith (Push (cond s 0 1) t) (withLast marks (plus t 1))
       (dueOr (plus t (rule .upper)) (rule .upper) (drop (cond s 0 1) times)) true in
-      split (ltb n (rule .span)) (λ s. cond (ltb n waitingLimit) false (cond s far false)
+      split (ltb n (rule .span)) (λ s. cond s (cond (ltb n waitingLimit) false far) false
       ≡ crowds-of (cond (far && (s || reached)) (on s) breaking) times)
       (λ _. split far (λ f. cond (ltb n waitingLimit) false f ≡ crowds-of (cond (f && true) (on true) breaking) times)
       (λ _. sym (pushed t)) (λ _. never (ltb n waitingLimit)))
-      (λ _. never (ltb n waitingLimit) ∙ sym (calm-by (far && reached) (on false) breaking (replaced t) refl))
+      (λ _. sym (calm-by (far && reached) (on false) breaking (replaced t) refl))
 
   repetition : (rule : Rule) (marks : Marks) (kind t : ℕ)
       → fillsRepetition rule marks n kind t ≡ crowds-of (decideRepetition rule marks times kind t) times
@@ -313,17 +313,29 @@ module _ (times : List ℕ) (many : 63 ≤ length times) (few : length times ≤
 
 -- ---- the question
 
--- it is answered as a step of the row would answer it
+-- an event of one of its own kinds crowds it as a step of the row would
+pub full-known : (r : Row) (o : Occurrence) → r .now .len ≤ 64 → concerns (r .rule) (o .kind) ≡ true
+    → fullFor (r .rule) (r .now) (o .stream) (o .time) ≡ crowds o r
+unfolding fullFor
+full-known r o few own =
+    let size : length (itemsOf r) ≡ r .now .len = ring-length (r .times) (r .now .head) (r .now .len) in
+    let open-to : Bool → Bool = λ b. cond (ltb 0 (r .now .broken)) false (cond (ltb (r .now .due) (o .time)) false b) in
+    split (ltb (r .now .len) 63) (λ b. ltb (r .now .len) 63 ≡ b
+    → cond b false (open-to (fills (r .rule) (r .now .marks) (r .now .len) (o .stream) (o .time))) ≡ crowds o r)
+    (λ _ e. sym (room-left r o (omega (arith, size, ltb-true (r .now .len) 63 e))))
+    (λ _ e. rw (own, le-ltb waitingLimit (r .now .len) few) (ap open-to (ap (λ (k : ℕ). fills (r .rule) (r .now .marks) k (o .stream) (o .time))
+    (sym size) ∙ fills-known (itemsOf r) (omega (arith, size, ltb-false (r .now .len) 63 e)) (omega (arith, size, few)) (r .rule) (r .now .marks)
+    (o .stream) (o .time))))
+    refl
+
+-- the question is answered as a step of the row would answer it
 pub crowded-known : (r : Row) (o : Occurrence) → r .now .len ≤ 64 → crowdedBy (r .rule) (r .now) o ≡ crowds o r
 unfolding crowdedBy
 crowded-known r o few =
-    let size : length (itemsOf r) ≡ r .now .len = ring-length (r .times) (r .now .head) (r .now .len) in
-    let own : Bool → Bool = λ b. cond (ltb 0 (r .now .broken)) false
-    (cond (ltb (r .now .due) (o .time)) false (cond (concerns (r .rule) (o .kind)) b false)) in
-    split (ltb (r .now .len) 63) (λ b. ltb (r .now .len) 63 ≡ b
-    → cond b false (own (fills (r .rule) (r .now .marks) (r .now .len) (o .stream) (o .time))) ≡ crowds o r)
-    (λ _ e. sym (room-left r o (omega (arith, size, ltb-true (r .now .len) 63 e))))
-    (λ _ e. rw (le-ltb waitingLimit (r .now .len) few) (ap own (ap (λ (k : ℕ). fills (r .rule) (r .now .marks) k (o .stream) (o .time)) (sym size)
-    ∙ fills-known (itemsOf r) (omega (arith, size, ltb-false (r .now .len) 63 e)) (omega (arith, size, few)) (r .rule) (r .now .marks) (o .stream)
-    (o .time))))
-    refl
+    split (concerns (r .rule) (o .kind)) (λ own. concerns (r .rule) (o .kind) ≡ own
+    → cond own (fullFor (r .rule) (r .now) (o .stream) (o .time)) false ≡ crowds o r)
+    (λ _ own. full-known r o few own) (λ _ other. sym (rw other (not-heard (ltb 0 (r .now .broken)) (ltb (r .now .due) (o .time))))) refl
+  where
+    not-heard : (broken late : Bool) → cond broken false (cond late false false) ≡ false
+    not-heard true late = refl
+    not-heard false late = never late

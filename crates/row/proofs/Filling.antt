@@ -18,7 +18,7 @@ use Rattle.spans.specs.Repeat.{fillsRepeat}
 use Rattle.groups.specs.StrongSynchronization.{fillsStrongSynchronization}
 use Rattle.repetition.specs.Repetition.{fillsRepetition}
 use Rattle.row.specs.Machine.{concerns, brokenRow, stays, rowStep}
-use Rattle.row.specs.Apart.{fills, fillsNever, crowdedBy}
+use Rattle.row.specs.Apart.{fills, fillsNever, fullFor}
 use Rattle.row.specs.Stored.{beyond, filledInTwos, filledBy, roomIn}
 use Rattle.row.specs.declared.Occurrence.{Occurrence}
 use Rattle.row.specs.declared.Row.{Row}
@@ -43,13 +43,18 @@ module _ (rule : Rule) (marks : Marks) (len s t : ℕ) (many : 63 ≤ len) where
   room : len < 64 → (b : Bool) → cond (ltb len waitingLimit) false b ≡ false
   room l b = rw (lt-ltb len 64 l)
 
+  -- where another test is asked before
+  neither : (b : Bool) → cond b false false ≡ false
+  neither true = refl
+  neither false = refl
+
   free-delay : len < 64 → fillsDelay rule marks len s t ≡ false
   unfolding fillsDelay
-  free-delay l = room l _
+  free-delay l = rw (lt-ltb len 64 l) (neither (eqb s (rule .first)))
 
   free-strong-delay : len < 64 → fillsStrongDelay rule marks len s t ≡ false
   unfolding fillsStrongDelay
-  free-strong-delay l = room l _
+  free-strong-delay l = rw (lt-ltb len 64 l) (neither (eqb s (rule .first)))
 
   free-synchronization : len < 64 → fillsStrongSynchronization rule marks len s t ≡ false
   unfolding fillsStrongSynchronization
@@ -58,11 +63,12 @@ module _ (rule : Rule) (marks : Marks) (len s t : ℕ) (many : 63 ≤ len) where
   free-repeat : beyond 64 (rule .span) len < 64 → fillsRepeat rule marks len s t ≡ false
   unfolding fillsRepeat
   free-repeat =
-      split (ltb 64 (rule .span)) (λ b. cond b len 0 < 64 → fillsRepeat rule marks len s t ≡ false) (λ _ l. room l _)
+      split (ltb 64 (rule .span)) (λ b. cond b len 0 < 64 → fillsRepeat rule marks len s t ≡ false)
+      (λ _ l. rw (lt-ltb len 64 l) (neither (ltb len (rule .span))))
       (λ e _.
       let far : Bool = farEnough (rule .minimum) (marks .last) t in
-      split (ltb len 64) (λ b. cond b false (cond (ltb len (rule .span)) far false) ≡ false) (λ _. refl)
-      (λ f. ap (λ (b : Bool). cond b far false) (le-ltb len (rule .span) (omega (arith, ltb-false 64 (rule .span) e, ltb-false len 64 f)))))
+      split (ltb len (rule .span)) (λ b. cond b (cond (ltb len waitingLimit) false far) false ≡ false)
+      (λ f. room (omega (arith, ltb-false 64 (rule .span) e, ltb-true len (rule .span) f)) far) (λ _. refl))
 
   full : 64 < 64 → ⊥
   full l = omega (arith, l)
@@ -85,21 +91,20 @@ module _ (rule : Rule) (marks : Marks) (len s t : ℕ) (many : 63 ≤ len) where
       free-repeat (λ _. refl) (λ _. refl) (λ _. refl) free-repetition
       (λ n1 n2 n3 n4 n5 n6 n8 n9 n10. rw (n1, n2, n3, n4, n5, n6, n8, n9, n10) free-synchronization)
 
-pub room-free : (rule : Rule) (now : State) (o : Occurrence) → filledBy (rule .form) (rule .span) (now .len) < 64 → crowdedBy rule now o ≡ false
-unfolding crowdedBy
-room-free rule now o l =
+pub room-free : (rule : Rule) (now : State) (s t : ℕ) → filledBy (rule .form) (rule .span) (now .len) < 64 → fullFor rule now s t ≡ false
+unfolding fullFor
+room-free rule now s t l =
     split (ltb (now .len) 63)
-    (λ b. ltb (now .len) 63 ≡ b → cond b false (cond (ltb 0 (now .broken)) false (cond (ltb (now .due) (o .time)) false
-    (cond (concerns rule (o .kind)) (fills rule (now .marks) (now .len) (o .stream) (o .time)) false))) ≡ false)
+    (λ b. ltb (now .len) 63 ≡ b → cond b false (cond (ltb 0 (now .broken)) false (cond (ltb (now .due) t) false
+    (fills rule (now .marks) (now .len) s t))) ≡ false)
     (λ _ _. refl)
-    (λ _ e. rw (free-by rule (now .marks) (now .len) (o .stream) (o .time) (ltb-false (now .len) 63 e) (rule .form) l)
-    (all-false (ltb 0 (now .broken)) (ltb (now .due) (o .time)) (concerns rule (o .kind)))) refl
+    (λ _ e. rw (free-by rule (now .marks) (now .len) s t (ltb-false (now .len) 63 e) (rule .form) l)
+    (all-false (ltb 0 (now .broken)) (ltb (now .due) t))) refl
   where
-    all-false : (a b c : Bool) → cond a false (cond b false (cond c false false)) ≡ false
-    all-false true b c = refl
-    all-false false true c = refl
-    all-false false false true = refl
-    all-false false false false = refl
+    all-false : (a b : Bool) → cond a false (cond b false false) ≡ false
+    all-false true b = refl
+    all-false false true = refl
+    all-false false false = refl
 
 -- ---- how many places are taken
 

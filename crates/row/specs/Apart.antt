@@ -38,14 +38,21 @@ fills rule =
     (cond (eqb (rule .form) 10) (fillsRepetition rule)
     (fillsStrongSynchronization rule))))))))
 
--- what occurs crowds a row in which at most 64 wait
-unfoldable pub crowdedBy : Rule → State → Occurrence → Bool
-crowdedBy rule now o =
+-- an event of one of the row's streams crowds it, where at most 64 wait
+unfoldable pub fullFor : Rule → State → ℕ → ℕ → Bool
+fullFor rule now stream t =
     cond (ltb (now .len) 63) false
     (cond (ltb 0 (now .broken)) false
-    (cond (ltb (now .due) (o .time)) false
-    (cond (concerns rule (o .kind)) (fills rule (now .marks) (now .len) (o .stream) (o .time))
-    false)))
+    (cond (ltb (now .due) t) false
+    (fills rule (now .marks) (now .len) stream t)))
+
+-- what occurs crowds a row in which at most 64 wait
+unfoldable pub crowdedBy : Rule → State → Occurrence → Bool
+crowdedBy rule now o = cond (concerns rule (o .kind)) (fullFor rule now (o .stream) (o .time)) false
+
+-- an event goes to the row: to an open one that is not overdue, and that it concerns
+abbrev pub heardBy : Rule → State → Occurrence → Bool
+heardBy rule now o = cond (ltb 0 (now .broken)) false (cond (ltb (now .due) (o .time)) false (concerns rule (o .kind)))
 
 -- ---- the clock and the close
 

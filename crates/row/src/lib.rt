@@ -1,30 +1,17 @@
 // One row of the monitor: its constraint as numbers, what it keeps of the events so far, and its step.
 use constraint::Constraint;
 use constraint::NO_LIMIT;
-use constraint::WAITING_LIMIT;
-use groups::strong_synchronization;
 pub use machine::Marks;
 pub use machine::Rule;
 pub use machine::State;
 use machine::numbers;
 use machine::parts;
-use pairs::delay;
-use pairs::strong_delay;
 use queue::SIZE;
-use spans::repeat;
 ghost use mathlib.Core.Path.{_≡_};
-ghost use mathlib.Core.List.{List};
-ghost use Prim.Native.Nat.{ℕ};
-ghost use mathlib.Core.Bool.{false, cond};
-ghost use lib.Dec.{ltb};
 ghost use Rattle.row.specs.Undo.{savedBy, rowWithout, keptWithout, noBefore};
-ghost use Rattle.row.specs.Apart.{fills, crowdedBy};
-ghost use Rattle.row.specs.Machine.{concerns, rowFrom, rowOf, rowStep};
+ghost use Rattle.row.specs.Machine.{concerns, rowOf, rowStep};
 
 pub mod stored;
-
-// A row with fewer waiting has room for two more words.
-const ROOMY: usize = WAITING_LIMIT - 1;
 
 #[repr(C)]
 pub struct Row {
@@ -66,67 +53,6 @@ pub fn concerns(rule: Rule, kind: u64) -> bool
     kind == rule.first || (kind == rule.second || (kind == rule.third || kind == rule.fourth))
 }
 
-// Whether an event of one of the row's streams lets more wait than there is room for, 63 or 64 waiting.
-fn fills(rule: Rule, marks: Marks, len: usize, stream: u64, t: u64) -> bool
-    ensures { λ r. ⌜ r ≡ fills rule marks len stream t ⌝ }
-{
-    let form = rule.form;
-    match form {
-        1 => delay::fills(rule, marks, len, stream, t),
-        2 => strong_delay::fills(rule, marks, len, stream),
-        3 | 5 => repeat::fills(rule, marks, len, t),
-        4 => false,
-        6 => false,
-        8 => false,
-        9 => false,
-        10 => repetition::fills(rule, len),
-        _ => strong_synchronization::fills(rule, marks, len, stream),
-    }
-}
-
-// Whether what occurs crowds a row in which at most 64 wait: it is not tried, and its times are not read.
-pub fn crowded_by(rule: Rule, now: State, o: Occurrence) -> bool
-    ensures { λ r. ⌜ r ≡ crowdedBy rule now o ⌝ }
-{
-    if now.len < ROOMY {
-        return false;
-    }
-    if 0 < now.broken {
-        return false;
-    }
-    if now.due < o.time {
-        return false;
-    }
-    if concerns(rule, o.kind) {
-        return fills(rule, now.marks, now.len, o.stream, o.time);
-    }
-    false
-}
-
-// Whether an event goes to the row: to an open one that is not overdue, and that it concerns.
-fn hears(rule: Rule, now: State, o: Occurrence) -> bool
-    ensures { λ r. ⌜ r ≡ cond (ltb 0 (now .broken)) false (cond (ltb (now .due) (o .time)) false (concerns rule (o .kind))) ⌝ }
-{
-    if 0 < now.broken {
-        return false;
-    }
-    if now.due < o.time {
-        return false;
-    }
-    concerns(rule, o.kind)
-}
-
-// Whether what occurs would leave the row open with more than 64 waiting: each event does that goes to a row in which more wait, as no step leaves
-// one.
-fn crowded(rule: Rule, now: State, o: Occurrence) -> bool
-    ensures { λ r. ⌜ ((times : List ℕ) (number : ℕ) → r ≡ rowStep (rowFrom rule times now) o number .crowded) ⌝ }
-{
-    if WAITING_LIMIT < now.len {
-        return hears(rule, now, o);
-    }
-    crowded_by(rule, now, o)
-}
-
 impl Row {
     // The row of a constraint before any step.
     pub fn begin(c: Constraint) -> Self
@@ -152,13 +78,13 @@ impl Row {
     pub fn step(self, o: Occurrence, number: u64) -> RowStep
         ensures { λ r. ⌜ r ≡ rowStep self o number ⌝ }
     {
-        if crowded(self.rule, self.now, o) {
+        let mut words = stored::laid(self, Before::none());
+        if stored::crowded(&words, o) {
             return RowStep {
                 crowded: true,
                 row: self,
             };
         }
-        let mut words = stored::laid(self, Before::none());
         stored::step(&mut words, o, number);
         RowStep {
             crowded: false,

@@ -3,9 +3,9 @@ use crate::Before;
 use crate::Occurrence;
 use crate::Row;
 use crate::concerns;
-use crate::crowded_by;
 use chains::reaction;
 use constraint::Constraint;
+use constraint::WAITING_LIMIT;
 use groups::strong_synchronization;
 use machine::Marks;
 use machine::Rule;
@@ -23,18 +23,22 @@ use queue::SIZE;
 use queue::minus;
 use queue::put_back;
 use spans::repeat;
+ghost use Prim.Native.Nat.{ℕ};
 ghost use mathlib.Core.Path.{_≡_};
 ghost use lib.ListN.{replicate};
-ghost use Rattle.machine.specs.Words.{Applies, Past, numberWords};
+ghost use Rattle.machine.specs.Words.{Applies, Past, askedOf, numberWords};
 ghost use Rattle.machine.specs.declared.Rule.{Rule};
 ghost use Rattle.machine.specs.declared.State.{State};
 ghost use Rattle.row.specs.Undo.{noState, noBefore, savedBy, rowWithout, keptWithout};
-ghost use Rattle.row.specs.Apart.{crowdedBy, steppedRow};
-ghost use Rattle.row.specs.Machine.{decide, eventAt, rowOf};
+ghost use Rattle.row.specs.Apart.{fills, fullFor, crowdedBy, heardBy, steppedRow};
+ghost use Rattle.row.specs.Machine.{decide, eventAt, rowOf, rowStep};
 ghost use Rattle.row.specs.declared.Before.{Before};
 ghost use Rattle.row.specs.declared.Row.{Row};
 ghost use Rattle.row.specs.Stored.{pastOf, wordsOf, eventRow, eventSaves, endedRow, endedSaves};
 ghost use Rattle.row.specs.Stored.{larger, beyond, filledInTwos, filledBy, filledIn, roomIn, Becomes, stateAt, nothing};
+
+// A row with fewer waiting has room for two more words.
+const ROOMY: usize = WAITING_LIMIT - 1;
 
 // What the row keeps.
 fn state_at(w: &[u64; SIZE]) -> State
@@ -252,13 +256,72 @@ pub fn without(row: &mut [[u64; SIZE]; 2], number: u64)
     restore(&mut row[1]);
 }
 
+// Whether an event of one of the row's streams lets more wait than there is room for, 63 or 64 waiting: by its type.
+fn fills(w: &[u64; SIZE], stream: u64, t: u64) -> bool
+    ensures { λ r. ⌜ r ≡ askedOf fills (now (w .entry)) stream t ⌝ }
+{
+    let form = w[words::FORM];
+    match form {
+        1 => delay::fills(w, stream, t),
+        2 => strong_delay::fills(w, stream),
+        3 | 5 => repeat::fills(w, t),
+        4 => false,
+        6 => false,
+        8 => false,
+        9 => false,
+        10 => repetition::fills(w),
+        _ => strong_synchronization::fills(w, stream),
+    }
+}
+
+// Whether an event of one of the row's streams crowds it, where at most 64 wait: it is not tried, and the times are not read.
+pub fn full_for(row: &[[u64; SIZE]; 2], stream: u64, t: u64) -> bool
+    ensures { λ r. ⌜ ((w : Row) (b : Before) → now (row .entry) ≡ wordsOf w b → r ≡ fullFor (w .rule) (w .now) stream t) ⌝ }
+{
+    if (row[1][words::LEN] as usize) < ROOMY {
+        return false;
+    }
+    if 0 < row[1][words::BROKEN] {
+        return false;
+    }
+    if row[1][words::DUE] < t {
+        return false;
+    }
+    fills(&row[1], stream, t)
+}
+
 // Whether what occurs crowds the row, in which at most 64 wait.
 pub fn crowds(row: &[[u64; SIZE]; 2], o: Occurrence) -> bool
     ensures { λ r. ⌜ ((w : Row) (b : Before) → now (row .entry) ≡ wordsOf w b → r ≡ crowdedBy (w .rule) (w .now) o) ⌝ }
 {
-    let rule = rule_at(&row[1]);
-    let state = state_at(&row[1]);
-    crowded_by(rule, state, o)
+    if concerns(rule_at(&row[1]), o.kind) {
+        return full_for(row, o.stream, o.time);
+    }
+    false
+}
+
+// Whether an event goes to the row: to an open one that is not overdue, and that it concerns.
+fn hears(row: &[[u64; SIZE]; 2], o: Occurrence) -> bool
+    ensures { λ r. ⌜ ((w : Row) (b : Before) → now (row .entry) ≡ wordsOf w b → r ≡ heardBy (w .rule) (w .now) o) ⌝ }
+{
+    if 0 < row[1][words::BROKEN] {
+        return false;
+    }
+    if row[1][words::DUE] < o.time {
+        return false;
+    }
+    concerns(rule_at(&row[1]), o.kind)
+}
+
+// Whether what occurs would leave the row open with more than 64 waiting: each event does that goes to a row in which more wait, as no step leaves
+// one.
+pub fn crowded(row: &[[u64; SIZE]; 2], o: Occurrence) -> bool
+    ensures { λ r. ⌜ ((w : Row) (b : Before) (number : ℕ) → now (row .entry) ≡ wordsOf w b → r ≡ rowStep w o number .crowded) ⌝ }
+{
+    if WAITING_LIMIT < row[1][words::LEN] as usize {
+        return hears(row, o);
+    }
+    crowds(row, o)
 }
 
 // The row is that of a constraint before any step.

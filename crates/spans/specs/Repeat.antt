@@ -27,7 +27,7 @@ dueWith rule times t = dueOr (plus t (rule .upper)) (rule .upper) (drop (leaving
 
 -- 64 kept, one more is kept: none leaves, as the span is longer, and the event is far enough from the last
 unfoldable pub fillsRepeat : Rule → Marks → ℕ → ℕ → ℕ → Bool
-fillsRepeat rule marks len kind t = cond (ltb len waitingLimit) false (cond (ltb len (rule .span)) (farEnough (rule .minimum) (marks .last) t) false)
+fillsRepeat rule marks len kind t = cond (ltb len (rule .span)) (cond (ltb len waitingLimit) false (farEnough (rule .minimum) (marks .last) t)) false
 
 unfoldable pub decideRepeat : Rule → Marks → List ℕ → ℕ → ℕ → Change
 decideRepeat rule marks times kind t =

@@ -1,13 +1,11 @@
 // Repeat and Burst: the times are those of the last span events, or of all while they are fewer; last is one more than
 // the last event's time. A Repeat has minimum 0, a Burst no upper.
-use machine::Marks;
-use machine::Rule;
 use machine::parts;
 use machine::words;
 use queue::SIZE;
 ghost use mathlib.Core.Path.{_≡_};
 ghost use Prim.Native.Nat.{ℕ};
-ghost use Rattle.machine.specs.Words.{Applies};
+ghost use Rattle.machine.specs.Words.{askedOf, Applies};
 ghost use Rattle.spans.specs.Repeat.{fillsRepeat, decideRepeat};
 
 // What an event makes of the row, where it lies.
@@ -34,14 +32,14 @@ pub fn apply(row: &mut [[u64; SIZE]; 2], t: u64, number: u64)
 }
 
 // Whether an event lets one more be kept, where there is no room.
-pub fn fills(rule: Rule, marks: Marks, len: usize, t: u64) -> bool
-    ensures { λ r. ⌜ ((kind : ℕ) → r ≡ fillsRepeat rule marks len kind t) ⌝ }
+pub fn fills(w: &[u64; SIZE], t: u64) -> bool
+    ensures { λ r. ⌜ ((kind : ℕ) → r ≡ askedOf fillsRepeat (now (w .entry)) kind t) ⌝ }
 {
-    if len < SIZE {
+    if w[words::SPAN] <= w[words::LEN] {
         return false;
     }
-    if (len as u64) < rule.span {
-        return parts::far_enough(rule.minimum, marks.last, t);
+    if w[words::LEN] < SIZE as u64 {
+        return false;
     }
-    false
+    parts::far_enough(w[words::MINIMUM], w[words::LAST], t)
 }

@@ -1,12 +1,13 @@
 -- The test is that of `fillsRepetition`.
 use mathlib.Core.Path.{refl}
 use Rattle.repetition.specs.Repetition.{fillsRepetition}
+use borrow.Author.Needs.{needs}
 use Rattle.repetition.proofs.fills.Statement.{statement}
 use Rattle.repetition.proofs.fills.Tie as tie
 
 returns : tie.Need-returns
 unfolding fillsRepetition
-returns c marks kind t = refl
+returns c kind t = refl
 
 pub fills-spec : {M : Type 1} → statement M
-fills-spec = tie.close (tie.spec returns)
+fills-spec = tie.close (tie.spec (λ c. search needs) (λ c. search needs) returns)

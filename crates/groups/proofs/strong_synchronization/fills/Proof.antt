@@ -1,7 +1,7 @@
 -- The tests are those of `fillsStrongSynchronization`, in its order.
 use borrow.Author.Tests.{lt-ltb, le-ltb}
-use Rattle.queue.proofs.Shared.{free}
 use Rattle.groups.specs.StrongSynchronization.{fillsStrongSynchronization}
+use borrow.Author.Needs.{needs}
 use Rattle.groups.proofs.strong_synchronization.fills.Statement.{statement}
 use Rattle.groups.proofs.strong_synchronization.fills.Tie as tie
 
@@ -12,14 +12,15 @@ returns c t = rw (lt-ltb _ _ (c .if1 .taken))
 returns-2 : tie.Need-returns-2
 unfolding fillsStrongSynchronization
 returns-2 c t =
-    let b = c .before in
-    rw (le-ltb _ _ (b .before .if1 .left), ← b .count-of .ensures, lt-ltb _ _ (c .if2 .taken))
+    let b = c .before .before in
+    rw (le-ltb _ _ (b .before .if1 .left), ← b .count-at .ensures, lt-ltb _ _ (c .if2 .taken))
 
 returns-3 : tie.Need-returns-3
 unfolding fillsStrongSynchronization
 returns-3 c t =
-    let b = c .before in
-    rw (le-ltb _ _ (b .before .if1 .left), ← b .count-of .ensures, le-ltb _ _ (c .if2 .left))
+    let b = c .before .before in
+    rw (le-ltb _ _ (b .before .if1 .left), ← b .count-at .ensures, le-ltb _ _ (c .if2 .left))
 
 pub fills-spec : {M : Type 1} → statement M
-fills-spec = tie.close (tie.spec returns free returns-2 returns-3)
+fills-spec =
+    tie.close (tie.spec (λ c. search needs) returns (λ c κs. search needs) (λ c. search needs) returns-2 returns-3)

@@ -13,15 +13,15 @@ use Rattle.lent.proofs.calls.begin.Tie as tie
 returns : tie.Need-returns
 returns c h e s =
     let i = c .before .before in
-    let a = i .before .before .before .args in
-    let past : ltb (h .soonest) (a .o .time) ≡ true = ap (λ (x : ℕ). ltb x (a .o .time)) (sym (number-at h s (now (a .m)) e 4))
+    let a = i .before .before .args in
+    let past : ltb (h .soonest) (a .time) ≡ true = ap (λ (x : ℕ). ltb x (a .time)) (sym (number-at h s (now (a .m)) e 4))
     ∙ lt-ltb _ _ (i .if1 .taken) in
     rw past (c .pass .ensures h e s)
 
 returns-2 : tie.Need-returns-2
 returns-2 c h e s =
-    let a = c .before .before .before .args in
-    let not-past : ltb (h .soonest) (a .o .time) ≡ false = ap (λ (x : ℕ). ltb x (a .o .time)) (sym (number-at h s (now (a .m)) e 4))
+    let a = c .before .before .args in
+    let not-past : ltb (h .soonest) (a .time) ≡ false = ap (λ (x : ℕ). ltb x (a .time)) (sym (number-at h s (now (a .m)) e 4))
     ∙ le-ltb _ _ (c .if1 .left) in
     rw not-past e
 

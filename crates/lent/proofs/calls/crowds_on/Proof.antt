@@ -1,32 +1,58 @@
--- While there is room nothing is looked at; else the rows are asked.
+-- While there is room nothing is looked at; else the rows are asked, and where none is crowded the mark for room is set.
+use Prim.Native.Nat.{ℕ}
 use mathlib.Core.Path.{_≡_, refl, sym, ap, _∙_}
 use mathlib.Core.Bool.{true, false}
 use lib.Dec.{ltb}
 use denote.Ref.{now}
 use borrow.Author.Tests.{lt-ltb, le-ltb}
-use Rattle.row.specs.declared.Occurrence.{Occurrence}
-use Rattle.lent.specs.Layout.{startOf}
-use Rattle.lent.specs.Steps.{crowded, rowCount}
+use Rattle.constraint.proofs.Lists.{both}
+use Rattle.lent.specs.Layout.{Lent, wordsOf, Shaped}
+use Rattle.lent.specs.Steps.{withRoom}
 use Rattle.lent.proofs.Parts.{number-at}
 use borrow.Author.Needs.{needs}
 use Rattle.lent.proofs.calls.crowds_on.Statement.{statement}
 use Rattle.lent.proofs.calls.crowds_on.Tie as tie
 
 returns : tie.Need-returns
-returns c h e s =
+returns c =
     let a = c .before .before .args in
-    let some : ltb 0 (h .room) ≡ true = ap (ltb 0) (sym (number-at h s (now (a .m)) e 11)) ∙ lt-ltb _ _ (c .if1 .taken) in
-    rw some refl
+    let some : (h : Lent) → now (a .m) ≡ wordsOf h → Shaped h → ltb 0 (h .room) ≡ true =
+    λ h e s. ap (ltb 0) (sym (number-at h s (now (a .m)) e 11)) ∙ lt-ltb _ _ (c .if1 .taken) in
+    record {
+      untouched = λ _. refl;
+      asked = λ h e s. rw (some h e s) refl;
+      marked = λ h e s _. rw (some h e s) e;
+    }
 
 returns-2 : tie.Need-returns-2
-returns-2 c h e s =
-    let v = c .before in
-    let i = v .before in
+returns-2 c =
+    let q = c .before in
+    let i = q .before .before in
     let a = i .before .before .args in
-    let none : ltb 0 (h .room) ≡ false = ap (ltb 0) (sym (number-at h s (now (a .m)) e 11)) ∙ le-ltb _ _ (i .if1 .left) in
-    rw none
-    (c .crowds-of .ensures h e s ∙ ap (λ (o : Occurrence). crowded h (startOf h (a .kind)) (rowCount h (a .kind)) o) (v .event-of .ensures))
+    let none : (h : Lent) → now (a .m) ≡ wordsOf h → Shaped h → ltb 0 (h .room) ≡ false =
+    λ h e s. ap (ltb 0) (sym (number-at h s (now (a .m)) e 11)) ∙ le-ltb _ _ (i .if1 .left) in
+    record {
+      untouched = λ _. refl;
+      asked = λ h e s. rw (none h e s) (sym (c .if2 .taken) ∙ q .crowds-of .ensures h e s);
+      marked = λ h e s calm. both calm;
+    }
+
+returns-3 : tie.Need-returns-3
+returns-3 c =
+    let f = c .before in
+    let j = f .before .before .before in
+    let q = j .before in
+    let i = q .before .before in
+    let a = i .before .before .args in
+    let none : (h : Lent) → now (a .m) ≡ wordsOf h → Shaped h → ltb 0 (h .room) ≡ false =
+    λ h e s. ap (ltb 0) (sym (number-at h s (now (a .m)) e 11)) ∙ le-ltb _ _ (i .if1 .left) in
+    record {
+      untouched = λ full. both (sym full);
+      asked = λ h e s. rw (none h e s) (sym (j .if2 .left) ∙ q .crowds-of .ensures h e s);
+      marked = λ h e s _. rw (none h e s) (c .put-room .ensures h e s ∙ ap (λ (n : ℕ). wordsOf (withRoom h n)) (f .room-found .ensures h e s));
+    }
 
 pub crowds-on-spec : {M : Type 1} → statement M
 crowds-on-spec =
-    tie.close (tie.spec (λ c. search needs) (λ c. search needs) (λ c. search needs) returns (λ c κs. search needs) (λ c κs. search needs) returns-2)
+    tie.close (tie.spec (λ c. search needs) (λ c. search needs) (λ c. search needs) returns (λ c κs. search needs) returns-2 (λ c κs. search needs)
+    (λ c κs. search needs) returns-3)

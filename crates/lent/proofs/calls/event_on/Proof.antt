@@ -1,11 +1,10 @@
 -- Where the event crowds a row nothing is stored; else the numbers, the rows to which the clock goes, and the rows of its kind, one after the other.
-use Prim.Native.Nat.{ℕ}
 use mathlib.Core.Path.{_≡_, refl, sym, ap, _∙_}
 use mathlib.Core.Bool.{true, false}
 use Rattle.row.specs.Machine.{eventAt}
 use Rattle.lent.specs.Layout.{wordsOf}
-use Rattle.lent.specs.Steps.{heardOn, crowdedOn, roomed, roomFor, withRoom, countedOn, begun}
-use Rattle.lent.proofs.Parts.{shaped-room, shaped-counted, shaped-begun, begun-count, begun-ends, same-rows}
+use Rattle.lent.specs.Steps.{heardOn, crowdedOn, roomed, roomFor, countedOn, begun}
+use Rattle.lent.proofs.Parts.{shaped-room, shaped-counted, shaped-begun, begun-alone, begun-count, begun-ends, same-rows}
 use borrow.Author.Needs.{needs}
 use Rattle.lent.proofs.calls.event_on.Statement.{statement}
 use Rattle.lent.proofs.calls.event_on.Tie as tie
@@ -14,36 +13,34 @@ returns : tie.Need-returns
 returns c =
     let w = c .before in
     let a = w .before .before .args in
+    let same = w .crowds-on .ensures .untouched (c .if1 .taken) in
     record {
-      untouched = λ _. refl;
+      untouched = λ _. same;
       stores = λ h e s going.
-          let crowds : crowdedOn h (a .kind) (a .stream) (a .time) ≡ true = sym (w .crowds-on .ensures h e s) ∙ c .if1 .taken in
-          (rw crowds refl, rw crowds e);
+          let crowds : crowdedOn h (a .kind) (a .stream) (a .time) ≡ true = sym (w .crowds-on .ensures .asked h e s) ∙ c .if1 .taken in
+          (rw crowds refl, rw crowds (same ∙ e));
     }
 
 returns-2 : tie.Need-returns-2
 returns-2 c =
     let b = c .before .before in
     let k = b .before .before in
-    let q = k .before .before in
-    let z = q .before in
-    let i = z .before .before .before in
+    let i = k .before .before in
     let w = i .before in
     let a = w .before .before .args in
     let o = eventAt (a .stream) (a .time) in
     record {
       untouched = λ some. absurd (some refl);
       stores = λ h e s going.
-          let none-crowds : crowdedOn h (a .kind) (a .stream) (a .time) ≡ false = sym (w .crowds-on .ensures h e s) ∙ i .if1 .left in
+          let none-crowds : crowdedOn h (a .kind) (a .stream) (a .time) ≡ false = sym (w .crowds-on .ensures .asked h e s) ∙ i .if1 .left in
           let h₀ = roomed h in
-          let room = z .room-for .ensures h e s in
-          let e₀ = q .put-room .ensures h e s ∙ ap (λ (n : ℕ). wordsOf (withRoom h n)) room in
+          let e₀ = w .crowds-on .ensures .marked h e s (i .if1 .left) in
           let wide₀ = shaped-room h (roomFor h) s in
           let h₁ = countedOn h₀ (a .stream) (a .time) in
           let counted = k .count-event .ensures h₀ e₀ wide₀ going in
           let wide₁ = shaped-counted h₀ (a .stream) (a .time) wide₀ in
           let h₂ = begun h₁ o in
-          let began = b .begin-event .ensures h₁ counted wide₁ in
+          let began = b .begin .ensures h₁ counted wide₁ ∙ ap wordsOf (begun-alone h₁ (a .stream) (a .time)) in
           let wide₂ = shaped-begun h₁ o wide₁ in
           let rows = same-rows h₂ h (begun-ends h₁ o) (a .kind) in (
             rw none-crowds refl,
@@ -54,5 +51,4 @@ returns-2 c =
 
 pub event-on-spec : {M : Type 1} → statement M
 event-on-spec =
-    tie.close (tie.spec (λ c κs. search needs) returns (λ c κs. search needs) (λ c κs. search needs) (λ c κs. search needs) (λ c κs. search needs)
-    (λ c κs. search needs) returns-2)
+    tie.close (tie.spec (λ c κs. search needs) returns (λ c κs. search needs) (λ c κs. search needs) (λ c κs. search needs) returns-2)

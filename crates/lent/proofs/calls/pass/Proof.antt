@@ -5,6 +5,7 @@ use mathlib.Core.Bool.{true, false}
 use lib.Dec.{ltb}
 use denote.Ref.{now}
 use borrow.Author.Tests.{lt-ltb, le-ltb}
+use Rattle.row.specs.Machine.{tickAt}
 use Rattle.lent.specs.Layout.{wordsOf, heldRows}
 use Rattle.lent.specs.Steps.{withSoonest, ended, soonestAll, soonestOf}
 use Rattle.lent.proofs.Parts.{number-at, shaped-ended}
@@ -16,24 +17,24 @@ returns : tie.Need-returns
 returns c h e s =
     let d = c .before .before in
     let i = d .before .before .before in
-    let t = i .before .before in
+    let t = i .before in
     let k = t .before .before in
     let a = k .before .before .args in
     let held = k .held .ensures .1 h e s in
     let soon : t .soonest .result ≡ soonestAll h = t .soonest .ensures h e s ∙ ap (soonestOf (h .monitor .rows)) held in
-    let past : ltb (soonestAll h) (a .o .time) ≡ true = ap (λ (x : ℕ). ltb x (a .o .time)) (sym soon) ∙ lt-ltb _ _ (i .if1 .taken) in
-    let stopped = d .ends .ensures h e s ∙ ap₂ (λ (x y : ℕ). wordsOf (ended h x (a .o) y)) held (number-at h s (now (a .m)) e 1) in
-    rw past (c .put-soonest .ensures (ended h (heldRows (h .monitor)) (a .o) (h .monitor .count)) stopped
-    (shaped-ended h (heldRows (h .monitor)) (a .o) (h .monitor .count) s))
+    let past : ltb (soonestAll h) (a .time) ≡ true = ap (λ (x : ℕ). ltb x (a .time)) (sym soon) ∙ lt-ltb _ _ (i .if1 .taken) in
+    let stopped = d .ends .ensures h e s ∙ ap₂ (λ (x y : ℕ). wordsOf (ended h x (tickAt (a .time)) y)) held (number-at h s (now (a .m)) e 1) in
+    rw past (c .put-soonest .ensures (ended h (heldRows (h .monitor)) (tickAt (a .time)) (h .monitor .count)) stopped
+    (shaped-ended h (heldRows (h .monitor)) (tickAt (a .time)) (h .monitor .count) s))
 
 returns-2 : tie.Need-returns-2
 returns-2 c h e s =
     let i = c .before .before in
-    let t = i .before .before in
+    let t = i .before in
     let k = t .before .before in
     let a = k .before .before .args in
     let soon : t .soonest .result ≡ soonestAll h = t .soonest .ensures h e s ∙ ap (soonestOf (h .monitor .rows)) (k .held .ensures .1 h e s) in
-    let not-past : ltb (soonestAll h) (a .o .time) ≡ false = ap (λ (x : ℕ). ltb x (a .o .time)) (sym soon) ∙ le-ltb _ _ (i .if1 .left) in
+    let not-past : ltb (soonestAll h) (a .time) ≡ false = ap (λ (x : ℕ). ltb x (a .time)) (sym soon) ∙ le-ltb _ _ (i .if1 .left) in
     rw not-past (c .put-soonest2 .ensures h e s ∙ ap (λ (x : ℕ). wordsOf (withSoonest h x)) soon)
 
 pub pass-spec : {M : Type 1} → statement M

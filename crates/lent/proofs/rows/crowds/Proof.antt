@@ -1,62 +1,81 @@
--- Entry after entry: before the turn of number j none of the rows of the first j is crowded, and the first that is ends the search.
-use Prim.Native.Nat.{ℕ, _-_, _≤_, _<_}
-use mathlib.Core.Path.{_≡_, refl, sym, ap, ap₂, _∙_}
+-- Entry after entry: before the turn of a place none of the rows of the entries before it is crowded, and the first that is ends the search.
+use Prim.Native.Nat.{ℕ, suc, _+_, _-_, _≤_}
+use mathlib.Core.Path.{_≡_, sym, ap, ap₂, _∙_}
 use native.Mathlib.Omega.{arith}
-use native.Mathlib.Numerals.{add-one}
-use mathlib.Core.Bool.{Bool, true, false, _||_}
-use Rattle.lent.specs.Layout.{Lent, wordsOf, Shaped}
+use mathlib.Core.Bool.{Bool, false, _||_}
+use denote.Ref.{now}
+use Rattle.lent.specs.Layout.{Lent, wordsOf, Shaped, rowNamed, rowAt, keptAt}
 use Rattle.lent.specs.Steps.{crowdedAt, crowded}
+use Rattle.lent.proofs.Blocks.{row-lies}
 use Rattle.lent.proofs.Parts.{crowded-there}
+use borrow.Author.Needs.{needs}
 use Rattle.lent.proofs.rows.crowds.Statement.{statement}
 use Rattle.lent.proofs.rows.crowds.Tie as tie
 
 abbrev Inv-loop : tie.InvT-loop
-Inv-loop m first n o j₀ j = (j ≤ n) × ((h : Lent) → m ≡ wordsOf h → Shaped h → crowded h first j o ≡ false)
+Inv-loop m first end stream t place₀ place =
+    (first ≤ place) × ((place - first ≤ end - first)
+    × ((h : Lent) → m ≡ wordsOf h → Shaped h → crowded h first (place - first) stream t ≡ false))
 
 abbrev μ-loop : tie.MeasureT-loop
-μ-loop m first n o j₀ j = n - j
+μ-loop m first end stream t place₀ place = end - place
 
 loop-holds : tie.Need-loop-holds Inv-loop μ-loop
-loop-holds c = (omega arith, λ h e s. refl)
+loop-holds c =
+    let a = c .args in
+    let none : a .first - a .first ≡ 0 = omega arith in
+    (omega arith, (omega arith, λ h e s. ap (λ (k : ℕ). crowded h (a .first) k (a .stream) (a .t)) none))
 
-crowds-at-requires : tie.Need-crowds-at-requires Inv-loop μ-loop
-crowds-at-requires c κs = c .named .ensures .0
+-- whether the row of the entry is crowded
+asked : (c : tie.After-full-for Inv-loop μ-loop) (h : Lent) →
+    let l = c .before .before .before .before in
+    let a = l .before .args in
+    now (a .m) ≡ wordsOf h → Shaped h → c .full-for .result ≡ crowdedAt h (rowNamed h (l .loop .place)) (a .stream) (a .t)
+asked c h e s =
+    let d = c .before .before in
+    let l = d .before .before in
+    let a = l .before .args in
+    let i = d .named .result in
+    c .full-for .ensures (rowAt (h .monitor) i) (keptAt (h .monitor) i) (row-lies h s (now (a .m)) e i (d .named .ensures .0))
+    ∙ ap (λ (k : ℕ). crowdedAt h k (a .stream) (a .t)) (d .named .ensures .1 h e s)
 
 returns : tie.Need-returns Inv-loop μ-loop
 returns c h e s =
-    let w = c .before in
-    let d = w .before in
-    let l = d .before in
-    let a = l .before .before .args in
-    let j = l .before .loop .j in
-    let small : j < a .n = omega arith in
-    let row = d .named .ensures .1 h e s in
-    let yes : crowdedAt h _ (a .o) ≡ true = ap (λ (k : ℕ). crowdedAt h k (a .o)) (sym row) ∙ sym (w .crowds-at .ensures h e s) ∙ c .if1 .taken in
-    sym (crowded-there h (a .first) j (a .o) yes (a .n) small)
+    let q = c .before in
+    let l = q .before .before .before .before in
+    let a = l .before .args in
+    let place = l .loop .place in
+    let there : a .first + (place - a .first) ≡ place = omega (arith, l .loop .inv .0) in
+    sym (crowded-there h (a .first) (place - a .first) (a .stream) (a .t)
+    (ap (λ (k : ℕ). crowdedAt h (rowNamed h k) (a .stream) (a .t)) there ∙ sym (asked q h e s) ∙ c .if1 .taken) (a .end - a .first)
+    (omega (arith, l .loop .inv .0)))
 
 loop-again : tie.Need-loop-again Inv-loop μ-loop
 loop-again c =
-    let w = c .before in
-    let d = w .before in
-    let l = d .before in
-    let a = l .before .before .args in
-    let j = l .before .loop .j in (
-      omega arith,
-      λ h e s.
-          let row = d .named .ensures .1 h e s in
-          ap (λ (k : ℕ). crowded h (a .first) k (a .o)) (add-one j)
-          ∙ ap₂ (λ (x y : Bool). x || y) (l .before .loop .inv .1 h e s)
-          (ap (λ (k : ℕ). crowdedAt h k (a .o)) (sym row) ∙ sym (w .crowds-at .ensures h e s) ∙ c .if1 .left),
+    let q = c .before in
+    let l = q .before .before .before .before in
+    let a = l .before .args in
+    let place = l .loop .place in
+    let there : a .first + (place - a .first) ≡ place = omega (arith, l .loop .inv .0) in
+    let next : place + 1 - a .first ≡ suc (place - a .first) = omega (arith, l .loop .inv .0) in (
+      omega (arith, l .loop .inv .0),
+      (
+        omega (arith, l .loop .inv .0),
+        λ h e s.
+            ap (λ (k : ℕ). crowded h (a .first) k (a .stream) (a .t)) next
+            ∙ ap₂ (λ (x y : Bool). x || y) (l .loop .inv .1 .1 h e s)
+            (ap (λ (k : ℕ). crowdedAt h (rowNamed h k) (a .stream) (a .t)) there ∙ sym (asked q h e s) ∙ c .if1 .left),
+      ),
     )
 
 returns-2 : tie.Need-returns-2 Inv-loop μ-loop
 returns-2 c h e s =
-    let l = c .before .loop in
-    let a = c .before .before .args in
-    let at-end : l .j ≡ a .n = omega arith in
-    sym (l .inv .1 h e s) ∙ ap (λ (k : ℕ). crowded h (a .first) k (a .o)) at-end
+    let l = c .before in
+    let a = l .before .args in
+    let at-end : l .loop .place - a .first ≡ a .end - a .first = omega (arith, l .loop .inv .1 .0) in
+    sym (l .loop .inv .1 .1 h e s) ∙ ap (λ (k : ℕ). crowded h (a .first) k (a .stream) (a .t)) at-end
 
 pub crowds-spec : {M : Type 1} → statement M
 crowds-spec =
-    tie.close (tie.spec Inv-loop μ-loop loop-holds (λ c. omega arith) (λ c κs. omega arith) crowds-at-requires returns (λ c. omega arith) (λ c.
-    omega arith) loop-again returns-2)
+    tie.close (tie.spec Inv-loop μ-loop loop-holds (λ c κs. omega arith) (λ c. omega (arith, c .named .ensures .0))
+    (λ c. omega (arith, c .named .ensures .0)) (λ c κs. search needs) returns (λ c. omega arith) (λ c. omega arith) loop-again returns-2)

@@ -1,6 +1,6 @@
 -- The rows of a kind are those that its entries name, and the number of the step stands at its place.
-use Prim.Native.Nat.{ℕ, _-_}
-use mathlib.Core.Path.{ap₂, _∙_}
+use Prim.Native.Nat.{_-_}
+use mathlib.Core.Path.{_∙_}
 use denote.Ref.{now}
 use Rattle.row.specs.Machine.{eventAt}
 use Rattle.lent.specs.Layout.{wordsOf}
@@ -12,16 +12,15 @@ use Rattle.lent.proofs.rows.visits_of.Tie as tie
 
 returns : tie.Need-returns
 returns c h e s =
-    let l = c .before .before .before in
-    let n = l .before in
+    let n = c .before .before .before in
     let f = n .before .before in
     let a = f .before .before .args in
     let first = f .start-of .ensures .1 h e s in
-    let count = l .left .ensures ∙ ap₂ (λ (x y : ℕ). x - y) (n .end-of .ensures .1 h e s) first in
+    let end = n .end-of .ensures .1 h e s in
     let number = number-at h s (now (a .m)) e 1 in
-    c .visits .ensures h e s ∙ (λ k. wordsOf (heardOn h (first k) (count k) (eventAt (a .stream) (a .t)) (number k)))
+    c .visits .ensures h e s ∙ (λ k. wordsOf (heardOn h (first k) (end k - first k) (eventAt (a .stream) (a .t)) (number k)))
 
 pub visits-of-spec : {M : Type 1} → statement M
 visits-of-spec =
-    tie.close (tie.spec (λ c κs. search needs) (λ c κs. search needs) (λ c κs. search needs) (λ c. search needs) (λ c. search needs)
-    (λ c. search needs) (λ c κs. search needs) returns)
+    tie.close (tie.spec (λ c κs. search needs) (λ c κs. search needs) (λ c. search needs) (λ c. search needs) (λ c. search needs)
+    (λ c κs. search needs) returns)

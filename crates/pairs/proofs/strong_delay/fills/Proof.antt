@@ -1,20 +1,21 @@
 -- The tests are those of `fillsStrongDelay`, in its order.
 use borrow.Author.Tests.{lt-ltb, le-ltb, eq-eqb, ne-eqb}
 use Rattle.pairs.specs.StrongDelay.{fillsStrongDelay}
+use borrow.Author.Needs.{needs}
 use Rattle.pairs.proofs.strong_delay.fills.Statement.{statement}
 use Rattle.pairs.proofs.strong_delay.fills.Tie as tie
 
 returns : tie.Need-returns
 unfolding fillsStrongDelay
-returns c t = rw (lt-ltb _ _ (c .if1 .taken))
+returns c t = rw (ne-eqb _ _ (c .if1 .taken))
 
 returns-2 : tie.Need-returns-2
 unfolding fillsStrongDelay
-returns-2 c t = rw (le-ltb _ _ (c .before .before .before .if1 .left), eq-eqb _ _ (c .before .if2 .taken))
+returns-2 c t = rw (eq-eqb _ _ (c .before .before .if1 .left), lt-ltb _ _ (c .if2 .taken))
 
 returns-3 : tie.Need-returns-3
 unfolding fillsStrongDelay
-returns-3 c t = rw (le-ltb _ _ (c .before .before .if1 .left), ne-eqb _ _ (c .if2 .left))
+returns-3 c t = rw (eq-eqb _ _ (c .before .before .before .if1 .left), le-ltb _ _ (c .before .if2 .left))
 
 pub fills-spec : {M : Type 1} → statement M
-fills-spec = tie.close (tie.spec returns returns-2 returns-3)
+fills-spec = tie.close (tie.spec (λ c. search needs) returns (λ c. search needs) returns-2 (λ c. search needs) returns-3)

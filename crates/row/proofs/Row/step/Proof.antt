@@ -9,21 +9,22 @@ use Rattle.row.proofs.Row.step.Tie as tie
 
 returns : tie.Need-returns
 returns c =
-    let b = c .before in
-    let a = b .before .args in
-    sym (step-by (a .self) (a .o) (a .number) true (sym (b .crowded .ensures _ _) ∙ c .if1 .taken))
+    let d = c .before in
+    let l = d .before .before in
+    let a = l .before .before .args in
+    sym (step-by (a .self) (a .o) (a .number) true (sym (d .crowded .ensures (a .self) _ _ (l .laid .ensures)) ∙ c .if1 .taken))
 
 returns-2 : tie.Need-returns-2
 returns-2 c =
     let w = c .before .before in
-    let l = w .before .before in
-    let i = l .before .before in
-    let b = i .before in
-    let a = b .before .args in
+    let i = w .before .before in
+    let d = i .before in
+    let l = d .before .before in
+    let a = l .before .before .args in
     ap stays (c .row-at .ensures _ _ (w .step .ensures (a .self) _ (l .laid .ensures)))
-    ∙ sym (step-by (a .self) (a .o) (a .number) false (sym (b .crowded .ensures _ _) ∙ i .if1 .left))
+    ∙ sym (step-by (a .self) (a .o) (a .number) false (sym (d .crowded .ensures (a .self) _ _ (l .laid .ensures)) ∙ i .if1 .left))
 
 pub step-spec : {M : Type 1} → statement M
 step-spec =
-    tie.close (tie.spec (λ c κs. search needs) returns (λ c κs. search needs) (λ c κs. search needs) (λ c κs. search needs) (λ c κs. search needs)
+    tie.close (tie.spec (λ c κs. search needs) (λ c κs. search needs) (λ c κs. search needs) returns (λ c κs. search needs) (λ c κs. search needs)
     returns-2)

@@ -1,0 +1,38 @@
+-- At every 32nd step it is what the fullest row leaves.
+use Prim.Native.Nat.{ℕ, _-_, _%_, min}
+use mathlib.Core.Path.{_≡_, refl, sym, ap, _∙_}
+use mathlib.Core.Bool.{true, false}
+use lib.Dec.{eqb}
+use denote.Ref.{now}
+use borrow.Author.Tests.{eq-eqb, ne-eqb}
+use Rattle.constraint.specs.Limits.{waitingLimit}
+use Rattle.lent.specs.Steps.{fullest}
+use Rattle.lent.proofs.Parts.{number-at}
+use borrow.Author.Needs.{needs}
+use Rattle.lent.proofs.calls.room_found.Statement.{statement}
+use Rattle.lent.proofs.calls.room_found.Tie as tie
+
+returns : tie.Need-returns
+returns c h e s =
+    let u = c .before in
+    let f = u .before in
+    let d = f .before in
+    let t = d .before in
+    let a = t .before .before .args in
+    let due : eqb (h .monitor .count % 32) 0 ≡ true =
+    ap (λ (n : ℕ). eqb (n % 32) 0) (sym (number-at h s (now (a .m)) e 1)) ∙ eq-eqb _ _ (t .if1 .taken) in
+    rw due
+    (c .smaller .ensures ∙ ap (min 1) (u .minus .ensures) ∙ ap (λ (n : ℕ). min 1 (waitingLimit - n))
+    (f .fullest .ensures h e s ∙ ap (fullest (h .monitor)) (d .held .ensures .1 h e s)))
+
+returns-2 : tie.Need-returns-2
+returns-2 c h e s =
+    let a = c .before .before .args in
+    let not-due : eqb (h .monitor .count % 32) 0 ≡ false =
+    ap (λ (n : ℕ). eqb (n % 32) 0) (sym (number-at h s (now (a .m)) e 1)) ∙ ne-eqb _ _ (c .if1 .left) in
+    rw not-due refl
+
+pub room-found-spec : {M : Type 1} → statement M
+room-found-spec =
+    tie.close (tie.spec (λ c. search needs) (λ c. search needs) (λ c. search needs)
+    (λ c κs. search needs) (λ c κs. c .held .ensures .0) (λ c κs. search needs) (λ c κs. search needs) returns returns-2)

@@ -1,0 +1,42 @@
+-- More than 64 times are crowded by each event that goes to the row; at most 64 by what the type says.
+use Prim.Native.Nat.{ℕ, _<_, _≤_}
+use mathlib.Core.Path.{_≡_, refl, sym, ap, subst, _∙_}
+use mathlib.Core.Bool.{Bool, true, false, cond}
+use mathlib.Core.List.{List, []}
+use lib.ListN.{getD}
+use borrow.Author.Tests.{lt-ltb}
+use Rattle.machine.specs.Words.{rowWords, numberWords}
+use Rattle.row.specs.Stored.{wordsOf}
+use Rattle.row.specs.declared.Before.{Before}
+use Rattle.row.specs.declared.Row.{Row}
+use Rattle.row.proofs.Crowding.{step-crowds, crowded-known}
+use borrow.Author.Needs.{needs}
+use Rattle.row.proofs.stored.crowded.Statement.{statement}
+use Rattle.row.proofs.stored.crowded.Tie as tie
+
+-- a row that is full is crowded by what goes to it
+either : (own : Bool) → cond own true false ≡ own
+either true = refl
+either false = refl
+
+-- how many wait
+many : (x : List (List ℕ)) (w : Row) (b : Before) → x ≡ wordsOf w b → getD (getD x 1 []) 16 0 ≡ w .now .len
+unfolding wordsOf rowWords numberWords
+many x w b e = ap (λ (y : List (List ℕ)). getD (getD y 1 []) 16 0) e
+
+returns : tie.Need-returns
+returns c w b number e =
+    let i = c .before in
+    let a = i .before .before .args in
+    let more : 64 < w .now .len = subst (λ (n : ℕ). 64 < n) (many (a .row .now) w b e) (i .if1 .taken) in
+    c .hears .ensures w b e ∙ sym (step-crowds w (a .o) number ∙ rw (lt-ltb _ _ more, either _) refl)
+
+returns-2 : tie.Need-returns-2
+returns-2 c w b number e =
+    let i = c .before in
+    let a = i .before .before .args in
+    let few : w .now .len ≤ 64 = subst (λ (n : ℕ). n ≤ 64) (many (a .row .now) w b e) (i .if1 .left) in
+    c .crowds .ensures w b e ∙ crowded-known w (a .o) few ∙ sym (step-crowds w (a .o) number)
+
+pub crowded-spec : {M : Type 1} → statement M
+crowded-spec = tie.close (tie.spec (λ c. search needs) (λ c. search needs) (λ c κs. search needs) returns (λ c κs. search needs) returns-2)

@@ -1,0 +1,64 @@
+-- The tests are those of `fullFor`, in its order, of the words that the row is.
+use Prim.Native.Nat.{ℕ}
+use mathlib.Core.Path.{_≡_, ap, _∙_}
+use mathlib.Core.Bool.{Bool, false}
+use mathlib.Core.List.{List, []}
+use lib.ListN.{getD}
+use borrow.Author.Tests.{lt-ltb, le-ltb}
+use Rattle.machine.specs.Words.{rowWords, numberWords, ruleAt}
+use Rattle.row.specs.Apart.{fullFor}
+use Rattle.row.specs.Stored.{wordsOf, stateAt}
+use Rattle.row.specs.declared.Before.{Before}
+use Rattle.row.specs.declared.Row.{Row}
+use borrow.Author.Needs.{needs}
+use Rattle.row.proofs.stored.full_for.Statement.{statement}
+use Rattle.row.proofs.stored.full_for.Tie as tie
+
+-- what is asked, of words
+abbrev fullAt : List (List ℕ) → ℕ → ℕ → Bool
+fullAt x stream t = fullFor (ruleAt (getD x 1 [])) (stateAt (getD x 1 [])) stream t
+
+lies : (x : List (List ℕ)) (w : Row) (b : Before) (stream t : ℕ) → x ≡ wordsOf w b → fullAt x stream t ≡ fullFor (w .rule) (w .now) stream t
+unfolding wordsOf rowWords numberWords
+lies x w b stream t e = ap (λ (y : List (List ℕ)). fullAt y stream t) e
+
+returns : tie.Need-returns
+unfolding fullFor
+returns c w b e =
+    let a = c .before .before .args in
+    let asked : false ≡ fullAt (a .row .now) (a .stream) (a .t) = rw (lt-ltb _ _ (c .if1 .taken)) in
+    asked ∙ lies (a .row .now) w b (a .stream) (a .t) e
+
+returns-2 : tie.Need-returns-2
+unfolding fullFor
+returns-2 c w b e =
+    let i = c .before .before in
+    let a = i .before .before .args in
+    let asked : false ≡ fullAt (a .row .now) (a .stream) (a .t) = rw (le-ltb _ _ (i .if1 .left), lt-ltb _ _ (c .if2 .taken)) in
+    asked ∙ lies (a .row .now) w b (a .stream) (a .t) e
+
+returns-3 : tie.Need-returns-3
+unfolding fullFor
+returns-3 c w b e =
+    let j = c .before .before in
+    let i = j .before .before in
+    let a = i .before .before .args in
+    let asked : false ≡ fullAt (a .row .now) (a .stream) (a .t) =
+    rw (le-ltb _ _ (i .if1 .left), le-ltb _ _ (j .if2 .left), lt-ltb _ _ (c .if3 .taken)) in
+    asked ∙ lies (a .row .now) w b (a .stream) (a .t) e
+
+returns-4 : tie.Need-returns-4
+unfolding fullFor
+returns-4 c w b e =
+    let k = c .before .before in
+    let j = k .before .before in
+    let i = j .before .before in
+    let a = i .before .before .args in
+    let asked : c .fills .result ≡ fullAt (a .row .now) (a .stream) (a .t) =
+    rw (le-ltb _ _ (i .if1 .left), le-ltb _ _ (j .if2 .left), le-ltb _ _ (k .if3 .left)) (c .fills .ensures) in
+    asked ∙ lies (a .row .now) w b (a .stream) (a .t) e
+
+pub full-for-spec : {M : Type 1} → statement M
+full-for-spec =
+    tie.close (tie.spec (λ c. search needs) (λ c. search needs) returns (λ c. search needs) (λ c. search needs) returns-2 (λ c. search needs)
+    (λ c. search needs) returns-3 (λ c. search needs) (λ c κs. search needs) returns-4)

@@ -56,8 +56,8 @@ def length(row_type):
 
 #: The roles of fields as the definitions say them; the number of kinds stands before these.
 ROLES = {"byte kind": "kind", "byte coloured": "coloured", "byte count": "kinds", "byte (span spanLimit)": "count",
-         "byte (span repetitionSpanLimit)": "few", "time lower": "time", "time upper": "time", "time plain": "time",
-         "time upper-or-none": "limit"}
+         "byte (span repetitionSpanLimit)": "few", "time lower": "time", "time upper": "time", "time upper-or-none": "limit",
+         "time (plain jitter)": "time", "time (plain minimum)": "time", "time (plain len)": "time", "time (plain tolerance)": "time"}
 
 
 def roles_of(fields):

@@ -49,14 +49,3 @@ rows-room i (c ∷ rows) h judged =
     let room = judged-all 3 (i < rowLimit) _ judged in
     let later = rows-room (i + 1) rows (omega arith) (judged-parts (rowQuestions c) (rowsQuestions (i + 1) rows []) (room .1) .1) in
     omega arith
-
--- a row more than there is room for
-pub rows-one-more : (i : ℕ) (rows : List Constraint) (c : Constraint) → i + length rows ≡ rowLimit → Judged (rowsQuestions i rows []) Taken
-    → Judged (rowsQuestions i (rows ++ (c ∷ [])) []) (Refused 3)
-unfolding rowsQuestions
-rows-one-more i [] c full judged = judged-no 3 _ _ (λ h. omega arith)
-rows-one-more i (d ∷ rows) c full judged =
-    let room = judged-all 3 (i < rowLimit) _ judged in
-    let parts = judged-parts (rowQuestions d) (rowsQuestions (i + 1) rows []) (room .1) in
-    judged-yes 3 _ _ _ (room .0) (judged-later (rowQuestions d) (rowsQuestions (i + 1) (rows ++ (c ∷ [])) []) _ (parts .0)
-    (rows-one-more (i + 1) rows c (omega arith) (parts .1)))

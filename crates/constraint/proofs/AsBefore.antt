@@ -12,17 +12,15 @@ use Rattle.constraint.specs.Steps.{Step, event, tick, close, at, times, 
 use Rattle.constraint.specs.Meets.{Meets}
 use Rattle.constraint.specs.Continuation.{EventInOrder, Continues, stop, more, Open}
 use Rattle.constraint.specs.Questions.{Question, Judged}
-use Rattle.constraint.specs.Types.{typeOf}
-use Rattle.constraint.specs.Accepted.{kinds, KindsFit, KindsSuit, InRange, LowerFirst, rowQuestions}
-use Rattle.constraint.proofs.Streams.{streams, among-where}
+use Rattle.constraint.specs.Types.{kind, coloured, count, span, Field, byte, time, typeOf, fieldsOf}
+use Rattle.constraint.specs.Accepted.{kinds, KindsFit, SortsFit, KindsSuit, InRange, LowerFirst, rowQuestions}
+use Rattle.constraint.proofs.Streams.{streamsIn, streams, among-where}
 use Rattle.constraint.specs.Run.{Room, questions}
 use Rattle.constraint.specs.declared.Answer.{Answer}
 use Rattle.constraint.specs.declared.Call.{Call}
 use Rattle.constraint.specs.declared.Constraint.{Constraint}
-use Rattle.constraint.specs.declared.Constraint.the-variants.{Delay, StrongDelay, Repeat, Sporadic, Burst, Order, StrongSynchronization2}
-use Rattle.constraint.specs.declared.Constraint.the-variants.{StrongSynchronization3, StrongSynchronization4, ExecutionTime, Reaction}
-use Rattle.constraint.specs.declared.Constraint.the-variants.{Repetition}
 use Rattle.constraint.proofs.Lists.{split, both, Each, each-none, each-cons}
+use Rattle.constraint.proofs.Types.{Uncoloured, regular}
 use Rattle.constraint.proofs.Judged.{skipped, put-in}
 use Rattle.constraint.proofs.History.{times-append, times-other, own-append, clock-append, clock-event, closed-event}
 use Rattle.constraint.proofs.Continuations.{meets-same}
@@ -112,40 +110,24 @@ module _ (ks : List ℕ) (small : Each (λ k. k ≤ lastKind) ks) where
       (later .0, rw (clock-event k t a) at (later .1)))
       refl
 
--- the streams of a row of any type but 9 are plain kinds
-plain-two : (a b : ℕ) → a < firstColoured → b < firstColoured → Each (λ k. k ≤ lastKind) (a ∷ b ∷ [])
-plain-two a b h k = each-cons (λ k. k ≤ lastKind) a (b ∷ []) (omega arith)
-    (each-cons (λ k. k ≤ lastKind) b [] (omega arith) (each-none (λ k. k ≤ lastKind)))
-
-plain-one : (a : ℕ) → a < firstColoured → Each (λ k. k ≤ lastKind) (a ∷ [])
-plain-one a h = each-cons (λ k. k ≤ lastKind) a [] (omega arith) (each-none (λ k. k ≤ lastKind))
-
-plain-streams : (c : Constraint) → KindsSuit c → ¬ (typeOf c ≡ 9) → Each (λ k. k ≤ lastKind) (streams c)
-unfolding KindsSuit
-plain-streams (Delay source target lower upper) suit other = plain-two source target (suit .0) (suit .1 .0)
-plain-streams (StrongDelay source target lower upper) suit other = plain-two source target (suit .0) (suit .1 .0)
-plain-streams (Repeat kind span lower upper) suit other = plain-one kind (suit .0)
-plain-streams (Sporadic kind lower upper jitter minimum) suit other = plain-one kind (suit .0)
-plain-streams (Burst kind maximum len minimum) suit other = plain-one kind (suit .0)
-plain-streams (Order source target) suit other = plain-two source target (suit .0) (suit .1 .0)
-plain-streams (StrongSynchronization2 a b tolerance) suit other = plain-two a b (suit .1 .0) (suit .1 .1 .0)
-plain-streams (StrongSynchronization3 a b c tolerance) suit other =
-    each-cons (λ k. k ≤ lastKind) a (b ∷ c ∷ []) (omega (arith, suit .1 .0)) (plain-two b c (suit .1 .1 .0) (suit .1 .1 .1 .0))
-plain-streams (StrongSynchronization4 a b c d tolerance) suit other =
-    each-cons (λ k. k ≤ lastKind) a (b ∷ c ∷ d ∷ []) (omega (arith, suit .1 .0))
-    (each-cons (λ k. k ≤ lastKind) b (c ∷ d ∷ []) (omega (arith, suit .1 .1 .0)) (plain-two c d (suit .1 .1 .1 .0) (suit .1 .1 .1 .1 .0)))
-plain-streams (ExecutionTime a b c d lower upper) suit other =
-    each-cons (λ k. k ≤ lastKind) a (b ∷ c ∷ d ∷ []) (omega (arith, suit .0))
-    (each-cons (λ k. k ≤ lastKind) b (c ∷ d ∷ []) (omega (arith, suit .1 .0)) (plain-two c d (suit .1 .1 .0) (suit .1 .1 .1 .0)))
-plain-streams (Reaction stimulus response minimum maximum) suit other = absurd (other refl)
-plain-streams (Repetition kind span lower upper jitter) suit other = plain-one kind (suit .0)
+-- the streams of fields of which none is coloured are plain kinds
+plain-streams : (fields : List Field) → SortsFit fields → Uncoloured fields → Each (λ k. k ≤ lastKind) (streamsIn fields)
+plain-streams [] suit plain = each-none (λ k. k ≤ lastKind)
+plain-streams (byte kind x ∷ fields) suit plain =
+    each-cons (λ k. k ≤ lastKind) x (streamsIn fields) (omega (arith, suit .0)) (plain-streams fields (suit .1) plain)
+plain-streams (byte coloured x ∷ fields) suit plain = absurd plain
+plain-streams (byte count x ∷ fields) suit plain = plain-streams fields (suit .1) plain
+plain-streams (byte (span limit) x ∷ fields) suit plain = plain-streams fields (suit .1) plain
+plain-streams (time role x ∷ fields) suit plain = plain-streams fields (suit .1) plain
 
 -- a row of any type but 9 whose kinds are plain is open just where it was; and its verdict is read off that alone (§2.4, §2.5, §2.6)
 pub open-as-before : (c : Constraint) → KindsSuit c → ¬ (typeOf c ≡ 9) → (steps : List Step) → Open c steps ↔ OpenBefore c steps
+unfolding KindsSuit
 open-as-before c suit other steps = (
   λ (further, follows, meets).
       let ks = streams c in
-      let left = continues-thin ks (plain-streams c suit other) follows steps refl (λ k e. refl) (omega arith) in (
+      let small = plain-streams (fieldsOf c) suit (regular c .uncoloured other) in
+      let left = continues-thin ks small follows steps refl (λ k e. refl) (omega arith) in (
         thin ks further,
         left .0,
         meets-same c (steps ++ further) (steps ++ thin ks further)

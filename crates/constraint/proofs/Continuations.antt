@@ -1,114 +1,28 @@
 -- What is true of continuations for every row type: a row's definition looks only at its own events and the clock, what is met at a clock is met at
 -- every earlier one, and what may still follow after a step might have followed before it, so a row that is open after a step was open before it.
-use Prim.Native.Nat.{ℕ, _+_, _≤_, _<_}
+use Prim.Native.Nat.{ℕ, _≤_, _<_}
 use native.Mathlib.Omega.{arith}
-use mathlib.Core.Path.{_≡_, refl, sym, ap, _∙_, subst, subst₂}
+use mathlib.Core.Path.{_≡_, refl, sym, ap, _∙_, subst}
 use mathlib.Core.Bool.{true, false, cond}
 use mathlib.Core.List.{List, [], _∷_, _++_, map, append-nil, append-assoc}
-use mathlib.Core.Logic.{inl, inr}
 use lib.Dec.{eqb}
 use borrow.Author.Tests.{eq-eqb, ne-eqb}
-use Rattle.constraint.specs.Limits.{streamCount, lastColour}
-use Rattle.constraint.specs.Streams.{stream}
-use Rattle.constraint.proofs.Streams.{colours, streams}
-use Rattle.constraint.specs.Steps.{Step, event, tick, close, at, times, among, own, clockFrom, clock, closed}
-use Rattle.constraint.specs.Meets.{NotLater, Meets, MeetsDelay, MeetsStrongDelay, MeetsRepeat, MeetsSporadic, MeetsBurst, MeetsOrder}
-use Rattle.constraint.specs.Meets.{MeetsStrongSynchronization, MeetsExecutionTime, MeetsReaction, MeetsRepetition}
+use Rattle.constraint.specs.Limits.{streamCount}
+use Rattle.constraint.proofs.Streams.{streams}
+use Rattle.constraint.specs.Steps.{Step, event, tick, close, times, own, clockFrom, clock, closed}
+use Rattle.constraint.specs.Meets.{Meets}
 use Rattle.constraint.specs.Continuation.{EventInOrder, Continues, stop, more, Open}
 use Rattle.constraint.specs.declared.Constraint.{Constraint}
-use Rattle.constraint.specs.declared.Constraint.the-variants.{Delay, StrongDelay, Repeat, Sporadic, Burst, Order, StrongSynchronization2}
-use Rattle.constraint.specs.declared.Constraint.the-variants.{StrongSynchronization3, StrongSynchronization4}
-use Rattle.constraint.specs.declared.Constraint.the-variants.{ExecutionTime, Reaction, Repetition}
-use Rattle.constraint.proofs.Lists.{split, both, Each, each-none, each-cons, each-left, each-right, Rising, rising-right, rising-across}
-use Rattle.constraint.proofs.Streams.{colour-at, among-at}
+use Rattle.constraint.proofs.Lists.{split, Each, each-none, each-cons, Rising, rising-right, rising-across}
 use Rattle.constraint.proofs.History.{times-append, times-own, times-tick, own-append, own-tick, own-close, clock-append, clock-later}
 use Rattle.constraint.proofs.History.{clock-event, clock-tick, clock-close, closed-event, closed-tick, closed-close, Accepts}
-
--- ---- a row looks only at its own events and the clock
-
--- the times of one kind among some events
-unfoldable pub timesIn : ℕ → List (ℕ × ℕ) → List ℕ
-timesIn k [] = []
-timesIn k (e ∷ es) = cond (eqb (e .0) k) (e .1 ∷ timesIn k es) (timesIn k es)
-
-pub own-times : (ks : List ℕ) (k : ℕ) → among k ks ≡ true → (steps : List Step) → times k steps ≡ timesIn k (own ks steps)
-unfolding times own timesIn
-own-times ks k is [] = refl
-own-times ks k is (event j t ∷ steps) =
-    split (among j ks) (λ x. among j ks ≡ x → cond (eqb j k) (t ∷ times k steps) (times k steps)
-    ≡ timesIn k (cond x ((j, t) ∷ own ks steps) (own ks steps)))
-    (λ e f. ap (λ (l : List ℕ). cond (eqb j k) (t ∷ l) l) (own-times ks k is steps))
-    (λ e f. rw (ne-eqb j k (λ same. both (sym is ∙ ap (λ (i : ℕ). among i ks) (sym same) ∙ f))) (own-times ks k is steps))
-    refl
-own-times ks k is (tick t ∷ steps) = own-times ks k is steps
-own-times ks k is (close ∷ steps) = own-times ks k is steps
-
--- two lists of steps have the same times of each of these kinds
-abbrev pub SameTimes : List ℕ → List Step → List Step → Type 0
-SameTimes ks a b = Each (λ k. times k a ≡ times k b) ks
-
--- they do if they have the same events of these kinds
-pub same-times : (ks : List ℕ) (a b : List Step) → own ks a ≡ own ks b → SameTimes ks a b
-same-times ks a b same i h =
-    own-times ks (at ks i) (among-at ks i h) a ∙ ap (timesIn (at ks i)) same ∙ sym (own-times ks (at ks i) (among-at ks i h) b)
-
-synchronized-same : (ks : List ℕ) (tolerance : ℕ) (a b : List Step) → SameTimes ks a b → MeetsStrongSynchronization ks tolerance a
-    → MeetsStrongSynchronization ks tolerance b
-unfolding MeetsStrongSynchronization
-synchronized-same ks tolerance a b same m j k h g = rw (← same j h, ← same k g) (m j k h g)
-
--- the same times of each colour of a kind
-pub of-colour : (k : ℕ) (a b : List Step) → SameTimes (colours k) a b → (colour : ℕ) → colour ≤ lastColour → times (stream k colour) a
-    ≡ times (stream k colour) b
-of-colour k a b same colour few = subst (λ (s : ℕ). times s a ≡ times s b) (colour-at k colour few) (same colour (omega arith))
-
--- what is met at a clock is met at every earlier one
-pub not-later-earlier : {upper : ℕ} (x now later : ℕ) → now ≤ later → NotLater upper x later → NotLater upper x now
-not-later-earlier x now later h (inl e) = inl e
-not-later-earlier x now later h (inr soon) = inr (omega arith)
-
-repeat-earlier : (span lower upper : ℕ) (events : List ℕ) (now later : ℕ) → now ≤ later → MeetsRepeat span lower upper events later
-    → MeetsRepeat span lower upper events now
-unfolding MeetsRepeat
-repeat-earlier span lower upper events now later h m = (m .0, λ i g end. not-later-earlier (at events i) now later h (m .1 i g end))
-
-sporadic-earlier : (lower upper jitter minimum : ℕ) (events : List ℕ) (now later : ℕ) → now ≤ later
-    → MeetsSporadic lower upper jitter minimum events later → MeetsSporadic lower upper jitter minimum events now
-unfolding MeetsSporadic
-sporadic-earlier lower upper jitter minimum events now later h ((points, hidden, last), apart) =
-    ((points, hidden, λ i e. not-later-earlier (at points i + jitter) now later h (last i e)), apart)
+use Rattle.constraint.proofs.Types.{lawful}
+unfoldable pub use Rattle.constraint.proofs.Lawful.{timesIn}
+pub use Rattle.constraint.proofs.Lawful.{own-times, SameTimes, same-times, of-colour, not-later-earlier}
 
 -- what a row says of some events and a clock it says of the same events and every earlier clock
-meets-same-times : (c : Constraint) (a b : List Step) → own (streams c) a ≡ own (streams c) b → SameTimes (streams c) a b → clock b ≤ clock a
-    → Meets c a → Meets c b
-unfolding Meets
-meets-same-times (Delay source target lower upper) a b in-order same earlier m =
-    subst₂ (MeetsDelay lower upper) (same 0 (omega arith)) (same 1 (omega arith)) m
-meets-same-times (StrongDelay source target lower upper) a b in-order same earlier m =
-    subst₂ (MeetsStrongDelay lower upper) (same 0 (omega arith)) (same 1 (omega arith)) m
-meets-same-times (Repeat kind span lower upper) a b in-order same earlier m =
-    subst (λ (ts : List ℕ). MeetsRepeat span lower upper ts (clock b)) (same 0 (omega arith))
-    (repeat-earlier span lower upper _ (clock b) (clock a) earlier m)
-meets-same-times (Sporadic kind lower upper jitter minimum) a b in-order same earlier m =
-    subst (λ (ts : List ℕ). MeetsSporadic lower upper jitter minimum ts (clock b)) (same 0 (omega arith))
-    (sporadic-earlier lower upper jitter minimum _ (clock b) (clock a) earlier m)
-meets-same-times (Burst kind maximum len minimum) a b in-order same earlier m = subst (MeetsBurst maximum len minimum) (same 0 (omega arith)) m
-meets-same-times (Order source target) a b in-order same earlier m = subst₂ MeetsOrder (same 0 (omega arith)) (same 1 (omega arith)) m
-meets-same-times (StrongSynchronization2 x y tolerance) a b in-order same earlier m = synchronized-same (x ∷ y ∷ []) tolerance a b same m
-meets-same-times (StrongSynchronization3 x y z tolerance) a b in-order same earlier m = synchronized-same (x ∷ y ∷ z ∷ []) tolerance a b same m
-meets-same-times (StrongSynchronization4 x y z w tolerance) a b in-order same earlier m = synchronized-same (x ∷ y ∷ z ∷ w ∷ []) tolerance a b same m
-meets-same-times (ExecutionTime x y z w lower upper) a b in-order same earlier m =
-    subst (MeetsExecutionTime x y z w lower upper) in-order m
-meets-same-times (Reaction stimulus response minimum maximum) a b in-order same earlier m =
-    λ colour few. subst₂ (MeetsReaction minimum maximum)
-    (of-colour stimulus a b (each-left (λ s. times s a ≡ times s b) (colours stimulus) (colours response) same) colour few)
-    (of-colour response a b (each-right (λ s. times s a ≡ times s b) (colours stimulus) (colours response) same) colour few)
-    (m colour few)
-meets-same-times (Repetition kind span lower upper jitter) a b in-order same earlier m =
-    subst (MeetsRepetition span lower upper jitter) (same 0 (omega arith)) m
-
 pub meets-same : (c : Constraint) (a b : List Step) → own (streams c) a ≡ own (streams c) b → clock b ≤ clock a → Meets c a → Meets c b
-meets-same c a b same earlier m = meets-same-times c a b same (same-times (streams c) a b same) earlier m
+meets-same c a b same earlier m = lawful c .same a b same (same-times (streams c) a b same) earlier m
 
 -- ---- what a continuation is made of
 

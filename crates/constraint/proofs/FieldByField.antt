@@ -13,8 +13,8 @@ use lib.Seq.{drop-cons}
 use Rattle.constraint.specs.Limits.{lastTime}
 use Rattle.constraint.specs.Steps.{at}
 use Rattle.constraint.specs.Questions.{Judged}
-use Rattle.constraint.specs.Records.{Decides, isKind, byteField, timeField, fieldAt, fieldsAs, bytesFrom, timesFrom, HoldsRow}
-use Rattle.constraint.specs.Types.{kind, coloured, count, span, plain, lower, upper, upper-or-none, Field, byte, time}
+use Rattle.constraint.specs.Records.{Decides, isKind, plainRole, byteField, timeField, fieldAt, fieldsAs, bytesFrom, timesFrom, HoldsRow}
+use Rattle.constraint.specs.Types.{kind, coloured, count, span, TimeRole, plain, lower, upper, upper-or-none, Field, byte, time}
 use Rattle.constraint.specs.Accepted.{kindsIn, kinds, KindsFit, SortsFit, KindsSuit, FieldsInRange, InRange, NotBelow, LowerFirst, rowQuestions}
 use Rattle.constraint.specs.declared.Answer.{Answer}
 use Rattle.constraint.specs.declared.Answer.the-variants.{Refused}
@@ -83,7 +83,7 @@ ranges-join (byte kind x ∷ a) b h k = ranges-join a b h k
 ranges-join (byte coloured x ∷ a) b h k = ranges-join a b h k
 ranges-join (byte count x ∷ a) b h k = ranges-join a b h k
 ranges-join (byte (span limit) x ∷ a) b h k = (h .0, h .1, ranges-join a b (h .2) k)
-ranges-join (time plain x ∷ a) b h k = (h .0, ranges-join a b (h .1) k)
+ranges-join (time (plain what) x ∷ a) b h k = (h .0, ranges-join a b (h .1) k)
 ranges-join (time lower x ∷ a) b h k = (h .0, ranges-join a b (h .1) k)
 ranges-join (time upper x ∷ a) b h k = (h .0, ranges-join a b (h .1) k)
 ranges-join (time upper-or-none x ∷ a) b h k = (h .0, ranges-join a b (h .1) k)
@@ -94,7 +94,7 @@ ranges-parts (byte kind x ∷ a) b h = ranges-parts a b h
 ranges-parts (byte coloured x ∷ a) b h = ranges-parts a b h
 ranges-parts (byte count x ∷ a) b h = ranges-parts a b h
 ranges-parts (byte (span limit) x ∷ a) b h = let parts = ranges-parts a b (h .2) in ((h .0, h .1, parts .0), parts .1)
-ranges-parts (time plain x ∷ a) b h = let parts = ranges-parts a b (h .1) in ((h .0, parts .0), parts .1)
+ranges-parts (time (plain what) x ∷ a) b h = let parts = ranges-parts a b (h .1) in ((h .0, parts .0), parts .1)
 ranges-parts (time lower x ∷ a) b h = let parts = ranges-parts a b (h .1) in ((h .0, parts .0), parts .1)
 ranges-parts (time upper x ∷ a) b h = let parts = ranges-parts a b (h .1) in ((h .0, parts .0), parts .1)
 ranges-parts (time upper-or-none x ∷ a) b h = let parts = ranges-parts a b (h .1) in ((h .0, parts .0), parts .1)
@@ -164,8 +164,11 @@ times-sorts (r ∷ roles) (x ∷ values) =
 pub plain-range : (r x : ℕ) → r ≢ 0 → r ≢ 4 → FieldsInRange (fieldAt timeField r x) ≡ ((x ≤ lastTime) × Unit {0})
 plain-range r x there other =
     rw (ne-eqb r 0 there, ne-eqb r 4 other)
-    (split (eqb r 2) (λ l. FieldsInRange (time (cond l lower (cond (eqb r 3) upper plain)) x ∷ []) ≡ ((x ≤ lastTime) × Unit {0})) (λ e. refl)
-    (λ e. split (eqb r 3) (λ u. FieldsInRange (time (cond u upper plain) x ∷ []) ≡ ((x ≤ lastTime) × Unit {0})) (λ e. refl) (λ e. refl)))
+    (split (eqb r 2) (λ l. Same (cond l lower (cond (eqb r 3) upper (plain (plainRole r))))) (λ e. refl)
+    (λ e. split (eqb r 3) (λ u. Same (cond u upper (plain (plainRole r)))) (λ e. refl) (λ e. refl)))
+  where
+    Same : TimeRole → Type 1
+    Same role = FieldsInRange (time role x ∷ []) ≡ ((x ≤ lastTime) × Unit {0})
 
 -- Lower and upper
 
@@ -183,7 +186,7 @@ bytes-bounds low (r ∷ roles) (x ∷ values) later =
 other-bounds : (low r x : ℕ) (later : List Field) → r ≢ 2 → r ≢ 3 → r ≢ 4 → NotBelow low (fieldAt timeField r x ++ later) ≡ NotBelow low later
 other-bounds low r x later a b c =
     rw (ne-eqb r 2 a, ne-eqb r 3 b, ne-eqb r 4 c)
-    (split (eqb r 0) (λ none. NotBelow low (cond none [] (time plain x ∷ []) ++ later) ≡ NotBelow low later) (λ e. refl) (λ e. refl))
+    (split (eqb r 0) (λ none. NotBelow low (cond none [] (time (plain (plainRole r)) x ∷ []) ++ later) ≡ NotBelow low later) (λ e. refl) (λ e. refl))
 
 module _ (low : ℕ) (roles values : List ℕ) (i : ℕ) (h : i < length roles) (k : i < length values) where
   pub bounds-lower : at roles i ≡ 2 → NotBelow low (timesFrom roles values i) ≡ NotBelow (at values i) (timesFrom roles values (i + 1))

@@ -2,6 +2,8 @@
 pub mod Lists
 pub mod Streams
 pub mod History
+pub mod Lawful
+pub mod Types
 pub mod Continuations
 pub mod Verdicts
 pub mod Waitings

@@ -53,7 +53,7 @@ FieldsInRange (byte kind x ∷ fields) = FieldsInRange fields
 FieldsInRange (byte coloured x ∷ fields) = FieldsInRange fields
 FieldsInRange (byte count x ∷ fields) = FieldsInRange fields
 FieldsInRange (byte (span limit) x ∷ fields) = (1 ≤ x) × (x ≤ limit) × FieldsInRange fields
-FieldsInRange (time plain x ∷ fields) = (x ≤ lastTime) × FieldsInRange fields
+FieldsInRange (time (plain what) x ∷ fields) = (x ≤ lastTime) × FieldsInRange fields
 FieldsInRange (time lower x ∷ fields) = (x ≤ lastTime) × FieldsInRange fields
 FieldsInRange (time upper x ∷ fields) = (x ≤ lastTime) × FieldsInRange fields
 FieldsInRange (time upper-or-none x ∷ fields) = ((x ≤ lastTime) ⊎ (x ≡ noLimit)) × FieldsInRange fields
@@ -66,7 +66,7 @@ InRange c = FieldsInRange (fieldsOf c)
 abbrev pub NotBelow : ℕ → List Field → Type 0
 NotBelow low [] = Unit {0}
 NotBelow low (byte role x ∷ fields) = NotBelow low fields
-NotBelow low (time plain x ∷ fields) = NotBelow low fields
+NotBelow low (time (plain what) x ∷ fields) = NotBelow low fields
 NotBelow low (time lower x ∷ fields) = NotBelow x fields
 NotBelow low (time upper x ∷ fields) = low ≤ x
 NotBelow low (time upper-or-none x ∷ fields) = low ≤ x

@@ -5,7 +5,7 @@ use mathlib.Core.List.{List, [], _∷_, _++_, map}
 use lib.ListN.{length, getD, drop, replicate}
 use lib.Dec.{eqb}
 use Rattle.constraint.specs.Steps.{Step, at}
-use Rattle.constraint.specs.Types.{typeOf}
+use Rattle.constraint.specs.Types.{typeOf, synchronizationName, typeNames}
 use Rattle.constraint.specs.Report.{decimal, blank, lineEnd, keptWord, brokenWord, EachReads}
 use Rattle.constraint.specs.declared.Constraint.{Constraint}
 use Rattle.constraint.specs.declared.Verdict.{Verdict}
@@ -20,37 +20,6 @@ leftIn width text = text ++ replicate (width - length text) blank
 -- §7.16; CR 5: and to its right: blanks before it
 abbrev pub rightIn : ℕ → List ℕ → List ℕ
 rightIn width text = replicate (width - length text) blank ++ text
-
--- §7.16; CR 5: the names of the types, as TADL2 has them without their last word: StrongSynchronization, the name of type 7
-abbrev pub synchronizationName : List ℕ
-synchronizationName =
-    83 ∷ 116 ∷ 114 ∷ 111 ∷ 110 ∷ 103 ∷ 83 ∷ 121 ∷ 110 ∷ 99 ∷ 104 ∷ 114 ∷ 111 ∷ 110 ∷ 105 ∷ 122 ∷ 97 ∷ 116 ∷ 105 ∷ 111 ∷ 110 ∷ []
-
--- §7.16; CR 5: the names by the number of the type, a line for each; 0 is no type, and is taken for 7 as in a row's step
-abbrev pub typeNames : List (List ℕ)
-typeNames =
-    synchronizationName
-    -- 1 Delay
-    ∷ (68 ∷ 101 ∷ 108 ∷ 97 ∷ 121 ∷ [])
-    -- 2 StrongDelay
-    ∷ (83 ∷ 116 ∷ 114 ∷ 111 ∷ 110 ∷ 103 ∷ 68 ∷ 101 ∷ 108 ∷ 97 ∷ 121 ∷ [])
-    -- 3 Repeat
-    ∷ (82 ∷ 101 ∷ 112 ∷ 101 ∷ 97 ∷ 116 ∷ [])
-    -- 4 Sporadic
-    ∷ (83 ∷ 112 ∷ 111 ∷ 114 ∷ 97 ∷ 100 ∷ 105 ∷ 99 ∷ [])
-    -- 5 Burst
-    ∷ (66 ∷ 117 ∷ 114 ∷ 115 ∷ 116 ∷ [])
-    -- 6 Order
-    ∷ (79 ∷ 114 ∷ 100 ∷ 101 ∷ 114 ∷ [])
-    -- 7 StrongSynchronization
-    ∷ synchronizationName
-    -- 8 ExecutionTime
-    ∷ (69 ∷ 120 ∷ 101 ∷ 99 ∷ 117 ∷ 116 ∷ 105 ∷ 111 ∷ 110 ∷ 84 ∷ 105 ∷ 109 ∷ 101 ∷ [])
-    -- 9 Reaction
-    ∷ (82 ∷ 101 ∷ 97 ∷ 99 ∷ 116 ∷ 105 ∷ 111 ∷ 110 ∷ [])
-    -- 10 Repetition
-    ∷ (82 ∷ 101 ∷ 112 ∷ 101 ∷ 116 ∷ 105 ∷ 116 ∷ 105 ∷ 111 ∷ 110 ∷ [])
-    ∷ []
 
 -- §7.16; CR 5: the name of a type; a number that no table has is taken for 7 too
 abbrev pub nameOf : ℕ → List ℕ

@@ -8,7 +8,9 @@ use mathlib.Core.Logic.{_≢_}
 use lib.ListN.{length, set, take, drop, replicate}
 use lib.Dec.{eqb}
 use Rattle.constraint.specs.Limits.{rowLimit}
-use Rattle.constraint.specs.Types.{ByteRole, kind, coloured, count, span, TimeRole, plain, lower, upper, upper-or-none}
+use Rattle.constraint.specs.Bytes.{bytesOf}
+use Rattle.constraint.specs.Types.{ByteRole, kind, coloured, count, span, TimeRole, lower, upper, upper-or-none, plain}
+use Rattle.constraint.specs.Types.{Plain, jitter, minimum, len, tolerance}
 use Rattle.constraint.specs.Types.{Field, byte, time, typeOf, fieldsOf}
 use Rattle.constraint.specs.declared.Constraint.{Constraint}
 use Rattle.constraint.specs.declared.Constraint.the-variants.{Order}
@@ -60,9 +62,13 @@ byteRole r = cond (eqb r 255) kind (cond (eqb r 254) count (cond (eqb r 253) col
 abbrev pub isKind : ℕ → Bool
 isKind r = eqb r 255 || eqb r 253
 
+-- the role of a time that is neither a lower nor an upper
+abbrev pub plainRole : ℕ → Plain
+plainRole r = cond (eqb r 5) jitter (cond (eqb r 6) minimum (cond (eqb r 7) len tolerance))
+
 -- the role of a time
 abbrev pub timeRole : ℕ → TimeRole
-timeRole r = cond (eqb r 2) lower (cond (eqb r 3) upper (cond (eqb r 4) upper-or-none plain))
+timeRole r = cond (eqb r 2) lower (cond (eqb r 3) upper (cond (eqb r 4) upper-or-none (plain (plainRole r))))
 
 -- a field of one byte, by the number of its role
 abbrev pub byteField : ℕ → ℕ → Field
@@ -101,6 +107,11 @@ abbrev pub timesIn : List Field → List ℕ
 timesIn [] = []
 timesIn (byte role x ∷ fields) = timesIn fields
 timesIn (time role x ∷ fields) = x ∷ timesIn fields
+
+-- the bytes of some times
+unfoldable pub timesBytes : List ℕ → List ℕ
+timesBytes [] = []
+timesBytes (x ∷ xs) = bytesOf 8 x ++ timesBytes xs
 
 -- the numbers are those of a row, and stand first in their arrays
 pub record HoldsRow (c : Constraint) (fields : Fields) : Type 0 where

@@ -1,5 +1,5 @@
--- The table of types (§4.4 to §4.7; 01, table): the types, their fields in order, and what each field says. What is asked of a row and its
--- bytes are read off it.
+-- The table of types (§4.4 to §4.7; 01, table): the types, their fields in order, and what each field says, and back from the values to the row
+-- (`regular` and `read-back`: each way is the other's inverse). What is asked of a row, its bytes and its numbers in a monitor are read off it.
 use Prim.Native.Nat.{ℕ, _+_}
 use mathlib.Core.Bool.{cond}
 use mathlib.Core.List.{List, [], _∷_}
@@ -18,12 +18,19 @@ pub data ByteRole : Type 0 where
   count : ByteRole
   span : ℕ → ByteRole
 
+-- §4.4; 01, table: what a time says that is neither a lower nor an upper
+pub data Plain : Type 0 where
+  jitter : Plain
+  minimum : Plain
+  len : Plain
+  tolerance : Plain
+
 -- §4.4, §4.7; 01, table; CR 1: what a time says; an `upper-or-none` may be the mark for no limit
 pub data TimeRole : Type 0 where
-  plain : TimeRole
   lower : TimeRole
   upper : TimeRole
   upper-or-none : TimeRole
+  plain : Plain → TimeRole
 
 -- §4.4; 01, table: a field: its width, its role and its value
 pub data Field : Type 0 where
@@ -35,20 +42,20 @@ abbrev pub typeLine : Constraint → ℕ × List Field
 typeLine (Delay source target low high) = (1, byte kind source ∷ byte kind target ∷ time lower low ∷ time upper-or-none high ∷ [])
 typeLine (StrongDelay source target low high) = (2, byte kind source ∷ byte kind target ∷ time lower low ∷ time upper high ∷ [])
 typeLine (Repeat event number low high) = (3, byte kind event ∷ byte (span spanLimit) number ∷ time lower low ∷ time upper-or-none high ∷ [])
-typeLine (Sporadic event low high jitter minimum) =
-    (4, byte kind event ∷ time lower low ∷ time upper-or-none high ∷ time plain jitter ∷ time plain minimum ∷ [])
-typeLine (Burst event maximum len minimum) = (5, byte kind event ∷ byte (span spanLimit) maximum ∷ time plain len ∷ time plain minimum ∷ [])
+typeLine (Sporadic event low high late apart) =
+    (4, byte kind event ∷ time lower low ∷ time upper-or-none high ∷ time (plain jitter) late ∷ time (plain minimum) apart ∷ [])
+typeLine (Burst event most long apart) = (5, byte kind event ∷ byte (span spanLimit) most ∷ time (plain len) long ∷ time (plain minimum) apart ∷ [])
 typeLine (Order source target) = (6, byte kind source ∷ byte kind target ∷ [])
-typeLine (StrongSynchronization2 a b tolerance) = (7, byte count 2 ∷ byte kind a ∷ byte kind b ∷ time plain tolerance ∷ [])
-typeLine (StrongSynchronization3 a b c tolerance) = (7, byte count 3 ∷ byte kind a ∷ byte kind b ∷ byte kind c ∷ time plain tolerance ∷ [])
-typeLine (StrongSynchronization4 a b c d tolerance) =
-    (7, byte count 4 ∷ byte kind a ∷ byte kind b ∷ byte kind c ∷ byte kind d ∷ time plain tolerance ∷ [])
+typeLine (StrongSynchronization2 a b apart) = (7, byte count 2 ∷ byte kind a ∷ byte kind b ∷ time (plain tolerance) apart ∷ [])
+typeLine (StrongSynchronization3 a b c apart) = (7, byte count 3 ∷ byte kind a ∷ byte kind b ∷ byte kind c ∷ time (plain tolerance) apart ∷ [])
+typeLine (StrongSynchronization4 a b c d apart) =
+    (7, byte count 4 ∷ byte kind a ∷ byte kind b ∷ byte kind c ∷ byte kind d ∷ time (plain tolerance) apart ∷ [])
 typeLine (ExecutionTime start stop preempt resume low high) =
     (8, byte kind start ∷ byte kind stop ∷ byte kind preempt ∷ byte kind resume ∷ time lower low ∷ time upper high ∷ [])
-typeLine (Reaction stimulus response minimum maximum) =
-    (9, byte coloured stimulus ∷ byte coloured response ∷ time lower minimum ∷ time upper maximum ∷ [])
-typeLine (Repetition event number low high jitter) =
-    (10, byte kind event ∷ byte (span repetitionSpanLimit) number ∷ time lower low ∷ time upper high ∷ time plain jitter ∷ [])
+typeLine (Reaction stimulus response low high) =
+    (9, byte coloured stimulus ∷ byte coloured response ∷ time lower low ∷ time upper high ∷ [])
+typeLine (Repetition event number low high late) =
+    (10, byte kind event ∷ byte (span repetitionSpanLimit) number ∷ time lower low ∷ time upper high ∷ time (plain jitter) late ∷ [])
 
 -- §4.5; 01, table: the number of the type
 abbrev pub typeOf : Constraint → ℕ
@@ -58,6 +65,27 @@ typeOf c = typeLine c .0
 abbrev pub fieldsOf : Constraint → List Field
 fieldsOf c = typeLine c .1
 
+-- §4.5; 01, table: the StrongSynchronization of as many kinds as its first byte says
+unfoldable pub groupRead : List ℕ → ℕ → Constraint
+groupRead b apart =
+    cond (eqb (at b 0) 2) (StrongSynchronization2 (at b 1) (at b 2) apart)
+    (cond (eqb (at b 0) 3) (StrongSynchronization3 (at b 1) (at b 2) (at b 3) apart)
+    (StrongSynchronization4 (at b 1) (at b 2) (at b 3) (at b 4) apart))
+
+-- §4.5; 01, table; CR 2, 6, 10: back: the row of a type's number, of the values b of its fields of one byte, and of its times x
+unfoldable pub rowRead : ℕ → List ℕ → List ℕ → Constraint
+rowRead t b x =
+    cond (eqb t 1) (Delay (at b 0) (at b 1) (at x 0) (at x 1))
+    (cond (eqb t 2) (StrongDelay (at b 0) (at b 1) (at x 0) (at x 1))
+    (cond (eqb t 3) (Repeat (at b 0) (at b 1) (at x 0) (at x 1))
+    (cond (eqb t 4) (Sporadic (at b 0) (at x 0) (at x 1) (at x 2) (at x 3))
+    (cond (eqb t 5) (Burst (at b 0) (at b 1) (at x 0) (at x 1))
+    (cond (eqb t 6) (Order (at b 0) (at b 1))
+    (cond (eqb t 8) (ExecutionTime (at b 0) (at b 1) (at b 2) (at b 3) (at x 0) (at x 1))
+    (cond (eqb t 9) (Reaction (at b 0) (at b 1) (at x 0) (at x 1))
+    (cond (eqb t 10) (Repetition (at b 0) (at b 1) (at x 0) (at x 1) (at x 2))
+    (groupRead b (at x 0))))))))))
+
 -- §4.5; 01, table; CR 2, 6, 10: the lengths, by the type byte; to a StrongSynchronization's its n is added
 abbrev pub lengths : List ℕ
 lengths = 0 ∷ 19 ∷ 19 ∷ 19 ∷ 34 ∷ 19 ∷ 3 ∷ 10 ∷ 21 ∷ 19 ∷ 27 ∷ []
@@ -65,3 +93,34 @@ lengths = 0 ∷ 19 ∷ 19 ∷ 19 ∷ 34 ∷ 19 ∷ 3 ∷ 10 ∷ 21 ∷ 19 ∷ 27
 -- §4.5; 01, table: the length of a type, and of the n of a StrongSynchronization
 abbrev pub lengthOf : ℕ → ℕ → ℕ
 lengthOf t n = at lengths t + cond (eqb t 7) n 0
+
+-- §7.16; CR 5: the names of the types, as TADL2 has them without their last word: StrongSynchronization, the name of type 7
+abbrev pub synchronizationName : List ℕ
+synchronizationName =
+    83 ∷ 116 ∷ 114 ∷ 111 ∷ 110 ∷ 103 ∷ 83 ∷ 121 ∷ 110 ∷ 99 ∷ 104 ∷ 114 ∷ 111 ∷ 110 ∷ 105 ∷ 122 ∷ 97 ∷ 116 ∷ 105 ∷ 111 ∷ 110 ∷ []
+
+-- §7.16; CR 5: the names by the number of the type, a line for each; 0 is no type, and is taken for 7 as in a row's step
+abbrev pub typeNames : List (List ℕ)
+typeNames =
+    synchronizationName
+    -- 1 Delay
+    ∷ (68 ∷ 101 ∷ 108 ∷ 97 ∷ 121 ∷ [])
+    -- 2 StrongDelay
+    ∷ (83 ∷ 116 ∷ 114 ∷ 111 ∷ 110 ∷ 103 ∷ 68 ∷ 101 ∷ 108 ∷ 97 ∷ 121 ∷ [])
+    -- 3 Repeat
+    ∷ (82 ∷ 101 ∷ 112 ∷ 101 ∷ 97 ∷ 116 ∷ [])
+    -- 4 Sporadic
+    ∷ (83 ∷ 112 ∷ 111 ∷ 114 ∷ 97 ∷ 100 ∷ 105 ∷ 99 ∷ [])
+    -- 5 Burst
+    ∷ (66 ∷ 117 ∷ 114 ∷ 115 ∷ 116 ∷ [])
+    -- 6 Order
+    ∷ (79 ∷ 114 ∷ 100 ∷ 101 ∷ 114 ∷ [])
+    -- 7 StrongSynchronization
+    ∷ synchronizationName
+    -- 8 ExecutionTime
+    ∷ (69 ∷ 120 ∷ 101 ∷ 99 ∷ 117 ∷ 116 ∷ 105 ∷ 111 ∷ 110 ∷ 84 ∷ 105 ∷ 109 ∷ 101 ∷ [])
+    -- 9 Reaction
+    ∷ (82 ∷ 101 ∷ 97 ∷ 99 ∷ 116 ∷ 105 ∷ 111 ∷ 110 ∷ [])
+    -- 10 Repetition
+    ∷ (82 ∷ 101 ∷ 112 ∷ 101 ∷ 116 ∷ 105 ∷ 116 ∷ 105 ∷ 111 ∷ 110 ∷ [])
+    ∷ []

@@ -10,25 +10,31 @@ ghost use Rattle.constraint.specs.Records.{Decides, Absent, isKind, byte
 ghost use Rattle.constraint.specs.Accepted.{kindsIn, KindsFit, SortsFit, FieldsInRange, NotBelow};
 
 // The roles of a field of one byte. Any other number is the limit of a span or a maximum.
-pub(crate) const NO_FIELD: u8 = 0;
+pub const NO_FIELD: u8 = 0;
 
-pub(crate) const KIND: u8 = 255;
+pub const KIND: u8 = 255;
 
-pub(crate) const COUNT: u8 = 254;
+pub const COUNT: u8 = 254;
 
-pub(crate) const COLOURED: u8 = 253;
+pub const COLOURED: u8 = 253;
 // The roles of a time.
-pub(crate) const PLAIN: u8 = 1;
+pub const TOLERANCE: u8 = 1;
 
-pub(crate) const LOWER: u8 = 2;
+pub const LOWER: u8 = 2;
 
-pub(crate) const UPPER: u8 = 3;
+pub const UPPER: u8 = 3;
 
-pub(crate) const UPPER_OR_NONE: u8 = 4;
+pub const UPPER_OR_NONE: u8 = 4;
+
+pub const JITTER: u8 = 5;
+
+pub const MINIMUM: u8 = 6;
+
+pub const LENGTH: u8 = 7;
 // How many fields of one byte and how many times a row has at most.
-const MOST_BYTES: usize = 5;
+pub const MOST_BYTES: usize = 5;
 
-const MOST_TIMES: usize = 4;
+pub const MOST_TIMES: usize = 4;
 
 // A line of the table of types: the type byte, and the roles of the fields of one byte and of the times behind them.
 pub struct Line {
@@ -92,7 +98,7 @@ impl Fields {
 }
 
 // Is the role that of a kind, plain or coloured?
-fn is_kind(role: u8) -> bool
+pub fn is_kind(role: u8) -> bool
     ensures { λ r. ⌜ r ≡ isKind role ⌝ }
 {
     role == KIND || role == COLOURED

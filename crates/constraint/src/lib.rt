@@ -5,16 +5,20 @@ pub mod fields;
 use fields::COLOURED;
 use fields::COUNT;
 use fields::Fields;
+use fields::JITTER;
 use fields::KIND;
+use fields::LENGTH;
 use fields::LOWER;
 use fields::Line;
-use fields::PLAIN;
+use fields::MINIMUM;
+use fields::TOLERANCE;
 use fields::UPPER;
 use fields::UPPER_OR_NONE;
 ghost use mathlib.Core.Path.{_≡_};
 ghost use mathlib.Core.List.{[]};
 ghost use Rattle.constraint.specs.Questions.{Judged};
 ghost use Rattle.constraint.specs.Accepted.{rowQuestions, rowsQuestions};
+ghost use Rattle.constraint.specs.Types.{groupRead, rowRead, lengthOf};
 ghost use Rattle.constraint.specs.Records.{rowsOf, tableOf, Adds, HoldsRow};
 
 // The largest kind of event.
@@ -202,13 +206,13 @@ const REPEAT: Line = Line {
 const SPORADIC: Line = Line {
     form: 4,
     bytes: [KIND, 0, 0, 0, 0],
-    times: [LOWER, UPPER_OR_NONE, PLAIN, PLAIN],
+    times: [LOWER, UPPER_OR_NONE, JITTER, MINIMUM],
 };
 
 const BURST: Line = Line {
     form: 5,
     bytes: [KIND, SPAN_LIMIT, 0, 0, 0],
-    times: [PLAIN, PLAIN, 0, 0],
+    times: [LENGTH, MINIMUM, 0, 0],
 };
 
 const ORDER: Line = Line {
@@ -220,19 +224,19 @@ const ORDER: Line = Line {
 const GROUP_OF_2: Line = Line {
     form: 7,
     bytes: [COUNT, KIND, KIND, 0, 0],
-    times: [PLAIN, 0, 0, 0],
+    times: [TOLERANCE, 0, 0, 0],
 };
 
 const GROUP_OF_3: Line = Line {
     form: 7,
     bytes: [COUNT, KIND, KIND, KIND, 0],
-    times: [PLAIN, 0, 0, 0],
+    times: [TOLERANCE, 0, 0, 0],
 };
 
 const GROUP_OF_4: Line = Line {
     form: 7,
     bytes: [COUNT, KIND, KIND, KIND, KIND],
-    times: [PLAIN, 0, 0, 0],
+    times: [TOLERANCE, 0, 0, 0],
 };
 
 const EXECUTION_TIME: Line = Line {
@@ -250,10 +254,132 @@ const REACTION: Line = Line {
 const REPETITION: Line = Line {
     form: 10,
     bytes: [KIND, REPETITION_SPAN_LIMIT, 0, 0, 0],
-    times: [LOWER, UPPER, PLAIN, 0],
+    times: [LOWER, UPPER, JITTER, 0],
 };
 
+// The length expected for each type, by the type byte; to a StrongSynchronization's its n is added.
+const LENGTHS: [usize; 11] = [0, 19, 19, 19, 34, 19, 3, 10, 21, 19, 27];
+
+// The length expected of a row of a type, with the byte behind it, which is the n of a StrongSynchronization; 0 if there is
+// no such type.
+pub fn length_of(form: u8, n: u8) -> usize
+    ensures { λ r. ⌜ r ≡ lengthOf form n ⌝ }
+{
+    let place = form as usize;
+    if LENGTHS.len() <= place {
+        return 0;
+    }
+    if form == 7 {
+        return LENGTHS[place] + n as usize;
+    }
+    LENGTHS[place]
+}
+
+// The StrongSynchronization of as many kinds as its first byte says.
+fn group_read(bytes: [u8; 5], tolerance: u64) -> Constraint
+    ensures { λ r. ⌜ r ≡ groupRead bytes tolerance ⌝ }
+{
+    let n = bytes[0];
+    let first = bytes[1];
+    let second = bytes[2];
+    let third = bytes[3];
+    let fourth = bytes[4];
+    match n {
+        2 => Constraint::StrongSynchronization2 {
+            first,
+            second,
+            tolerance,
+        },
+        3 => Constraint::StrongSynchronization3 {
+            first,
+            second,
+            third,
+            tolerance,
+        },
+        _ => Constraint::StrongSynchronization4 {
+            first,
+            second,
+            third,
+            fourth,
+            tolerance,
+        },
+    }
+}
+
 impl Constraint {
+    // The row of a type byte, the values of its fields of one byte, and its times: what `fields` takes apart.
+    pub fn read(form: u8, bytes: [u8; 5], times: [u64; 4]) -> Self
+        ensures { λ r. ⌜ r ≡ rowRead form bytes times ⌝ }
+    {
+        let byte0 = bytes[0];
+        let byte1 = bytes[1];
+        let byte2 = bytes[2];
+        let byte3 = bytes[3];
+        let time0 = times[0];
+        let time1 = times[1];
+        let time2 = times[2];
+        let time3 = times[3];
+        match form {
+            1 => Constraint::Delay {
+                source: byte0,
+                target: byte1,
+                lower: time0,
+                upper: time1,
+            },
+            2 => Constraint::StrongDelay {
+                source: byte0,
+                target: byte1,
+                lower: time0,
+                upper: time1,
+            },
+            3 => Constraint::Repeat {
+                event: byte0,
+                span: byte1,
+                lower: time0,
+                upper: time1,
+            },
+            4 => Constraint::Sporadic {
+                event: byte0,
+                lower: time0,
+                upper: time1,
+                jitter: time2,
+                minimum: time3,
+            },
+            5 => Constraint::Burst {
+                event: byte0,
+                maximum: byte1,
+                length: time0,
+                minimum: time1,
+            },
+            6 => Constraint::Order {
+                source: byte0,
+                target: byte1,
+            },
+            8 => Constraint::ExecutionTime {
+                start: byte0,
+                stop: byte1,
+                preempt: byte2,
+                resume: byte3,
+                lower: time0,
+                upper: time1,
+            },
+            9 => Constraint::Reaction {
+                stimulus: byte0,
+                response: byte1,
+                minimum: time0,
+                maximum: time1,
+            },
+            10 => Constraint::Repetition {
+                event: byte0,
+                span: byte1,
+                lower: time0,
+                upper: time1,
+                jitter: time2,
+            },
+            _ => group_read(bytes, time0),
+        }
+    }
+
     // The fields as numbers.
     pub fn fields(self) -> Fields
         ensures { λ r. ⌜ HoldsRow self r ⌝ }

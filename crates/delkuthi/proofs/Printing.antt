@@ -21,14 +21,11 @@ use Rattle.constraint.specs.Page.{nameOf, verdictAt, pageText, PageOf, page-of,
 use Rattle.page.specs.ReadBack.{lineRead}
 use Rattle.constraint.specs.Run.{Request, Left}
 use Rattle.constraint.specs.declared.Constraint.{Constraint}
-use Rattle.constraint.specs.declared.Constraint.the-variants.{Delay, StrongDelay, Repeat, Sporadic, Burst, Order}
-use Rattle.constraint.specs.declared.Constraint.the-variants.{StrongSynchronization2, StrongSynchronization3, StrongSynchronization4, ExecutionTime}
-use Rattle.constraint.specs.declared.Constraint.the-variants.{Reaction, Repetition}
 use Rattle.constraint.specs.declared.Verdict.{Verdict}
 use Rattle.constraint.proofs.History.{Valid, count-of}
 use Rattle.constraint.proofs.Lists.{getD-within}
 use Rattle.text.specs.Content.{Copied}
-use Rattle.machine.specs.Rule.{ruleOf}
+use Rattle.machine.proofs.FieldNumbers.{form-is}
 use Rattle.row.specs.Machine.{rowVerdict}
 use Rattle.row.specs.declared.Row.{Row}
 use Rattle.row.proofs.Engine.{engine}
@@ -125,21 +122,6 @@ each-listed : (steps : List Step) (rows : List Constraint) (v : ℕ → Verdict)
 unfolding listed
 each-listed steps [] v reads = no-row
 each-listed steps (c ∷ rows) v reads = row-reads (reads 0 c refl) (each-listed steps rows (λ i. v (suc i)) (λ i d e. reads (suc i) d e))
-
--- a rule has its constraint's type
-form-is : (c : Constraint) → ruleOf c .form ≡ typeOf c
-form-is (Delay source target lower upper) = refl
-form-is (StrongDelay source target lower upper) = refl
-form-is (Repeat event span lower upper) = refl
-form-is (Sporadic event lower upper jitter minimum) = refl
-form-is (Burst event maximum length minimum) = refl
-form-is (Order source target) = refl
-form-is (StrongSynchronization2 first second tolerance) = refl
-form-is (StrongSynchronization3 first second third tolerance) = refl
-form-is (StrongSynchronization4 first second third fourth tolerance) = refl
-form-is (ExecutionTime start stop preempt resume lower upper) = refl
-form-is (Reaction stimulus response minimum maximum) = refl
-form-is (Repetition event span lower upper jitter) = refl
 
 types-fit : (steps : List Step) (cs : List Constraint) (rows : List Row) → FitRows engine steps cs rows → (i : ℕ) → i < length cs
     → getD rows i noRow .rule .form ≡ at (map typeOf cs) i

@@ -47,7 +47,7 @@ rangeBy (byte kind x ∷ fields) = rangeBy fields
 rangeBy (byte coloured x ∷ fields) = rangeBy fields
 rangeBy (byte count x ∷ fields) = rangeBy fields
 rangeBy (byte (span limit) x ∷ fields) = leb 1 x && (leb x limit && rangeBy fields)
-rangeBy (time plain x ∷ fields) = leb x lastTime && rangeBy fields
+rangeBy (time (plain what) x ∷ fields) = leb x lastTime && rangeBy fields
 rangeBy (time lower x ∷ fields) = leb x lastTime && rangeBy fields
 rangeBy (time upper x ∷ fields) = leb x lastTime && rangeBy fields
 rangeBy (time upper-or-none x ∷ fields) = (leb x lastTime || eqb x noLimit) && rangeBy fields
@@ -55,7 +55,7 @@ rangeBy (time upper-or-none x ∷ fields) = (leb x lastTime || eqb x noLimit) &&
 abbrev lowerBy : ℕ → List Field → Bool
 lowerBy low [] = true
 lowerBy low (byte role x ∷ fields) = lowerBy low fields
-lowerBy low (time plain x ∷ fields) = lowerBy low fields
+lowerBy low (time (plain what) x ∷ fields) = lowerBy low fields
 lowerBy low (time lower x ∷ fields) = lowerBy x fields
 lowerBy low (time upper x ∷ fields) = leb low x
 lowerBy low (time upper-or-none x ∷ fields) = leb low x
@@ -102,7 +102,7 @@ range-by (byte (span limit) x ∷ fields) e =
     let parts = and-true (leb 1 x) (leb x limit && rangeBy fields) e in
     let later = and-true (leb x limit) (rangeBy fields) (parts .1) in
     (leb-true 1 x (parts .0), leb-true x limit (later .0), range-by fields (later .1))
-range-by (time plain x ∷ fields) e =
+range-by (time (plain what) x ∷ fields) e =
     let parts = and-true (leb x lastTime) (rangeBy fields) e in (leb-true x lastTime (parts .0), range-by fields (parts .1))
 range-by (time lower x ∷ fields) e =
     let parts = and-true (leb x lastTime) (rangeBy fields) e in (leb-true x lastTime (parts .0), range-by fields (parts .1))
@@ -115,7 +115,7 @@ range-by (time upper-or-none x ∷ fields) e =
 lower-by : (low : ℕ) (fields : List Field) → lowerBy low fields ≡ true → NotBelow low fields
 lower-by low [] e = tt
 lower-by low (byte role x ∷ fields) e = lower-by low fields e
-lower-by low (time plain x ∷ fields) e = lower-by low fields e
+lower-by low (time (plain what) x ∷ fields) e = lower-by low fields e
 lower-by low (time lower x ∷ fields) e = lower-by x fields e
 lower-by low (time upper x ∷ fields) e = leb-true low x e
 lower-by low (time upper-or-none x ∷ fields) e = leb-true low x e

@@ -1,4 +1,5 @@
 -- What each row type proves of its machine, and what several types share.
+pub mod FieldNumbers
 pub mod Exact
 pub mod SeveralKinds
 pub mod OneKind

@@ -1,64 +1,89 @@
 -- A constraint as numbers.
 use Prim.Native.Nat.{ℕ}
-use mathlib.Core.List.{List}
+use mathlib.Core.List.{List, [], _∷_}
 use mathlib.Core.Bool.{Bool, cond, _||_}
 use lib.Dec.{eqb}
 use lib.ListN.{replicate}
 use Rattle.constraint.specs.Limits.{noLimit}
+use Rattle.constraint.specs.Types.{kind, coloured, count, span, lower, upper, upper-or-none, plain, jitter, minimum, len, tolerance}
+use Rattle.constraint.specs.Types.{Field, byte, time, typeOf, fieldsOf}
 use Rattle.constraint.specs.declared.Constraint.{Constraint}
-use Rattle.constraint.specs.declared.Constraint.the-variants.{Delay, StrongDelay, Repeat, Sporadic, Burst, Order}
-use Rattle.constraint.specs.declared.Constraint.the-variants.{StrongSynchronization2, StrongSynchronization3, StrongSynchronization4, ExecutionTime}
-use Rattle.constraint.specs.declared.Constraint.the-variants.{Reaction, Repetition}
 use Rattle.machine.specs.declared.Rule.{Rule}
 
 -- a kind that no event has
 abbrev pub noKind : ℕ
 noKind = 64
 
--- a constraint of one or two kinds as numbers, and one of several kinds
-abbrev pub pairRule : ℕ → ℕ → ℕ → ℕ → ℕ → ℕ → ℕ → ℕ → Rule
-pairRule form first second span lower upper jitter minimum =
+-- the numbers of a type without fields
+abbrev pub noFields : ℕ → Rule
+noFields type =
     record {
-      form = form;
-      first = first;
-      second = second;
+      form = type;
+      first = noKind;
+      second = noKind;
       third = noKind;
       fourth = noKind;
-      span = span;
-      lower = lower;
-      upper = upper;
-      jitter = jitter;
-      minimum = minimum;
-    }
-
-abbrev pub groupRule : ℕ → ℕ → ℕ → ℕ → ℕ → ℕ → ℕ → Rule
-groupRule form first second third fourth lower upper =
-    record {
-      form = form;
-      first = first;
-      second = second;
-      third = third;
-      fourth = fourth;
       span = 0;
-      lower = lower;
-      upper = upper;
+      lower = 0;
+      upper = 0;
       jitter = 0;
       minimum = 0;
     }
 
+-- the numbers with one more kind, before the others
+abbrev pub withKind : ℕ → Rule → Rule
+withKind x r =
+    record {
+      form = r .form;
+      first = x;
+      second = r .first;
+      third = r .second;
+      fourth = r .third;
+      span = r .span;
+      lower = r .lower;
+      upper = r .upper;
+      jitter = r .jitter;
+      minimum = r .minimum;
+    }
+
+-- the numbers with another span, lower, upper, jitter and minimum
+abbrev pub withLimits : ℕ → ℕ → ℕ → ℕ → ℕ → Rule → Rule
+withLimits number low high late apart r =
+    record {
+      form = r .form;
+      first = r .first;
+      second = r .second;
+      third = r .third;
+      fourth = r .fourth;
+      span = number;
+      lower = low;
+      upper = high;
+      jitter = late;
+      minimum = apart;
+    }
+
+-- what a field is among the numbers, those of the fields behind it being there: a tolerance is an upper, a length a lower without an upper limit
+abbrev pub withField : Field → Rule → Rule
+withField (byte kind x) r = withKind x r
+withField (byte coloured x) r = withKind x r
+withField (byte count x) r = r
+withField (byte (span limit) x) r = withLimits x (r .lower) (r .upper) (r .jitter) (r .minimum) r
+withField (time lower x) r = withLimits (r .span) x (r .upper) (r .jitter) (r .minimum) r
+withField (time upper x) r = withLimits (r .span) (r .lower) x (r .jitter) (r .minimum) r
+withField (time upper-or-none x) r = withLimits (r .span) (r .lower) x (r .jitter) (r .minimum) r
+withField (time (plain tolerance) x) r = withLimits (r .span) (r .lower) x (r .jitter) (r .minimum) r
+withField (time (plain len) x) r = withLimits (r .span) x noLimit (r .jitter) (r .minimum) r
+withField (time (plain jitter) x) r = withLimits (r .span) (r .lower) (r .upper) x (r .minimum) r
+withField (time (plain minimum) x) r = withLimits (r .span) (r .lower) (r .upper) (r .jitter) x r
+
+-- and of fields in their order
+abbrev pub withFields : List Field → Rule → Rule
+withFields [] r = r
+withFields (f ∷ fields) r = withField f (withFields fields r)
+
+-- a constraint as numbers: its type, and what each field is among them
 abbrev pub ruleOf : Constraint → Rule
-ruleOf (Delay source target lower upper) = pairRule 1 source target 0 lower upper 0 0
-ruleOf (StrongDelay source target lower upper) = pairRule 2 source target 0 lower upper 0 0
-ruleOf (Repeat event span lower upper) = pairRule 3 event noKind span lower upper 0 0
-ruleOf (Sporadic event lower upper jitter minimum) = pairRule 4 event noKind 0 lower upper jitter minimum
-ruleOf (Burst event maximum length minimum) = pairRule 5 event noKind maximum length noLimit 0 minimum
-ruleOf (Order source target) = pairRule 6 source target 0 0 0 0 0
-ruleOf (StrongSynchronization2 first second tolerance) = groupRule 7 first second noKind noKind 0 tolerance
-ruleOf (StrongSynchronization3 first second third tolerance) = groupRule 7 first second third noKind 0 tolerance
-ruleOf (StrongSynchronization4 first second third fourth tolerance) = groupRule 7 first second third fourth 0 tolerance
-ruleOf (ExecutionTime start stop preempt resume lower upper) = groupRule 8 start stop preempt resume lower upper
-ruleOf (Reaction stimulus response minimum maximum) = pairRule 9 stimulus response 0 minimum maximum 0 0
-ruleOf (Repetition event span lower upper jitter) = pairRule 10 event noKind span lower upper jitter 0
+ruleOf c = withFields (fieldsOf c) (noFields (typeOf c))
 
 -- what a row keeps times of waits in it: in a Delay, a StrongDelay and a StrongSynchronization (§6.1 to §6.3), and in no other type (§6.4)
 abbrev pub waitsIn : ℕ → Bool

@@ -2,142 +2,129 @@
 use crate::Rule;
 use constraint::Constraint;
 use constraint::NO_LIMIT;
+use constraint::fields::COUNT;
+use constraint::fields::JITTER;
+use constraint::fields::LENGTH;
+use constraint::fields::LOWER;
+use constraint::fields::MINIMUM;
+use constraint::fields::MOST_BYTES;
+use constraint::fields::MOST_TIMES;
+use constraint::fields::NO_FIELD;
+use constraint::fields::is_kind;
 ghost use mathlib.Core.Path.{_≡_};
-ghost use Rattle.machine.specs.Rule.{pairRule, groupRule, ruleOf, wordsOf};
+ghost use Rattle.constraint.specs.Records.{byteField, timeField, fieldAt, bytesFrom, timesFrom};
+ghost use Rattle.machine.specs.Rule.{noFields, withFields, ruleOf, wordsOf};
 
 // A kind that no event has.
 pub const NO_KIND: u8 = 64;
 
-// The fields of a constraint as numbers.
-pub fn rule_of(c: Constraint) -> Rule
-    ensures { λ r. ⌜ r ≡ ruleOf c ⌝ }
-{
-    match c {
-        Constraint::Delay {
-            source,
-            target,
-            lower,
-            upper,
-        } => pair_rule(1, source, target, 0, lower, upper, 0, 0),
-        Constraint::StrongDelay {
-            source,
-            target,
-            lower,
-            upper,
-        } => pair_rule(2, source, target, 0, lower, upper, 0, 0),
-        Constraint::Repeat {
-            event,
-            span,
-            lower,
-            upper,
-        } => pair_rule(3, event, NO_KIND, span, lower, upper, 0, 0),
-        Constraint::Sporadic {
-            event,
-            lower,
-            upper,
-            jitter,
-            minimum,
-        } => pair_rule(4, event, NO_KIND, 0, lower, upper, jitter, minimum),
-        Constraint::Burst {
-            event,
-            maximum,
-            length,
-            minimum,
-        } => pair_rule(5, event, NO_KIND, maximum, length, NO_LIMIT, 0, minimum),
-        Constraint::Order { source, target } => pair_rule(6, source, target, 0, 0, 0, 0, 0),
-        Constraint::StrongSynchronization2 {
-            first,
-            second,
-            tolerance,
-        } => group_rule(7, first, second, NO_KIND, NO_KIND, 0, tolerance),
-        Constraint::StrongSynchronization3 {
-            first,
-            second,
-            third,
-            tolerance,
-        } => group_rule(7, first, second, third, NO_KIND, 0, tolerance),
-        Constraint::StrongSynchronization4 {
-            first,
-            second,
-            third,
-            fourth,
-            tolerance,
-        } => group_rule(7, first, second, third, fourth, 0, tolerance),
-        Constraint::ExecutionTime {
-            start,
-            stop,
-            preempt,
-            resume,
-            lower,
-            upper,
-        } => group_rule(8, start, stop, preempt, resume, lower, upper),
-        Constraint::Reaction {
-            stimulus,
-            response,
-            minimum,
-            maximum,
-        } => pair_rule(9, stimulus, response, 0, minimum, maximum, 0, 0),
-        Constraint::Repetition {
-            event,
-            span,
-            lower,
-            upper,
-            jitter,
-        } => pair_rule(10, event, NO_KIND, span, lower, upper, jitter, 0),
-    }
-}
-
-// A constraint of one or two kinds as numbers.
-fn pair_rule(
-    form: u64,
-    first: u8,
-    second: u8,
-    span: u8,
-    lower: u64,
-    upper: u64,
-    jitter: u64,
-    minimum: u64,
-) -> Rule
-    ensures { λ r. ⌜ r ≡ pairRule form first second span lower upper jitter minimum ⌝ }
+// The numbers of a type without fields.
+fn no_fields(form: u8) -> Rule
+    ensures { λ r. ⌜ r ≡ noFields form ⌝ }
 {
     Rule {
-        form,
-        first: first as u64,
-        second: second as u64,
+        form: form as u64,
+        first: NO_KIND as u64,
+        second: NO_KIND as u64,
         third: NO_KIND as u64,
         fourth: NO_KIND as u64,
-        span: span as u64,
-        lower,
-        upper,
-        jitter,
-        minimum,
-    }
-}
-
-// A constraint of several kinds as numbers.
-fn group_rule(
-    form: u64,
-    first: u8,
-    second: u8,
-    third: u8,
-    fourth: u8,
-    lower: u64,
-    upper: u64,
-) -> Rule
-    ensures { λ r. ⌜ r ≡ groupRule form first second third fourth lower upper ⌝ }
-{
-    Rule {
-        form,
-        first: first as u64,
-        second: second as u64,
-        third: third as u64,
-        fourth: fourth as u64,
         span: 0,
-        lower,
-        upper,
+        lower: 0,
+        upper: 0,
         jitter: 0,
         minimum: 0,
     }
+}
+
+// The numbers with a field of one byte, those of the fields behind it being there: a kind goes before the other kinds.
+fn with_byte(rule: Rule, role: u8, value: u8) -> Rule
+    ensures { λ r. ⌜ r ≡ withFields (fieldAt byteField role value) rule ⌝ }
+{
+    let mut next = rule;
+    if role == NO_FIELD {
+        return next;
+    }
+    if role == COUNT {
+        return next;
+    }
+    if is_kind(role) {
+        next.first = value as u64;
+        next.second = rule.first;
+        next.third = rule.second;
+        next.fourth = rule.third;
+        return next;
+    }
+    next.span = value as u64;
+    next
+}
+
+// The numbers with a time: a tolerance is an upper, a length a lower without an upper limit.
+fn with_time(rule: Rule, role: u8, value: u64) -> Rule
+    ensures { λ r. ⌜ r ≡ withFields (fieldAt timeField role value) rule ⌝ }
+{
+    let mut next = rule;
+    if role == NO_FIELD {
+        return next;
+    }
+    if role == LOWER {
+        next.lower = value;
+        return next;
+    }
+    if role == JITTER {
+        next.jitter = value;
+        return next;
+    }
+    if role == MINIMUM {
+        next.minimum = value;
+        return next;
+    }
+    if role == LENGTH {
+        next.lower = value;
+        next.upper = NO_LIMIT;
+        return next;
+    }
+    next.upper = value;
+    next
+}
+
+// The numbers with some fields of one byte, from the last to the first.
+fn with_bytes(rule: Rule, roles: [u8; 5], values: [u8; 5]) -> Rule
+    ensures { λ r. ⌜ r ≡ withFields (bytesFrom roles values 0) rule ⌝ }
+{
+    let mut next = rule;
+    let mut i = MOST_BYTES;
+    while 0 < i {
+        i -= 1;
+        next = with_byte(next, roles[i], values[i]);
+    }
+    next
+}
+
+// The numbers with some times, from the last to the first.
+fn with_times(rule: Rule, roles: [u8; 4], values: [u64; 4]) -> Rule
+    ensures { λ r. ⌜ r ≡ withFields (timesFrom roles values 0) rule ⌝ }
+{
+    let mut next = rule;
+    let mut i = MOST_TIMES;
+    while 0 < i {
+        i -= 1;
+        next = with_time(next, roles[i], values[i]);
+    }
+    next
+}
+
+// A constraint as numbers: its type, and what each field is among them.
+pub fn rule_of(c: Constraint) -> Rule
+    ensures { λ r. ⌜ r ≡ ruleOf c ⌝ }
+{
+    let fields = c.fields();
+    let line = fields.line;
+    let byte_roles = line.bytes;
+    let time_roles = line.times;
+    let bytes = fields.bytes;
+    let times = fields.times;
+    let timed = with_times(no_fields(line.form), time_roles, times);
+    with_bytes(timed, byte_roles, bytes)
 }
 
 // How many words a row has from the start, each 0: a Reaction has two for each colour.

@@ -10,11 +10,10 @@ use lib.Seq.{sets, drop-at}
 use lib.Dec.{leb, ltb}
 use borrow.Author.Tests.{leb-true, ltb-true}
 use Rattle.constraint.specs.Report.{decimal, blank, lineEnd}
+use Rattle.constraint.specs.Types.{synchronizationName, typeNames}
 use Rattle.constraint.specs.Page.{
   leftIn,
   rightIn,
-  typeNames,
-  synchronizationName,
   nameOf,
   verdictWord,
   stepText,

@@ -1,11 +1,11 @@
 -- The row's test of an event's kind is right: its four numbers are the constraint's kinds and, for those that it lacks, 64, which is no kind; and
 -- an event is of one of the row's streams just where it is of one of its kinds.
-use Prim.Native.Nat.{ℕ, zero, suc, _-_, _<_}
+use Prim.Native.Nat.{ℕ, zero, suc, _≤_, _<_}
 use native.Mathlib.Omega.{arith}
-use mathlib.Core.Path.{_≡_, refl, _∙_}
+use mathlib.Core.Path.{_≡_, refl, ap, _∙_}
 use mathlib.Core.Bool.{true, false, _||_}
 use mathlib.Core.List.{List, [], _∷_, _++_}
-use lib.ListN.{length, replicate}
+use lib.ListN.{length, take, replicate}
 use lib.Dec.{eqb}
 use borrow.Author.Tests.{ne-eqb}
 use Rattle.constraint.specs.Limits.{streamCount}
@@ -15,38 +15,29 @@ use Rattle.constraint.specs.Types.{fieldsOf}
 use Rattle.constraint.specs.Accepted.{kinds, KindsFit, KindsSuit}
 use Rattle.constraint.proofs.Streams.{streams, kind-small, among-where, among-kinds}
 use Rattle.constraint.specs.declared.Constraint.{Constraint}
-use Rattle.constraint.specs.declared.Constraint.the-variants.{Delay, StrongDelay, Repeat, Sporadic, Burst, Order}
-use Rattle.constraint.specs.declared.Constraint.the-variants.{StrongSynchronization2, StrongSynchronization3, StrongSynchronization4, ExecutionTime}
-use Rattle.constraint.specs.declared.Constraint.the-variants.{Reaction, Repetition}
+use Rattle.constraint.proofs.Types.{regular}
 use Rattle.constraint.proofs.Lists.{split}
 use Rattle.machine.specs.Rule.{noKind, ruleOf}
+use Rattle.machine.proofs.FieldNumbers.{kinds-are}
 use Rattle.machine.proofs.SeveralKinds.{kinds-small}
 use Rattle.row.specs.Machine.{concerns, noEvent}
 use Rattle.row.proofs.Exact.{OfStream}
 
 -- the kinds that a row lacks are no event's
-among-absent : (k n : ℕ) (ks : List ℕ) → ¬ (k ≡ noKind) → among k (ks ++ replicate n noKind) ≡ among k ks
-among-absent k zero [] h = refl
-among-absent k (suc n) [] h = rw (ne-eqb k noKind h) (among-absent k n [] h)
-among-absent k n (j ∷ ks) h =
-    split (eqb k j) (λ x. (x || among k (ks ++ replicate n noKind)) ≡ (x || among k ks)) (λ e. refl) (λ e. among-absent k n ks h)
+among-absent : (k n m : ℕ) → ¬ (k ≡ noKind) → among k (take n (replicate m noKind)) ≡ false
+among-absent k zero m h = refl
+among-absent k (suc n) zero h = refl
+among-absent k (suc n) (suc m) h = rw (ne-eqb k noKind h) (among-absent k n m h)
 
-concerns-among : (c : Constraint) (k : ℕ) → concerns (ruleOf c) k ≡ among k (kinds c ++ replicate (4 - length (kinds c)) noKind)
-concerns-among (Delay source target lower upper) k = refl
-concerns-among (StrongDelay source target lower upper) k = refl
-concerns-among (Repeat event span lower upper) k = refl
-concerns-among (Sporadic event lower upper jitter minimum) k = refl
-concerns-among (Burst event maximum length minimum) k = refl
-concerns-among (Order source target) k = refl
-concerns-among (StrongSynchronization2 a b tolerance) k = refl
-concerns-among (StrongSynchronization3 a b c tolerance) k = refl
-concerns-among (StrongSynchronization4 a b c d tolerance) k = refl
-concerns-among (ExecutionTime start stop preempt resume lower upper) k = refl
-concerns-among (Reaction stimulus response minimum maximum) k = refl
-concerns-among (Repetition event span lower upper jitter) k = refl
+among-first : (k n m : ℕ) (ks : List ℕ) → ¬ (k ≡ noKind) → length ks ≤ n → among k (take n (ks ++ replicate m noKind)) ≡ among k ks
+among-first k n m [] h few = among-absent k n m h
+among-first k zero m (j ∷ ks) h few = absurd (omega arith)
+among-first k (suc n) m (j ∷ ks) h few =
+    split (eqb k j) (λ x. (x || among k (take n (ks ++ replicate m noKind))) ≡ (x || among k ks)) (λ e. refl)
+    (λ e. among-first k n m ks h (omega arith))
 
 concerns-kind : (c : Constraint) (k : ℕ) → ¬ (k ≡ noKind) → concerns (ruleOf c) k ≡ among k (kinds c)
-concerns-kind c k h = concerns-among c k ∙ among-absent k (4 - length (kinds c)) (kinds c) h
+concerns-kind c k h = ap (among k) (kinds-are c) ∙ among-first k 4 4 (kinds c) h (regular c .sized .few-kinds)
 
 pub concerns-stream : (c : Constraint) (s : ℕ) → s < streamCount → concerns (ruleOf c) (kindOf s) ≡ among (kindOf s) (kinds c)
 concerns-stream c s h = concerns-kind c (kindOf s) (λ e. omega (arith, kind-small s h))

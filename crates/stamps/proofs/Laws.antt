@@ -17,12 +17,13 @@ use Rattle.constraint.specs.Steps.{Step, event, at, times}
 use Rattle.constraint.specs.Meets.{NotLater, Apart, SpansApart, MeetsRepeat}
 use Rattle.constraint.specs.Stamps.{TrueTimes, ReadsStamps, each-meets, none-meets, both-occur}
 use Rattle.constraint.specs.declared.Call.{Call}
+use Rattle.constraint.specs.declared.Constraint.the-variants.{Sporadic}
 use Rattle.constraint.specs.declared.StampedVerdict.{StampedVerdict}
 use Rattle.constraint.specs.Run.{stepFor}
 use Rattle.constraint.proofs.Lists.{split, at-left, at-next, Each}
 use Rattle.constraint.proofs.History.{times-own, times-other, times-tick, times-close, Accepts}
 use Rattle.machine.specs.Parts.{plus, noMarks, marksOf}
-use Rattle.machine.specs.Rule.{pairRule}
+use Rattle.machine.specs.Rule.{ruleOf}
 use Rattle.machine.specs.declared.Rule.{Rule}
 use Rattle.machine.specs.declared.Marks.{Marks}
 use Rattle.machine.proofs.Tests.{Tells, holds, fails, tells-leb, tells-and}
@@ -36,10 +37,10 @@ use Rattle.stamps.specs.declared.Stamps.{Stamps}
 
 -- the hidden points of Sporadic with that jitter: of any choice, and of one that is lower to upper apart
 abbrev anyRule : ℕ → Rule
-anyRule late = pairRule 4 0 0 0 0 noLimit late 0
+anyRule late = ruleOf (Sporadic 0 0 noLimit late 0)
 
 abbrev rowRule : Asked → Rule
-rowRule a = pairRule 4 0 0 0 (a .lower) (a .upper) (a .late) 0
+rowRule a = ruleOf (Sporadic 0 (a .lower) (a .upper) (a .late) 0)
 
 -- a choice of true times
 abbrev Chosen : ℕ → List ℕ → List ℕ → Type 0

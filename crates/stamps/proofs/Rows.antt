@@ -7,16 +7,16 @@ use mathlib.Core.Option.{some}
 use lib.ListN.{length, getD, getElem?, take}
 use lib.Seq.{getD-take}
 use Rattle.constraint.specs.Steps.{at}
+use Rattle.constraint.specs.Types.{rowRead}
 use Rattle.constraint.specs.Records.{tableOf, HoldsRow}
 use Rattle.constraint.specs.Stamps.{RepeatRow}
 use Rattle.constraint.specs.declared.Answer.the-variants.{Refused}
 use Rattle.constraint.specs.declared.Constraint.{Constraint}
-use Rattle.constraint.specs.declared.Constraint.the-variants.{Delay, StrongDelay, Repeat, Sporadic, Burst, Order, StrongSynchronization2}
-use Rattle.constraint.specs.declared.Constraint.the-variants.{StrongSynchronization3, StrongSynchronization4}
-use Rattle.constraint.specs.declared.Constraint.the-variants.{ExecutionTime, Reaction, Repetition}
+use Rattle.constraint.specs.declared.Constraint.the-variants.{Repeat}
 use Rattle.constraint.specs.declared.Entry.{Entry}
 use Rattle.constraint.specs.declared.Table.{Table}
 use Rattle.constraint.specs.declared.fields.Fields.{Fields}
+use Rattle.constraint.proofs.Types.{numbers-read}
 use Rattle.constraint.proofs.Judged.{never, judged-yes, judged-no}
 use Rattle.constraint.proofs.Records.{record-count, row-there}
 use Rattle.stamps.specs.Machine.{Finds}
@@ -30,23 +30,8 @@ taken-at xs ys n i e h = sym (getD-take n xs i 0 h) ∙ ap (λ (l : List ℕ). a
 -- a row of type 3 is the Repeat of its numbers
 repeat-is : (c : Constraint) (f : Fields) → HoldsRow c f → f .line .form ≡ 3 → c
     ≡ Repeat (at (f .bytes) 0) (at (f .bytes) 1) (at (f .times) 0) (at (f .times) 1)
-repeat-is (Repeat k span low high) f holds three =
-    let k-is : at (f .bytes) 0 ≡ k = taken-at (f .bytes) (k ∷ span ∷ []) 2 0 (holds .bytes) (omega arith) in
-    let span-is : at (f .bytes) 1 ≡ span = taken-at (f .bytes) (k ∷ span ∷ []) 2 1 (holds .bytes) (omega arith) in
-    let low-is : at (f .times) 0 ≡ low = taken-at (f .times) (low ∷ high ∷ []) 2 0 (holds .times) (omega arith) in
-    let high-is : at (f .times) 1 ≡ high = taken-at (f .times) (low ∷ high ∷ []) 2 1 (holds .times) (omega arith) in
-    cc
-repeat-is (Delay source target low high) f holds three = absurd (omega (arith, holds .typed, three))
-repeat-is (StrongDelay source target low high) f holds three = absurd (omega (arith, holds .typed, three))
-repeat-is (Sporadic k low high jitter minimum) f holds three = absurd (omega (arith, holds .typed, three))
-repeat-is (Burst k maximum len minimum) f holds three = absurd (omega (arith, holds .typed, three))
-repeat-is (Order source target) f holds three = absurd (omega (arith, holds .typed, three))
-repeat-is (StrongSynchronization2 a b tolerance) f holds three = absurd (omega (arith, holds .typed, three))
-repeat-is (StrongSynchronization3 a b c tolerance) f holds three = absurd (omega (arith, holds .typed, three))
-repeat-is (StrongSynchronization4 a b c d tolerance) f holds three = absurd (omega (arith, holds .typed, three))
-repeat-is (ExecutionTime start stop preempt resume low high) f holds three = absurd (omega (arith, holds .typed, three))
-repeat-is (Reaction stimulus response low high) f holds three = absurd (omega (arith, holds .typed, three))
-repeat-is (Repetition k span low high jitter) f holds three = absurd (omega (arith, holds .typed, three))
+unfolding rowRead
+repeat-is c f holds three = sym (numbers-read c f holds) ∙ rw three
 
 -- and a Repeat of span 1 has that type and span
 repeat-of : (k low high : ℕ) (f : Fields) → HoldsRow (Repeat k 1 low high) f → (f .line .form ≡ 3) × (at (f .bytes) 1 ≡ 1)

@@ -1,6 +1,5 @@
 -- The laws of the table's bytes.
 pub mod Bodies
-pub mod Types
 pub mod Standing
 pub mod Shapes
 pub mod Same

@@ -19,8 +19,7 @@ use Rattle.constraint.specs.declared.Constraint.{Constraint}
 use Rattle.constraint.proofs.Judged.{same-test, test-le, judged-yes, judged-no, judged-all, judged-once-on}
 use Rattle.table.specs.Rows.{constraintOf}
 use Rattle.table.proofs.Bodies.{bytes-part}
-use Rattle.table.proofs.Types.{row-stands}
-use Rattle.table.proofs.Standing.{stands-once}
+use Rattle.table.proofs.Standing.{row-stands, stands-once}
 
 -- a row is whole where its length is no more than what is left behind the length field
 pub whole-asked : (bytes : List ℕ) (place size : ℕ) → size ≡ lengthAt bytes place → place + 2 ≤ length bytes

@@ -25,9 +25,9 @@ use Rattle.constraint.proofs.Accepted.{rows-then, rows-room}
 use Rattle.table.specs.Raw.{rawSize, rawBody, RawRows, TypeKnown, KnownAt, WritesRaw, all-read, stopped-at}
 use Rattle.table.specs.Writing.{Writes}
 use Rattle.table.specs.declared.WriteAnswer.{WriteAnswer}
-use Rattle.table.proofs.Types.{regular}
+use Rattle.constraint.proofs.Types.{regular}
 use Rattle.table.proofs.Standing.{stands-once}
-use Rattle.table.proofs.Shapes.{length-plain}
+use Rattle.constraint.proofs.Types.{length-plain}
 use Rattle.table.proofs.AcceptedRows.{read-accepted}
 use Rattle.table.proofs.Again.{rows-write}
 

@@ -31,8 +31,9 @@ use Rattle.table.specs.Raw.{rawSize, rawBody, RawRows, TypeKnown, KnownA
 use Rattle.table.specs.Writing.{Writes}
 use Rattle.table.specs.declared.WriteAnswer.{WriteAnswer}
 use Rattle.table.proofs.Bodies.{bytes-part}
-use Rattle.table.proofs.Types.{row-stands}
-use Rattle.table.proofs.Shapes.{length-plain, shape-asked}
+use Rattle.table.proofs.Standing.{row-stands}
+use Rattle.constraint.proofs.Types.{length-plain}
+use Rattle.table.proofs.Shapes.{shape-asked}
 
 -- The test of a row's type
 

@@ -17,7 +17,7 @@ use Rattle.constraint.specs.declared.Constraint.{Constraint}
 use Rattle.constraint.proofs.Judged.{judged-all, judged-parts}
 use Rattle.number.proofs.Numbers.{bytes-length, number-of-bytes}
 use Rattle.table.proofs.Bodies.{number-back, range-fits, row-length}
-use Rattle.table.proofs.Types.{regular}
+use Rattle.constraint.proofs.Types.{regular}
 use Rattle.table.proofs.Standing.{body-short}
 use Rattle.table.proofs.Places.{place-row, place-taken}
 

@@ -6,8 +6,8 @@ use Rattle.constraint.specs.Types.{Field}
 use Rattle.constraint.specs.Table.{Same}
 use Rattle.constraint.specs.Records.{bytesIn, timesIn}
 use Rattle.constraint.specs.declared.Constraint.{Constraint}
-use Rattle.table.specs.Rows.{rowRead}
-use Rattle.table.proofs.Types.{regular}
+use Rattle.constraint.specs.Types.{rowRead}
+use Rattle.constraint.proofs.Types.{regular}
 
 -- §4.8: rows of the same type and the same fields are equal
 pub same-equal : (c d : Constraint) → Same c d → c ≡ d

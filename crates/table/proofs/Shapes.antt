@@ -2,24 +2,17 @@
 use Prim.Native.Nat.{ℕ, _≤_, _<_}
 use mathlib.Core.Path.{_≡_, sym, ap₂, _∙_}
 use mathlib.Core.List.{List}
-use native.Mathlib.Nat.{add-zero}
 use native.Mathlib.Omega.{arith}
-use borrow.Author.Tests.{ltb-true, ltb-false, eqb-true, eqb-false, ne-eqb}
+use borrow.Author.Tests.{ltb-true, ltb-false, eqb-true, eqb-false}
 use lib.Dec.{ltb, eqb}
-use lib.ListN.{length, List·getD-eq-default}
+use lib.ListN.{length}
 use Rattle.constraint.specs.Steps.{at}
 use Rattle.constraint.specs.Records.{Decides}
 use Rattle.constraint.specs.Types.{lengths, lengthOf}
 use Rattle.constraint.specs.Table.{ShapeFits}
+use Rattle.constraint.proofs.Types.{length-unknown}
 use Rattle.constraint.proofs.Lists.{split}
 use Rattle.constraint.proofs.Judged.{same-test, test-equal}
-
--- a type that the list has no length for
-pub length-unknown : (t n : ℕ) → length lengths ≤ t → lengthOf t n ≡ 0
-length-unknown t n past = rw (List·getD-eq-default lengths 0 {n = t} past, ne-eqb t 7 (λ e. omega arith))
-
-pub length-plain : (t n : ℕ) → ¬ (t ≡ 7) → lengthOf t n ≡ at lengths t
-length-plain t n other = rw (ne-eqb t 7 other) (add-zero (at lengths t))
 
 pub shape-asked : (body : List ℕ) (size t n : ℕ) → size ≡ length body → t ≡ at body 0 → n ≡ at body 1 → 0 < size
     → (t ≡ 7 → (2 ≤ n) × (n ≤ 4)) → Decides (ShapeFits body) (eqb size (lengthOf t n))

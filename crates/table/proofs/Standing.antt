@@ -3,19 +3,20 @@ use Prim.Native.Nat.{ℕ, zero, suc, _+_, _*_, _/_, _%_, _^_, _≤_, _<_}
 use mathlib.Core.Path.{_≡_, refl, sym, ap, ap₂, _∙_}
 use mathlib.Core.List.{List, [], _∷_, _++_}
 use native.Mathlib.Nat.{add-zero}
-use native.Mathlib.Numerals.{add-one, one-add}
+use native.Mathlib.Numerals.{one-add}
 use native.Mathlib.Omega.{arith}
-use lib.ListN.{length, take, drop, length-append, length-take, take-append-drop, List·getD-append}
-use lib.Seq.{take-at, drop-at, drop-append-add, drop-drop, getD-take, ext-getD}
+use lib.ListN.{length, take, drop, length-append, length-take, length-drop, take-append-drop, List·getD-append}
+use lib.Seq.{take-all, take-add, take-at, drop-at, drop-append-add, drop-cons, drop-drop, getD-take, ext-getD}
 use Rattle.constraint.specs.Steps.{at}
-use Rattle.constraint.specs.Bytes.{bytesOf, numberAt}
-use Rattle.constraint.specs.Types.{Field, byte, time, typeOf, fieldsOf, lengthOf}
-use Rattle.constraint.specs.Table.{rowBody, TimesFit, StandsFor}
-use Rattle.constraint.specs.Records.{bytesIn, timesIn}
+use Rattle.constraint.specs.Bytes.{Bytes, bytesOf, bytesAt, numberAt}
+use Rattle.constraint.specs.Types.{Field, byte, time, typeOf, fieldsOf, rowRead, lengthOf}
+use Rattle.constraint.specs.Table.{rowBody, ShapeFits, TimesFit, StandsFor}
+use Rattle.constraint.specs.Records.{bytesIn, timesIn, timesBytes}
 use Rattle.constraint.specs.declared.Constraint.{Constraint}
+use Rattle.constraint.proofs.Types.{regular, ReadBack, read-back}
 use Rattle.number.proofs.Numbers.{bytes-length, number-of-bytes}
-use Rattle.table.specs.Rows.{rowRead, timesStart, bytesBehind, timesBehind, constraintOf, timesBytes}
-use Rattle.table.proofs.Types.{regular}
+use Rattle.table.specs.Rows.{timesStart, bytesRead, timesRead, constraintOf}
+use Rattle.table.proofs.Bodies.{number-back, number-small}
 
 -- The bytes of some times
 
@@ -59,6 +60,79 @@ body-start c = rw (body-length c) (omega (arith, regular c .sized .few))
 pub body-times : (c : Constraint) → length (rowBody c) / 8 ≡ length (timesIn (fieldsOf c))
 body-times c = rw (body-length c) (omega (arith, regular c .sized .few))
 
+-- What is read from a body
+
+bytes-there : (n : ℕ) (body : List ℕ) (place i : ℕ) → i < n → at (bytesRead n body place) i ≡ at body (place + i)
+bytes-there zero body place i h = absurd (omega arith)
+bytes-there (suc n) body place zero h = rw (add-zero place)
+bytes-there (suc n) body place (suc i) h = bytes-there n body (suc place) i (omega arith) ∙ ap (at body) (omega arith)
+
+times-there : (n : ℕ) (body : List ℕ) (place j : ℕ) → j < n → at (timesRead n body place) j ≡ numberAt 8 body (place + 8 * j)
+times-there zero body place j h = absurd (omega arith)
+times-there (suc n) body place zero h = rw (add-zero place)
+times-there (suc n) body place (suc j) h =
+    let same : place + 8 + 8 * j ≡ place + 8 * suc j = omega arith in times-there n body (place + 8) j (omega arith) ∙ ap (numberAt 8 body) same
+
+-- the first of them are the bytes that stand there, and the times fit
+bytes-read : (n k : ℕ) (body : List ℕ) (place : ℕ) → k ≤ n → place + k ≤ length body → take k (bytesRead n body place) ≡ bytesAt k body place
+bytes-read n zero body place few there = refl
+bytes-read zero (suc k) body place few there = absurd (omega arith)
+bytes-read (suc n) (suc k) body place few there =
+    rw (drop-cons body place 0 (omega arith))
+    (ap (λ (later : List ℕ). at body place ∷ later) (bytes-read n k body (suc place) (omega arith) (omega arith)))
+
+module _ (body : List ℕ) (all : Bytes body) where
+  times-read : (n k place : ℕ) → k ≤ n → place + 8 * k ≤ length body → timesBytes (take k (timesRead n body place)) ≡ bytesAt (8 * k) body place
+  unfolding timesBytes
+  times-read n zero place few there = refl
+  times-read zero (suc k) place few there = absurd (omega arith)
+  times-read (suc n) (suc k) place few there =
+      let next : 8 * suc k ≡ 8 + 8 * k = omega arith in
+      rw (next, take-add 8 (8 * k) (drop place body), drop-drop 8 place body, number-back 8 body place all (omega arith))
+      (ap (λ (later : List ℕ). bytesAt 8 body place ++ later) (times-read n k (place + 8) (omega arith) (omega arith)))
+
+  times-fit : (n k place : ℕ) → k ≤ n → place + 8 * k ≤ length body → (fields : List Field) → timesIn fields ≡ take k (timesRead n body place)
+      → TimesFit fields
+  times-fit n k place few there [] e = tt
+  times-fit n k place few there (byte role x ∷ fields) e = times-fit n k place few there fields e
+  times-fit n zero place few there (time role x ∷ fields) e = absurd (omega (arith, ap length e))
+  times-fit zero (suc k) place few there (time role x ∷ fields) e = absurd (omega arith)
+  times-fit (suc n) (suc k) place few there (time role x ∷ fields) e =
+      let first : x ≡ numberAt 8 body place = ap (λ (l : List ℕ). at l 0) e in
+      (rw first (number-small 8 body place all (omega arith)), times-fit n k (place + 8) (omega arith) (omega arith) fields (ap (drop 1) e))
+
+-- A body of fitting shape
+
+joined : (k n : ℕ) (body : List ℕ) → length body ≡ 1 + k + n → at body 0 ∷ (bytesAt k body 1 ++ bytesAt n body (1 + k)) ≡ body
+joined k n body long =
+    ap (λ (later : List ℕ). at body 0 ∷ later)
+    (sym (take-add k n (drop 1 body) ∙ rw (drop-drop k 1 body)) ∙ take-all (k + n) (drop 1 body) (omega (arith, length-drop 1 body)))
+    ∙ sym (drop-cons body 0 0 (omega arith))
+
+-- the row that it is read as is the one that it stands for
+pub row-stands : (body : List ℕ) → Bytes body → ShapeFits body → StandsFor body (constraintOf body)
+unfolding constraintOf
+row-stands body all fits =
+    let c = constraintOf body in
+    let k = length (bytesIn (fieldsOf c)) in
+    let m = length (timesIn (fieldsOf c)) in
+    let few = regular c .sized .few in
+    let few-times = regular c .sized .few-times in
+    let long : length body ≡ 1 + k + 8 * m = fits .length-right ∙ back .long in
+    let start-is : timesStart body ≡ 1 + k = ap (λ (n : ℕ). n % 8) (back .long) ∙ omega (arith, few) in
+    let times-long : timesStart body + 8 * m ≤ length body = omega (arith, start-is, long) in
+    record {
+      bytes = body-parts c
+          ∙ ap₂ (λ (t : ℕ) (l : List ℕ). t ∷ l) (back .typed)
+          (ap₂ (λ (a b : List ℕ). a ++ b) (back .bytes ∙ bytes-read 5 k body 1 few (omega (arith, long)))
+          (ap timesBytes (back .times) ∙ times-read body all 4 m (timesStart body) few-times times-long ∙ ap (bytesAt (8 * m) body) start-is))
+          ∙ joined k (8 * m) body long;
+      fits = times-fit body all 4 m (timesStart body) few-times times-long (fieldsOf c) (back .times);
+    }
+  where
+    back : ReadBack (at body 0) (bytesRead 5 body 1) (timesRead 4 body (timesStart body)) (constraintOf body)
+    back = read-back _ _ _ _ _ _ _ _ _ (at body 0) (fits .type-known) (fits .n-known)
+
 -- A row that stands in a body
 
 -- a list whose first elements are those of another begins with it
@@ -69,21 +143,6 @@ begins xs l long same =
     (λ i h. let less : i < length xs = omega (arith, length-take (length xs) l) in getD-take (length xs) l i 0 less ∙ same i less) in
     sym (take-append-drop (length xs) l) ∙ ap (λ (first : List ℕ). first ++ drop (length xs) l) front
 
-bytes-behind : (body : List ℕ) (i : ℕ) → i < 5 → at (bytesBehind body) i ≡ at body (i + 1)
-bytes-behind body zero h = refl
-bytes-behind body (suc zero) h = refl
-bytes-behind body (suc (suc zero)) h = refl
-bytes-behind body (suc (suc (suc zero))) h = refl
-bytes-behind body (suc (suc (suc (suc zero)))) h = refl
-bytes-behind body (suc (suc (suc (suc (suc i))))) h = absurd (omega arith)
-
-times-behind : (body : List ℕ) (s j : ℕ) → j < 4 → at (timesBehind body s) j ≡ numberAt 8 body (s + 8 * j)
-times-behind body s zero h = rw (add-zero s)
-times-behind body s (suc zero) h = refl
-times-behind body s (suc (suc zero)) h = refl
-times-behind body s (suc (suc (suc zero))) h = refl
-times-behind body s (suc (suc (suc (suc j)))) h = absurd (omega arith)
-
 time-fits : (fields : List Field) → TimesFit fields → (j : ℕ) → j < length (timesIn fields) → at (timesIn fields) j < 256 ^ 8
 time-fits [] fit j h = absurd (omega arith)
 time-fits (byte role x ∷ fields) fit j h = time-fits fields fit j h
@@ -91,21 +150,21 @@ time-fits (time role x ∷ fields) fit zero h = fit .0
 time-fits (time role x ∷ fields) fit (suc j) h = time-fits fields (fit .1) j (omega arith)
 
 module _ (c : Constraint) (fit : TimesFit (fieldsOf c)) where
-  byte-there : (i : ℕ) → i < length (bytesIn (fieldsOf c)) → at (bytesBehind (rowBody c)) i ≡ at (bytesIn (fieldsOf c)) i
+  byte-there : (i : ℕ) → i < length (bytesIn (fieldsOf c)) → at (bytesRead 5 (rowBody c) 1) i ≡ at (bytesIn (fieldsOf c)) i
   byte-there i h =
-      bytes-behind (rowBody c) i (omega (arith, regular c .sized .few))
-      ∙ ap (λ (body : List ℕ). at body (i + 1)) (body-parts c)
-      ∙ rw (add-one i) (List·getD-append (bytesIn (fieldsOf c)) (timesBytes (timesIn (fieldsOf c))) 0 i h)
+      bytes-there 5 (rowBody c) 1 i (omega (arith, regular c .sized .few))
+      ∙ ap (λ (body : List ℕ). at body (1 + i)) (body-parts c)
+      ∙ rw (one-add i) (List·getD-append (bytesIn (fieldsOf c)) (timesBytes (timesIn (fieldsOf c))) 0 i h)
 
   start : timesStart (rowBody c) ≡ suc (length (bytesIn (fieldsOf c)))
   unfolding rowBody
   start = ap (λ (n : ℕ). n % 8) (body-expected c) ∙ body-start c ∙ one-add (length (bytesIn (fieldsOf c)))
 
-  time-there : (j : ℕ) → j < length (timesIn (fieldsOf c)) → at (timesBehind (rowBody c) (timesStart (rowBody c))) j ≡ at (timesIn (fieldsOf c)) j
+  time-there : (j : ℕ) → j < length (timesIn (fieldsOf c)) → at (timesRead 4 (rowBody c) (timesStart (rowBody c))) j ≡ at (timesIn (fieldsOf c)) j
   time-there j h =
       let bytes = bytesIn (fieldsOf c) in
       let times = timesIn (fieldsOf c) in
-      times-behind (rowBody c) (timesStart (rowBody c)) j (omega (arith, regular c .sized .few-times))
+      times-there 4 (rowBody c) (timesStart (rowBody c)) j (omega (arith, regular c .sized .few-times))
       ∙ ap (λ (place : ℕ). numberAt 8 (rowBody c) (place + 8 * j)) start
       ∙ ap (λ (body : List ℕ). numberAt 8 body (suc (length bytes) + 8 * j)) (body-parts c)
       ∙ rw (drop-append-add (typeOf c ∷ bytes) (timesBytes times) (8 * j), times-at times j h)
@@ -116,8 +175,8 @@ module _ (c : Constraint) (fit : TimesFit (fieldsOf c)) where
   unfolding constraintOf rowBody
   row-again =
       ap₂ (rowRead (typeOf c))
-      (begins (bytesIn (fieldsOf c)) (bytesBehind (rowBody c)) (regular c .sized .few) byte-there)
-      (begins (timesIn (fieldsOf c)) (timesBehind (rowBody c) (timesStart (rowBody c))) (regular c .sized .few-times) time-there)
+      (begins (bytesIn (fieldsOf c)) (bytesRead 5 (rowBody c) 1) (regular c .sized .few) byte-there)
+      (begins (timesIn (fieldsOf c)) (timesRead 4 (rowBody c) (timesStart (rowBody c))) (regular c .sized .few-times) time-there)
       ∙ regular c .again _ _
 
 pub stands-read : (body : List ℕ) (c : Constraint) → StandsFor body c → constraintOf body ≡ c

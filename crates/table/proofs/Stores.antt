@@ -19,9 +19,9 @@ use Rattle.constraint.proofs.Rows.{rows-from}
 use Rattle.number.proofs.Numbers.{bytes-length}
 use Rattle.number.proofs.Stores.{stores-append}
 use Rattle.table.proofs.Bodies.{row-length}
-use Rattle.table.proofs.Types.{regular}
+use Rattle.constraint.proofs.Types.{regular}
 use Rattle.table.proofs.Standing.{body-parts, body-expected}
-use Rattle.table.specs.Rows.{timesBytes}
+use Rattle.constraint.specs.Records.{timesBytes}
 
 -- A row's numbers
 

@@ -1,9 +1,9 @@
 // Rows given as raw bytes, 34 for each: a row's type byte and fields, and behind them bytes that do not matter.
 use super::WriteAnswer;
-use super::body::length_of;
 use super::body::row_of;
 use constraint::Answer;
 use constraint::Table;
+use constraint::length_of;
 ghost use Prim.Native.Nat.{_+_, _*_, _≤_};
 ghost use lib.ListN.{length};
 ghost use Rattle.constraint.specs.Records.{Decides};

@@ -7,9 +7,8 @@ ghost use Prim.Native.Nat.{_+_, _≤_};
 ghost use lib.ListN.{length, take};
 ghost use lib.Seq.{sets};
 ghost use Rattle.constraint.specs.Limits.{rowLimit};
-ghost use Rattle.constraint.specs.Records.{rowsOf};
+ghost use Rattle.constraint.specs.Records.{rowsOf, timesBytes};
 ghost use Rattle.constraint.specs.Table.{rowBody, rowBytes, rowsBytes, tableBytes};
-ghost use Rattle.table.specs.Rows.{timesBytes};
 
 // The length of a row's body.
 fn row_length(row: Constraint) -> usize
@@ -17,7 +16,7 @@ fn row_length(row: Constraint) -> usize
 {
     let fields = row.fields();
     let line = fields.line;
-    body::length_of(line.form, fields.bytes[0])
+    constraint::length_of(line.form, fields.bytes[0])
 }
 
 // Stores the first `count` of some times in a buffer from a place on.

@@ -4,7 +4,8 @@ use mathlib.Core.Path.{_≡_, _∙_}
 use mathlib.Core.List.{List, map}
 use lib.ListN.{getD, List·getD-map, List·getD-eq-default}
 use Rattle.constraint.proofs.Lists.{getD-within}
-use Rattle.constraint.specs.Page.{leftIn, typeNames, synchronizationName, nameOf}
+use Rattle.constraint.specs.Types.{synchronizationName, typeNames}
+use Rattle.constraint.specs.Page.{leftIn, nameOf}
 -- The table of the code is that of the definitions, with each name in its 24 columns.
 use borrow.Author.Needs.{needs}
 use Rattle.page.proofs.name.Statement.{statement}

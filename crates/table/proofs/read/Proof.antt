@@ -18,12 +18,8 @@ returns c =
       holds = rw (refused .0) (refused .1);
     }
 
-read-rows-requires : tie.Need-read-rows-requires
-read-rows-requires c κs = version c .0
-
-returns-2 : tie.Need-returns-2
-returns-2 c = record { reads = version-taken (version (c .before)) (c .read-rows .ensures .0); holds = c .read-rows .ensures .1 }
-
 pub read-spec : {M : Type 1} → statement M
 read-spec =
-    tie.close (tie.spec (λ c κs. search needs) (λ c κs. search needs) returns read-rows-requires returns-2)
+    tie.close
+    (tie.spec (λ c κs. search needs) (λ c κs. search needs) returns (λ c κs. version c .0)
+    (λ c. record { reads = version-taken (version (c .before)) (c .read-rows .ensures .0); holds = c .read-rows .ensures .1 }))

@@ -29,9 +29,6 @@ returns c =
     let a = at-judge .before .before .args in
     written-refused (rowsOf (a .table)) (now (a .buffer)) _ (rw (c .before .number .given .1) at (at-judge .judge .ensures))
 
-size-of-requires : tie.Need-size-of-requires
-size-of-requires c κs = few c
-
 returns-2 : tie.Need-returns-2
 returns-2 c =
     let at-taken = c .before .before in
@@ -55,5 +52,6 @@ returns-3 c =
 
 pub write-spec : {M : Type 1} → statement M
 write-spec =
-    tie.close (tie.spec (λ c κs. search needs) (λ c. search needs) returns (λ c. search needs) size-of-requires returns-2 (λ c κs. search needs)
+    tie.close
+    (tie.spec (λ c κs. search needs) (λ c. search needs) returns (λ c. search needs) (λ c κs. few c) returns-2 (λ c κs. search needs)
     put-rows-requires (λ c. search needs) returns-3)

@@ -27,9 +27,6 @@ abbrev μ-loop : tie.MeasureT-loop
 size : (c : tie.At-loop Inv-loop μ-loop) → length (c .before .args .t1 .rows) ≡ 32
 size c = sym (length-map (c .before .args .t1 .rows) _) ∙ c .before .good .0 .1 .1 .0 .1 .0 .1
 
-loop-holds : tie.Need-loop-holds Inv-loop μ-loop
-loop-holds c = (omega arith, λ a h. h)
-
 returns : tie.Need-returns Inv-loop μ-loop
 returns c =
     let table = c .before .before .before .args .t1 in
@@ -70,5 +67,6 @@ returns-3 c =
 
 pub judge-spec : {M : Type 1} → statement M
 judge-spec =
-    tie.close (tie.spec Inv-loop μ-loop loop-holds returns (λ c. omega arith) (λ c. omega arith) (λ c κs. tt) (λ c. search needs) returns-2 (λ c.
-    search needs) (λ c. omega arith) (λ c. omega arith) loop-again returns-3)
+    tie.close
+    (tie.spec Inv-loop μ-loop (λ c. (omega arith, λ a h. h)) returns (λ c. omega arith) (λ c. omega arith) (λ c κs. tt) (λ c. search needs)
+    returns-2 (λ c. search needs) (λ c. omega arith) (λ c. omega arith) loop-again returns-3)

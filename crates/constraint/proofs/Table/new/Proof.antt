@@ -4,9 +4,6 @@ use Rattle.constraint.specs.Records.{tableOf}
 use Rattle.constraint.proofs.Table.new.Statement.{statement}
 use Rattle.constraint.proofs.Table.new.Tie as tie
 
-returns : tie.Need-returns
-unfolding tableOf
-returns c = refl
-
 pub new-spec : {M : Type 1} → statement M
-new-spec = tie.close (tie.spec returns)
+unfolding tableOf
+new-spec = tie.close (tie.spec (λ c. refl))

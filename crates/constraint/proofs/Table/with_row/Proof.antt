@@ -7,9 +7,6 @@ use Rattle.constraint.specs.Limits.{rowLimit}
 use Rattle.constraint.proofs.Table.with_row.Statement.{statement}
 use Rattle.constraint.proofs.Table.with_row.Tie as tie
 
-returns : tie.Need-returns
-returns c = record { room = λ h. refl; full = λ h. absurd (omega arith) }
-
 returns-2 : tie.Need-returns-2
 returns-2 c =
     let table = c .before .before .args .t1 in
@@ -24,4 +21,6 @@ returns-3 c =
 
 pub with-row-spec : {M : Type 1} → statement M
 with-row-spec =
-    tie.close (tie.spec (λ c. search needs) (λ c. search needs) (λ c. search needs) (λ c. search needs) returns returns-2 returns-3)
+    tie.close
+    (tie.spec (λ c. search needs) (λ c. search needs) (λ c. search needs) (λ c. search needs)
+    (λ c. record { room = λ h. refl; full = λ h. absurd (omega arith) }) returns-2 returns-3)

@@ -4,18 +4,6 @@ use Rattle.constraint.proofs.FieldByField.{span-range, span-test}
 use Rattle.constraint.proofs.fields.byte_fits.Statement.{statement}
 use Rattle.constraint.proofs.fields.byte_fits.Tie as tie
 
-returns : tie.Need-returns
-returns c = rw (c .if1 .taken) tt
-
-returns-2 : tie.Need-returns-2
-returns-2 c = rw (c .if2 .taken) tt
-
-returns-3 : tie.Need-returns-3
-returns-3 c = rw (c .if3 .taken) tt
-
-returns-4 : tie.Need-returns-4
-returns-4 c = rw (c .if4 .taken) tt
-
 returns-5 : tie.Need-returns-5
 returns-5 c =
     let b = c .before .before in
@@ -31,4 +19,7 @@ returns-6 c =
     (span-test (a .role) (a .value) (c .if5 .left))
 
 pub byte-fits-spec : {M : Type 1} → statement M
-byte-fits-spec = tie.close (tie.spec returns returns-2 returns-3 returns-4 returns-5 returns-6)
+byte-fits-spec =
+    tie.close
+    (tie.spec (λ c. rw (c .if1 .taken) tt) (λ c. rw (c .if2 .taken) tt) (λ c. rw (c .if3 .taken) tt) (λ c. rw (c .if4 .taken) tt) returns-5
+    returns-6)

@@ -16,9 +16,6 @@ Inv-loop roles values i₀ i =
 abbrev μ-loop : tie.MeasureT-loop
 μ-loop roles values i₀ i = 5 - i
 
-loop-holds : tie.Need-loop-holds Inv-loop μ-loop
-loop-holds c = (omega arith, λ b h. h)
-
 returns : tie.Need-returns Inv-loop μ-loop
 returns c =
     let at-loop = c .before .before .before in
@@ -46,5 +43,6 @@ returns-2 c =
 
 pub bytes-fit-spec : {M : Type 1} → statement M
 bytes-fit-spec =
-    tie.close (tie.spec Inv-loop μ-loop loop-holds (λ c. omega arith) (λ c. omega arith) free returns (λ c. omega arith) (λ c. omega arith)
-    loop-again returns-2)
+    tie.close
+    (tie.spec Inv-loop μ-loop (λ c. (omega arith, λ b h. h)) (λ c. omega arith) (λ c. omega arith) free returns (λ c. omega arith)
+    (λ c. omega arith) loop-again returns-2)

@@ -20,9 +20,6 @@ Inv-loop roles values i₀ i =
 abbrev μ-loop : tie.MeasureT-loop
 μ-loop roles values i₀ i = 5 - i
 
-loop-holds : tie.Need-loop-holds Inv-loop μ-loop
-loop-holds c = (omega arith, λ b h. h)
-
 returns : tie.Need-returns Inv-loop μ-loop
 returns c =
     let at-loop = c .before .before .before .before in
@@ -65,5 +62,6 @@ returns-3 c =
 
 pub kinds-fit-spec : {M : Type 1} → statement M
 kinds-fit-spec =
-    tie.close (tie.spec Inv-loop μ-loop loop-holds (λ c. omega arith) free (λ c. omega arith) returns (λ c. omega arith) (λ c κs. omega arith)
-    returns-2 (λ c. omega arith) (λ c. omega arith) loop-again returns-3)
+    tie.close
+    (tie.spec Inv-loop μ-loop (λ c. (omega arith, λ b h. h)) (λ c. omega arith) free (λ c. omega arith) returns (λ c. omega arith)
+    (λ c κs. omega arith) returns-2 (λ c. omega arith) (λ c. omega arith) loop-again returns-3)

@@ -19,9 +19,6 @@ Inv-loop roles values low₀ i₀ low i =
 abbrev μ-loop : tie.MeasureT-loop
 μ-loop roles values low₀ i₀ low i = 4 - i
 
-loop-holds : tie.Need-loop-holds Inv-loop μ-loop
-loop-holds c = (omega arith, λ b h. h)
-
 returns : tie.Need-returns Inv-loop μ-loop
 returns c =
     let at-loop = c .before .before in
@@ -63,5 +60,6 @@ returns-3 c =
 
 pub lower-first-spec : {M : Type 1} → statement M
 lower-first-spec =
-    tie.close (tie.spec Inv-loop μ-loop loop-holds (λ c. omega arith) (λ c. omega arith) (λ c. omega arith) returns (λ c. omega arith) (λ c. omega
-    arith) returns-2 (λ c. omega arith) (λ c. omega arith) (λ c. omega arith) (λ c. omega arith) loop-again returns-3)
+    tie.close
+    (tie.spec Inv-loop μ-loop (λ c. (omega arith, λ b h. h)) (λ c. omega arith) (λ c. omega arith) (λ c. omega arith) returns (λ c. omega arith)
+    (λ c. omega arith) returns-2 (λ c. omega arith) (λ c. omega arith) (λ c. omega arith) (λ c. omega arith) loop-again returns-3)

@@ -7,12 +7,6 @@ use Rattle.constraint.proofs.FieldByField.{plain-range}
 use Rattle.constraint.proofs.fields.time_fits.Statement.{statement}
 use Rattle.constraint.proofs.fields.time_fits.Tie as tie
 
-returns : tie.Need-returns
-returns c = rw (c .if1 .taken) tt
-
-returns-2 : tie.Need-returns-2
-returns-2 c = rw (c .before .if2 .taken) (inr (c .if3 .taken), tt)
-
 returns-3 : tie.Need-returns-3
 returns-3 c =
     let x = c .before .before .before .args .value in
@@ -26,4 +20,4 @@ returns-4 c =
     (same-test (λ h. (h, tt)) (λ h. h .0) (leb (a .value) lastTime) (test-le (a .value) lastTime))
 
 pub time-fits-spec : {M : Type 1} → statement M
-time-fits-spec = tie.close (tie.spec returns returns-2 returns-3 returns-4)
+time-fits-spec = tie.close (tie.spec (λ c. rw (c .if1 .taken) tt) (λ c. rw (c .before .if2 .taken) (inr (c .if3 .taken), tt)) returns-3 returns-4)

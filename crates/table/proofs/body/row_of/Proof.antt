@@ -12,7 +12,7 @@ returns c =
     let kinds = times .before .before .before .before in
     let start = kinds .before in
     rw (
-      c .row-from .ensures,
+      c .read .ensures,
       c .before .eight-at4 .ensures,
       c .before .before .eight-at3 .ensures,
       c .before .before .before .eight-at2 .ensures,
@@ -29,5 +29,5 @@ returns c =
 
 pub row-of-spec : {M : Type 1} → statement M
 row-of-spec =
-    tie.close (tie.spec free free free free free free free free free (λ c. search needs) free (λ c. search needs) free (λ c. search needs) free free
+    tie.close (tie.spec free free free free free free free free (λ c. search needs) (λ c. search needs) (λ c. search needs) free free free free free
     returns)

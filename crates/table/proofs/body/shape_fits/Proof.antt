@@ -8,12 +8,6 @@ use Rattle.table.proofs.Shapes.{shape-asked}
 use Rattle.table.proofs.body.shape_fits.Statement.{statement}
 use Rattle.table.proofs.body.shape_fits.Tie as tie
 
-returns-2 : tie.Need-returns-2
-returns-2 c = λ fits. omega (arith, fits .n-known (omega arith))
-
-returns-3 : tie.Need-returns-3
-returns-3 c = λ fits. omega (arith, fits .n-known (omega arith))
-
 returns-4 : tie.Need-returns-4
 returns-4 c =
     let at-n = c .before .before .before in
@@ -26,4 +20,6 @@ returns-4 c =
 
 pub shape-fits-spec : {M : Type 1} → statement M
 shape-fits-spec =
-    tie.close (tie.spec free free (λ c. search needs) returns-2 returns-3 free returns-4)
+    tie.close
+    (tie.spec free free (λ c. search needs) (λ c. λ fits. omega (arith, fits .n-known (omega arith)))
+    (λ c. λ fits. omega (arith, fits .n-known (omega arith))) free returns-4)

@@ -3,8 +3,5 @@ use lib.Bits.{and-mask}
 use Rattle.table.proofs.body.times_start.Statement.{statement}
 use Rattle.table.proofs.body.times_start.Tie as tie
 
-returns : tie.Need-returns
-returns c = and-mask (c .args .size) 3
-
 pub times-start-spec : {M : Type 1} → statement M
-times-start-spec = tie.close (tie.spec returns)
+times-start-spec = tie.close (tie.spec (λ c. and-mask (c .args .size) 3))

@@ -34,27 +34,6 @@ ends c =
     rw (c .length-of .ensures, first .ensures, second .ensures, loop .inv .1)
     (body-within (now (start .args .bytes)) (loop .i) (start .pre .known (loop .i) (omega arith)) (omega (arith, start .pre .whole)))
 
-loop-holds : tie.Need-loop-holds Inv-loop μ-loop
-loop-holds c = (omega arith, omega arith, table-none _ _ (c .new .ensures))
-
-add-next : tie.Need-add-next Inv-loop μ-loop
-add-next c = omega (arith, c .before .before .before .before .before .pre .whole)
-
-add-end : tie.Need-add-end Inv-loop μ-loop
-add-end c = omega (arith, ends c)
-
-sub-row-of : tie.Need-sub-row-of Inv-loop μ-loop
-sub-row-of c = omega (arith, ends c)
-
-part-row-of-start : tie.Need-part-row-of-start Inv-loop μ-loop
-part-row-of-start c = omega (arith, ends c)
-
-part-row-of-end : tie.Need-part-row-of-end Inv-loop μ-loop
-part-row-of-end c = omega (arith, ends c)
-
-add-start : tie.Need-add-start Inv-loop μ-loop
-add-start c = omega (arith, ends (c .before .before .before))
-
 loop-again : tie.Need-loop-again Inv-loop μ-loop
 loop-again c =
     let at-length = c .before .before .before in
@@ -81,5 +60,8 @@ returns c =
 
 pub first-rows-spec : {M : Type 1} → statement M
 first-rows-spec =
-    tie.close (tie.spec Inv-loop μ-loop free loop-holds free add-next free free add-end sub-row-of part-row-of-start part-row-of-end free free
-    add-start (λ c. omega arith) (λ c. omega arith) loop-again returns)
+    tie.close
+    (tie.spec Inv-loop μ-loop free (λ c. (omega arith, omega arith, table-none _ _ (c .new .ensures))) free
+    (λ c. omega (arith, c .before .before .before .before .before .pre .whole)) free free (λ c. omega (arith, ends c))
+    (λ c. omega (arith, ends c)) (λ c. omega (arith, ends c)) (λ c. omega (arith, ends c)) free free
+    (λ c. omega (arith, ends (c .before .before .before))) (λ c. omega arith) (λ c. omega arith) loop-again returns)

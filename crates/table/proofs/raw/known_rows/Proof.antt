@@ -18,9 +18,6 @@ Inv-loop bytes start₀ i₀ start i = (i ≤ rowLimit) × (start ≡ i * rawSiz
 abbrev μ-loop : tie.MeasureT-loop
 μ-loop bytes start₀ i₀ start i = rowLimit - i
 
-loop-holds : tie.Need-loop-holds Inv-loop μ-loop
-loop-holds c = (omega arith, omega arith, omega arith, λ i below. absurd (omega arith))
-
 returns : tie.Need-returns Inv-loop μ-loop
 returns c =
     let loop = c .before .before .loop in
@@ -70,5 +67,6 @@ returns-3 c =
 
 pub known-rows-spec : {M : Type 1} → statement M
 known-rows-spec =
-    tie.close (tie.spec Inv-loop μ-loop loop-holds (λ c. omega arith) returns free (λ c. omega arith) free free returns-2 (λ c. omega arith) (λ c.
-    omega arith) (λ c. omega arith) loop-again returns-3)
+    tie.close
+    (tie.spec Inv-loop μ-loop (λ c. (omega arith, omega arith, omega arith, λ i below. absurd (omega arith))) (λ c. omega arith) returns free
+    (λ c. omega arith) free free returns-2 (λ c. omega arith) (λ c. omega arith) (λ c. omega arith) loop-again returns-3)

@@ -17,16 +17,10 @@ Inv-loop bytes start₀ i₀ start i = (i ≤ rowLimit) × (start ≡ i * rawSiz
 abbrev μ-loop : tie.MeasureT-loop
 μ-loop bytes start₀ i₀ start i = rowLimit - i
 
-loop-holds : tie.Need-loop-holds Inv-loop μ-loop
-loop-holds c = (omega arith, omega arith, omega arith, λ i below. absurd (omega arith))
-
 returns : tie.Need-returns Inv-loop μ-loop
 returns c =
     let loop = c .before .before .loop in
     record { room = loop .inv .0; taken = loop .inv .3; refused = λ room whole. absurd (omega (arith, c .if1 .taken, loop .inv .1)) }
-
-row-taken-requires : tie.Need-row-taken-requires Inv-loop μ-loop
-row-taken-requires c κs = let loop = c .before .before .loop in omega (arith, c .if1 .left, loop .inv .1, loop .inv .2)
 
 returns-2 : tie.Need-returns-2 Inv-loop μ-loop
 returns-2 c =
@@ -53,6 +47,6 @@ returns-3 c =
 pub refused-row-spec : {M : Type 1} → statement M
 refused-row-spec =
     tie.close
-    (tie.spec Inv-loop μ-loop loop-holds (λ c. omega arith) returns row-taken-requires returns-2 (λ c. omega arith) (λ c. omega arith)
-    (λ c. omega arith)
-    loop-again returns-3)
+    (tie.spec Inv-loop μ-loop (λ c. (omega arith, omega arith, omega arith, λ i below. absurd (omega arith))) (λ c. omega arith) returns
+    (λ c κs. let loop = c .before .before .loop in omega (arith, c .if1 .left, loop .inv .1, loop .inv .2)) returns-2 (λ c. omega arith)
+    (λ c. omega arith) (λ c. omega arith) loop-again returns-3)

@@ -37,9 +37,6 @@ test c =
     known-test (now (start .args .bytes)) (start .args .i) _ (first .result) (second .result) (c .type-known .result) refl (first .ensures)
     (second .ensures) (c .type-known .ensures)
 
-returns : tie.Need-returns
-returns c = λ taken. failed (c .before .type-known .result) (test (c .before)) (c .if1 .taken) (taken .0)
-
 -- the body ends within the bytes that there are
 ends : (c : tie.After-length-of) → c .before .before .before .before .before .before .args .i * rawSize + c .length-of .result
     ≤ length (now (c .before .before .before .before .before .before .args .bytes))
@@ -49,12 +46,6 @@ ends c =
     rw (c .length-of .ensures, at-test .before .before .byte-at .ensures, at-test .before .byte-at2 .ensures)
     (body-within (now (start .args .bytes)) (start .args .i) (passed (at-test .type-known .result) (test at-test) (c .before .if1 .left))
     (start .pre))
-
-add-end : tie.Need-add-end
-add-end c = omega (arith, ends c)
-
-part-row-of-end : tie.Need-part-row-of-end
-part-row-of-end c = omega (arith, ends c)
 
 -- the row that is read is the one of the body
 row-is : (c : tie.After-row-of)
@@ -89,6 +80,6 @@ returns-3 c =
 pub row-taken-spec : {M : Type 1} → statement M
 row-taken-spec =
     tie.close
-    (tie.spec (λ c. search needs) free (λ c. search needs) free free returns free add-end (λ c. search needs)
-    (λ c. search needs) part-row-of-end free free
-    (λ c. search needs) (λ c. search needs) returns-2 returns-3)
+    (tie.spec (λ c. search needs) free (λ c. search needs) free free
+    (λ c. λ taken. failed (c .before .type-known .result) (test (c .before)) (c .if1 .taken) (taken .0)) free (λ c. omega (arith, ends c))
+    (λ c. search needs) (λ c. search needs) (λ c. omega (arith, ends c)) free free (λ c. search needs) (λ c. search needs) returns-2 returns-3)

@@ -14,15 +14,6 @@ use Rattle.table.proofs.raw.type_known.Tie as tie
 plain : (t : ℕ) → lengthOf t 0 ≤ at lengths t
 plain t = split (eqb t 7) (λ b. at lengths t + cond b 0 0 ≤ at lengths t) (λ e. omega arith) (λ e. omega arith)
 
-returns : tie.Need-returns
-returns c = λ known. omega (arith, known .type-known, c .before .length-of .ensures)
-
-returns-2 : tie.Need-returns-2
-returns-2 c = λ known. omega (arith, known .n-known (omega arith))
-
-returns-3 : tie.Need-returns-3
-returns-3 c = λ known. omega (arith, known .n-known (omega arith))
-
 returns-4 : tie.Need-returns-4
 returns-4 c =
     let known = c .before .before .before in
@@ -40,4 +31,7 @@ returns-5 c =
     }
 
 pub type-known-spec : {M : Type 1} → statement M
-type-known-spec = tie.close (tie.spec free returns returns-2 returns-3 returns-4 returns-5)
+type-known-spec =
+    tie.close
+    (tie.spec free (λ c. λ known. omega (arith, known .type-known, c .before .length-of .ensures))
+    (λ c. λ known. omega (arith, known .n-known (omega arith))) (λ c. λ known. omega (arith, known .n-known (omega arith))) returns-4 returns-5)

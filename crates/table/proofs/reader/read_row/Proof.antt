@@ -70,15 +70,6 @@ returns-2 c =
     let a = c .before .before .before .before .args in
     (_, row (c .before .before .before), place-full (now (a .bytes)) (a .before) (a .place) _ (whole (c .before)) (c .if2 .taken))
 
-add-start : tie.Need-add-start
-add-start c = omega (arith, whole (c .before .before))
-
-add-next : tie.Need-add-next
-add-next c = omega (arith, whole (c .before .before))
-
-part-body-end : tie.Need-part-body-end
-part-body-end c = omega (arith, whole (c .before .before))
-
 returns-3 : tie.Need-returns-3
 returns-3 c =
     let at-shape = c .before in
@@ -89,14 +80,11 @@ returns-3 c =
           (failed (at-shape .shape-fits .result) (shape at-shape) (c .if3 .taken)),
     )
 
-returns-4 : tie.Need-returns-4
-returns-4 c = (judged (c .before .before .before), answer (c .before .before) _ (c .enum-told .given .1), omega arith)
-
-returns-5 : tie.Need-returns-5
-returns-5 c = (_, judged (c .before .before .before .before), answer (c .before .before .before) _ (c .before .number .given .1))
-
 pub read-row-spec : {M : Type 1} → statement M
 read-row-spec =
-    tie.close (tie.spec (λ c κs. search needs) returns returns-2 (λ c κs. search needs) add-start add-next (λ c. search needs) (λ c. search needs)
-    part-body-end (λ c κs. search needs) returns-3 (λ c κs. search needs) (λ c κs. search needs) (λ c. search needs) (λ c. search needs) returns-4
-    returns-5)
+    tie.close
+    (tie.spec (λ c κs. search needs) returns returns-2 (λ c κs. search needs) (λ c. omega (arith, whole (c .before .before)))
+    (λ c. omega (arith, whole (c .before .before))) (λ c. search needs) (λ c. search needs) (λ c. omega (arith, whole (c .before .before)))
+    (λ c κs. search needs) returns-3 (λ c κs. search needs) (λ c κs. search needs) (λ c. search needs) (λ c. search needs)
+    (λ c. (judged (c .before .before .before), answer (c .before .before) _ (c .enum-told .given .1), omega arith))
+    (λ c. (_, judged (c .before .before .before .before), answer (c .before .before .before) _ (c .before .number .given .1))))

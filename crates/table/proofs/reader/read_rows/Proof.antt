@@ -23,9 +23,6 @@ row : (c : tie.After-row Inv-loop μ-loop)
     (c .before .before .before .before .loop .place) (RowRead.Row (c .row .given .0 .0) (c .row .given .0 .1 .0))
 row c = rw (c .row .given .1) at (c .before .before .read-row .ensures)
 
-loop-holds : tie.Need-loop-holds Inv-loop μ-loop
-loop-holds c = up-to-start (now (c .before .before .args .bytes)) (c .new .result) (omega arith) (c .new .ensures)
-
 loop-less : tie.Need-loop-less Inv-loop μ-loop
 loop-less c =
     let at-loop = c .before .before .before .before .before .before in
@@ -58,5 +55,7 @@ returns-2 c =
 
 pub read-rows-spec : {M : Type 1} → statement M
 read-rows-spec =
-    tie.close (tie.spec Inv-loop μ-loop (λ c κs. tt) loop-holds (λ c κs. tt) (λ c. search needs) (λ c κs. tt) loop-less loop-again (λ c. search
-    needs) (λ c κs. tt) returns returns-2)
+    tie.close
+    (tie.spec Inv-loop μ-loop (λ c κs. tt)
+    (λ c. up-to-start (now (c .before .before .args .bytes)) (c .new .result) (omega arith) (c .new .ensures)) (λ c κs. tt) (λ c. search needs)
+    (λ c κs. tt) loop-less loop-again (λ c. search needs) (λ c κs. tt) returns returns-2)

@@ -11,12 +11,6 @@ use Rattle.table.proofs.scan.judge.Tie as tie
 version : (c : tie.Else1) → VersionOne (now (c .before .before .before .args .bytes))
 version c = version-one (now (c .before .before .before .args .bytes)) (sym (c .before .byte-at .ensures) ∙ c .if1 .left)
 
-returns : tie.Need-returns
-returns c = (version-refused (λ one. c .if1 .taken (c .before .byte-at .ensures ∙ one .1)), refl)
-
-judge-rows-requires : tie.Need-judge-rows-requires
-judge-rows-requires c κs = version c .0
-
 returns-2 : tie.Need-returns-2
 returns-2 c =
     let found = c .judge-rows in
@@ -25,4 +19,6 @@ returns-2 c =
 
 pub judge-spec : {M : Type 1} → statement M
 judge-spec =
-    tie.close (tie.spec (λ c κs. search needs) returns judge-rows-requires returns-2)
+    tie.close
+    (tie.spec (λ c κs. search needs) (λ c. (version-refused (λ one. c .if1 .taken (c .before .byte-at .ensures ∙ one .1)), refl))
+    (λ c κs. version c .0) returns-2)

@@ -23,15 +23,6 @@ row : (c : tie.After-next Inv-loop μ-loop)
     (c .before .before .before .before .loop .place) (RowRead.Row (c .next .given .0 .0) (c .next .given .0 .1 .0))
 row c = rw (c .next .given .1) at (c .before .before .read-row .ensures)
 
-loop-holds : tie.Need-loop-holds Inv-loop μ-loop
-loop-holds c = counted-start (now (c .before .args .bytes)) (omega arith)
-
-add-rows : tie.Need-add-rows Inv-loop μ-loop
-add-rows c = let at-loop = c .before .before .before .before .before in omega (arith, at-loop .loop .inv .room)
-
-loop-less : tie.Need-loop-less Inv-loop μ-loop
-loop-less c = let read = row (c .before) in omega (arith, read .2)
-
 loop-again : tie.Need-loop-again Inv-loop μ-loop
 loop-again c =
     let at-loop = c .before .before .before .before .before in
@@ -53,5 +44,7 @@ returns-2 c =
 
 pub judge-rows-spec : {M : Type 1} → statement M
 judge-rows-spec =
-    tie.close (tie.spec Inv-loop μ-loop loop-holds (λ c κs. tt) (λ c. search needs) add-rows loop-less loop-again (λ c. search needs) returns
-    returns-2)
+    tie.close
+    (tie.spec Inv-loop μ-loop (λ c. counted-start (now (c .before .args .bytes)) (omega arith)) (λ c κs. tt) (λ c. search needs)
+    (λ c. let at-loop = c .before .before .before .before .before in omega (arith, at-loop .loop .inv .room))
+    (λ c. let read = row (c .before) in omega (arith, read .2)) loop-again (λ c. search needs) returns returns-2)

@@ -31,15 +31,6 @@ returns c =
       none = λ _. (refl, refl);
     }
 
-add-start : tie.Need-add-start
-add-start c = omega (arith, whole c)
-
-add-next : tie.Need-add-next
-add-next c = omega (arith, whole (c .before))
-
-part-row-of-end : tie.Need-part-row-of-end
-part-row-of-end c = omega (arith, whole (c .before))
-
 returns-2 : tie.Need-returns-2
 returns-2 c =
     let a = c .before .before .before .before .before .before .args in
@@ -54,4 +45,6 @@ returns-2 c =
 
 pub row-at-spec : {M : Type 1} → statement M
 row-at-spec =
-    tie.close (tie.spec free returns add-start free add-next (λ c. search needs) (λ c. search needs) part-row-of-end free returns-2)
+    tie.close
+    (tie.spec free returns (λ c. omega (arith, whole c)) free (λ c. omega (arith, whole (c .before))) (λ c. search needs) (λ c. search needs)
+    (λ c. omega (arith, whole (c .before))) free returns-2)

@@ -9,7 +9,7 @@ use denote.Ref.{now}
 use Rattle.constraint.specs.Types.{fieldsOf}
 use Rattle.constraint.specs.Records.{bytesIn, timesIn}
 use Rattle.constraint.proofs.Judged.{free}
-use Rattle.table.proofs.Types.{regular}
+use Rattle.constraint.proofs.Types.{regular}
 use Rattle.table.proofs.Standing.{body-length, body-start, body-times}
 use Rattle.table.proofs.Stores.{numbers-there, body-stores}
 use Rattle.table.proofs.writer.put_body.Statement.{statement}
@@ -32,12 +32,6 @@ times : (c : tie.After-times-count) → c .times-count .result
 times c =
     let a = c .before .before .before .before .before .before .before .before .before .before .before .before .before .before .before .before in
     c .times-count .ensures ∙ rw (a .pre .0) (body-times (a .args .row))
-
-sub-count : tie.Need-sub-count
-sub-count c = omega (arith, start c)
-
-array-share-prefix-bytes : tie.Need-array-share-prefix-bytes
-array-share-prefix-bytes c = there (c .before .before .before .before .before)
 
 slice-aggregate-put : tie.Need-slice-aggregate-put
 slice-aggregate-put c =
@@ -73,5 +67,6 @@ returns c =
 
 pub put-body-spec : {M : Type 1} → statement M
 put-body-spec =
-    tie.close (tie.spec free free sub-count free (λ c. search needs) array-share-prefix-bytes slice-aggregate-put free free (λ c. search needs)
-    put-times-requires (λ c. search needs) returns)
+    tie.close
+    (tie.spec free free (λ c. omega (arith, start c)) free (λ c. search needs) (λ c. there (c .before .before .before .before .before))
+    slice-aggregate-put free free (λ c. search needs) put-times-requires (λ c. search needs) returns)

@@ -42,18 +42,8 @@ size c = rows-size (c .before .before .before .args .t2) (c .before .loop .i) _ 
 fits : (c : tie.In-loop Inv-loop μ-loop) → c .before .loop .place + (2 + length (rowBody (row c))) < 2 ^ 63
 fits c = omega (arith, size c, c .before .before .before .pre, c .before .before .before .good)
 
-loop-holds : tie.Need-loop-holds Inv-loop μ-loop
-unfolding tableBytes
-loop-holds c = (omega arith, refl, omega arith, refl)
-
 put-row-requires : tie.Need-put-row-requires Inv-loop μ-loop
 put-row-requires c κs = let at-turn = c .before .before in omega (arith, size at-turn, row-length (row at-turn), at-turn .before .before .before .pre)
-
-add-place : tie.Need-add-place Inv-loop μ-loop
-add-place c = let at-turn = c .before .before .before .before .before .before in omega (arith, fits at-turn, c .row-length .ensures)
-
-add-place-2 : tie.Need-add-place-2 Inv-loop μ-loop
-add-place-2 c = let at-turn = c .before .before .before .before .before .before in omega (arith, fits at-turn, c .row-length .ensures)
 
 loop-again : tie.Need-loop-again Inv-loop μ-loop
 loop-again c =
@@ -68,9 +58,6 @@ loop-again c =
           (sym (rows-more table (loop .i) _ (omega arith) (entries at-turn) (loop .buffer) (loop .place)) ∙ loop .inv .3),
     )
 
-same-length : tie.Need-same-length Inv-loop μ-loop
-same-length c = c .before .loop .inv .1
-
 returns : tie.Need-returns Inv-loop μ-loop
 unfolding rowsBytes
 returns c =
@@ -82,6 +69,10 @@ returns c =
     ∙ loop .inv .3
 
 pub put-rows-spec : {M : Type 1} → statement M
+unfolding tableBytes
 put-rows-spec =
-    tie.close (tie.spec Inv-loop μ-loop loop-holds (λ c. omega arith) (λ c. omega arith) put-row-requires (λ c κs. tt) add-place add-place-2 (λ c.
-    omega arith) (λ c. omega arith) loop-again same-length returns)
+    tie.close
+    (tie.spec Inv-loop μ-loop (λ c. (omega arith, refl, omega arith, refl)) (λ c. omega arith) (λ c. omega arith) put-row-requires (λ c κs. tt)
+    (λ c. let at-turn = c .before .before .before .before .before .before in omega (arith, fits at-turn, c .row-length .ensures))
+    (λ c. let at-turn = c .before .before .before .before .before .before in omega (arith, fits at-turn, c .row-length .ensures))
+    (λ c. omega arith) (λ c. omega arith) loop-again (λ c. c .before .loop .inv .1) returns)

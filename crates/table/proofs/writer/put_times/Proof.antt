@@ -6,7 +6,7 @@ use mathlib.Core.List.{List}
 use lib.ListN.{length, getD, take, drop, drop-of-length-le}
 use lib.Seq.{sets, length-take-le, getD-take}
 use Rattle.table.proofs.Stores.{times-more}
-use Rattle.table.specs.Rows.{timesBytes}
+use Rattle.constraint.specs.Records.{timesBytes}
 use Rattle.table.proofs.writer.put_times.Statement.{statement}
 use Rattle.table.proofs.writer.put_times.Tie as tie
 
@@ -21,9 +21,6 @@ abbrev μ-loop : tie.MeasureT-loop
 -- there are as many times as the count says
 long : (c : tie.Start Inv-loop μ-loop) → length (take (c .args .count) (c .args .t3)) ≡ c .args .count
 long c = length-take-le (c .args .count) (c .args .t3) (omega arith)
-
-loop-holds : tie.Need-loop-holds Inv-loop μ-loop
-loop-holds c = (omega arith, refl, omega arith, refl)
 
 loop-again : tie.Need-loop-again Inv-loop μ-loop
 loop-again c =
@@ -40,9 +37,6 @@ loop-again c =
       rw (at-put .put-eight .ensures, ← same) (sym (times-more (loop .buffer) (loop .next) xs (loop .i) (omega (arith, long start))) ∙ loop .inv .3),
     )
 
-same-length : tie.Need-same-length Inv-loop μ-loop
-same-length c = c .before .loop .inv .1
-
 returns : tie.Need-returns Inv-loop μ-loop
 unfolding timesBytes
 returns c =
@@ -55,5 +49,6 @@ returns c =
 
 pub put-times-spec : {M : Type 1} → statement M
 put-times-spec =
-    tie.close (tie.spec Inv-loop μ-loop loop-holds (λ c. omega arith) (λ c. omega arith) (λ c κs. tt) (λ c. omega arith) (λ c. omega arith) (λ c.
-    omega arith) loop-again same-length returns)
+    tie.close
+    (tie.spec Inv-loop μ-loop (λ c. (omega arith, refl, omega arith, refl)) (λ c. omega arith) (λ c. omega arith) (λ c κs. tt) (λ c. omega arith)
+    (λ c. omega arith) (λ c. omega arith) loop-again (λ c. c .before .loop .inv .1) returns)

@@ -26,16 +26,6 @@ entries c = sym (length-map (c .args .t1 .rows) _) ∙ c .good .0 .1 .1 .0 .1 .0
 short : (c : tie.After-row-length Inv-loop μ-loop) → c .row-length .result ≤ 38
 short c = rw (c .row-length .ensures) (body-short _)
 
-loop-holds : tie.Need-loop-holds Inv-loop μ-loop
-unfolding tableBytes
-loop-holds c = (omega arith, omega arith, omega arith)
-
-add-size : tie.Need-add-size Inv-loop μ-loop
-add-size c = omega (arith, short c)
-
-add-size-2 : tie.Need-add-size-2 Inv-loop μ-loop
-add-size-2 c = omega (arith, short c)
-
 loop-again : tie.Need-loop-again Inv-loop μ-loop
 loop-again c =
     let at-loop = c .before .before .before in
@@ -55,6 +45,8 @@ returns c =
     omega (arith, rw none at (at-loop .loop .inv .2))
 
 pub size-of-spec : {M : Type 1} → statement M
+unfolding tableBytes
 size-of-spec =
-    tie.close (tie.spec Inv-loop μ-loop loop-holds (λ c. omega arith) (λ c. omega arith) (λ c κs. tt) add-size add-size-2 (λ c. omega arith) (λ c.
-    omega arith) loop-again returns)
+    tie.close
+    (tie.spec Inv-loop μ-loop (λ c. (omega arith, omega arith, omega arith)) (λ c. omega arith) (λ c. omega arith) (λ c κs. tt)
+    (λ c. omega (arith, short c)) (λ c. omega (arith, short c)) (λ c. omega arith) (λ c. omega arith) loop-again returns)

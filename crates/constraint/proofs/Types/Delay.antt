@@ -1,0 +1,47 @@
+-- A Delay looks at the times of its two kinds, and each source without a target in its interval waits.
+use Prim.Native.Nat.{ℕ, zero, suc, _^_, _<_}
+use native.Mathlib.Omega.{arith}
+use mathlib.Core.Path.{refl, ap₂, subst₂}
+use mathlib.Core.List.{[], _∷_}
+use mathlib.Core.Logic.{inl, inr}
+use Rattle.constraint.specs.Limits.{noLimit}
+use Rattle.constraint.specs.Steps.{event, at, times}
+use Rattle.constraint.specs.Meets.{Apart, Meets, MeetsDelay}
+use Rattle.constraint.specs.Waiting.{unanswered, waiting}
+use Rattle.constraint.specs.declared.Constraint.the-variants.{Delay}
+use Rattle.constraint.proofs.Lawful.{Lawful, Contingent}
+
+pub lawfulDelay : (source target lower upper : ℕ) → Lawful (Delay source target lower upper)
+unfolding Meets waiting
+lawfulDelay source target lower upper =
+    record {
+      same = λ a b in-order same earlier m. subst₂ (MeetsDelay lower upper) (same 0 (omega arith)) (same 1 (omega arith)) m;
+      waits-same = λ a b same. ap₂ (unanswered lower upper) (same 0 (omega arith)) (same 1 (omega arith));
+    }
+
+-- it can be met, and can be missed
+pub delay-contingent : Contingent (Delay 0 1 2 3) (event 0 10 ∷ event 1 12 ∷ []) (event 0 10 ∷ event 1 14 ∷ [])
+unfolding Meets MeetsDelay times
+delay-contingent = record { can-be-met = λ i h. answered i h; can-be-missed = λ m. late (m 0 (omega arith)) }
+  where
+    answered : (i : ℕ) → i < 1 → (j : ℕ) × (j < 1) × Apart 2 3 (at (10 ∷ []) i) (at (12 ∷ []) j)
+    answered zero h = (0, omega arith, (omega arith, inr (omega arith)))
+    answered (suc i) h = absurd (omega arith)
+
+    late : (j : ℕ) × (j < 1) × Apart 2 3 10 (at (14 ∷ []) j) → ⊥
+    late (zero, h, (b, inl e)) = omega arith
+    late (zero, h, (b, inr after)) = omega arith
+    late (suc j, h, b) = omega arith
+
+-- without an upper limit a target may come later than every number of eight bytes
+pub unlimited-delay-contingent : Contingent (Delay 0 1 2 noLimit) (event 0 10 ∷ event 1 (2 ^ 65) ∷ []) (event 0 10 ∷ event 1 11 ∷ [])
+unfolding Meets MeetsDelay times
+unlimited-delay-contingent = record { can-be-met = λ i h. answered i h; can-be-missed = λ m. early (m 0 (omega arith)) }
+  where
+    answered : (i : ℕ) → i < 1 → (j : ℕ) × (j < 1) × Apart 2 noLimit (at (10 ∷ []) i) (at (2 ^ 65 ∷ []) j)
+    answered zero h = (0, omega arith, (omega arith, inl refl))
+    answered (suc i) h = absurd (omega arith)
+
+    early : (j : ℕ) × (j < 1) × Apart 2 noLimit 10 (at (11 ∷ []) j) → ⊥
+    early (zero, h, b) = omega (arith, b .0)
+    early (suc j, h, b) = omega arith

@@ -1,0 +1,23 @@
+-- An Order looks at the times of its two kinds.
+use Prim.Native.Nat.{ℕ}
+use native.Mathlib.Omega.{arith}
+use mathlib.Core.Path.{refl, subst₂}
+use mathlib.Core.List.{[], _∷_}
+use Rattle.constraint.specs.Steps.{event, times}
+use Rattle.constraint.specs.Meets.{Meets, MeetsOrder}
+use Rattle.constraint.specs.Waiting.{waiting}
+use Rattle.constraint.specs.declared.Constraint.the-variants.{Order}
+use Rattle.constraint.proofs.Lawful.{Lawful, Contingent}
+
+pub lawfulOrder : (source target : ℕ) → Lawful (Order source target)
+unfolding Meets waiting
+lawfulOrder source target =
+    record {
+      same = λ a b in-order same earlier m. subst₂ MeetsOrder (same 0 (omega arith)) (same 1 (omega arith)) m;
+      waits-same = λ a b same. refl;
+    }
+
+-- it can be met, and can be missed
+pub order-contingent : Contingent (Order 0 1) (event 1 5 ∷ event 0 5 ∷ []) (event 1 5 ∷ [])
+unfolding Meets MeetsOrder times
+order-contingent = record { can-be-met = (refl, λ i h. omega arith); can-be-missed = λ m. omega (arith, m .0) }

@@ -1,0 +1,48 @@
+-- A Reaction looks at the times of each colour of its two kinds.
+use Prim.Native.Nat.{ℕ, zero, suc, _≤_}
+use native.Mathlib.Omega.{arith}
+use mathlib.Core.Path.{_≡_, refl, subst₂}
+use mathlib.Core.List.{List, [], _∷_}
+use lib.ListN.{length}
+use borrow.Author.Tests.{ne-eqb}
+use Rattle.constraint.specs.Limits.{lastColour}
+use Rattle.constraint.specs.Streams.{stream}
+use Rattle.constraint.specs.Steps.{Step, event, times}
+use Rattle.constraint.specs.Meets.{Meets, MeetsReaction}
+use Rattle.constraint.specs.Waiting.{waiting}
+use Rattle.constraint.specs.declared.Constraint.the-variants.{Reaction}
+use Rattle.constraint.proofs.Lists.{each-left, each-right}
+use Rattle.constraint.proofs.Streams.{colours}
+use Rattle.constraint.proofs.Lawful.{of-colour, Lawful, Contingent}
+
+pub lawfulReaction : (stimulus response lower upper : ℕ) → Lawful (Reaction stimulus response lower upper)
+unfolding Meets waiting
+lawfulReaction stimulus response lower upper =
+    record {
+      same = λ a b in-order same earlier m colour few. subst₂ (MeetsReaction lower upper)
+          (of-colour stimulus a b (each-left (λ s. times s a ≡ times s b) (colours stimulus) (colours response) same) colour few)
+          (of-colour response a b (each-right (λ s. times s a ≡ times s b) (colours stimulus) (colours response) same) colour few)
+          (m colour few);
+      waits-same = λ a b same. refl;
+    }
+
+-- a stimulus of colour 1 at 10 and the first response of that colour at 15; and one at 17
+pub reaction-contingent : Contingent (Reaction 48 49 4 6) (event 49 10 ∷ event 57 15 ∷ []) (event 49 10 ∷ event 57 17 ∷ [])
+unfolding Meets MeetsReaction times
+reaction-contingent = record {
+  can-be-met = λ colour few. met colour few;
+  can-be-missed =
+      λ m. omega (arith, m 1 (omega arith) 0 (omega arith) .1 .1);
+}
+  where
+    steps : List Step
+    steps = event 49 10 ∷ event 57 15 ∷ []
+
+    met : (colour : ℕ) → colour ≤ lastColour → MeetsReaction 4 6 (times (stream 48 colour) steps) (times (stream 49 colour) steps)
+    met zero few i h = absurd (omega arith)
+    met (suc zero) few zero h = (omega arith, (omega arith, omega arith))
+    met (suc zero) few (suc i) h = absurd (omega arith)
+    met (suc (suc colour)) few i h = absurd (omega (arith, silent (suc (suc colour)) (omega arith) few))
+      where
+        silent : (c : ℕ) → 2 ≤ c → c ≤ lastColour → length (times (stream 48 c) steps) ≡ 0
+        silent c h few = rw (ne-eqb 49 (stream 48 c) (λ e. omega arith), ne-eqb 57 (stream 48 c) (λ e. omega arith))

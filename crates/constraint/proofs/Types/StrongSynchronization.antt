@@ -1,0 +1,94 @@
+-- A StrongSynchronization looks at the times of each of its kinds, and the groups that are begun and not complete wait.
+use Prim.Native.Nat.{ℕ, zero, suc, _-_, _<_}
+use native.Mathlib.Omega.{arith}
+use mathlib.Core.Path.{_≡_, refl, ap, ap₂}
+use mathlib.Core.List.{List, [], _∷_, map}
+use lib.ListN.{length}
+use Rattle.constraint.specs.Steps.{Step, event, at, times}
+use Rattle.constraint.specs.Meets.{Meets, MeetsStrongSynchronization}
+use Rattle.constraint.specs.Waiting.{largest, least, begunIncomplete, waiting}
+use Rattle.constraint.specs.declared.Constraint.the-variants.{StrongSynchronization2, StrongSynchronization3, StrongSynchronization4}
+use Rattle.constraint.proofs.Lists.{each-tail}
+use Rattle.constraint.proofs.Lawful.{SameTimes, Lawful, Contingent}
+
+group-same : (ks : List ℕ) (tolerance : ℕ) (a b : List Step) → SameTimes ks a b → MeetsStrongSynchronization ks tolerance a
+    → MeetsStrongSynchronization ks tolerance b
+unfolding MeetsStrongSynchronization
+group-same ks tolerance a b same m j k h g = rw (← same j h, ← same k g) (m j k h g)
+
+counts-same : (ks : List ℕ) (a b : List Step) → SameTimes ks a b → map (λ k. length (times k a)) ks ≡ map (λ k. length (times k b)) ks
+counts-same [] a b same = refl
+counts-same (k ∷ ks) a b same =
+    ap₂ (λ (n : ℕ) (ns : List ℕ). n ∷ ns) (ap length (same 0 (omega arith))) (counts-same ks a b (each-tail (λ k. times k a ≡ times k b) k ks same))
+
+group-waits : (ks : List ℕ) (a b : List Step) → SameTimes ks a b → begunIncomplete ks a ≡ begunIncomplete ks b
+unfolding begunIncomplete
+group-waits ks a b same = ap (λ (counts : List ℕ). largest counts - least counts) (counts-same ks a b same)
+
+pub lawfulStrongSynchronization2 : (x y tolerance : ℕ) → Lawful (StrongSynchronization2 x y tolerance)
+unfolding Meets waiting
+lawfulStrongSynchronization2 x y tolerance =
+    let ks = x ∷ y ∷ [] in
+    record { same = λ a b in-order same earlier m. group-same ks tolerance a b same m; waits-same = group-waits ks }
+
+pub lawfulStrongSynchronization3 : (x y z tolerance : ℕ) → Lawful (StrongSynchronization3 x y z tolerance)
+unfolding Meets waiting
+lawfulStrongSynchronization3 x y z tolerance =
+    let ks = x ∷ y ∷ z ∷ [] in
+    record { same = λ a b in-order same earlier m. group-same ks tolerance a b same m; waits-same = group-waits ks }
+
+pub lawfulStrongSynchronization4 : (x y z w tolerance : ℕ) → Lawful (StrongSynchronization4 x y z w tolerance)
+unfolding Meets waiting
+lawfulStrongSynchronization4 x y z w tolerance =
+    let ks = x ∷ y ∷ z ∷ w ∷ [] in
+    record { same = λ a b in-order same earlier m. group-same ks tolerance a b same m; waits-same = group-waits ks }
+
+-- kinds that have one event each, all at the same time
+synchronized-alike : (ks : List ℕ) (tolerance t : ℕ) (steps : List Step) → ((j : ℕ) → j < length ks → times (at ks j) steps ≡ t ∷ [])
+    → MeetsStrongSynchronization ks tolerance steps
+unfolding MeetsStrongSynchronization
+synchronized-alike ks tolerance t steps alike j k h g = rw (alike j h, alike k g) (refl, λ i l. omega arith)
+
+pub synchronization2-contingent : Contingent (StrongSynchronization2 0 1 2) (event 0 5 ∷ event 1 5 ∷ []) (event 0 5 ∷ [])
+unfolding Meets MeetsStrongSynchronization times
+synchronization2-contingent =
+    record {
+      can-be-met = synchronized-alike (0 ∷ 1 ∷ []) 2 5 (event 0 5 ∷ event 1 5 ∷ []) (λ j h. alike j h);
+      can-be-missed =
+          λ m. omega (arith, m 0 1 (omega arith) (omega arith) .0);
+    }
+  where
+    alike : (j : ℕ) → j < 2 → times (at (0 ∷ 1 ∷ []) j) (event 0 5 ∷ event 1 5 ∷ []) ≡ 5 ∷ []
+    alike zero h = refl
+    alike (suc zero) h = refl
+    alike (suc (suc j)) h = absurd (omega arith)
+
+pub synchronization3-contingent : Contingent (StrongSynchronization3 0 1 2 2) (event 0 5 ∷ event 1 5 ∷ event 2 5 ∷ []) (event 0 5 ∷ event 1 5 ∷ [])
+unfolding Meets MeetsStrongSynchronization times
+synchronization3-contingent =
+    record {
+      can-be-met = synchronized-alike (0 ∷ 1 ∷ 2 ∷ []) 2 5 (event 0 5 ∷ event 1 5 ∷ event 2 5 ∷ []) (λ j h. alike j h);
+      can-be-missed = λ m. omega (arith, m 0 2 (omega arith) (omega arith) .0);
+    }
+  where
+    alike : (j : ℕ) → j < 3 → times (at (0 ∷ 1 ∷ 2 ∷ []) j) (event 0 5 ∷ event 1 5 ∷ event 2 5 ∷ []) ≡ 5 ∷ []
+    alike zero h = refl
+    alike (suc zero) h = refl
+    alike (suc (suc zero)) h = refl
+    alike (suc (suc (suc j))) h = absurd (omega arith)
+
+pub synchronization4-contingent : Contingent (StrongSynchronization4 0 1 2 3 2) (event 0 5 ∷ event 1 5 ∷ event 2 5 ∷ event 3 5 ∷ [])
+    (event 0 5 ∷ event 1 5 ∷ event 2 5 ∷ [])
+unfolding Meets MeetsStrongSynchronization times
+synchronization4-contingent =
+    record {
+      can-be-met = synchronized-alike (0 ∷ 1 ∷ 2 ∷ 3 ∷ []) 2 5 (event 0 5 ∷ event 1 5 ∷ event 2 5 ∷ event 3 5 ∷ []) (λ j h. alike j h);
+      can-be-missed = λ m. omega (arith, m 0 3 (omega arith) (omega arith) .0);
+    }
+  where
+    alike : (j : ℕ) → j < 4 → times (at (0 ∷ 1 ∷ 2 ∷ 3 ∷ []) j) (event 0 5 ∷ event 1 5 ∷ event 2 5 ∷ event 3 5 ∷ []) ≡ 5 ∷ []
+    alike zero h = refl
+    alike (suc zero) h = refl
+    alike (suc (suc zero)) h = refl
+    alike (suc (suc (suc zero))) h = refl
+    alike (suc (suc (suc (suc j)))) h = absurd (omega arith)

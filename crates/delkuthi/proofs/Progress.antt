@@ -1,7 +1,7 @@
 -- Records are taken one after the other: what reading gives from a place on, over the steps taken before it, is what it gives from the start.
-use Prim.Native.Nat.{ℕ, zero, suc, _+_, _*_, _≤_, _<_}
+use Prim.Native.Nat.{ℕ, zero, suc, _*_, _≤_, _<_}
 use mathlib.Core.Path.{_≡_, refl, sym, ap, subst, _∙_}
-use mathlib.Core.Bool.{true, false}
+use mathlib.Core.Bool.{false}
 use mathlib.Core.List.{List, [], _∷_, _++_}
 use native.Mathlib.Omega.{arith}
 use lib.ListN.{length, length-append}
@@ -9,8 +9,9 @@ use Rattle.constraint.specs.Limits.{lastCount}
 use Rattle.constraint.specs.Steps.{Step, at, closed}
 use Rattle.constraint.specs.Questions.{Judged}
 use Rattle.constraint.specs.Run.{stepFor, questions, asks}
-use Rattle.constraint.specs.Table.{lengthAt, bodyAt}
-use Rattle.constraint.specs.Recording.{VersionKnown, version-refused, callAt, RecordAt, recordQuestions, recording-of, recording-refused}
+use Rattle.constraint.specs.Table.{bodyAt}
+use Rattle.constraint.specs.Recording.{VersionKnown, version-refused, callAt, RecordAt, recordQuestions, RecordingRead, recording-of}
+use Rattle.constraint.specs.Recording.{recording-refused}
 use Rattle.constraint.specs.Recording.{ReadsRecords, no-more, record-refused, record-taken, version-taken}
 use Rattle.constraint.specs.declared.Call.{Call}
 use Rattle.constraint.specs.declared.Answer.the-variants.{Taken, Refused}
@@ -23,12 +24,26 @@ use Rattle.monitor.specs.Contract.{Steps}
 use Rattle.monitor.specs.declared.Monitor.{Monitor}
 use Rattle.monitor.specs.declared.Stepped.{Stepped}
 use Rattle.lent.specs.Contract.{steppedFrom}
-use Rattle.delkuthi.specs.Taking.{Took, TakenUpTo, RecordingTakenAs, StepsBefore, at-version, at-first, behind, goesOn, endsWith, left, UpTo}
-use Rattle.delkuthi.specs.Taking.{of-record, of-close, Turns, on, over, TakesRecording}
-use Rattle.delkuthi.specs.declared.records.Turn.{Turn}
+use Rattle.delkuthi.specs.Taking.{Took, RecordingTakenAs, StepsBefore, at-version, at-first, behind, TakesRecording}
 use Rattle.table.specs.declared.ReadAnswer.{ReadAnswer}
 use Rattle.monitor.proofs.Theorem.{monitor-is-exact}
 use Rattle.delkuthi.proofs.Taking.{took-judged, took-more}
+
+-- how far a recording was taken
+
+-- the monitor has taken the records before a place, which is not that of the version byte, and what is read from there on is the whole
+pub record TakenUpTo (rows : List Constraint) (bytes : List ℕ) (m : Monitor) (place : ℕ) : Type 0 where
+  pub steps : List Step
+  pub took : Took rows steps m
+  pub behind-version : 0 < place
+  pub steps-before : StepsBefore rows bytes place steps
+  pub not-closed : closed steps ≡ false
+  pub whole : (read : RecordingRead) → ReadsRecords rows bytes steps place read → ReadsRecords rows bytes [] 1 read
+
+-- the version is known, and a monitor that was fresh has taken the records before a place
+pub record UpTo (fresh : Monitor) (bytes : List ℕ) (place : ℕ) (m : Monitor) : Type 0 where
+  pub version : VersionKnown bytes
+  pub taken : (rows : List Constraint) → Took rows [] fresh → TakenUpTo rows bytes m place
 
 -- One record
 
@@ -38,11 +53,11 @@ step-untouched m s result n e f =
     ap (λ (r : Stepped). r .monitor) e ∙ monitor-is-exact .untouched m (asks s) n (sym (ap (λ (r : Stepped). r .answer) e) ∙ f)
 
 -- the answer to a record that stands for a step, which the monitor was given
-step-judged : (rows : List Constraint) (steps : List Step) (m : Monitor) (bytes : List ℕ) (place : ℕ) (s : Call) (size : ℕ) (result : Stepped)
-    → CallAt (at bytes 0) bytes place s size → Steps m (asks s) result → Took rows steps m
+step-judged : (rows : List Constraint) (steps : List Step) (m : Monitor) (bytes : List ℕ) (place : ℕ) (s : Call) (next : ℕ) (result : Stepped)
+    → CallAt bytes place s next → Steps m (asks s) result → Took rows steps m
     → Judged (recordQuestions rows steps bytes place) (result .answer)
-step-judged rows steps m bytes place s size result read kept took =
-    record-judged rows steps bytes place s size (result .answer) read (took-judged rows steps m took s result kept)
+step-judged rows steps m bytes place s next result read kept took =
+    record-judged rows steps bytes place s next (result .answer) read (took-judged rows steps m took s result kept)
 
 -- Record by record
 
@@ -70,25 +85,25 @@ module _ (rows : List Constraint) (bytes : List ℕ) where
 
   module _ (m : Monitor) (place : ℕ) (before : TakenUpTo rows bytes m place) where
     module _ (there : place < length bytes) where
-      module _ (s : Call) (size : ℕ) (read : CallAt (at bytes 0) bytes place s size) (result : Stepped) (kept : Steps m (asks s) result) where
+      module _ (s : Call) (next : ℕ) (read : CallAt bytes place s next) (result : Stepped) (kept : Steps m (asks s) result) where
         -- the record is taken
-        pub up-to-more : result .answer ≡ Taken → TakenUpTo rows bytes (result .monitor) (place + size)
+        pub up-to-more : result .answer ≡ Taken → TakenUpTo rows bytes (result .monitor) next
         up-to-more e =
             let judged : Judged (recordQuestions rows (before .steps) bytes place) Taken =
-            subst (Judged _) e (step-judged rows (before .steps) m bytes place s size result read kept (before .took)) in
-            let next-is : place + size ≡ place + 2 + lengthAt bytes place = omega (arith, read .size-read) in
+            subst (Judged _) e (step-judged rows (before .steps) m bytes place s next result read kept (before .took)) in
             record {
               steps = before .steps ++ (stepFor (callAt bytes place) ∷ []);
               took = rw (read .call-read) (took-more rows (before .steps) m (before .took) s result kept e);
-              behind-version = omega (arith, before .behind-version);
+              behind-version = omega (arith, read .next-read);
               steps-before =
-                  subst (λ (next : ℕ). StepsBefore rows bytes next (before .steps ++ (stepFor (callAt bytes place) ∷ []))) (sym next-is)
+                  subst (λ (after : ℕ). StepsBefore rows bytes after (before .steps ++ (stepFor (callAt bytes place) ∷ []))) (sym (read .next-read))
                   (behind (before .behind-version) (before .steps-before) judged);
               not-closed = unclosed-more (at bytes 0) (bodyAt bytes place) (before .steps) (before .not-closed);
-              whole = λ read reads.
-                  before .whole read
+              whole = λ answer reads.
+                  before .whole answer
                   (record-taken there judged
-                  (subst (λ (next : ℕ). ReadsRecords rows bytes (before .steps ++ (stepFor (callAt bytes place) ∷ [])) next read) next-is reads));
+                  (subst (λ (after : ℕ). ReadsRecords rows bytes (before .steps ++ (stepFor (callAt bytes place) ∷ [])) after answer)
+                  (read .next-read) reads));
             }
 
         -- it is refused, and the monitor is as it was
@@ -99,7 +114,7 @@ module _ (rows : List Constraint) (bytes : List ℕ) where
           before .steps-before,
           subst (Took rows (before .steps)) (sym (step-untouched m s result n (kept .equals) e)) (before .took),
           version-taken one (before .whole (recording-refused n place)
-              (record-refused n there (subst (Judged _) e (step-judged rows (before .steps) m bytes place s size result read kept (before .took))))),
+              (record-refused n there (subst (Judged _) e (step-judged rows (before .steps) m bytes place s next result read kept (before .took))))),
         )
 
       -- question 14 is answered "no"
@@ -126,76 +141,44 @@ module _ (rows : List Constraint) (bytes : List ℕ) where
           took-more rows (before .steps) m (before .took) Call.Close result kept taken,
         )
 
--- Turn by turn
+-- The whole recording
 
 module _ (fresh : Monitor) (bytes : List ℕ) where
-  pub turn-start : VersionKnown bytes → UpTo fresh bytes 1 fresh
-  turn-start one = record { version = one; taken = λ rows took. up-to-start rows bytes fresh took }
+  pub taken-start : VersionKnown bytes → UpTo fresh bytes 1 fresh
+  taken-start one = record { version = one; taken = λ rows took. up-to-start rows bytes fresh took }
 
   -- question 13 is answered "no"
-  pub turn-version : ¬ VersionKnown bytes → Turns fresh bytes (endsWith (ReadAnswer.Refused 13 0)) fresh
-  turn-version refused = over {answer = ReadAnswer.Refused 13 0} (record { means = λ rows took. ([], at-version, took, version-refused refused) })
+  pub taken-version : ¬ VersionKnown bytes → TakesRecording fresh bytes (ReadAnswer.Refused 13 0) fresh
+  taken-version refused = record { means = λ rows took. ([], at-version, took, version-refused refused) }
 
   module _ (m : Monitor) (place : ℕ) (before : UpTo fresh bytes place m) where
-    pub turn-record : (call : Call) (size : ℕ) → place < length bytes → CallAt (at bytes 0) bytes place call size
-        → Turns fresh bytes (goesOn call place (place + size)) m
-    turn-record call size there read = on (of-record call size there read) before
+    module _ (there : place < length bytes) where
+      -- question 14 is answered "no"
+      pub taken-none : ¬ RecordAt bytes place → TakesRecording fresh bytes (ReadAnswer.Refused 14 place) m
+      taken-none not-there =
+          record { means = λ rows took. up-to-none rows bytes m place (before .taken rows took) there (before .version) not-there }
 
-    pub turn-close : length bytes ≤ place → Turns fresh bytes (goesOn Call.Close place place) m
-    turn-close end = on (of-close end) before
+      module _ (s : Call) (next : ℕ) (read : CallAt bytes place s next) (m′ : Monitor) where
+        pub taken-more : (n : ℕ) → n ≡ 0 → Steps m (asks s) (steppedFrom n m′) → UpTo fresh bytes next m′
+        taken-more (suc n) none kept = never (omega (arith, none))
+        taken-more zero none kept =
+            record {
+              version = before .version;
+              taken = λ rows took. up-to-more rows bytes m place (before .taken rows took) there s next read (steppedFrom 0 m′) kept refl;
+            }
 
-    pub turn-none : place < length bytes → ¬ RecordAt bytes place → Turns fresh bytes (endsWith (ReadAnswer.Refused 14 place)) m
-    turn-none there not-there =
-        over {answer = ReadAnswer.Refused 14 place}
-        (record { means = λ rows took. up-to-none rows bytes m place (before .taken rows took) there (before .version) not-there })
+        pub taken-refused : (n : ℕ) → 0 < n → Steps m (asks s) (steppedFrom n m′) → TakesRecording fresh bytes (ReadAnswer.Refused n place) m′
+        taken-refused zero above kept = never (omega (arith, above))
+        taken-refused (suc n) above kept =
+            record {
+              means = λ rows took. up-to-refused rows bytes m place (before .taken rows took) there s next read (steppedFrom (suc n) m′) kept
+                  (suc n) (before .version) refl;
+            }
 
-  -- what follows a turn whose call was answered with a number: the close was taken; a record was refused; or a record was taken
-  pub next-closed : (turn : Turn) (m m′ : Monitor) (number : ℕ) → length bytes ≤ lastCount → length bytes ≤ turn .place → turn .more ≡ true
-      → Turns fresh bytes turn m → Steps m (asks (turn .call)) (steppedFrom number m′)
-      → Turns fresh bytes (endsWith ReadAnswer.Accepted) m′ × (left bytes (endsWith ReadAnswer.Accepted) < left bytes turn)
-  next-closed turn m m′ number fits end e (on (of-record {place} call size there read) before) kept = never (omega (arith, there, end))
-  next-closed turn m m′ number fits end e (on (of-close {place} end′) before) kept = (
-    over {answer = ReadAnswer.Accepted}
-        (record {
-          means = λ rows took. up-to-end rows bytes m place (before .taken rows took) (steppedFrom number m′)
-              (before .version) fits end kept;
-        }),
-    omega arith,
-  )
-  next-closed turn m m′ number fits end e (over taken) kept = never (cc)
-
-  pub next-refused : (turn : Turn) (m m′ : Monitor) (number : ℕ) → 0 < number → turn .place < length bytes → turn .more ≡ true
-      → Turns fresh bytes turn m → Steps m (asks (turn .call)) (steppedFrom number m′)
-      → Turns fresh bytes (endsWith (ReadAnswer.Refused number (turn .place))) m′ ×
-      (left bytes (endsWith (ReadAnswer.Refused number (turn .place))) < left bytes turn)
-  next-refused turn m m′ zero above there e turns kept = never (omega (arith, above))
-  next-refused turn m m′ (suc n) above there e (on (of-record {place} call size there′ read) before) kept = (
-    over {answer = ReadAnswer.Refused (suc n) place}
-        (record {
-          means = λ rows took. up-to-refused rows bytes m place (before .taken rows took) there call size read (steppedFrom (suc n) m′) kept
-              (suc n) (before .version) refl;
-        }),
-    omega arith,
-  )
-  next-refused turn m m′ (suc n) above there e (on (of-close end) before) kept = never (omega (arith, there, end))
-  next-refused turn m m′ (suc n) above there e (over taken) kept = never (cc)
-
-  pub next-taken : (turn : Turn) (m m′ : Monitor) (number : ℕ) → number ≤ 0 → turn .place < length bytes → turn .more ≡ true
-      → Turns fresh bytes turn m → Steps m (asks (turn .call)) (steppedFrom number m′)
-      → UpTo fresh bytes (turn .next) m′ × (left bytes (goesOn Call.Close (turn .next) (turn .next)) < left bytes turn)
-  next-taken turn m m′ (suc n) none there e turns kept = never (omega (arith, none))
-  next-taken turn m m′ zero none there e (on (of-record {place} call size there′ read) before) kept = (
-    record {
-      version = before .version;
-      taken = λ rows took. up-to-more rows bytes m place (before .taken rows took) there call size read
-          (steppedFrom 0 m′) kept refl;
-    },
-    omega (arith, there, read .size-read),
-  )
-  next-taken turn m m′ zero none there e (on (of-close end) before) kept = never (omega (arith, there, end))
-  next-taken turn m m′ zero none there e (over taken) kept = never (cc)
-
-  -- where there is no more, the recording is taken as the turn says
-  pub turns-over : (turn : Turn) (m : Monitor) → turn .more ≡ false → Turns fresh bytes turn m → TakesRecording fresh bytes (turn .answer) m
-  turns-over turn m e (on call before) = never (cc)
-  turns-over turn m e (over taken) = taken
+    -- behind the last record comes the close
+    pub taken-end : (number : ℕ) (m′ : Monitor) → length bytes ≤ lastCount → length bytes ≤ place → Steps m (asks Call.Close) (steppedFrom number m′)
+        → TakesRecording fresh bytes ReadAnswer.Accepted m′
+    taken-end number m′ fits end kept =
+        record {
+          means = λ rows took. up-to-end rows bytes m place (before .taken rows took) (steppedFrom number m′) (before .version) fits end kept;
+        }

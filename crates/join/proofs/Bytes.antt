@@ -5,17 +5,17 @@ use mathlib.Core.Path.{_≡_, refl, sym, ap, subst, _∙_}
 use mathlib.Core.Bool.{cond}
 use mathlib.Core.List.{List, [], _∷_, _++_, append-nil, append-assoc}
 use lib.ListN.{length, drop, length-append, length-drop}
-use lib.Seq.{append-snoc, take-all, drop-at}
+use lib.Seq.{append-snoc, drop-at, drop-drop}
 use lib.Dec.{ltb}
 use borrow.Author.Tests.{ltb-true, ltb-false, ne-eqb}
 use Rattle.constraint.specs.Limits.{firstColoured, lastTime}
 use Rattle.constraint.specs.Streams.{kindOf, stream}
-use Rattle.constraint.specs.Steps.{Step, event, tick, close}
+use Rattle.constraint.specs.Steps.{Step, event, tick, close, at}
 use Rattle.constraint.specs.Bytes.{bytesOf, numberBehind, number}
 use Rattle.constraint.specs.Questions.{Judged}
 use Rattle.constraint.specs.Run.{stepFor, Room, questions}
-use Rattle.constraint.specs.Table.{lengthAt}
-use Rattle.constraint.specs.Recording.{callAt, RecordingRead, recording-of, ReadsRecords, no-more, record-taken, ReadsInOrder, version-taken}
+use Rattle.constraint.specs.Table.{lengthAt, bodyAt}
+use Rattle.constraint.specs.Recording.{callOf, callAt, RecordingRead, recording-of, ReadsRecords, no-more, record-taken, ReadsInOrder, version-taken}
 use Rattle.constraint.specs.declared.Answer.the-variants.{Taken}
 use Rattle.constraint.specs.declared.Call.{Call}
 use Rattle.constraint.proofs.Lists.{split}
@@ -23,9 +23,8 @@ use Rattle.constraint.proofs.Streams.{coloured-kind, kind-small}
 use Rattle.constraint.proofs.Judged.{never, judged-none, judged-yes}
 use Rattle.constraint.proofs.History.{Accepts, Valid, valid-none, valid-more}
 use Rattle.number.proofs.Numbers.{number-of-bytes}
-use Rattle.recording.specs.Record.{CallAt, ReadsRecord}
-use Rattle.recording.specs.declared.Record.{Record}
-use Rattle.recording.proofs.Records.{event-read, coloured-read, tick-read, read-of-stretch, record-judged}
+use Rattle.recording.specs.Record.{CallAt}
+use Rattle.recording.proofs.Records.{record-judged}
 use Rattle.constraint.specs.Joined.{timeOf, eventBytes, colouredBytes, tickBytes, stepBytes, stepsBytes, recordingBytes}
 use Rattle.join.proofs.Merging.{Fits, Line}
 
@@ -37,50 +36,49 @@ callFor close = Call.Close
 
 -- ---- one record, where its bytes stand
 
-module _ (version : ℕ) (bytes : List ℕ) (place : ℕ) (after : List ℕ) where
-  -- read from its own stretch
-  from-stretch : (r : Record) → ReadsRecord version (drop place bytes) 0 r → ReadsRecord version bytes place r
-  from-stretch r read =
-      read-of-stretch version bytes place r (rw (take-all (length bytes - place) (drop place bytes) (omega (arith, length-drop place bytes))) read)
+module _ (bytes : List ℕ) (place : ℕ) (after : List ℕ) where
+  standing : (stands : List ℕ) (call : Call) (size : ℕ) → drop place bytes ≡ stands → size ≡ 2 + lengthAt stands 0 → size ≤ length stands
+      → 10 ≤ size → size ≤ 12 → callOf (at bytes 0) (bodyAt stands 0) ≡ call → CallAt bytes place call (place + size)
+  standing stands call size e =
+      subst (λ (x : List ℕ). size ≡ 2 + lengthAt x 0 → size ≤ length x → 10 ≤ size → size ≤ 12 → callOf (at bytes 0) (bodyAt x 0) ≡ call
+      → CallAt bytes place call (place + size)) e
+      (λ size-is whole long short is.
+          record {
+            there = ((omega (arith, length-drop place bytes), omega (arith, length-drop place bytes)), omega arith, omega arith);
+            call-read = rw (← drop-drop 2 place bytes) is;
+            next-read = omega arith;
+          })
 
   small-number : (t : ℕ) → t ≤ lastTime → number (bytesOf 8 t) ≡ t
   small-number t h = number-of-bytes 8 t (omega arith)
 
-  read-plain : (k t : ℕ) → t ≤ lastTime → drop place bytes ≡ eventBytes k t ++ after → CallAt version bytes place (Call.Event k t) 11
+  read-plain : (k t : ℕ) → t ≤ lastTime → drop place bytes ≡ eventBytes k t ++ after → CallAt bytes place (Call.Event k t) (place + 11)
   unfolding bytesOf numberBehind
   read-plain k t small e =
-      from-stretch (Record.Event k t 11)
-      (subst (λ (x : List ℕ). CallAt version x 0 (Call.Event k t) 11) (sym e)
-      (subst (λ (n : ℕ). CallAt version (eventBytes k t ++ after) 0 (Call.Event k n) 11) (small-number t small)
-      (event-read version (eventBytes k t ++ after) refl (omega arith))))
+      standing (eventBytes k t ++ after) (Call.Event k t) 11 e (omega arith) (omega arith) (omega arith) (omega arith)
+      (ap (λ (n : ℕ). Call.Event k n) (small-number t small))
 
-  read-tick : (t : ℕ) → t ≤ lastTime → drop place bytes ≡ tickBytes t ++ after → CallAt version bytes place (Call.Tick t) 10
+  read-tick : (t : ℕ) → t ≤ lastTime → drop place bytes ≡ tickBytes t ++ after → CallAt bytes place (Call.Tick t) (place + 10)
   unfolding bytesOf numberBehind
   read-tick t small e =
-      from-stretch (Record.Tick t 10)
-      (subst (λ (x : List ℕ). CallAt version x 0 (Call.Tick t) 10) (sym e)
-      (subst (λ (n : ℕ). CallAt version (tickBytes t ++ after) 0 (Call.Tick n) 10) (small-number t small)
-      (tick-read version (tickBytes t ++ after) refl (omega arith))))
+      standing (tickBytes t ++ after) (Call.Tick t) 10 e (omega arith) (omega arith) (omega arith) (omega arith)
+      (ap (λ (n : ℕ). Call.Tick n) (small-number t small))
 
-  read-coloured : (k c t : ℕ) → t ≤ lastTime → ¬ (version ≡ 1) → drop place bytes ≡ colouredBytes k c t ++ after
-      → CallAt version bytes place (Call.ColouredEvent k c t) 12
+  read-coloured : (k c t : ℕ) → t ≤ lastTime → ¬ (at bytes 0 ≡ 1) → drop place bytes ≡ colouredBytes k c t ++ after
+      → CallAt bytes place (Call.ColouredEvent k c t) (place + 12)
   unfolding bytesOf numberBehind
   read-coloured k c t small two e =
-      from-stretch (Record.ColouredEvent k c t 12)
-      (subst (λ (x : List ℕ). CallAt version x 0 (Call.ColouredEvent k c t) 12) (sym e)
-      (subst (λ (n : ℕ). CallAt version (colouredBytes k c t ++ after) 0 (Call.ColouredEvent k c n) 12) (small-number t small)
-      (subst (λ (x : ℕ). CallAt version (colouredBytes k c t ++ after) 0 (Call.ColouredEvent k x (number (bytesOf 8 t))) 12)
-      (rw (ne-eqb version 1 two))
-      (coloured-read version (colouredBytes k c t ++ after) refl (omega arith)))))
+      standing (colouredBytes k c t ++ after) (Call.ColouredEvent k c t) 12 e (omega arith) (omega arith) (omega arith) (omega arith)
+      (rw (ne-eqb (at bytes 0) 1 two) (ap (λ (n : ℕ). Call.ColouredEvent k c n) (small-number t small)))
 
-  pub read-step : (s : Step) → Fits version s → drop place bytes ≡ stepBytes s ++ after
-      → CallAt version bytes place (callFor s) (length (stepBytes s))
+  pub read-step : (s : Step) → Fits (at bytes 0) s → drop place bytes ≡ stepBytes s ++ after
+      → CallAt bytes place (callFor s) (place + length (stepBytes s))
   unfolding stepBytes bytesOf
   read-step (event s t) fits stands =
       split (ltb s firstColoured)
       (λ x. drop place bytes ≡ cond x (eventBytes s t) (colouredBytes (kindOf s) ((s - firstColoured) % 8) t) ++ after
-      → CallAt version bytes place (cond x (Call.Event s t) (Call.ColouredEvent (kindOf s) ((s - firstColoured) % 8) t))
-      (length (cond x (eventBytes s t) (colouredBytes (kindOf s) ((s - firstColoured) % 8) t))))
+      → CallAt bytes place (cond x (Call.Event s t) (Call.ColouredEvent (kindOf s) ((s - firstColoured) % 8) t))
+      (place + length (cond x (eventBytes s t) (colouredBytes (kindOf s) ((s - firstColoured) % 8) t))))
       (λ plain e. read-plain s t (fits .1) e)
       (λ coloured e. read-coloured (kindOf s) ((s - firstColoured) % 8) t (fits .1)
       (λ one. omega (arith, fits .2 one, ltb-false s firstColoured coloured)) e)
@@ -179,17 +177,17 @@ module _ (version : ℕ) (known : (1 ≤ version) × (version ≤ 2)) where
       let fits : Fits version s = line-each version 0 steps s rest line in
       let stands : drop place bytes ≡ stepBytes s ++ stepsBytes rest = ap (drop (length (stepsBytes steps))) (bytes-append steps (s ∷ rest))
       ∙ drop-at (stepsBytes steps) (stepBytes s ++ stepsBytes rest) (length (stepsBytes steps)) refl in
-      let here : CallAt version bytes place (callFor s) (length (stepBytes s)) = read-step version bytes place (stepsBytes rest) s fits stands in
+      let here : CallAt bytes place (callFor s) (place + length (stepBytes s)) = read-step bytes place (stepsBytes rest) s fits stands in
       let taken = taken-for version steps s fits a in
       let size : length (stepsBytes (steps ++ (s ∷ []))) ≡ length (stepsBytes steps) + length (stepBytes s) =
       ap length (bytes-append steps (s ∷ [])) ∙ length-append (stepsBytes steps) (stepBytes s ++ [])
       ∙ ap (λ (x : List ℕ). length (stepsBytes steps) + length x) (append-nil (stepBytes s)) in
-      let next : length (recordingBytes version (steps ++ (s ∷ []))) ≡ place + 2 + lengthAt bytes place = omega (arith, size, here .size-read) in
+      let next : length (recordingBytes version (steps ++ (s ∷ []))) ≡ place + 2 + lengthAt bytes place = omega (arith, size, here .next-read) in
       let is : s ≡ stepFor (callAt bytes place) = sym (ap stepFor (here .call-read) ∙ taken .1) in
       subst (λ (x : List Step). ReadsInOrder (recordingBytes version x) read) (sym again)
       (reads-behind v (s ∷ rest) line read
       (record-taken (omega (arith, here .there .0 .1, here .there .0 .0))
-      (record-judged [] steps bytes place (callFor s) (length (stepBytes s)) Taken here (taken .0))
+      (record-judged [] steps bytes place (callFor s) (place + length (stepBytes s)) Taken here (taken .0))
       (subst (λ (x : Step). ReadsRecords [] bytes (steps ++ (x ∷ [])) (place + 2 + lengthAt bytes place) read) is
       (subst (λ (n : ℕ). ReadsRecords [] bytes (steps ++ (s ∷ [])) n read) next
       (subst (λ (x : List Step). ReadsRecords [] (recordingBytes version x) (steps ++ (s ∷ []))

@@ -6,68 +6,53 @@ use mathlib.Core.Bool.{Bool, true, false, cond, not, _&&_, _||_}
 use mathlib.Core.List.{List, [], _∷_, _++_, append-nil, append-assoc}
 use lib.ListN.{length, length-append}
 use lib.Seq.{sets}
-use lib.Dec.{leb}
-use Rattle.constraint.specs.Steps.{Step, at}
+use lib.Dec.{eqb, leb}
+use borrow.Author.Tests.{eqb-true, eqb-false}
+use Rattle.constraint.specs.Steps.{Step}
 use Rattle.constraint.specs.Run.{stepFor}
-use Rattle.constraint.specs.Recording.{RecordAt}
 use Rattle.constraint.specs.declared.Call.{Call}
 use Rattle.constraint.proofs.Lists.{split, both}
 use Rattle.number.proofs.Stores.{stores-append}
-use Rattle.recording.specs.Record.{CallAt}
+use Rattle.recording.specs.Record.{CallAt, ReadsCall}
+use Rattle.recording.specs.declared.CallRead.{CallRead}
 use Rattle.constraint.specs.Joined.{timeOf, merged, isDropped, undropped, joined, stepBytes, stepsBytes, joinedBytes}
-use Rattle.join.specs.Walk.{callBytes, leftBytes, leftClock, Records, none, more, Heads, Behind, Nexts}
-use Rattle.join.specs.declared.Head.{Head}
+use Rattle.join.specs.Walk.{callBytes, leftBytes, leftClock, Records, none, more, Behind, Nexts}
 use Rattle.join.specs.declared.Next.{Next}
 use Rattle.join.proofs.Bytes.{bytes-append}
 
 -- ---- the record at a place
 
-module _ (bytes : List ℕ) (place : ℕ) where
-  pub head-found : (call : Call) (size : ℕ) → place < length bytes → CallAt (at bytes 0) bytes place call size
-      → Heads bytes place (record { there = true; call = call; next = place + size })
-  head-found call size h read =
+-- whether one was read
+abbrev pub isRead : CallRead → Bool
+isRead r = eqb (r .number) 0
+
+module _ (bytes : List ℕ) (place : ℕ) (r : CallRead) (reads : ReadsCall bytes place r) where
+  found : isRead r ≡ true → CallAt bytes place (r .call) (r .next)
+  found e = reads .whole (eqb-true (r .number) 0 e)
+
+  -- where there is one, it is the first of the records from there on
+  record First (steps : List Step) : Type 0 where
+    pub rest : List Step
+    pub is : steps ≡ stepFor (r .call) ∷ rest
+    pub records : Records bytes (r .next) rest
+    pub same : callBytes (r .call) ≡ stepBytes (stepFor (r .call))
+
+  head-first : (steps : List Step) → isRead r ≡ true → Records bytes place steps → First steps
+  head-first steps e (none end) = absurd (omega (arith, found e .there .0 .0, end))
+  head-first steps e (more {rest = rest} there whole same records) =
       record {
-        within = λ e. h;
-        whole = λ e. read .there;
-        call-is = λ e. read .call-read;
-        next-is = λ e. omega (arith, read .size-read);
-        not-there = λ e. both e;
+        rest = rest;
+        is = ap (λ (c : Call). stepFor c ∷ rest) (found e .call-read);
+        records = subst (λ (n : ℕ). Records bytes n rest) (sym (found e .next-read)) records;
+        same = subst (λ (c : Call). callBytes c ≡ stepBytes (stepFor c)) (found e .call-read) same;
       }
 
-  pub head-none : (place < length bytes → ¬ RecordAt bytes place) → Heads bytes place (record { there = false; call = Call.Close; next = 0 })
-  head-none h =
-      record {
-        within = λ e. both (sym e);
-        whole = λ e. both (sym e);
-        call-is = λ e. both (sym e);
-        next-is = λ e. both (sym e);
-        not-there = λ e. h;
-      }
+  head-ends : (steps : List Step) → isRead r ≡ false → Records bytes place steps → steps ≡ []
+  head-ends steps e (none end) = refl
+  head-ends steps e (more there whole same records) = absurd (reads .none (omega (arith, eqb-false (r .number) 0 e)) .0 whole)
 
-  module _ (h : Head) (heads : Heads bytes place h) where
-    -- where there is one, it is the first of the records from there on
-    record First (steps : List Step) : Type 0 where
-      pub rest : List Step
-      pub is : steps ≡ stepFor (h .call) ∷ rest
-      pub records : Records bytes (h .next) rest
-      pub same : callBytes (h .call) ≡ stepBytes (stepFor (h .call))
-
-    head-first : (steps : List Step) → h .there ≡ true → Records bytes place steps → First steps
-    head-first steps e (none end) = absurd (omega (arith, heads .within e, end))
-    head-first steps e (more {rest = rest} there whole same records) =
-        record {
-          rest = rest;
-          is = ap (λ (c : Call). stepFor c ∷ rest) (heads .call-is e);
-          records = subst (λ (n : ℕ). Records bytes n rest) (sym (heads .next-is e)) records;
-          same = subst (λ (c : Call). callBytes c ≡ stepBytes (stepFor c)) (heads .call-is e) same;
-        }
-
-    head-ends : (steps : List Step) → h .there ≡ false → Records bytes place steps → steps ≡ []
-    head-ends steps e (none end) = refl
-    head-ends steps e (more there whole same records) = absurd (heads .not-there e there whole)
-
-    head-less : h .there ≡ true → length bytes - h .next < length bytes - place
-    head-less e = omega (arith, heads .within e, heads .next-is e)
+  head-less : isRead r ≡ true → length bytes - r .next < length bytes - place
+  head-less e = omega (arith, found e .there .0 .0, found e .next-read)
 
 -- ---- the record that comes next
 
@@ -104,12 +89,12 @@ merged-other : (second : List Step) → merged [] second ≡ second
 unfolding merged
 merged-other second = refl
 
-module _ (one two : List ℕ) (place other : ℕ) (a b : Head) (heads : Heads one place a) (others : Heads two other b) where
-  module _ (there : a .there ≡ true) (comes : b .there ≡ true → leb (timeOf (stepFor (a .call))) (timeOf (stepFor (b .call))) ≡ true) where
+module _ (one two : List ℕ) (place other : ℕ) (a b : CallRead) (heads : ReadsCall one place a) (others : ReadsCall two other b) where
+  module _ (there : isRead a ≡ true) (comes : isRead b ≡ true → leb (timeOf (stepFor (a .call))) (timeOf (stepFor (b .call))) ≡ true) where
     taken-first : (rest second : List Step) → Records two other second → merged (stepFor (a .call) ∷ rest) second ≡ stepFor (a .call)
         ∷ merged rest second
     taken-first rest second records =
-        split (b .there) (λ x. merged (stepFor (a .call) ∷ rest) second ≡ stepFor (a .call) ∷ merged rest second)
+        split (isRead b) (λ x. merged (stepFor (a .call) ∷ rest) second ≡ stepFor (a .call) ∷ merged rest second)
         (λ e. let f = head-first two other b others second e records in
         subst (λ (l : List Step). merged (stepFor (a .call) ∷ rest) l ≡ stepFor (a .call) ∷ merged rest l) (sym (f .is))
         (merged-first (stepFor (a .call)) rest (stepFor (b .call)) (f .rest) (comes e)))
@@ -133,11 +118,11 @@ module _ (one two : List ℕ) (place other : ℕ) (a b : Head) (heads : Heads on
           less = λ e. omega (arith, head-less one place a heads there);
         }
 
-  module _ (comes : a .there ≡ true → (b .there ≡ true) × (leb (timeOf (stepFor (a .call))) (timeOf (stepFor (b .call))) ≡ false)) where
+  module _ (comes : isRead a ≡ true → (isRead b ≡ true) × (leb (timeOf (stepFor (a .call))) (timeOf (stepFor (b .call))) ≡ false)) where
     taken-second : (first rest : List Step) → Records one place first → merged first (stepFor (b .call) ∷ rest) ≡ stepFor (b .call)
         ∷ merged first rest
     taken-second first rest records =
-        split (a .there) (λ x. merged first (stepFor (b .call) ∷ rest) ≡ stepFor (b .call) ∷ merged first rest)
+        split (isRead a) (λ x. merged first (stepFor (b .call) ∷ rest) ≡ stepFor (b .call) ∷ merged first rest)
         (λ e. let f = head-first one place a heads first e records in
         subst (λ (l : List Step). merged l (stepFor (b .call) ∷ rest) ≡ stepFor (b .call) ∷ merged l rest) (sym (f .is))
         (merged-second (stepFor (a .call)) (f .rest) (stepFor (b .call)) rest (comes e .1)))
@@ -145,13 +130,13 @@ module _ (one two : List ℕ) (place other : ℕ) (a b : Head) (heads : Heads on
         (sym (head-ends one place a heads first e records))
         (merged-other (stepFor (b .call) ∷ rest) ∙ ap (λ (l : List Step). stepFor (b .call) ∷ l) (sym (merged-other rest))))
 
-    nothing-left : b .there ≡ false → (first second : List Step) → Records one place first → Records two other second → merged first second ≡ []
+    nothing-left : isRead b ≡ false → (first second : List Step) → Records one place first → Records two other second → merged first second ≡ []
     nothing-left e first second records more-records =
-        split (a .there) (λ x. merged first second ≡ []) (λ t. both (sym (comes t .0) ∙ e))
+        split (isRead a) (λ x. merged first second ≡ []) (λ t. both (sym (comes t .0) ∙ e))
         (λ t. ap (λ (l : List Step). merged l second) (head-ends one place a heads first t records) ∙ merged-other second
         ∙ head-ends two other b others second e more-records)
 
-    pub next-second : Nexts one two place other (record { there = b .there; call = b .call; first = place; second = b .next })
+    pub next-second : Nexts one two place other (record { there = isRead b; call = b .call; first = place; second = b .next })
     next-second =
         record {
           there = λ e first second records more-records. let f = head-first two other b others second e more-records in

@@ -13,7 +13,6 @@ use Rattle.constraint.specs.Table.{lengthAt}
 use Rattle.constraint.specs.Recording.{callAt, RecordAt, ReadsInOrder, recording-of, recording-refused}
 use Rattle.constraint.specs.declared.Call.{Call}
 use Rattle.constraint.specs.Joined.{timeOf, merged, isDropped, eventBytes, colouredBytes, tickBytes, stepBytes, joinedBytes, kindsOf, FirstOf}
-use Rattle.join.specs.declared.Head.{Head}
 use Rattle.join.specs.declared.Next.{Next}
 use Rattle.join.specs.declared.Walked.{Walked}
 use Rattle.join.specs.declared.Passed.{Passed}
@@ -49,14 +48,6 @@ pub data Records (bytes : List ℕ) : ℕ → List Step → Type 0 where
   more : {place : ℕ} {rest : List Step} → place < length bytes → RecordAt bytes place
       → callBytes (callAt bytes place) ≡ stepBytes (stepFor (callAt bytes place))
       → Records bytes (place + 2 + lengthAt bytes place) rest → Records bytes place (stepFor (callAt bytes place) ∷ rest)
-
--- the record at a place, or that there is none
-pub record Heads (bytes : List ℕ) (place : ℕ) (r : Head) : Type 0 where
-  pub within : r .there ≡ true → place < length bytes
-  pub whole : r .there ≡ true → RecordAt bytes place
-  pub call-is : r .there ≡ true → callAt bytes place ≡ r .call
-  pub next-is : r .there ≡ true → r .next ≡ place + 2 + lengthAt bytes place
-  pub not-there : r .there ≡ false → place < length bytes → ¬ RecordAt bytes place
 
 -- what is left behind the record that comes next
 pub record Behind (one two : List ℕ) (first second : List Step) (r : Next) : Type 0 where

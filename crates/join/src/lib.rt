@@ -3,7 +3,6 @@
 use constraint::Call;
 use constraint::JoinAnswer;
 use order::Order;
-use recording::Record;
 ghost use mathlib.Core.Path.{_≡_};
 ghost use mathlib.Core.Bool.{true, false, not, _&&_, _||_};
 ghost use Prim.Native.Nat.{_+_, _≤_, max};
@@ -13,14 +12,7 @@ ghost use lib.Seq.{sets};
 ghost use Rattle.constraint.specs.Steps.{at};
 ghost use Rattle.constraint.specs.Run.{stepFor};
 ghost use Rattle.constraint.specs.Joined.{timeOf, isDropped, AnswersJoin};
-ghost use Rattle.join.specs.Walk.{callBytes, callKind, leftBytes, leftClock, Heads, Nexts, Walks, firstCommon, Passes};
-
-// The record at a place, if there is one: its call, and the place behind it.
-pub struct Head {
-    pub there: bool,
-    pub call: Call,
-    pub next: usize,
-}
+ghost use Rattle.join.specs.Walk.{callBytes, callKind, leftBytes, leftClock, Nexts, Walks, firstCommon, Passes};
 
 // The record that comes next, if there is one: its call, and the places in both recordings behind it.
 pub struct Next {
@@ -146,49 +138,6 @@ fn put_left(buffer: &mut [u8], place: usize, clock: u64, call: Call)
     put_call(buffer, place, call);
 }
 
-// The record of a call.
-fn found(call: Call, next: usize) -> Head
-    ensures { λ r. ⌜ r ≡ record { there = true; call = call; next = next } ⌝ }
-{
-    Head {
-        there: true,
-        call,
-        next,
-    }
-}
-
-// No record.
-fn nothing() -> Head
-    ensures { λ r. ⌜ r ≡ record { there = false; call = Call.Close; next = 0 } ⌝ }
-{
-    Head {
-        there: false,
-        call: Call::Close,
-        next: 0,
-    }
-}
-
-// The record at a place of a recording.
-fn record_at(bytes: &[u8], place: usize) -> Head
-    ensures { λ r. ⌜ Heads (now (bytes .entry)) place r ⌝ }
-{
-    if bytes.len() <= place {
-        return nothing();
-    }
-    let version = recording::version(bytes);
-    match recording::read_record(version, &bytes[place..]) {
-        Record::Event { kind, time, size } => found(Call::Event { kind, time }, place + size),
-        Record::ColouredEvent {
-            kind,
-            colour,
-            time,
-            size,
-        } => found(Call::ColouredEvent { kind, colour, time }, place + size),
-        Record::Tick { time, size } => found(Call::Tick { time }, place + size),
-        Record::Refused(_) => nothing(),
-    }
-}
-
 // Whether the first recording's record comes next: it is there, and the other is not or is no earlier.
 fn first_comes(there: bool, time: u64, other: bool, against: u64) -> bool
     ensures { λ r. ⌜ r ≡ (there && (not other || leb time against)) ⌝ }
@@ -200,11 +149,11 @@ fn first_comes(there: bool, time: u64, other: bool, against: u64) -> bool
 fn following(first: &[u8], second: &[u8], place: usize, other: usize) -> Next
     ensures { λ r. ⌜ Nexts (now (first .entry)) (now (second .entry)) place other r ⌝ }
 {
-    let a = record_at(first, place);
-    let b = record_at(second, other);
+    let a = recording::call_at(first, place);
+    let b = recording::call_at(second, other);
     let one = a.call;
     let two = b.call;
-    if first_comes(a.there, time_of(one), b.there, time_of(two)) {
+    if first_comes(a.number == 0, time_of(one), b.number == 0, time_of(two)) {
         return Next {
             there: true,
             call: one,
@@ -213,7 +162,7 @@ fn following(first: &[u8], second: &[u8], place: usize, other: usize) -> Next
         };
     }
     Next {
-        there: b.there,
+        there: b.number == 0,
         call: two,
         first: place,
         second: b.next,

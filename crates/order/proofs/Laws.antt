@@ -167,20 +167,19 @@ module _ (bytes : List ℕ) (place : ℕ) (o : Order) where
         none = λ _. refl;
       }
 
-  pub read-call : (s : Call) (size : ℕ) (r : RecordRead) → CallAt (at bytes 0) bytes place s size → AsksCall o s (place + size) r
-      → ReadsNext bytes place o r
-  read-call s size r read answered =
+  pub read-call : (s : Call) (next : ℕ) (r : RecordRead) → CallAt bytes place s next → AsksCall o s next r → ReadsNext bytes place o r
+  read-call s next r read answered =
       record {
         taken = λ e steps before. let given = answered .takes .taken e steps before in (
-          record-judged [] steps bytes place s size Taken read (given .0),
+          record-judged [] steps bytes place s next Taken read (given .0),
           subst (λ (x : Call). After (steps ++ (stepFor x ∷ [])) (r .order)) (sym (answered .call-is)) (given .1),
         );
-        refused = λ more steps before. record-judged [] steps bytes place s size (Refused (r .number)) read
+        refused = λ more steps before. record-judged [] steps bytes place s next (Refused (r .number)) read
             (answered .takes .refused more steps before);
         as-it-was = answered .takes .as-it-was;
         there = λ e. read .there;
         call-is = λ whole. read .call-read ∙ sym (answered .call-is);
-        next-is = λ whole. (omega (arith, answered .next-is, read .size-read), omega (arith, answered .next-is, read .size-read, read .there .0 .1));
+        next-is = λ whole. (answered .next-is ∙ read .next-read, omega (arith, answered .next-is, read .next-read, read .there .0 .1));
         none = λ not-there. absurd (not-there (read .there));
       }
 

@@ -3,7 +3,6 @@
 use constraint::Call;
 use machine::parts::plus;
 use monitor::calls;
-use recording::Record;
 ghost use mathlib.Core.Path.{_≡_};
 ghost use Rattle.order.specs.Order.{Starts, TakesCall, refusedRead, AsksCall, ReadsNext};
 
@@ -79,7 +78,7 @@ fn refused(order: Order, number: u8) -> RecordRead
     }
 }
 
-// The call of a record that takes so many bytes at a place.
+// The call of a record that ends before a place.
 fn asked(order: Order, call: Call, next: usize) -> RecordRead
     ensures { λ r. ⌜ AsksCall order call next r ⌝ }
 {
@@ -97,25 +96,10 @@ fn asked(order: Order, call: Call, next: usize) -> RecordRead
 pub fn read(bytes: &[u8], place: usize, order: Order) -> RecordRead
     ensures { λ r. ⌜ ReadsNext (now (bytes .entry)) place order r ⌝ }
 {
-    if bytes.len() < place {
-        return refused(order, 14);
+    let record = recording::call_at(bytes, place);
+    if 0 < record.number {
+        return refused(order, record.number);
     }
-    let version = recording::version(bytes);
-    match recording::read_record(version, &bytes[place..]) {
-        Record::Event { kind, time, size } => {
-            asked(order, Call::Event { kind, time }, place + size)
-        }
-        Record::ColouredEvent {
-            kind,
-            colour,
-            time,
-            size,
-        } => asked(
-            order,
-            Call::ColouredEvent { kind, colour, time },
-            place + size,
-        ),
-        Record::Tick { time, size } => asked(order, Call::Tick { time }, place + size),
-        Record::Refused(number) => refused(order, number),
-    }
+    let call = record.call;
+    asked(order, call, record.next)
 }

@@ -1,2 +1,3 @@
 -- Laws of a recording's records.
 pub mod Records
+mod Times

@@ -1,12 +1,12 @@
--- A record's step, read from its own stretch, is the step of the record in the whole recording; and what that says of its questions.
+-- A record's call, read from its own stretch, is that of the record in the whole recording; and what that says of its questions.
 use Prim.Native.Nat.{ℕ, _+_, _-_, _≤_}
-use mathlib.Core.Path.{_≡_, refl, _∙_}
+use mathlib.Core.Path.{_≡_, refl, sym, subst, _∙_}
 use mathlib.Core.Bool.{Bool, true, false, cond}
 use mathlib.Core.List.{List, [], _∷_, _++_}
 use native.Mathlib.Omega.{arith}
 use lib.ListN.{length, take, drop, length-drop}
+use lib.Seq.{length-take-le, take-all, drop-drop}
 use lib.Dec.{eqb}
-use lib.Seq.{length-take-le, take-all, take-take, drop-drop, getD-take, getD-drop}
 use Rattle.constraint.specs.Steps.{Step, at, closed}
 use Rattle.constraint.specs.Streams.{stream}
 use Rattle.constraint.specs.Questions.{Judged}
@@ -20,117 +20,76 @@ use Rattle.constraint.specs.declared.Answer.the-variants.{Refused}
 use Rattle.constraint.specs.declared.Constraint.{Constraint}
 use Rattle.constraint.proofs.History.{closed-event, closed-tick}
 use Rattle.constraint.proofs.Judged.{judged-yes, judged-no}
-use Rattle.recording.specs.Record.{CallAt, ReadsRecord}
-use Rattle.recording.specs.declared.Record.{Record}
-use Rattle.recording.specs.declared.Record.the-variants.{Event, ColouredEvent, Tick, Refused as RecordRefused}
+use Rattle.recording.specs.Record.{CallAt, noRecord, ReadsRecord, ReadsCall}
 
--- From a record's bytes to its step
+-- A record's own stretch
 
-body-length : (bytes : List ℕ) (n : ℕ) → 2 + n ≤ length bytes → length (take n (drop 2 bytes)) ≡ n
-body-length bytes n long = length-take-le n (drop 2 bytes) (omega (arith, length-drop 2 bytes))
+module _ (version : ℕ) (stretch : List ℕ) where
+  pub record-none : ¬ RecordAt stretch 0 → ReadsRecord version stretch noRecord
+  record-none not-there = record { whole = λ e. absurd (omega (arith, e)); none = λ more. not-there }
 
-behind-kind : (body : List ℕ) → drop 1 (take 9 body) ≡ take 8 (drop 1 body)
-behind-kind [] = refl
-behind-kind (kind ∷ body) = refl
+  module _ (size : ℕ) (there : RecordAt stretch 0) (size-is : size ≡ 2 + lengthAt stretch 0) where
+    -- the bytes behind the length field are the record's body
+    body : size - 2 ≡ lengthAt stretch 0
+    body = omega (arith, size-is)
 
-behind-colour : (body : List ℕ) → drop 2 (take 10 body) ≡ take 8 (drop 2 body)
-behind-colour [] = refl
-behind-colour (kind ∷ []) = refl
-behind-colour (kind ∷ (colour ∷ body)) = refl
+    pub body-length : (8 ≤ length (take (size - 2) (drop 2 stretch))) × (length (take (size - 2) (drop 2 stretch)) ≤ 10)
+    body-length =
+        let long = length-take-le (lengthAt stretch 0) (drop 2 stretch) (omega (arith, length-drop 2 stretch, there .0 .1)) in
+        rw (body, long) (there .1, there .2)
 
-event-step : (version : ℕ) (bytes : List ℕ) → lengthAt bytes 0 ≡ 9 → 11 ≤ length bytes → callOf version (bodyAt bytes 0)
-    ≡ Call.Event (at bytes 2) (numberAt 8 bytes 3)
-event-step version bytes nine long =
-    rw (
-      nine,
-      body-length bytes 9 long,
-      getD-take 9 (drop 2 bytes) 0 0 (omega arith),
-      getD-drop 2 bytes 0 0,
-      behind-kind (drop 2 bytes),
-      drop-drop 1 2 bytes,
-      take-take 8 8 (drop 3 bytes) (omega arith),
-    )
-
-pub event-read : (version : ℕ) (bytes : List ℕ) → lengthAt bytes 0 ≡ 9 → 11 ≤ length bytes
-    → CallAt version bytes 0 (Call.Event (at bytes 2) (numberAt 8 bytes 3)) 11
-event-read version bytes nine long =
-    record { there = ((omega arith, omega arith), omega arith, omega arith); call-read = event-step version bytes nine long; size-read = omega arith }
-
-coloured-step : (version : ℕ) (bytes : List ℕ) → lengthAt bytes 0 ≡ 10 → 12 ≤ length bytes
-    → callOf version (bodyAt bytes 0) ≡ Call.ColouredEvent (at bytes 2) (colourIn version (at bytes 3)) (numberAt 8 bytes 4)
-coloured-step version bytes ten long =
-    rw (
-      ten,
-      body-length bytes 10 long,
-      getD-take 10 (drop 2 bytes) 0 0 (omega arith),
-      getD-take 10 (drop 2 bytes) 1 0 (omega arith),
-      getD-drop 2 bytes 0 0,
-      getD-drop 2 bytes 1 0,
-      behind-colour (drop 2 bytes),
-      drop-drop 2 2 bytes,
-      take-take 8 8 (drop 4 bytes) (omega arith),
-    )
-
-pub coloured-read : (version : ℕ) (bytes : List ℕ) → lengthAt bytes 0 ≡ 10 → 12 ≤ length bytes
-    → CallAt version bytes 0 (Call.ColouredEvent (at bytes 2) (colourIn version (at bytes 3)) (numberAt 8 bytes 4)) 12
-coloured-read version bytes ten long =
-    record {
-      there = ((omega arith, omega arith), omega arith, omega arith);
-      call-read = coloured-step version bytes ten long;
-      size-read =
-          omega arith;
-    }
-
-tick-step : (version : ℕ) (bytes : List ℕ) → lengthAt bytes 0 ≡ 8 → 10 ≤ length bytes → callOf version (bodyAt bytes 0)
-    ≡ Call.Tick (numberAt 8 bytes 2)
-tick-step version bytes eight long = rw (eight, body-length bytes 8 long, take-take 8 8 (drop 2 bytes) (omega arith))
-
-pub tick-read : (version : ℕ) (bytes : List ℕ) → lengthAt bytes 0 ≡ 8 → 10 ≤ length bytes
-    → CallAt version bytes 0 (Call.Tick (numberAt 8 bytes 2)) 10
-tick-read version bytes eight long =
-    record { there = ((omega arith, omega arith), omega arith, omega arith); call-read = tick-step version bytes eight long; size-read = omega arith }
+    pub record-whole : (call : Call) → call ≡ callOf version (take (size - 2) (drop 2 stretch))
+        → ReadsRecord version stretch (record { number = 0; call = call; next = size })
+    record-whole call call-is =
+        record { whole = λ e. (there, sym (rw body at call-is), size-is); none = λ more. absurd (omega (arith, more)) }
 
 -- From a record's own stretch to the whole recording
 
-record-of-stretch : (bytes : List ℕ) (place : ℕ) → RecordAt (drop place bytes) 0 → RecordAt bytes place
-record-of-stretch bytes place there =
-    ((omega (arith, length-drop place bytes), omega (arith, length-drop place bytes)), there .1, there .2)
+module _ (bytes : List ℕ) (place : ℕ) where
+  -- the part that starts at the length field
+  abbrev stretch : List ℕ
+  stretch = take (length bytes - place) (drop place bytes)
 
-stretch-of-record : (bytes : List ℕ) (place : ℕ) → RecordAt bytes place → RecordAt (drop place bytes) 0
-stretch-of-record bytes place there =
-    ((omega (arith, length-drop place bytes), omega (arith, length-drop place bytes)), there .1, there .2)
+  rest : stretch ≡ drop place bytes
+  rest = take-all (length bytes - place) (drop place bytes) (omega (arith, length-drop place bytes))
 
-step-of-stretch : (version : ℕ) (bytes : List ℕ) (place : ℕ) (call : Call) (size : ℕ) → CallAt version (drop place bytes) 0 call size
-    → CallAt version bytes place call size
-step-of-stretch version bytes place call size read =
-    record {
-      there = record-of-stretch bytes place (read .there);
-      call-read = rw (← drop-drop 2 place bytes) (read .call-read);
-      size-read =
-          read .size-read;
-    }
+  pub reads-none : ¬ RecordAt bytes place → ReadsCall bytes place noRecord
+  reads-none not-there = record { whole = λ e. absurd (omega (arith, e)); none = λ more. (not-there, refl) }
 
-read-of-drop : (version : ℕ) (bytes : List ℕ) (place : ℕ) (r : Record) → ReadsRecord version (drop place bytes) 0 r
-    → ReadsRecord version bytes place r
-read-of-drop version bytes place (Event kind time size) read = step-of-stretch version bytes place (Call.Event kind time) size read
-read-of-drop version bytes place (ColouredEvent kind colour time size) read =
-    step-of-stretch version bytes place (Call.ColouredEvent kind colour time) size read
-read-of-drop version bytes place (Tick time size) read = step-of-stretch version bytes place (Call.Tick time) size read
-read-of-drop version bytes place (RecordRefused n) read = (λ there. read .0 (stretch-of-record bytes place there), read .1)
+  pub reads-refused : ¬ RecordAt stretch 0 → ReadsCall bytes place noRecord
+  reads-refused none =
+      reads-none (λ there. (rw rest at none)
+      ((omega (arith, length-drop place bytes, there .0 .0), omega (arith, length-drop place bytes, there .0 .1)), there .1, there .2))
 
--- what is read from the part that starts at the record's length field, `&bytes[place..]`, is read from the whole at that place
-pub read-of-stretch : (version : ℕ) (bytes : List ℕ) (place : ℕ) (r : Record)
-    → ReadsRecord version (take (length bytes - place) (drop place bytes)) 0 r → ReadsRecord version bytes place r
-read-of-stretch version bytes place r read =
-    read-of-drop version bytes place r (rw (take-all (length bytes - place) (drop place bytes) (omega (arith, length-drop place bytes))) at read)
+  pub reads-whole : (call : Call) (size : ℕ) → RecordAt stretch 0 → callOf (at bytes 0) (bodyAt stretch 0) ≡ call → size ≡ 2 + lengthAt stretch 0
+      → (place + size ≤ length bytes) × ReadsCall bytes place (record { number = 0; call = call; next = place + size })
+  reads-whole call size =
+      subst (λ (x : List ℕ). RecordAt x 0 → callOf (at bytes 0) (bodyAt x 0) ≡ call → size ≡ 2 + lengthAt x 0
+      → (place + size ≤ length bytes) × ReadsCall bytes place (record { number = 0; call = call; next = place + size })) (sym rest)
+      (λ there is size-is. (
+        omega (arith, length-drop place bytes, there .0 .1, there .1, size-is),
+        record {
+          whole = λ e.
+              record {
+                there = (
+                  (omega (arith, length-drop place bytes, there .0 .0), omega (arith, length-drop place bytes, there .0 .1, there .1)),
+                  there .1,
+                  there .2,
+                );
+                call-read = rw (← drop-drop 2 place bytes) is;
+                next-read = omega (arith, size-is);
+              };
+          none = λ more. absurd (omega (arith, more));
+        },
+      ))
 
 -- From a record to the answer to its questions
 
 -- question 14 is answered "yes", so the answer is that to the step's questions
-pub record-judged : (rows : List Constraint) (steps : List Step) (bytes : List ℕ) (place : ℕ) (call : Call) (size : ℕ) (a : Answer)
-    → CallAt (at bytes 0) bytes place call size → Judged (questions rows steps call) a → Judged (recordQuestions rows steps bytes place) a
+pub record-judged : (rows : List Constraint) (steps : List Step) (bytes : List ℕ) (place : ℕ) (call : Call) (next : ℕ) (a : Answer)
+    → CallAt bytes place call next → Judged (questions rows steps call) a → Judged (recordQuestions rows steps bytes place) a
 unfolding recordQuestions
-record-judged rows steps bytes place call size a read judged =
+record-judged rows steps bytes place call next a read judged =
     judged-yes 14 (RecordAt bytes place) (questions rows steps (callAt bytes place)) a (read .there) (rw (read .call-read) judged)
 
 pub record-refused : (rows : List Constraint) (steps : List Step) (bytes : List ℕ) (place : ℕ)

@@ -1,21 +1,33 @@
 -- What the record reader's answer says.
-use Prim.Native.Nat.{ℕ, _+_}
+use Prim.Native.Nat.{ℕ, _+_, _<_}
 use mathlib.Core.Path.{_≡_}
 use mathlib.Core.List.{List}
 use Rattle.constraint.specs.declared.Call.{Call}
 use Rattle.constraint.specs.Table.{lengthAt, bodyAt}
-use Rattle.constraint.specs.Recording.{callOf, RecordAt}
-use Rattle.recording.specs.declared.Record.{Record}
+use Rattle.constraint.specs.Recording.{callOf, callAt, RecordAt}
+use Rattle.recording.specs.declared.CallRead.{CallRead}
 
--- the record at a place, in a recording of a version, stands for a call and takes so many bytes, its length field among them
-pub record CallAt (version : ℕ) (bytes : List ℕ) (place : ℕ) (call : Call) (size : ℕ) : Type 0 where
+-- the record at a place is whole, stands for a call and ends before another place (§7.2)
+pub record CallAt (bytes : List ℕ) (place : ℕ) (call : Call) (next : ℕ) : Type 0 where
   pub there : RecordAt bytes place
-  pub call-read : callOf version (bodyAt bytes place) ≡ call
-  pub size-read : size ≡ 2 + lengthAt bytes place
+  pub call-read : callAt bytes place ≡ call
+  pub next-read : next ≡ place + 2 + lengthAt bytes place
 
--- what each answer of the reader says of the record at a place: it is an event, one with a colour, a tick (§7.2), or 14 refuses it (§8.14)
-abbrev pub ReadsRecord : ℕ → List ℕ → ℕ → Record → Type 0
-ReadsRecord version bytes place (Record.Event kind time size) = CallAt version bytes place (Call.Event kind time) size
-ReadsRecord version bytes place (Record.ColouredEvent kind colour time size) = CallAt version bytes place (Call.ColouredEvent kind colour time) size
-ReadsRecord version bytes place (Record.Tick time size) = CallAt version bytes place (Call.Tick time) size
-ReadsRecord version bytes place (Record.Refused n) = (¬ RecordAt bytes place) × (n ≡ 14)
+-- how many bytes the record at the start of a stretch has, its length field among them; 0 where 14 refuses it (§8.14)
+pub record Sizes (stretch : List ℕ) (size : ℕ) : Type 0 where
+  pub whole : 0 < size → RecordAt stretch 0 × (size ≡ 2 + lengthAt stretch 0)
+  pub none : size ≡ 0 → ¬ RecordAt stretch 0
+
+-- the answer to a record that 14 refuses (§8.14)
+abbrev pub noRecord : CallRead
+noRecord = record { number = 14; call = Call.Close; next = 0 }
+
+-- what the reader answers to the record at the start of a stretch: 0 where one is there, with its call in a recording of a version and its size
+pub record ReadsRecord (version : ℕ) (stretch : List ℕ) (r : CallRead) : Type 0 where
+  pub whole : r .number ≡ 0 → RecordAt stretch 0 × (callOf version (bodyAt stretch 0) ≡ r .call) × (r .next ≡ 2 + lengthAt stretch 0)
+  pub none : 0 < r .number → ¬ RecordAt stretch 0
+
+-- and to the record at a place: 0 where one is there, with its call and the place behind it; else the refusal
+pub record ReadsCall (bytes : List ℕ) (place : ℕ) (r : CallRead) : Type 0 where
+  pub whole : r .number ≡ 0 → CallAt bytes place (r .call) (r .next)
+  pub none : 0 < r .number → (¬ RecordAt bytes place) × (r ≡ noRecord)

@@ -1,31 +1,22 @@
-// The recording's bytes: one record is read from its own stretch.
+// The recording's bytes: its version, and the record at a place.
+use constraint::Call;
 ghost use mathlib.Core.Path.{_≡_};
+ghost use Prim.Native.Nat.{_+_, _*_, _^_, _≤_, _<_};
+ghost use lib.ListN.{length};
 ghost use Rattle.constraint.specs.Steps.{at};
 ghost use Rattle.constraint.specs.Records.{Decides};
-ghost use Rattle.constraint.specs.Recording.{colourIn, VersionKnown};
-ghost use Rattle.recording.specs.Record.{ReadsRecord};
+ghost use Rattle.constraint.specs.Bytes.{numberAt};
+ghost use Rattle.constraint.specs.Recording.{colourIn, callOf, VersionKnown};
+ghost use Rattle.recording.specs.Record.{Sizes, noRecord, ReadsRecord, ReadsCall};
 
 // What is no colour.
 const NO_COLOUR: u8 = 255;
 
-// What reading a record gives: its step, with the number of bytes of the whole record, or the number of the refusal.
-pub enum Record {
-    Event {
-        kind: u8,
-        time: u64,
-        size: usize,
-    },
-    ColouredEvent {
-        kind: u8,
-        colour: u8,
-        time: u64,
-        size: usize,
-    },
-    Tick {
-        time: u64,
-        size: usize,
-    },
-    Refused(u8),
+// What is read of a record: its call and the place behind it, or (number above 0) a refusal.
+pub struct CallRead {
+    pub number: u8,
+    pub call: Call,
+    pub next: usize,
 }
 
 // The version of a recording: its first byte, or 0 where there is none.
@@ -50,35 +41,123 @@ fn colour_in(version: u8, colour: u8) -> u8
     if version == 1 { NO_COLOUR } else { colour }
 }
 
-// The record at the start of the bytes, which begin with its length field. Refused, with 14, where it is not whole or its length is not 8 to 10.
-pub fn read_record(version: u8, bytes: &[u8]) -> Record
-    ensures { λ r. ⌜ ReadsRecord version (now (bytes .entry)) 0 r ⌝ }
+// What the byte at a place counts for, where one counts for a unit.
+fn digit(bytes: &[u8], place: usize, unit: u64) -> u64
+    requires { ⌜ (place < length (now bytes)) × (unit ≤ 256 ^ 7) ⌝ }
+    ensures { λ r. ⌜ (r ≡ at (now (bytes .entry)) place * unit) × (r ≤ 255 * unit) ⌝ }
 {
-    let length = number::two_at(bytes, 0);
-    let there = bytes.len();
-    if length == 9 && 11 <= there {
-        let kind = number::byte_at(bytes, 2);
-        let time = number::eight_at(bytes, 3);
-        return Record::Event {
-            kind,
-            time,
-            size: 11,
-        };
+    let byte = bytes[place];
+    byte as u64 * unit
+}
+
+// The number in the eight bytes from a place on, which are there: added up from the lowest on, which is a single load in machine code.
+fn eight_there(bytes: &[u8], place: usize) -> u64
+    requires { ⌜ place + 8 ≤ length (now bytes) ⌝ }
+    ensures { λ r. ⌜ r ≡ numberAt 8 (now (bytes .entry)) place ⌝ }
+{
+    digit(bytes, place + 7, 1)
+        + digit(bytes, place + 6, 256)
+        + digit(bytes, place + 5, 65536)
+        + digit(bytes, place + 4, 16777216)
+        + digit(bytes, place + 3, 4294967296)
+        + digit(bytes, place + 2, 1099511627776)
+        + digit(bytes, place + 1, 281474976710656)
+        + digit(bytes, place, 72057594037927936)
+}
+
+// The same: past the end, in those that are there.
+fn eight_at(bytes: &[u8], place: usize) -> u64
+    ensures { λ r. ⌜ r ≡ numberAt 8 (now (bytes .entry)) place ⌝ }
+{
+    if 8 <= bytes.len() {
+        if place <= bytes.len() - 8 {
+            return eight_there(bytes, place);
+        }
     }
-    if length == 10 && 12 <= there {
-        let kind = number::byte_at(bytes, 2);
-        let colour = colour_in(version, number::byte_at(bytes, 3));
-        let time = number::eight_at(bytes, 4);
-        return Record::ColouredEvent {
-            kind,
-            colour,
-            time,
-            size: 12,
-        };
+    number::eight_at(bytes, place)
+}
+
+// The call of a record's bytes behind its length field, of which the last eight are its time.
+fn call_of(version: u8, body: &[u8]) -> Call
+    requires { ⌜ (8 ≤ length (now body)) × (length (now body) ≤ 10) ⌝ }
+    ensures { λ r. ⌜ r ≡ callOf version (now (body .entry)) ⌝ }
+{
+    let length = body.len();
+    let time = eight_at(body, length - 8);
+    if length == 8 {
+        return Call::Tick { time };
     }
-    if length == 8 && 10 <= there {
-        let time = number::eight_at(bytes, 2);
-        return Record::Tick { time, size: 10 };
+    let kind = number::byte_at(body, 0);
+    if length == 9 {
+        return Call::Event { kind, time };
     }
-    Record::Refused(14)
+    let colour = colour_in(version, number::byte_at(body, 1));
+    Call::ColouredEvent { kind, colour, time }
+}
+
+// How many bytes the record has with which a stretch begins, its length field among them; 0 where it is not whole or its length is not 8 to 10.
+fn size_of(stretch: &[u8]) -> usize
+    ensures { λ r. ⌜ Sizes (now (stretch .entry)) r ⌝ }
+{
+    let there = stretch.len();
+    if there < 10 {
+        return 0;
+    }
+    let length = number::two_at(stretch, 0);
+    if length < 8 {
+        return 0;
+    }
+    if 10 < length {
+        return 0;
+    }
+    if there - 2 < length {
+        return 0;
+    }
+    length + 2
+}
+
+// No record.
+fn refused() -> CallRead
+    ensures { λ r. ⌜ r ≡ noRecord ⌝ }
+{
+    CallRead {
+        number: 14,
+        call: Call::Close,
+        next: 0,
+    }
+}
+
+// The record with which a stretch begins: question 14, then its call and, as the place behind it, its size.
+fn read_record(version: u8, stretch: &[u8]) -> CallRead
+    ensures { λ r. ⌜ ReadsRecord version (now (stretch .entry)) r ⌝ }
+{
+    let size = size_of(stretch);
+    if size == 0 {
+        return refused();
+    }
+    let call = call_of(version, &stretch[2..size]);
+    CallRead {
+        number: 0,
+        call,
+        next: size,
+    }
+}
+
+// The record at a place, which is read from its own stretch.
+pub fn call_at(bytes: &[u8], place: usize) -> CallRead
+    ensures { λ r. ⌜ ReadsCall (now (bytes .entry)) place r ⌝ }
+{
+    if bytes.len() < place {
+        return refused();
+    }
+    let record = read_record(version(bytes), &bytes[place..]);
+    if 0 < record.number {
+        return refused();
+    }
+    let call = record.call;
+    CallRead {
+        number: 0,
+        call,
+        next: place + record.next,
+    }
 }

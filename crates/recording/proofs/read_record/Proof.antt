@@ -1,45 +1,48 @@
--- A record of length 9, 10 or 8 with all its bytes there is the event or the tick that they spell; any other is refused by question 14.
-use borrow.Author.Needs.{needs}
+-- The bytes behind the length field are the record's body, whose call is the record's.
 use native.Mathlib.Omega.{arith}
-use native.Mathlib.Decide.{ℕ-discrete}
-use borrow.Author.Tests.{leb-true, leb-false}
-use mathlib.Core.Path.{refl}
-use mathlib.Core.Logic.{⊎-elim, by-cases}
+use borrow.Author.Needs.{needs}
+use Prim.Native.Nat.{_+_}
+use mathlib.Core.Path.{_≡_}
 use denote.Ref.{now}
 use Rattle.constraint.specs.Table.{lengthAt}
-use Rattle.recording.proofs.Records.{event-read, coloured-read, tick-read}
+use Rattle.constraint.specs.Recording.{RecordAt}
+use Rattle.recording.proofs.Records.{record-none, record-whole, body-length}
 use Rattle.recording.proofs.read_record.Statement.{statement}
 use Rattle.recording.proofs.read_record.Tie as tie
 
+-- the record is whole
+whole : (c : tie.Else1) → RecordAt (now (c .before .before .before .args .stretch)) 0
+    × (c .before .size-of .result ≡ 2 + lengthAt (now (c .before .before .before .args .stretch)) 0)
+whole c = c .before .size-of .ensures .whole (omega (arith, c .if1 .left))
+
 returns : tie.Need-returns
 returns c =
-    let a = c .before .before .before .before .before .before .args in
-    rw (c .before .byte-at .ensures, c .eight-at .ensures) (event-read (a .version) (now (a .bytes)) (omega arith) (omega (arith, leb-true)))
+    let asked = c .before .before in
+    let args = asked .before .before .args in
+    rw (c .refused .ensures) (record-none (args .version) (now (args .stretch)) (asked .size-of .ensures .none (c .before .if1 .taken)))
+
+sub-call-of : tie.Need-sub-call-of
+sub-call-of c = omega (arith, whole c .1)
+
+part-call-of-start : tie.Need-part-call-of-start
+part-call-of-start c = omega (arith, whole c .1)
+
+part-call-of-end : tie.Need-part-call-of-end
+part-call-of-end c = omega (arith, whole c .0 .0 .1, whole c .1)
+
+call-of-requires : tie.Need-call-of-requires
+call-of-requires c κs =
+    let args = c .before .before .before .before .args in
+    let there = whole (c .before) in
+    body-length (args .version) (now (args .stretch)) _ (there .0) (there .1)
 
 returns-2 : tie.Need-returns-2
 returns-2 c =
-    let a = c .before .before .before .before .before .before .before .before .before .args in
-    rw (c .before .before .before .byte-at2 .ensures, c .before .colour-in .ensures, c .before .before .byte-at3 .ensures, c .eight-at2 .ensures)
-    (coloured-read (a .version) (now (a .bytes)) (omega arith) (omega (arith, leb-true)))
-
-returns-3 : tie.Need-returns-3
-returns-3 c =
-    let a = c .before .before .before .before .before .before .before .args in
-    rw (c .eight-at3 .ensures) (tick-read (a .version) (now (a .bytes)) (omega arith) (omega (arith, leb-true)))
-
-returns-4 : tie.Need-returns-4
-returns-4 c = (
-  λ there.
-      let bytes = now (c .before .before .before .before .before .args .bytes) in
-      by-cases (ℕ-discrete (lengthAt bytes 0) 8)
-      (λ eight. ⊎-elim (λ w. omega (arith, leb-false)) (λ w. omega arith) (c .if5 .came))
-      (λ other. by-cases (ℕ-discrete (lengthAt bytes 0) 9)
-      (λ nine. ⊎-elim (λ w. omega (arith, leb-false)) (λ w. omega arith) (c .before .before .if1 .came))
-      (λ another. ⊎-elim (λ w. omega (arith, leb-false)) (λ w. omega arith) (c .before .if3 .came))),
-  refl,
-)
+    let args = c .before .before .before .before .before .args in
+    let there = whole (c .before .before) in
+    record-whole (args .version) (now (args .stretch)) _ (there .0) (there .1) _ (c .call-of .ensures)
 
 pub read-record-spec : {M : Type 1} → statement M
 read-record-spec =
-    tie.close (tie.spec (λ c κs. search needs) (λ c κs. search needs) (λ c κs. search needs) returns (λ c κs. search needs) (λ c κs. search needs)
-    (λ c κs. search needs) (λ c κs. search needs) returns-2 (λ c κs. search needs) returns-3 returns-4)
+    tie.close (tie.spec (λ c κs. search needs) (λ c κs. search needs) returns sub-call-of part-call-of-start part-call-of-end call-of-requires
+    returns-2)

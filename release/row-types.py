@@ -10,7 +10,6 @@ its file in the model, its row in examples/rows.
 """
 import re
 import sys
-from importlib import import_module
 from os.path import commonprefix
 from pathlib import Path
 from textwrap import fill
@@ -19,10 +18,8 @@ ROOT = Path(__file__).resolve().parent.parent
 sys.dont_write_bytecode = True
 sys.path.insert(0, str(ROOT / "python"))
 from delkuthi.fields import MOST, SIZES
+from delkuthi.rowtypes import TYPES
 from delkuthi.text import form_lines
-
-LIST = "python/delkuthi/rowtypes"
-TYPES = sorted((import_module(f"delkuthi.rowtypes.{file.stem}").TYPE for file in (ROOT / LIST).glob("[!_]*.py")), key=lambda one: one.number)
 
 
 def text_of(path):
@@ -265,15 +262,6 @@ def model_list():
     return "".join(f"    {t.number} => {t.name},\n" for t in TYPES)
 
 
-# Python.
-
-def python_list():
-    """The files of the package, and their types in the order of their numbers."""
-    files, types = ", ".join(sorted(map(snake, TYPES))), ", ".join(f"{snake(t)}.TYPE" for t in TYPES)
-    files, types = (wrapped(words, 126, "    ", "    ") for words in (files, types))
-    return f"from . import (\n{files},\n)\n\nTYPES: tuple[RowType, ...] = (\n{types},\n)\n"
-
-
 MADE, LISTED, END = "Made by release/row-types.py.", "Made by release/row-types.py, to the end of the list.", "End of what is made."
 # A file, the two texts between which a part stands, and what makes the part.
 PARTS = (
@@ -292,7 +280,6 @@ PARTS = (
     ("host/checks/src/rows.rs", f"        // {LISTED}\n", "    }\n}\n", rust_checks),
     ("host/model/src/types.rs", f"// {MADE}\n\n", f"\n// {END}\n", model_modules),
     ("host/model/src/types.rs", f"row_types! {{\n    // {LISTED}\n", "}\n", model_list),
-    (f"{LIST}/__init__.py", f"# {MADE}\n", f"# {END}\n", python_list),
 )
 
 
@@ -315,6 +302,8 @@ def main():
         print(__doc__, file=sys.stderr)
         return 2
     wrong = [line for row_type in TYPES for line in lacking(row_type)]
+    if [row_type.number for row_type in TYPES] != list(range(1, len(TYPES) + 1)):
+        wrong.append("python/delkuthi/rowtypes: the numbers of the types are not 1, 2, 3 and so on")
     for path, first, last, make in PARTS:
         before, begin, rest = text_of(path).partition(first)
         part, end, after = rest.partition(last)

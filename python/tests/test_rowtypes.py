@@ -25,20 +25,20 @@ def test_a_new_type_is_made(tmp_path):
         (tmp_path / part).parent.mkdir(parents=True, exist_ok=True)
         copy = shutil.copytree if (ROOT / part).is_dir() else shutil.copy
         copy(ROOT / part, tmp_path / part)
-    order = (tmp_path / "python/delkuthi/rowtypes/order.py").read_text(encoding="utf-8")
-    (tmp_path / "python/delkuthi/rowtypes/weak_order.py").write_text(order.replace('6, "Order"', '11, "WeakOrder"'), encoding="utf-8")
+    n, order = len(TYPES) + 1, (tmp_path / "python/delkuthi/rowtypes/order.py").read_text(encoding="utf-8")
+    (tmp_path / "python/delkuthi/rowtypes/weak_order.py").write_text(order.replace('6, "Order"', f'{n}, "WeakOrder"'), encoding="utf-8")
     said = subprocess.run([sys.executable, tmp_path / PROGRAM], capture_output=True, text=True)
     assert said.returncode == 1
-    assert "docs/CONTRACT.md: lacks ### 5.11 WeakOrder: source, target\n" in said.stdout
+    assert f"docs/CONTRACT.md: lacks ### 5.{n} WeakOrder: source, target\n" in said.stdout
     assert "host/model/src/types/weak_order.rs: lacks WeakOrder { source: Kind, target: Kind } }\n" in said.stdout
     assert re.search(r"^include/delkuthi\.h:\d+: not what the list of types says", said.stdout, re.M)
     subprocess.run([sys.executable, tmp_path / PROGRAM, "--write"], capture_output=True)
-    lines = {"docs/CONTRACT.md": "| 11 | WeakOrder | source, target | 3 |\n", "python/README.md": "| WeakOrder | lag from each source to its",
+    lines = {"docs/CONTRACT.md": f"| {n} | WeakOrder | source, target | 3 |\n", "python/README.md": "| WeakOrder | lag from each source to its",
              "include/delkuthi.h": "static inline delkuthi_row delkuthi_weak_order(uint8_t source, uint8_t target)\n",
              "host/c/make_table.c": "    default:\n        return delkuthi_weak_order(b[0], b[1]);\n",
-             "host/delkuthi/src/table.rs": "            Row::WeakOrder { source, target } => body(&[11, source, target], &[]),\n",
+             "host/delkuthi/src/table.rs": f"            Row::WeakOrder {{ source, target }} => body(&[{n}, source, target], &[]),\n",
              "host/checks/src/rows.rs": "Constraint::WeakOrder(types::WeakOrder { source, target }) => Row::WeakOrder { source, target },\n",
-             "host/model/src/types.rs": "    11 => WeakOrder,\n", "python/delkuthi/rowtypes/__init__.py": "weak_order.TYPE,\n"}
+             "host/model/src/types.rs": f"    {n} => WeakOrder,\n"}
     for path, line in lines.items():
         assert line in (tmp_path / path).read_text(encoding="utf-8"), path
     left = subprocess.run([sys.executable, tmp_path / PROGRAM], capture_output=True, text=True).stdout

@@ -1,28 +1,23 @@
 """The row types, a file for each, with all that the package says of a type and the words of the documents; here the list of them,
-and a row as bytes and as values.
+which is what the folder has, and a row as bytes and as values.
 
 This is the one list of the types: ``release/row-types.py`` makes of it what follows elsewhere, in contract, header, Rust crate,
-model and manual, and the list below of the files.
+model and manual.
 """
 from __future__ import annotations
 
+from importlib import import_module
+from pkgutil import iter_modules
 from typing import Mapping, Union
 
 from ..fields import SIZES, RowType
 from ..signals import signals_of
-# Made by release/row-types.py.
-from . import (
-    burst, delay, execution_time, order, reaction, repeat, repetition, sporadic, strong_delay, strong_synchronization,
-)
-
-TYPES: tuple[RowType, ...] = (
-    delay.TYPE, strong_delay.TYPE, repeat.TYPE, sporadic.TYPE, burst.TYPE, order.TYPE, strong_synchronization.TYPE,
-    execution_time.TYPE, reaction.TYPE, repetition.TYPE,
-)
-# End of what is made.
 
 Value = Union[int, "tuple[int, ...]"]
 
+#: By their numbers.
+TYPES: tuple[RowType, ...] = tuple(sorted((import_module(f"{__name__}.{file.name}").TYPE for file in iter_modules(__path__)),
+                                          key=lambda row_type: row_type.number))
 BY_NUMBER = {row_type.number: row_type for row_type in TYPES}
 BY_NAME = {row_type.name: row_type for row_type in TYPES}
 

@@ -10,7 +10,7 @@ ghost use mathlib.Core.Bool.{true, false};
 ghost use Prim.Native.Nat.{_<_};
 ghost use lib.ListN.{getD};
 ghost use Rattle.queue.specs.Ring.{ring};
-ghost use Rattle.machine.specs.Words.{Makes, Applies};
+ghost use Rattle.machine.specs.Words.{noneKept, Makes, Applies};
 ghost use Rattle.chains.specs.Reaction.{latest, highBut, dueBut, afterStimulus, afterResponse, paired, decideReaction};
 
 // How many colours there are.
@@ -124,7 +124,7 @@ fn due_but(times: &[u64; SIZE], head: usize, len: usize, colour: usize, high: u6
 
 // What an event of one of the row's streams makes of it, where it lies.
 pub fn apply(row: &mut [[u64; SIZE]; 2], stream: u64, t: u64, number: u64)
-    ensures { λ _. ⌜ Applies decideReaction (now (row .entry)) stream t number (now (row .exit)) ⌝ }
+    ensures { λ _. ⌜ Applies noneKept decideReaction (now (row .entry)) stream t number (now (row .exit)) ⌝ }
 {
     let colour = (stream % 8) as usize;
     let head = row[1][words::HEAD] as usize;
@@ -142,10 +142,10 @@ pub fn apply(row: &mut [[u64; SIZE]; 2], stream: u64, t: u64, number: u64)
 // The words of a colour are new.
 fn store(row: &mut [[u64; SIZE]; 2], colour: usize, pair: Pair, number: u64)
     requires { ⌜ colour < 8 ⌝ }
-    ensures { λ _. ⌜ Makes (now (row .entry)) (λ rule marks words. paired marks words colour pair) number (now (row .exit)) ⌝ }
+    ensures { λ _. ⌜ Makes noneKept (now (row .entry)) (λ rule marks words. paired marks words colour pair) number (now (row .exit)) ⌝ }
 {
     if pair.breaks {
-        words::break_at(row, 0, number);
+        words::break_at(row, number);
         return;
     }
     let head = row[1][words::HEAD] as usize;

@@ -7,7 +7,7 @@ use queue::SIZE;
 use queue::minus;
 ghost use mathlib.Core.Path.{_≡_};
 ghost use Prim.Native.Nat.{ℕ};
-ghost use Rattle.machine.specs.Words.{Past, numberWords, withMarks, ruleAt, marksAt, askedOf, Applies};
+ghost use Rattle.machine.specs.Words.{Past, numberWords, withMarks, ruleAt, marksAt, askedOf, countsKept, Applies};
 ghost use Rattle.machine.specs.declared.Rule.{Rule};
 ghost use Rattle.machine.specs.declared.State.{State};
 ghost use Rattle.groups.specs.StrongSynchronization.{fillsStrongSynchronization, countOf, oneMore, counted, has, complete, withoutOldest};
@@ -15,8 +15,9 @@ ghost use Rattle.groups.specs.StrongSynchronization.{decideStrongSynchro
 
 // What an event makes of the row, where it lies.
 pub fn apply(row: &mut [[u64; SIZE]; 2], stream: u64, t: u64, number: u64)
-    ensures { λ _. ⌜ Applies decideStrongSynchronization (now (row .entry)) stream t number (now (row .exit)) ⌝ }
+    ensures { λ _. ⌜ Applies countsKept decideStrongSynchronization (now (row .entry)) stream t number (now (row .exit)) ⌝ }
 {
+    words::keep_counts(row);
     if !(count_at(&row[1], stream) < row[1][words::LEN]) {
         words::one_more_waits(row, 0, t, number);
         count(&mut row[1], stream);
@@ -69,10 +70,18 @@ fn gets(kind: u64, of: u64, count: u64) -> bool
 fn count(w: &mut [u64; SIZE], kind: u64)
     ensures { λ _. ⌜ ((rule : Rule) (state : State) (past : Past) → now (w .entry) ≡ numberWords rule state past → now (w .exit) ≡ numberWords rule (withMarks state (counted rule (state .marks) kind)) past) ⌝ }
 {
-    w[words::ONE] = one_more(kind, w[words::FIRST], w[words::ONE]);
-    w[words::TWO] = one_more(kind, w[words::SECOND], w[words::TWO]);
-    w[words::THREE] = one_more(kind, w[words::THIRD], w[words::THREE]);
-    w[words::FOUR] = one_more(kind, w[words::FOURTH], w[words::FOUR]);
+    if kind == w[words::FIRST] {
+        w[words::ONE] = parts::plus(w[words::ONE], 1);
+    }
+    if kind == w[words::SECOND] {
+        w[words::TWO] = parts::plus(w[words::TWO], 1);
+    }
+    if kind == w[words::THIRD] {
+        w[words::THREE] = parts::plus(w[words::THREE], 1);
+    }
+    if kind == w[words::FOURTH] {
+        w[words::FOUR] = parts::plus(w[words::FOUR], 1);
+    }
 }
 
 // The oldest group is not counted any more.

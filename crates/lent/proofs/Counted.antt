@@ -49,6 +49,7 @@ module _ (h : Lent) (ix : Indexes h) (room : ℕ) (few : Roomy (withRoom h room)
           next-there = wide;
           ends-there = ix .shaped .ends-there;
           entries-there = ix .shaped .entries-there;
+          rest-zero = ix .shaped .rest-zero;
         };
         sound = record { rows-few = ix .sound .rows-few; closed-mark = marked; closed-then = then-marked };
         listed = λ kind small. same-rows h renumbered refl refl kind ∙ ix .listed kind small;

@@ -3,7 +3,7 @@
 use Prim.Native.Nat.{ℕ, zero, suc, _+_, _-_, _%_, _<_, _≤_}
 use native.Mathlib.Nat.{mod-eq-of-lt}
 use native.Mathlib.Omega.{arith}
-use mathlib.Core.Path.{_≡_, refl, sym, ap, ap₂, subst, _∙_}
+use mathlib.Core.Path.{_≡_, refl, sym, ap, ap₂, subst, subst₂, _∙_}
 use mathlib.Core.Bool.{Bool, true, false, cond}
 use mathlib.Core.List.{List, [], _∷_, _++_, map}
 use lib.ListN.{length, getD, set, take, replicate, length-append, length-replicate, length-map, List·getD-append}
@@ -21,9 +21,11 @@ use Rattle.machine.specs.Rule as Rules
 use Rattle.machine.specs.declared.Rule.{Rule}
 use Rattle.row.specs.Machine.{rowOf, concerns, noEvent}
 use Rattle.row.specs.Undo.{noBefore}
+use Rattle.row.specs.Stored.{RestZero}
 use Rattle.row.specs.declared.Before.{Before}
 use Rattle.row.specs.declared.Row.{Row}
 use Rattle.row.proofs.Filling.{taken-few}
+use Rattle.row.proofs.Kept.{rest-zero-fresh}
 use Rattle.row.proofs.Exact as Exact
 use Rattle.row.proofs.OwnKinds.{concerns-none}
 use Rattle.monitor.specs.Machine.{noRow, monitorOf}
@@ -204,6 +206,7 @@ fresh-shaped rows few =
       next-there = refl;
       ends-there = ends-length (after rows []) (length rows) 64;
       entries-there = padded-length (listedTo (after rows []) (length rows) 64) 128;
+      rest-zero = λ i _. subst₂ RestZero (sym (row-is rows i)) (sym (kept-is rows i)) (rest-zero-fresh (getD rows i filler));
     }
 
 fresh-sound : (rows : List Constraint) → length rows ≤ rowLimit → Sound (after rows [])

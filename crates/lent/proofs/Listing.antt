@@ -25,9 +25,10 @@ use Rattle.monitor.specs.Machine.{noRow, mapFirst, zipFirst}
 use Rattle.monitor.specs.Parts.{withRows}
 use Rattle.monitor.proofs.First.{zip-length}
 use Rattle.monitor.specs.declared.Monitor.{Monitor}
-use Rattle.lent.specs.Layout.{Lent, rowNamed, startOf, heldRows, rowAt, keptAt, dueAt}
+use Rattle.lent.specs.Layout.{Lent, Shaped, rowNamed, startOf, heldRows, rowAt, keptAt, dueAt}
 use Rattle.lent.specs.Steps.{withSoonest, withRoom, visitAt, visited, roomAfter, ended, soonestOf, rowCount, soonestAll, passed, begun}
 use Rattle.lent.specs.Contract.{namedRows, rowsOf, numbers, isOf, takenIn, Roomy, Sound, Indexes}
+use Rattle.lent.proofs.Parts.{shaped-room}
 use Rattle.lent.proofs.Following as Following
 use Rattle.lent.proofs.Following.{mapped, map-length, map-twice, zipped, zip-twice, row-none, row-more, visits, visits-last, visits-beside}
 use Rattle.lent.proofs.Following.{visits-same, rooms, rooms-last, room-left, Beside, same-beside}
@@ -269,7 +270,7 @@ module _ (c : Lent) (ix : Indexes c) (o : Occurrence) (above : 0 < c .monitor .c
         (λ _ e. not-late (c .soonest) going e (ix .no-sooner)) refl
 
   -- ---- the words say what is so of the monitor after the step
-  module _ (x : Lent) (st : Stepped x) (room : ℕ) (less : room ≤ c .room)
+  module _ (x : Lent) (wide : Shaped x) (st : Stepped x) (room : ℕ) (less : room ≤ c .room)
       (fits : (i : ℕ) → i < n → takenIn (rowAt m i .rule) (step (rowAt m i) .now .len) + room ≤ waitingLimit) where
     held-is : heldRows (x .monitor) ≡ n
     held-is = ap heldRows (st .monitor-is)
@@ -322,13 +323,7 @@ module _ (c : Lent) (ix : Indexes c) (o : Occurrence) (above : 0 < c .monitor .c
     pub step-indexes : Indexes (withRoom x room)
     step-indexes =
         record {
-          shaped = record {
-            rows-there = ap (λ (y : Monitor). length (y .rows)) (st .monitor-is) ∙ map-length step n (m .rows) ∙ whole;
-            kept-there = ap (λ (y : Monitor). length (y .before)) (st .monitor-is) ∙ zip-length save (m .rows) (m .before) n ∙ kept-whole;
-            next-there = ap (λ (y : Monitor). length (y .next)) (st .monitor-is) ∙ ix .shaped .next-there;
-            ends-there = ap length (st .beside .ends-are) ∙ ix .shaped .ends-there;
-            entries-there = ap length (st .beside .entries-are) ∙ ix .shaped .entries-there;
-          };
+          shaped = shaped-room x room wide;
           sound = subst Sound (sym (st .monitor-is)) (record {
             rows-few = ix .sound .rows-few;
             closed-mark = ix .sound .closed-mark;

@@ -46,6 +46,7 @@ module _ (h : Lent) (s : Shaped h) where
         next-there = s .next-there;
         ends-there = padded-length ends 64;
         entries-there = padded-length entries 128;
+        rest-zero = s .rest-zero;
       }
 
 -- ---- words whose blocks are known

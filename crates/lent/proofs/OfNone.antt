@@ -12,11 +12,12 @@ use Rattle.row.proofs.Filling.{quiet-taken}
 use Rattle.monitor.specs.Machine as Machine
 use Rattle.monitor.specs.Machine.{anyFirst, refuses, takes, nextStep, occurrenceBy, takenCall}
 use Rattle.monitor.specs.declared.Monitor.{Monitor}
-use Rattle.lent.specs.Layout.{Lent, heldRows, rowAt}
+use Rattle.lent.specs.Layout.{Lent, Shaped, heldRows, rowAt}
 use Rattle.lent.specs.Steps.{withRoom, withSoonest, ended, begun, countedTo}
 use Rattle.lent.specs.Contract.{numbers, isOf, takenIn, Indexes}
 use Rattle.lent.proofs.Following.{anyIn, any-numbers}
 use Rattle.lent.proofs.Hearing.{moved, saves, calm}
+use Rattle.lent.proofs.Parts.{shaped-soonest, shaped-ended, shaped-begun}
 use Rattle.lent.proofs.Listing as Listing
 use Rattle.lent.proofs.Listing.{all-stepped, some-late, step-indexes}
 use Rattle.lent.proofs.Room.{step-crowd}
@@ -65,19 +66,22 @@ module _ (h : Lent) (ix : Indexes h) (call : Call) (o : Occurrence) (no-event : 
       less : (a b room : ℕ) → a ≤ b → b + room ≤ 64 → a + room ≤ 64
       less a b room p q = omega (arith, p, q)
 
-  on-none : (x : Lent) → Listing.Stepped c counted o above x → Answered h call 0 x
-  on-none x stepped = (
+  on-none : (x : Lent) → Shaped x → Listing.Stepped c counted o above x → Answered h call 0 x
+  on-none x wide stepped = (
     ap takes (stepped .monitor-is ∙ all-rows (c .monitor) (moved o (nextStep m)) (saves o (nextStep m)) (ix .shaped .rows-there) ∙ sym taken-is)
         ∙ sym (ap (λ (b : Bool). cond b (refuses 12 m) (takes (takenCall m call))) none-crowds),
     subst (λ (room : ℕ). Indexes (withRoom x room)) (sym (stepped .beside .room-is))
-        (step-indexes c counted o above x stepped (h .room) (omega arith) fits),
+        (step-indexes c counted o above x wide stepped (h .room) (omega arith) fits),
   )
 
   room : (i : ℕ) → i < heldRows m → crowds o (rowAt m i) ≡ false
   room i l = calm (rowAt m i) o (quiet i l)
 
   pub on-tick : o .closes ≡ false → Answered h call 0 (begun c o)
-  on-tick going = on-none (begun c o) (all-stepped c counted o above 0 0 none-listed room going .stepped)
+  on-tick going = on-none (begun c o) (shaped-begun c o (counted .shaped)) (all-stepped c counted o above 0 0 none-listed room going .stepped)
 
   pub on-close : Answered h call 0 (withSoonest (ended c (heldRows m) o (nextStep m)) 0)
-  on-close = on-none (withSoonest (ended c (heldRows m) o (nextStep m)) 0) (some-late c counted o above 0 0 none-listed room .stepped)
+  on-close =
+      on-none (withSoonest (ended c (heldRows m) o (nextStep m)) 0)
+      (shaped-soonest _ 0 (shaped-ended c (heldRows m) o (nextStep m) (counted .shaped)))
+      (some-late c counted o above 0 0 none-listed room .stepped)

@@ -16,10 +16,11 @@ use Rattle.row.proofs.Filling.{quiet-taken}
 use Rattle.monitor.specs.Machine as Machine
 use Rattle.monitor.specs.Machine.{anyFirst, refuses, takes, nextStep, occurrenceBy, takenCall}
 use Rattle.monitor.specs.declared.Monitor.{Monitor}
-use Rattle.lent.specs.Layout.{Lent, startOf, heldRows, rowAt}
-use Rattle.lent.specs.Steps.{roomFor, roomed, countedOn, begun, rowCount, crowdedOn, leftOn}
+use Rattle.lent.specs.Layout.{Lent, Shaped, startOf, heldRows, rowAt}
+use Rattle.lent.specs.Steps.{visited, roomFor, roomed, countedOn, begun, rowCount, crowdedOn, leftOn}
 use Rattle.lent.specs.Contract.{namedRows, numbers, isOf, takenIn, Indexes}
 use Rattle.lent.proofs.Hearing.{moved, saves}
+use Rattle.lent.proofs.Parts.{shaped-visited, shaped-begun}
 use Rattle.lent.proofs.Listing as Listing
 use Rattle.lent.proofs.Listing.{same-named, all-stepped, step-indexes}
 use Rattle.lent.proofs.Room.{roomed-roomy, crowd-known, step-crowd, each-free}
@@ -60,6 +61,9 @@ module _ (h : Lent) (ix : Indexes h) (call : Call) (kind stream time : ℕ) (sma
       same-named h c refl (startOf h kind) (rowCount h kind) ∙ ix .listed kind small
       ∙ ap (λ (k : ℕ). numbers (isOf m k) (heldRows m)) (sym kind-is)
 
+  wide : Shaped (visited (begun c o) (startOf h kind) (rowCount h kind) o (nextStep m))
+  wide = shaped-visited (begun c o) (startOf h kind) (rowCount h kind) o (nextStep m) (shaped-begun c o (counted .shaped))
+
   module _ (none : crowdedOn h kind stream time ≡ false) where
     free : (i : ℕ) → i < heldRows m → crowds o (rowAt m i) ≡ false
     free = each-free m o (ix .shaped .rows-there) (sym (crowd-known h ix kind stream time small kind-is) ∙ none)
@@ -88,5 +92,5 @@ module _ (h : Lent) (ix : Indexes h) (call : Call) (kind stream time : ℕ) (sma
       (λ _ e. (sym (ap (λ (b : Bool). cond b (refuses 12 m) (takes (takenCall m call))) (sym crowd-is ∙ e)), ix))
       (λ _ e. (
         ap takes (taken-monitor e) ∙ sym (ap (λ (b : Bool). cond b (refuses 12 m) (takes (takenCall m call))) (sym crowd-is ∙ e)),
-        step-indexes c counted o above _ (heard e .stepped) (left .room) (heard e .less) (fits e),
+        step-indexes c counted o above _ wide (heard e .stepped) (left .room) (heard e .less) (fits e),
       )) refl

@@ -3,11 +3,13 @@
 use Prim.Native.Nat.{ℕ, zero, suc, _+_, _-_, _<_, _/_, _%_, min}
 use native.Mathlib.Omega.{arith}
 use native.Mathlib.Nat.{suc-add, zero-add}
-use mathlib.Core.Path.{_≡_, refl, sym, ap, ap₂, _∙_}
+use native.Mathlib.Decide.{ℕ-discrete}
+use mathlib.Core.Path.{_≡_, refl, sym, ap, ap₂, subst, subst₂, _∙_}
+use mathlib.Core.Logic.{by-cases}
 use mathlib.Core.Bool.{Bool, true, false, cond, _||_}
 use mathlib.Core.List.{List, [], _∷_, _++_}
 use lib.ListN.{length, getD, set, take, drop, length-set}
-use lib.Seq.{getD-take, getD-drop, getD-append-add, take-set-lt, take-set-le, drop-set-lt, drop-set-add}
+use lib.Seq.{getD-set-same, getD-set-other, getD-take, getD-drop, getD-append-add, take-set-lt, take-set-le, drop-set-lt, drop-set-add}
 use lib.Dec.{ltb}
 use borrow.Author.Tests.{ltb-true, ltb-false}
 use Rattle.constraint.proofs.Lists.{split}
@@ -16,9 +18,14 @@ use Rattle.row.specs.Machine.{eventAt, tickAt}
 use Rattle.row.specs.declared.Before.{Before}
 use Rattle.row.specs.declared.Occurrence.{Occurrence}
 use Rattle.row.specs.declared.Row.{Row}
+use Rattle.row.specs.Stored.{RestZero}
+use Rattle.row.specs.Undo.{noBefore}
+use Rattle.row.proofs.Kept.{rest-zero-event, rest-zero-ended, rest-zero-without}
 use Rattle.machine.specs.Parts.{plus}
+use Rattle.monitor.specs.Machine.{noRow}
 use Rattle.monitor.specs.declared.Monitor.{Monitor}
 use Rattle.lent.specs.Layout.{Lent, Words, halves, numberArray, numberBlock, wordsOf, rowBlocks, Shaped, rowNamed, startOf, heldRows}
+use Rattle.lent.specs.Layout.{rowAt, keptAt}
 use Rattle.lent.specs.Steps.{withRow, withSoonest, withRoom, withNext, countedOn, countedTo, visited, ended, backed, soonestAll, passed, begun}
 use Rattle.lent.specs.Steps.{crowdedAt, crowded, endAt, rowCount}
 use Rattle.lent.proofs.Blocks.{last-read, last-written}
@@ -177,7 +184,7 @@ begun-alone h s t =
     ap (λ (x : Lent). cond (ltb (h .soonest) t) (cond (ltb (soonestAll h) t) (withSoonest x 0) (withSoonest h (soonestAll h))) h)
     (ended-alone h (heldRows (h .monitor)) s t (h .monitor .count))
 
--- ---- each part keeps its size
+-- ---- each part keeps its size, and in each row what its type never stores is 0
 
 pub shaped-next : (h : Lent) (i v : ℕ) → Shaped h → Shaped (withNext h (set (h .monitor .next) i v))
 shaped-next h i v s =
@@ -187,6 +194,7 @@ shaped-next h i v s =
       next-there = length-set (h .monitor .next) i v ∙ s .next-there;
       ends-there = s .ends-there;
       entries-there = s .entries-there;
+      rest-zero = s .rest-zero;
     }
 
 pub shaped-soonest : (h : Lent) (time : ℕ) → Shaped h → Shaped (withSoonest h time)
@@ -196,8 +204,8 @@ shaped-soonest h time s =
       kept-there = s .kept-there;
       next-there = s .next-there;
       ends-there = s .ends-there;
-      entries-there =
-          s .entries-there;
+      entries-there = s .entries-there;
+      rest-zero = s .rest-zero;
     }
 
 pub shaped-room : (h : Lent) (room : ℕ) → Shaped h → Shaped (withRoom h room)
@@ -207,31 +215,44 @@ shaped-room h room s =
       kept-there = s .kept-there;
       next-there = s .next-there;
       ends-there = s .ends-there;
-      entries-there =
-          s .entries-there;
+      entries-there = s .entries-there;
+      rest-zero = s .rest-zero;
     }
 
-pub shaped-row : (h : Lent) (i : ℕ) (r : Row) (b : Before) → Shaped h → Shaped (withRow h i r b)
-shaped-row h i r b s =
+-- with a row put at a place in which what its type never stores is 0
+pub shaped-row : (h : Lent) (i : ℕ) (r : Row) (b : Before) → (i < 32 → RestZero r b) → Shaped h → Shaped (withRow h i r b)
+shaped-row h i r b zero-there s =
     record {
       rows-there = length-set (h .monitor .rows) i r ∙ s .rows-there;
       kept-there = length-set (h .monitor .before) i b ∙ s .kept-there;
       next-there = s .next-there;
       ends-there = s .ends-there;
       entries-there = s .entries-there;
+      rest-zero = λ j l. by-cases (ℕ-discrete j i)
+          (λ same. subst (λ (k : ℕ). RestZero (rowAt (withRow h i r b .monitor) k) (keptAt (withRow h i r b .monitor) k)) (sym same)
+          (subst₂ RestZero (sym (getD-set-same (h .monitor .rows) i r noRow (omega (arith, s .rows-there, same, l))))
+          (sym (getD-set-same (h .monitor .before) i b noBefore (omega (arith, s .kept-there, same, l)))) (zero-there (omega (arith, same, l)))))
+          (λ far. subst₂ RestZero (sym (getD-set-other (h .monitor .rows) i j r noRow far)) (sym (getD-set-other (h .monitor .before) i j b noBefore far))
+          (s .rest-zero j l));
     }
 
 pub shaped-visited : (h : Lent) (first n : ℕ) (o : Occurrence) (number : ℕ) → Shaped h → Shaped (visited h first n o number)
 shaped-visited h first zero o number s = s
-shaped-visited h first (suc n) o number s = shaped-soonest _ _ (shaped-row (visited h first n o number) _ _ _ (shaped-visited h first n o number s))
+shaped-visited h first (suc n) o number s =
+    let so-far = shaped-visited h first n o number s in
+    shaped-soonest _ _ (shaped-row (visited h first n o number) _ _ _ (λ l. rest-zero-event _ _ o number (so-far .rest-zero _ l)) so-far)
 
 pub shaped-ended : (h : Lent) (n : ℕ) (o : Occurrence) (number : ℕ) → Shaped h → Shaped (ended h n o number)
 shaped-ended h zero o number s = s
-shaped-ended h (suc n) o number s = shaped-row (ended h n o number) _ _ _ (shaped-ended h n o number s)
+shaped-ended h (suc n) o number s =
+    let so-far = shaped-ended h n o number s in
+    shaped-row (ended h n o number) _ _ _ (λ l. rest-zero-ended _ _ o number (so-far .rest-zero n l)) so-far
 
 pub shaped-backed : (h : Lent) (n number : ℕ) → Shaped h → Shaped (backed h n number)
 shaped-backed h zero number s = s
-shaped-backed h (suc n) number s = shaped-row (backed h n number) _ _ _ (shaped-backed h n number s)
+shaped-backed h (suc n) number s =
+    let so-far = shaped-backed h n number s in
+    shaped-row (backed h n number) _ _ _ (λ l. rest-zero-without _ _ number (so-far .rest-zero n l)) so-far
 
 -- the entries stay
 pub visited-named : (h : Lent) (first n : ℕ) (o : Occurrence) (number place : ℕ) → rowNamed (visited h first n o number) place ≡ rowNamed h place
@@ -246,6 +267,7 @@ shaped-counted h stream time s =
       next-there = length-set (h .monitor .next) stream (plus time 1) ∙ s .next-there;
       ends-there = s .ends-there;
       entries-there = s .entries-there;
+      rest-zero = s .rest-zero;
     }
 
 pub shaped-to : (h : Lent) (time closed : ℕ) → Shaped h → Shaped (countedTo h time closed)
@@ -255,8 +277,8 @@ shaped-to h time closed s =
       kept-there = s .kept-there;
       next-there = s .next-there;
       ends-there = s .ends-there;
-      entries-there =
-          s .entries-there;
+      entries-there = s .entries-there;
+      rest-zero = s .rest-zero;
     }
 
 -- ---- the rows to which the clock goes

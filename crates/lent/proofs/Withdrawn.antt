@@ -24,6 +24,7 @@ use Rattle.monitor.proofs.First.{zip-length, without-none, without-next, withou
 use Rattle.lent.specs.Layout.{Lent, heldRows, rowAt, keptAt}
 use Rattle.lent.specs.Steps.{withNext, backed, backRows, uncountedMonitor, withdrawnLent}
 use Rattle.lent.specs.Contract.{numbers, isOf, takenIn, Roomy, Sound, Indexes}
+use Rattle.lent.proofs.Parts.{shaped-backed}
 use Rattle.lent.proofs.Following.{Beside, same-beside}
 use Rattle.lent.proofs.Listing.{same-rows, same-numbers}
 
@@ -183,6 +184,7 @@ module _ (h : Lent) (ix : Indexes h) where
           next-there = ap (λ (y : Monitor). length (y .next)) is ∙ next-long m₀ ∙ ix .shaped .next-there;
           ends-there = ap length (beside .ends-are) ∙ ix .shaped .ends-there;
           entries-there = ap length (beside .entries-are) ∙ ix .shaped .entries-there;
+          rest-zero = shaped-backed h (heldRows m₀) (m₀ .count) (ix .shaped) .rest-zero;
         };
         sound = subst Sound (sym is) (back-sound m₀ (ix .sound));
         listed = λ kind small. same-rows h x (beside .ends-are) (beside .entries-are) kind ∙ ix .listed kind small

@@ -1,6 +1,6 @@
 -- The words of a lent monitor: 35 blocks of two arrays of 64. Block i below 32 is row i; the last three have the numbers beside the rows, the list of
 -- rows for each kind, and the first free times of the coloured streams.
-use Prim.Native.Nat.{ℕ, zero, suc, _-_, _%_, min}
+use Prim.Native.Nat.{ℕ, zero, suc, _-_, _%_, _<_, min}
 use mathlib.Core.Path.{_≡_}
 use mathlib.Core.List.{List, [], _∷_, _++_}
 use lib.ListN.{length, getD, take, drop}
@@ -50,13 +50,21 @@ lastBlocks h = numberBlock h ∷ halves (h .entries) ∷ halves (drop 48 (h .mon
 unfoldable pub wordsOf : Lent → Words
 wordsOf h = rowBlocks (h .monitor .rows) (h .monitor .before) ++ lastBlocks h
 
--- each part has its size
+-- a row, and what is kept of it
+abbrev pub rowAt : Monitor → ℕ → Row
+rowAt m i = getD (m .rows) i noRow
+
+abbrev pub keptAt : Monitor → ℕ → Before
+keptAt m i = getD (m .before) i noBefore
+
+-- each part has its size, and what the type of a row never stores is 0 in it
 pub record Shaped (h : Lent) : Type 0 where
   pub rows-there : length (h .monitor .rows) ≡ rowLimit
   pub kept-there : length (h .monitor .before) ≡ rowLimit
   pub next-there : length (h .monitor .next) ≡ streamCount
   pub ends-there : length (h .ends) ≡ 64
   pub entries-there : length (h .entries) ≡ 128
+  pub rest-zero : (i : ℕ) → i < rowLimit → Stored.RestZero (rowAt (h .monitor) i) (keptAt (h .monitor) i)
 
 -- ---- the rows of a kind
 
@@ -75,12 +83,6 @@ rowNamed h place = getD (h .entries) place 0 % 32
 -- how many rows a monitor has, whatever its record says
 abbrev pub heldRows : Monitor → ℕ
 heldRows m = min (m .len) rowLimit
-
-abbrev pub rowAt : Monitor → ℕ → Row
-rowAt m i = getD (m .rows) i noRow
-
-abbrev pub keptAt : Monitor → ℕ → Before
-keptAt m i = getD (m .before) i noBefore
 
 -- the due time of row i
 abbrev pub dueAt : Monitor → ℕ → ℕ

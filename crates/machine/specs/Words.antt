@@ -6,7 +6,7 @@ use mathlib.Core.Bool.{Bool, cond}
 use mathlib.Core.List.{List, [], _∷_}
 use lib.ListN.{getD, replicate}
 use Rattle.constraint.specs.Limits.{noLimit}
-use Rattle.queue.specs.Ring.{Ring, ringOf, ring, edited, editPlace, timeAt}
+use Rattle.queue.specs.Ring.{Ring, ringOf, ring, edited, editPlace, timeAt, secondAt}
 use Rattle.queue.specs.declared.Edit.{Edit}
 use Rattle.machine.specs.Parts.{noMarks, waits}
 use Rattle.machine.specs.declared.Rule.{Rule}
@@ -20,7 +20,7 @@ use Rattle.machine.specs.declared.Change.{Change}
 abbrev pub spare : List ℕ
 spare = replicate 30 0
 
--- what a row was before its last step: what it kept, where the step wrote into its ring and the two words there, and the number of that step
+-- what a row was before its last step: what it kept, where the step wrote into its ring and the words there, and the number of that step
 pub record Past : Type 0 where
   pub state : State
   pub place : ℕ
@@ -63,74 +63,132 @@ marksAt w = record { last = getD w 10 0; first = getD w 11 0; second = getD w 12
 abbrev pub askedOf : (Rule → Marks → ℕ → ℕ → ℕ → Bool) → List ℕ → ℕ → ℕ → Bool
 askedOf test w s t = test (ruleAt w) (marksAt w) (getD w 16 0) s t
 
--- ---- what an event makes of them
-
--- what is kept of a row before a step that writes from a place on
-abbrev pub pastOf : List ℕ → State → ℕ → ℕ → Past
-pastOf times state place number =
-    record { state = state; place = place; first = timeAt times place 0; second = timeAt times place 1; stamp = number }
-
--- a row that is broken at a step keeps the step, and nothing waits in it
-abbrev pub brokenAt : ℕ → State
-brokenAt number = record { marks = noMarks; head = 0; len = 0; due = noLimit; kept = 0; broken = number }
+-- ---- what is kept of a row before a step
 
 -- what a row keeps with other marks
 abbrev pub withMarks : State → Marks → State
 withMarks state marks =
     record { marks = marks; head = state .head; len = state .len; due = state .due; kept = state .kept; broken = state .broken }
 
+-- what it was, with other marks
+abbrev pub pastWith : Past → Marks → Past
+pastWith past marks =
+    record { state = withMarks (past .state) marks; place = past .place; first = past .first; second = past .second; stamp = past .stamp }
+
+-- all that the row keeps, before a step that writes at a place
+abbrev pub pastOf : List ℕ → State → ℕ → ℕ → Past
+pastOf times state place number =
+    record { state = state; place = place; first = timeAt times place 0; second = secondAt times place; stamp = number }
+
+-- all but its marks and whether it is broken, which stay what they were in its past
+abbrev pub keptOf : List ℕ → State → Past → ℕ → ℕ → Past
+keptOf times state past place number =
+    record {
+      state =
+          record {
+            marks = past .state .marks;
+            head = state .head;
+            len = state .len;
+            due = state .due;
+            kept = state .kept;
+            broken = past .state .broken;
+          };
+      place = place;
+      first = timeAt times place 0;
+      second = secondAt times place;
+      stamp = number;
+    }
+
+-- the marks of the past where a type keeps, of those of the state, none (it changes none), the last time, the first three, the four counts
+abbrev pub noneKept : Marks → Marks → Marks
+noneKept marks past = past
+
+abbrev pub lastKept : Marks → Marks → Marks
+lastKept marks past =
+    record { last = marks .last; first = past .first; second = past .second; third = past .third; fourth = past .fourth }
+
+abbrev pub firstThreeKept : Marks → Marks → Marks
+firstThreeKept marks past =
+    record { last = marks .last; first = marks .first; second = marks .second; third = past .third; fourth = past .fourth }
+
+abbrev pub countsKept : Marks → Marks → Marks
+countsKept marks past =
+    record { last = past .last; first = marks .first; second = marks .second; third = marks .third; fourth = marks .fourth }
+
+-- ---- what an event makes of them
+
+-- a row that is broken at a step keeps the step, and nothing waits in it
+abbrev pub brokenAt : ℕ → State
+brokenAt number = record { marks = noMarks; head = 0; len = 0; due = noLimit; kept = 0; broken = number }
+
 -- what a row keeps with another ring
 abbrev pub withRing : State → Ring → State
 withRing state q =
     record { marks = state .marks; head = q .head; len = q .len; due = state .due; kept = state .kept; broken = state .broken }
 
--- what a row keeps that goes on
-abbrev pub goingOn : Ring → Marks → ℕ → Bool → State
-goingOn q marks due kept = record { marks = marks; head = q .head; len = q .len; due = due; kept = cond kept 1 0; broken = 0 }
+-- what a row keeps that goes on from a state
+abbrev pub goingOn : State → Ring → Marks → ℕ → Bool → State
+goingOn state q marks due kept =
+    record { marks = marks; head = q .head; len = q .len; due = due; kept = cond kept 1 0; broken = state .broken }
 
 -- so, with its marks and its ring as they are
 abbrev pub settled : State → ℕ → ℕ → State
-settled state due kept = record { marks = state .marks; head = state .head; len = state .len; due = due; kept = kept; broken = 0 }
+settled state due kept =
+    record { marks = state .marks; head = state .head; len = state .len; due = due; kept = kept; broken = state .broken }
 
--- the row's words after a change that does not crowd it, made by the step of that number
-unfoldable pub changedWords : Rule → List ℕ → State → Change → ℕ → List (List ℕ)
-changedWords rule times state change number =
+-- the row's words after a change that does not crowd it, made by the step of that number, of a type that keeps some of the marks
+unfoldable pub changedWords : (Marks → Marks → Marks) → Rule → List ℕ → State → Past → Change → ℕ → List (List ℕ)
+changedWords keeps rule times state past change number =
     cond (change .breaks)
     (rowWords rule times (brokenAt number) (pastOf times state (editPlace (change .edit) (ringOf times (state .head) (state .len))) number))
     (rowWords rule (edited (change .edit) (ringOf times (state .head) (state .len)) .times)
-    (goingOn (edited (change .edit) (ringOf times (state .head) (state .len))) (change .marks) (change .due) (change .kept))
-    (pastOf times state (editPlace (change .edit) (ringOf times (state .head) (state .len))) number))
+    (goingOn state (edited (change .edit) (ringOf times (state .head) (state .len))) (change .marks) (change .due) (change .kept))
+    (keptOf times state (pastWith past (keeps (state .marks) (past .state .marks)))
+    (editPlace (change .edit) (ringOf times (state .head) (state .len))) number))
 
 -- ---- what functions on a row's words promise, whatever row they are
 
+-- some of the marks are kept
+abbrev pub KeepsMarks : (Marks → Marks → Marks) → List (List ℕ) → List (List ℕ) → Type 0
+KeepsMarks keeps entry exit =
+    (rule : Rule) (times : List ℕ) (state : State) (past : Past) → entry ≡ rowWords rule times state past
+    → exit ≡ rowWords rule times state (pastWith past (keeps (state .marks) (past .state .marks)))
+
+-- the rest is, before a step that writes at a place
 abbrev pub Keeps : List (List ℕ) → ℕ → ℕ → List (List ℕ) → Type 0
 Keeps entry place number exit =
     (rule : Rule) (times : List ℕ) (state : State) (past : Past) → entry ≡ rowWords rule times state past
-    → exit ≡ rowWords rule times state (pastOf times state place number)
+    → exit ≡ rowWords rule times state (keptOf times state past place number)
 
-abbrev pub Breaks : List (List ℕ) → ℕ → ℕ → List (List ℕ) → Type 0
-Breaks entry place number exit =
+-- all is, before a step that writes nowhere
+abbrev pub KeepsAll : List (List ℕ) → ℕ → List (List ℕ) → Type 0
+KeepsAll entry number exit =
     (rule : Rule) (times : List ℕ) (state : State) (past : Past) → entry ≡ rowWords rule times state past
-    → exit ≡ rowWords rule times (brokenAt number) (pastOf times state place number)
+    → exit ≡ rowWords rule times state (pastOf times state 0 number)
 
--- the ring is edited, and what the row was is its past
+abbrev pub Breaks : List (List ℕ) → ℕ → List (List ℕ) → Type 0
+Breaks entry number exit =
+    (rule : Rule) (times : List ℕ) (state : State) (past : Past) → entry ≡ rowWords rule times state past
+    → exit ≡ rowWords rule times (brokenAt number) (pastOf times state 0 number)
+
+-- the ring is edited, and what the row was but for its marks is its past
 abbrev pub Edits : List (List ℕ) → Edit → ℕ → List (List ℕ) → Type 0
 Edits entry edit number exit =
     (rule : Rule) (times : List ℕ) (state : State) (past : Past) → entry ≡ rowWords rule times state past
     → exit ≡ rowWords rule (edited edit (ringOf times (state .head) (state .len)) .times)
     (withRing state (edited edit (ringOf times (state .head) (state .len))))
-    (pastOf times state (editPlace edit (ringOf times (state .head) (state .len))) number)
+    (keptOf times state past (editPlace edit (ringOf times (state .head) (state .len))) number)
 
--- a change that the row's own numbers, marks and times give is made where the words lie
-abbrev pub Makes : List (List ℕ) → (Rule → Marks → List ℕ → Change) → ℕ → List (List ℕ) → Type 0
-Makes entry change number exit =
+-- a change that the row's own numbers, marks and times give is made where the words lie, by a type that keeps some of the marks
+abbrev pub Makes : (Marks → Marks → Marks) → List (List ℕ) → (Rule → Marks → List ℕ → Change) → ℕ → List (List ℕ) → Type 0
+Makes keeps entry change number exit =
     (rule : Rule) (times : List ℕ) (state : State) (past : Past) → entry ≡ rowWords rule times state past
-    → exit ≡ changedWords rule times state (change rule (state .marks) (ring times (state .head) (state .len))) number
+    → exit ≡ changedWords keeps rule times state past (change rule (state .marks) (ring times (state .head) (state .len))) number
 
--- such a change where the times of the row wait
+-- such a change where the times of the row wait, which keeps no marks by itself
 abbrev pub Waits : List (List ℕ) → Edit → ℕ → List (List ℕ) → Type 0
-Waits entry edit number exit = Makes entry (λ rule marks times. waits (rule .upper) times edit marks) number exit
+Waits entry edit number exit = Makes noneKept entry (λ rule marks times. waits (rule .upper) times edit marks) number exit
 
 -- the function of a row type: its machine's change is made
-abbrev pub Applies : (Rule → Marks → List ℕ → ℕ → ℕ → Change) → List (List ℕ) → ℕ → ℕ → ℕ → List (List ℕ) → Type 0
-Applies machine entry stream t number exit = Makes entry (λ rule marks times. machine rule marks times stream t) number exit
+abbrev pub Applies : (Marks → Marks → Marks) → (Rule → Marks → List ℕ → ℕ → ℕ → Change) → List (List ℕ) → ℕ → ℕ → ℕ → List (List ℕ) → Type 0
+Applies keeps machine entry stream t number exit = Makes keeps entry (λ rule marks times. machine rule marks times stream t) number exit

@@ -5,17 +5,20 @@ use crate::parts::due_after;
 use crate::parts::plus;
 use constraint::NO_LIMIT;
 use queue::SIZE;
+use queue::head_after;
 use queue::left;
 use queue::place_of;
 use queue::push;
 use queue::put_pair;
+use queue::second_at;
 use queue::time_at;
 ghost use mathlib.Core.Path.{_≡_};
 ghost use mathlib.Core.Bool.{cond};
 ghost use Rattle.machine.specs.declared.Rule.{Rule};
 ghost use Rattle.machine.specs.declared.Marks.{Marks};
 ghost use Rattle.machine.specs.declared.State.{State};
-ghost use Rattle.machine.specs.Words.{Past, numberWords, ruleAt, marksAt, brokenAt, settled, Keeps, Breaks, Edits, Waits};
+ghost use Rattle.machine.specs.Words.{Past, numberWords, ruleAt, marksAt, brokenAt, settled, lastKept, firstThreeKept, countsKept};
+ghost use Rattle.machine.specs.Words.{KeepsMarks, Keeps, KeepsAll, Breaks, Edits, Waits};
 ghost use Rattle.queue.specs.declared.Edit.the-variants.{Drop, Push, PushTwo, Store};
 
 // The constraint's numbers.
@@ -102,32 +105,55 @@ pub fn marks_at(w: &[u64; SIZE]) -> Marks
     }
 }
 
-// What the row keeps is kept as its past, before the step of that number, which overwrites two words from a place on.
+// The ring's ends, the due time and the verdict at the close are kept as the row's past, before the step of that number, which overwrites words at a
+// place.
 fn keep_numbers(w: &mut [u64; SIZE], place: usize, number: u64)
-    ensures { λ _. ⌜ ((rule : Rule) (state : State) (past : Past) → now (w .entry) ≡ numberWords rule state past → now (w .exit) ≡ numberWords rule state (record { state = state; place = place; first = past .first; second = past .second; stamp = number })) ⌝ }
+    ensures { λ _. ⌜ ((rule : Rule) (state : State) (past : Past) → now (w .entry) ≡ numberWords rule state past → now (w .exit) ≡ numberWords rule state (record { state = record { marks = past .state .marks; head = state .head; len = state .len; due = state .due; kept = state .kept; broken = past .state .broken }; place = place; first = past .first; second = past .second; stamp = number })) ⌝ }
 {
-    let last = w[LAST];
-    let one = w[ONE];
-    let two = w[TWO];
-    let three = w[THREE];
-    let four = w[FOUR];
     let head = w[HEAD];
     let len = w[LEN];
     let due = w[DUE];
     let kept = w[KEPT];
-    let broken = w[BROKEN];
-    w[20] = last;
-    w[21] = one;
-    w[22] = two;
-    w[23] = three;
-    w[24] = four;
     w[25] = head;
     w[26] = len;
     w[27] = due;
     w[28] = kept;
-    w[29] = broken;
     w[PLACE] = place as u64;
     w[STAMP] = number;
+}
+
+// The last time is kept.
+pub fn keep_last(row: &mut [[u64; SIZE]; 2])
+    ensures { λ _. ⌜ KeepsMarks lastKept (now (row .entry)) (now (row .exit)) ⌝ }
+{
+    let last = row[1][LAST];
+    row[1][20] = last;
+}
+
+// The first three marks are.
+pub fn keep_first_three(row: &mut [[u64; SIZE]; 2])
+    ensures { λ _. ⌜ KeepsMarks firstThreeKept (now (row .entry)) (now (row .exit)) ⌝ }
+{
+    let last = row[1][LAST];
+    let one = row[1][ONE];
+    let two = row[1][TWO];
+    row[1][20] = last;
+    row[1][21] = one;
+    row[1][22] = two;
+}
+
+// The four counts are.
+pub fn keep_counts(row: &mut [[u64; SIZE]; 2])
+    ensures { λ _. ⌜ KeepsMarks countsKept (now (row .entry)) (now (row .exit)) ⌝ }
+{
+    let one = row[1][ONE];
+    let two = row[1][TWO];
+    let three = row[1][THREE];
+    let four = row[1][FOUR];
+    row[1][21] = one;
+    row[1][22] = two;
+    row[1][23] = three;
+    row[1][24] = four;
 }
 
 // A row's state is that of one that is broken at a step.
@@ -146,20 +172,32 @@ fn break_numbers(w: &mut [u64; SIZE], number: u64)
     w[BROKEN] = number;
 }
 
-// What the row is becomes its past, before the step of that number, which overwrites two words from a place on.
-pub fn keep(row: &mut [[u64; SIZE]; 2], place: usize, number: u64)
+// What the row is but for its marks becomes its past, before the step of that number, which overwrites words at a place.
+fn keep(row: &mut [[u64; SIZE]; 2], place: usize, number: u64)
     ensures { λ _. ⌜ Keeps (now (row .entry)) place number (now (row .exit)) ⌝ }
 {
     keep_numbers(&mut row[1], place, number);
     row[1][OLD] = time_at(&row[0], place, 0);
-    row[1][OTHER] = time_at(&row[0], place, 1);
+    row[1][OTHER] = second_at(&row[0], place);
 }
 
-// The row breaks at the step of that number, which overwrites two words from a place on.
-pub fn break_at(row: &mut [[u64; SIZE]; 2], place: usize, number: u64)
-    ensures { λ _. ⌜ Breaks (now (row .entry)) place number (now (row .exit)) ⌝ }
+// All that the row is becomes its past, before the step of that number, which overwrites nothing.
+pub fn keep_all(row: &mut [[u64; SIZE]; 2], number: u64)
+    ensures { λ _. ⌜ KeepsAll (now (row .entry)) number (now (row .exit)) ⌝ }
 {
-    keep(row, place, number);
+    let last = row[1][LAST];
+    let broken = row[1][BROKEN];
+    keep_counts(row);
+    row[1][20] = last;
+    row[1][29] = broken;
+    keep(row, 0, number);
+}
+
+// The row breaks at the step of that number, which overwrites nothing.
+pub fn break_at(row: &mut [[u64; SIZE]; 2], number: u64)
+    ensures { λ _. ⌜ Breaks (now (row .entry)) number (now (row .exit)) ⌝ }
+{
+    keep_all(row, number);
     break_numbers(&mut row[1], number);
 }
 
@@ -168,37 +206,40 @@ pub fn stay(row: &mut [[u64; SIZE]; 2], number: u64)
     ensures { λ _. ⌜ Edits (now (row .entry)) (Drop 0) number (now (row .exit)) ⌝ }
 {
     keep(row, 0, number);
-    row[1][HEAD] = place_of(row[1][HEAD] as usize, 0) as u64;
 }
 
 // The oldest times leave by the step of that number, as many as dropped says.
-pub fn drop_oldest(row: &mut [[u64; SIZE]; 2], dropped: usize, number: u64)
+fn drop_oldest(row: &mut [[u64; SIZE]; 2], dropped: usize, number: u64)
     ensures { λ _. ⌜ Edits (now (row .entry)) (Drop dropped) number (now (row .exit)) ⌝ }
 {
     keep(row, 0, number);
-    row[1][HEAD] = place_of(row[1][HEAD] as usize, dropped) as u64;
-    row[1][LEN] = left(row[1][LEN] as usize, dropped) as u64;
+    if 0 < dropped {
+        row[1][HEAD] = place_of(row[1][HEAD] as usize, dropped) as u64;
+        row[1][LEN] = left(row[1][LEN] as usize, dropped) as u64;
+    }
 }
 
 // So they do, and a word goes behind the rest.
-pub fn push_one(row: &mut [[u64; SIZE]; 2], dropped: usize, word: u64, number: u64)
+fn push_one(row: &mut [[u64; SIZE]; 2], dropped: usize, word: u64, number: u64)
     ensures { λ _. ⌜ Edits (now (row .entry)) (Push dropped word) number (now (row .exit)) ⌝ }
 {
-    let head = place_of(row[1][HEAD] as usize, dropped);
+    let head = head_after(row[1][HEAD] as usize, dropped);
     let len = left(row[1][LEN] as usize, dropped);
     keep(row, place_of(head, len), number);
     let more = push(&mut row[0], head, len, word);
-    row[1][HEAD] = head as u64;
     row[1][LEN] = more as u64;
+    if 0 < dropped {
+        row[1][HEAD] = head as u64;
+    }
 }
 
 // So they do, and two words go behind the rest.
 pub fn push_two(row: &mut [[u64; SIZE]; 2], dropped: usize, first: u64, second: u64, number: u64)
     ensures { λ _. ⌜ Edits (now (row .entry)) (PushTwo dropped first second) number (now (row .exit)) ⌝ }
 {
-    let head = place_of(row[1][HEAD] as usize, dropped);
+    let head = head_after(row[1][HEAD] as usize, dropped);
     let len = left(row[1][LEN] as usize, dropped);
-    keep(row, place_of(head, len), number);
+    keep(row, SIZE + place_of(head, len), number);
     let more = push(&mut row[0], head, len, first);
     let both = push(&mut row[0], head, more, second);
     row[1][HEAD] = head as u64;
@@ -211,7 +252,7 @@ pub fn put_two(row: &mut [[u64; SIZE]; 2], place: usize, first: u64, second: u64
 {
     let head = row[1][HEAD] as usize;
     let len = row[1][LEN] as usize;
-    keep(row, place_of(head, place), number);
+    keep(row, SIZE + place_of(head, place), number);
     put_pair(&mut row[0], head, len, place, first, second);
 }
 
@@ -225,7 +266,6 @@ pub fn fewer_wait(row: &mut [[u64; SIZE]; 2], dropped: usize, number: u64)
     drop_oldest(row, dropped, number);
     row[1][DUE] = due;
     row[1][KEPT] = one_if(len <= dropped);
-    row[1][BROKEN] = 0;
 }
 
 // So they do, and t waits too.
@@ -239,7 +279,6 @@ pub fn one_more_waits(row: &mut [[u64; SIZE]; 2], dropped: usize, t: u64, number
     push_one(row, dropped, t, number);
     row[1][DUE] = due;
     row[1][KEPT] = 0;
-    row[1][BROKEN] = 0;
 }
 
 // A row's state is that of one that goes on with its marks and its ring: its due time, and 1 where it is kept if the recording is closed now.
@@ -248,7 +287,6 @@ pub fn settle(w: &mut [u64; SIZE], due: u64, kept: u64)
 {
     w[DUE] = due;
     w[KEPT] = kept;
-    w[BROKEN] = 0;
 }
 
 // 1 where something is so, else 0.

@@ -31,8 +31,8 @@ changesTo marks =
 -- what the row keeps after the change to these marks
 abbrev pub stored : State → ℕ → ℕ → State
 stored state early ahead =
-    let marks = marksOf early ahead (state .marks .second) (state .marks) in
-    goingOn (ringOf [] (state .head) (state .len)) marks (changesTo marks .due) (changesTo marks .kept)
+    let marks = withAhead (withLast (state .marks) early) ahead in
+    goingOn state (ringOf [] (state .head) (state .len)) marks (changesTo marks .due) (changesTo marks .kept)
 
 -- a source: the partner of the target beyond, or one more beyond; a target: the partner of a source beyond, or one beyond
 unfoldable pub decideOrder : Rule → Marks → List ℕ → ℕ → ℕ → Change

@@ -5,13 +5,14 @@ use queue::SIZE;
 use queue::time_at;
 ghost use mathlib.Core.Path.{_≡_};
 ghost use Rattle.queue.specs.Ring.{ring};
-ghost use Rattle.machine.specs.Words.{askedOf, Applies};
+ghost use Rattle.machine.specs.Words.{askedOf, lastKept, Applies};
 ghost use Rattle.pairs.specs.Delay.{answeredBy, answeredAtOnce, fillsDelay, decideDelay};
 
 // What an event makes of the row, where it lies.
 pub fn apply(row: &mut [[u64; SIZE]; 2], stream: u64, t: u64, number: u64)
-    ensures { λ _. ⌜ Applies decideDelay (now (row .entry)) stream t number (now (row .exit)) ⌝ }
+    ensures { λ _. ⌜ Applies lastKept decideDelay (now (row .entry)) stream t number (now (row .exit)) ⌝ }
 {
+    words::keep_last(row);
     let lower = row[1][words::LOWER];
     if stream == row[1][words::FIRST] {
         if answered_at_once(lower, row[1][words::LAST], t) {

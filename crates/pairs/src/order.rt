@@ -5,7 +5,7 @@ use machine::parts;
 use machine::words;
 use queue::SIZE;
 ghost use mathlib.Core.Path.{_≡_};
-ghost use Rattle.machine.specs.Words.{Past, numberWords, Applies};
+ghost use Rattle.machine.specs.Words.{Past, numberWords, firstThreeKept, Applies};
 ghost use Rattle.machine.specs.declared.Rule.{Rule};
 ghost use Rattle.machine.specs.declared.State.{State};
 ghost use Rattle.pairs.specs.Order.{stored, decideOrder};
@@ -17,8 +17,9 @@ const AHEAD: usize = words::ONE;
 
 // What an event makes of the row, where it lies.
 pub fn apply(row: &mut [[u64; SIZE]; 2], stream: u64, t: u64, number: u64)
-    ensures { λ _. ⌜ Applies decideOrder (now (row .entry)) stream t number (now (row .exit)) ⌝ }
+    ensures { λ _. ⌜ Applies firstThreeKept decideOrder (now (row .entry)) stream t number (now (row .exit)) ⌝ }
 {
+    words::keep_first_three(row);
     words::stay(row, number);
     let early = row[1][EARLY];
     let ahead = row[1][AHEAD];

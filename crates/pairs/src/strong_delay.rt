@@ -5,7 +5,7 @@ use machine::words;
 use queue::SIZE;
 ghost use mathlib.Core.Path.{_≡_};
 ghost use Prim.Native.Nat.{ℕ};
-ghost use Rattle.machine.specs.Words.{askedOf, Applies};
+ghost use Rattle.machine.specs.Words.{askedOf, lastKept, Applies};
 ghost use Rattle.pairs.specs.StrongDelay.{fillsStrongDelay, decideStrongDelay};
 
 // One more than the time of a target beyond the number of sources.
@@ -13,12 +13,12 @@ const EARLY: usize = words::LAST;
 
 // What an event makes of the row, where it lies.
 pub fn apply(row: &mut [[u64; SIZE]; 2], stream: u64, t: u64, number: u64)
-    ensures { λ _. ⌜ Applies decideStrongDelay (now (row .entry)) stream t number (now (row .exit)) ⌝ }
+    ensures { λ _. ⌜ Applies lastKept decideStrongDelay (now (row .entry)) stream t number (now (row .exit)) ⌝ }
 {
+    words::keep_last(row);
     if stream == row[1][words::FIRST] {
         if row[1][EARLY] == 0 {
             words::one_more_waits(row, 0, t, number);
-            row[1][EARLY] = 0;
             return;
         }
         words::fewer_wait(row, 0, number);
@@ -35,14 +35,14 @@ pub fn apply(row: &mut [[u64; SIZE]; 2], stream: u64, t: u64, number: u64)
             words::settle(&mut row[1], t, 0);
             return;
         }
-        words::break_at(row, 0, number);
+        words::break_at(row, number);
         return;
     }
     if parts::reaches(parts::front(&row[0], head, len), lower, t) {
         words::fewer_wait(row, 1, number);
         return;
     }
-    words::break_at(row, 0, number);
+    words::break_at(row, number);
 }
 
 // Whether an event lets one more wait, where there is no room.

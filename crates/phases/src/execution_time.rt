@@ -7,7 +7,7 @@ use queue::SIZE;
 use queue::minus;
 ghost use Rattle.queue.specs.declared.Edit.the-variants.{Drop};
 ghost use Rattle.machine.specs.Parts.{continuesWith};
-ghost use Rattle.machine.specs.Words.{Makes, Applies};
+ghost use Rattle.machine.specs.Words.{firstThreeKept, Makes, Applies};
 ghost use Rattle.phases.specs.ExecutionTime.{inPhase, runningFrom, whileIdle, whileRunning};
 ghost use Rattle.phases.specs.ExecutionTime.{decideExecutionTime};
 
@@ -25,10 +25,10 @@ const RAN: usize = words::TWO;
 
 // What an event makes of the row, where it lies: of a preempted execution only a resume makes something.
 pub fn apply(row: &mut [[u64; SIZE]; 2], stream: u64, t: u64, number: u64)
-    ensures { λ _. ⌜ Applies decideExecutionTime (now (row .entry)) stream t number (now (row .exit)) ⌝ }
+    ensures { λ _. ⌜ Applies firstThreeKept decideExecutionTime (now (row .entry)) stream t number (now (row .exit)) ⌝ }
 {
     if t < row[1][words::LAST] {
-        words::break_at(row, 0, number);
+        words::break_at(row, number);
         return;
     }
     let phase = row[1][PHASE];
@@ -45,23 +45,23 @@ pub fn apply(row: &mut [[u64; SIZE]; 2], stream: u64, t: u64, number: u64)
         run(row, t, ran, number);
         return;
     }
-    words::break_at(row, 0, number);
+    words::break_at(row, number);
 }
 
 // What an event makes of a row between two executions: only a start may come, and some time must be left to run.
 fn apply_idle(row: &mut [[u64; SIZE]; 2], stream: u64, t: u64, number: u64)
-    ensures { λ _. ⌜ Makes (now (row .entry)) (λ rule marks times. whileIdle rule marks stream t) number (now (row .exit)) ⌝ }
+    ensures { λ _. ⌜ Makes firstThreeKept (now (row .entry)) (λ rule marks times. whileIdle rule marks stream t) number (now (row .exit)) ⌝ }
 {
     if stream == row[1][words::FIRST] && 0 < row[1][words::UPPER] {
         run(row, t, 0, number);
         return;
     }
-    words::break_at(row, 0, number);
+    words::break_at(row, number);
 }
 
 // What an event makes of a running execution: a stop ends it, not before lower; a preempt must leave some time to run.
 fn apply_running(row: &mut [[u64; SIZE]; 2], stream: u64, t: u64, number: u64)
-    ensures { λ _. ⌜ Makes (now (row .entry)) (λ rule marks times. whileRunning rule marks stream t) number (now (row .exit)) ⌝ }
+    ensures { λ _. ⌜ Makes firstThreeKept (now (row .entry)) (λ rule marks times. whileRunning rule marks stream t) number (now (row .exit)) ⌝ }
 {
     let ran = parts::plus(row[1][RAN], minus(parts::plus(t, 1), row[1][words::LAST]));
     if stream == row[1][words::SECOND] && row[1][words::LOWER] <= ran {
@@ -72,12 +72,12 @@ fn apply_running(row: &mut [[u64; SIZE]; 2], stream: u64, t: u64, number: u64)
         enter(row, PREEMPTED, t, ran, NO_LIMIT, false, number);
         return;
     }
-    words::break_at(row, 0, number);
+    words::break_at(row, number);
 }
 
 // The row goes on with an execution that runs from t on: it must stop before it has run longer than upper.
 fn run(row: &mut [[u64; SIZE]; 2], t: u64, ran: u64, number: u64)
-    ensures { λ _. ⌜ Makes (now (row .entry)) (λ rule marks times. runningFrom rule marks t ran) number (now (row .exit)) ⌝ }
+    ensures { λ _. ⌜ Makes firstThreeKept (now (row .entry)) (λ rule marks times. runningFrom rule marks t ran) number (now (row .exit)) ⌝ }
 {
     let due = parts::plus(t, minus(row[1][words::UPPER], ran));
     enter(row, RUNNING, t, ran, due, false, number);
@@ -93,8 +93,9 @@ fn enter(
     kept: bool,
     number: u64,
 )
-    ensures { λ _. ⌜ Makes (now (row .entry)) (λ rule marks times. continuesWith (Drop 0) (inPhase marks phase t ran) due kept) number (now (row .exit)) ⌝ }
+    ensures { λ _. ⌜ Makes firstThreeKept (now (row .entry)) (λ rule marks times. continuesWith (Drop 0) (inPhase marks phase t ran) due kept) number (now (row .exit)) ⌝ }
 {
+    words::keep_first_three(row);
     words::stay(row, number);
     row[1][words::LAST] = parts::plus(t, 1);
     row[1][PHASE] = phase;

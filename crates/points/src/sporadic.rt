@@ -11,7 +11,7 @@ ghost use lib.Dec.{eqb};
 ghost use Prim.Native.Nat.{ℕ, min};
 ghost use Rattle.constraint.specs.Limits.{noLimit};
 ghost use Rattle.machine.specs.Parts.{plus};
-ghost use Rattle.machine.specs.Words.{Makes, Applies};
+ghost use Rattle.machine.specs.Words.{firstThreeKept, Makes, Applies};
 ghost use Rattle.points.specs.Sporadic.{pointAt, stride, decideSporadic};
 
 // Where the last hidden point can be: from a low to a high.
@@ -21,7 +21,7 @@ const HIGH: usize = words::TWO;
 
 // What an event makes of the row, where it lies.
 pub fn apply(row: &mut [[u64; SIZE]; 2], t: u64, number: u64)
-    ensures { λ _. ⌜ ((stream : ℕ) → Applies decideSporadic (now (row .entry)) stream t number (now (row .exit))) ⌝ }
+    ensures { λ _. ⌜ ((stream : ℕ) → Applies firstThreeKept decideSporadic (now (row .entry)) stream t number (now (row .exit))) ⌝ }
 {
     let upper = row[1][words::UPPER];
     let near = minus(t, row[1][words::JITTER]);
@@ -37,17 +37,18 @@ pub fn apply(row: &mut [[u64; SIZE]; 2], t: u64, number: u64)
         place(row, t, low, high, number);
         return;
     }
-    words::break_at(row, 0, number);
+    words::break_at(row, number);
 }
 
 // The row goes on with an event at t, whose point can be at each place from low to high.
 fn place(row: &mut [[u64; SIZE]; 2], t: u64, low: u64, high: u64, number: u64)
-    ensures { λ _. ⌜ Makes (now (row .entry)) (λ rule marks times. pointAt rule marks t low high) number (now (row .exit)) ⌝ }
+    ensures { λ _. ⌜ Makes firstThreeKept (now (row .entry)) (λ rule marks times. pointAt rule marks t low high) number (now (row .exit)) ⌝ }
 {
     let due = parts::plus(
         parts::plus(high, row[1][words::UPPER]),
         row[1][words::JITTER],
     );
+    words::keep_first_three(row);
     words::stay(row, number);
     row[1][words::LAST] = parts::plus(t, 1);
     row[1][LOW] = low;

@@ -7,14 +7,15 @@ use Prim.Native.Nat.{ℕ, zero, suc, _+_, _-_, _%_, _≤_, _<_}
 use native.Mathlib.Nat.{add-zero, suc-add, add-suc, add-assoc}
 use native.Mathlib.Numerals.{add-one}
 use native.Mathlib.Omega.{arith}
-use borrow.Author.Tests.{ltb-true, ltb-false, lt-ltb}
-use lib.Dec.{ltb}
+use borrow.Author.Tests.{ltb-true, ltb-false, lt-ltb, le-ltb, eqb-true}
+use lib.Dec.{ltb, eqb}
 use lib.ListN.{length, getD, set, drop, replicate, length-append, length-drop, length-set, drop-of-length-le}
 use lib.Seq.{drop-cons, getD-set-same, getD-set-other, set-out, ext-getD}
 use native.Mathlib.Decide.{ℕ-discrete}
 use Rattle.queue.specs.declared.Edit.{Edit}
 use Rattle.queue.specs.declared.Edit.the-variants.{Drop, Push, PushTwo, Store}
-use Rattle.queue.specs.Ring.{Ring, ringOf, ring, ringPlace, timeAt, items, changed, dropRing, pushRing, putRing, edited, editPlace, putBack}
+use Rattle.queue.specs.Ring.{Ring, ringOf, ring, ringPlace, headAfter, timeAt, items, changed, dropRing, pushRing, putRing, edited}
+use Rattle.queue.specs.Ring.{editPlace, twoFrom, secondAt, putBack}
 
 -- ---- Rings
 
@@ -130,8 +131,16 @@ ring-push l f n p t size room e =
 place-is : (head i : ℕ) → ringPlace head i ≡ (head + i) % 64
 place-is head i = omega arith
 
+-- the head, whether it moves or not, modulo 64
+head-moved : (head d : ℕ) → headAfter head d % 64 ≡ (head + d) % 64
+head-moved head d = by-none (eqb d 0) refl
+  where
+    by-none : (b : Bool) → eqb d 0 ≡ b → cond b head (ringPlace head d) % 64 ≡ (head + d) % 64
+    by-none true e = omega (arith, eqb-true d 0 e)
+    by-none false e = omega arith
+
 items-dropped : (q : Ring) (d : ℕ) → items (dropRing d q) ≡ drop d (items q)
-items-dropped q d = rw ring-drop (ring-mod (q .times) (ringPlace (q .head) d) (q .head + d) (q .len - d) (omega arith))
+items-dropped q d = rw ring-drop (ring-mod (q .times) (headAfter (q .head) d) (q .head + d) (q .len - d) (head-moved (q .head) d))
 
 items-pushed : (q : Ring) (word : ℕ) → length (q .times) ≡ 64 → q .len < 64 → items (pushRing word q) ≡ items q ++ (word ∷ [])
 unfolding pushRing
@@ -202,11 +211,11 @@ times-edited q (Store place first second) = put-times (putRing place first q) (p
 -- ---- what an edit overwrites is put back
 
 -- two lists of words that agree but at a place and the next
-pub record Near (p : ℕ) (a b : List ℕ) : Type 0 where
+record Near (p : ℕ) (a b : List ℕ) : Type 0 where
   pub size : length a ≡ length b
   pub rest : (j : ℕ) → j ≢ ringPlace p 0 → j ≢ ringPlace p 1 → getD a j 0 ≡ getD b j 0
 
-pub near-same : (p : ℕ) (a : List ℕ) → Near p a a
+near-same : (p : ℕ) (a : List ℕ) → Near p a a
 near-same p a = record { size = refl; rest = λ j h k. refl }
 
 -- a store at one of the two places
@@ -217,10 +226,10 @@ near-set p a b i word at n =
       rest = λ j h k. getD-set-other a i j word 0 (λ e. ⊎-elim (λ f. h (e ∙ f)) (λ f. k (e ∙ f)) at) ∙ n .rest j h k;
     }
 
--- with the words of the one put back into the other they are the same
-pub near-back : (p : ℕ) (a b : List ℕ) → length b ≡ 64 → Near p a b → putBack p (timeAt b p 0) (timeAt b p 1) a ≡ b
-unfolding putBack
-near-back p a b size n =
+-- with the words of the one stored into the other they are the same
+both-back : (p : ℕ) (a b : List ℕ) → length b ≡ 64 → Near p a b
+    → set (set a (ringPlace p 0) (timeAt b p 0)) (ringPlace p 1) (timeAt b p 1) ≡ b
+both-back p a b size n =
     ext-getD 0 _ b (length-set once (ringPlace p 1) (timeAt b p 1) ∙ length-set a (ringPlace p 0) (timeAt b p 0) ∙ n .size) (λ j small. by-place j)
   where
     once : List ℕ
@@ -235,6 +244,27 @@ near-back p a b size n =
         ∙ by-cases (ℕ-discrete j (ringPlace p 0))
         (λ e. subst (λ (i : ℕ). getD once i 0 ≡ getD b i 0) (sym e) (getD-set-same a (ringPlace p 0) (timeAt b p 0) 0 (omega (arith, n .size, size))))
         (λ off. getD-set-other a (ringPlace p 0) j (timeAt b p 0) 0 off ∙ n .rest j off far))
+
+-- so with one word, where it is the only one that differs: the old word stored over another is the old list
+one-back : (l : List ℕ) (i word : ℕ) → length l ≡ 64 → i < 64 → set (set l i word) i (getD l i 0) ≡ l
+one-back l i word size small =
+    ext-getD 0 _ l (length-set (set l i word) i (getD l i 0) ∙ length-set l i word) (λ j few. by-place j)
+  where
+    by-place : (j : ℕ) → getD (set (set l i word) i (getD l i 0)) j 0 ≡ getD l j 0
+    by-place j =
+        by-cases (ℕ-discrete j i)
+        (λ e. subst (λ (k : ℕ). getD (set (set l i word) i (getD l i 0)) k 0 ≡ getD l k 0) (sym e)
+        (getD-set-same (set l i word) i (getD l i 0) 0 (omega (arith, length-set l i word, size))))
+        (λ far. getD-set-other (set l i word) i j (getD l i 0) 0 far ∙ getD-set-other l i j word 0 far)
+
+-- a word stored where it stands
+same-set : (l : List ℕ) (i : ℕ) → length l ≡ 64 → set l i (getD l i 0) ≡ l
+same-set l i size =
+    ext-getD 0 _ l (length-set l i (getD l i 0)) (λ j few.
+    by-cases (ℕ-discrete j i)
+    (λ e. subst (λ (k : ℕ). getD (set l i (getD l i 0)) k 0 ≡ getD l k 0) (sym e)
+    (getD-set-same l i (getD l i 0) 0 (omega (arith, e, few, length-set l i (getD l i 0), size))))
+    (λ far. getD-set-other l i j (getD l i 0) 0 far))
 
 near-either : (p : ℕ) (b : Bool) (x y : Ring) (l : List ℕ) → Near p (x .times) l → Near p (y .times) l → Near p (cond b x y .times) l
 near-either p true x y l n k = n
@@ -280,18 +310,56 @@ put-head q i word = either-head (ltb i (q .len)) _ q refl
     either-head true x y e = e
     either-head false x y e = refl
 
--- an edit writes at its place and the next alone
-near-edited : (q : Ring) (e : Edit) → Near (editPlace e q) (edited e q .times) (q .times)
-near-edited q (Drop d) = near-same 0 (q .times)
-near-edited q (Push d word) = near-push _ (dropRing d q) word (q .times) (inl (omega arith)) (near-same _ (q .times))
-near-edited q (PushTwo d first second) =
+-- a push overwrites one word, or none where there is no room
+push-back : (q : Ring) (word : ℕ) → length (q .times) ≡ 64
+    → set (pushRing word q .times) (ringPlace (q .head) (q .len)) (timeAt (q .times) (q .head) (q .len)) ≡ q .times
+unfolding pushRing
+push-back q word size = by-room (ltb (q .len) 64)
+  where
+    by-room : (b : Bool) → set (cond b (ringOf (set (q .times) (ringPlace (q .head) (q .len)) word) (q .head) (q .len + 1)) q .times)
+        (ringPlace (q .head) (q .len)) (timeAt (q .times) (q .head) (q .len)) ≡ q .times
+    by-room true = one-back (q .times) (ringPlace (q .head) (q .len)) word size (omega arith)
+    by-room false = same-set (q .times) (ringPlace (q .head) (q .len)) size
+
+-- two words are overwritten at a place and the next alone
+near-pushed : (q : Ring) (d first second : ℕ)
+    → Near (ringPlace (headAfter (q .head) d) (q .len - d)) (edited (PushTwo d first second) q .times) (q .times)
+near-pushed q d first second =
     near-push _ (pushRing first (dropRing d q)) second (q .times) (pushed-place (dropRing d q) first)
     (near-push _ (dropRing d q) first (q .times) (inl (omega arith)) (near-same _ (q .times)))
-near-edited q (Store place first second) =
+
+near-stored : (q : Ring) (place first second : ℕ) → Near (ringPlace (q .head) place) (edited (Store place first second) q .times) (q .times)
+near-stored q place first second =
     near-put _ (putRing place first q) (place + 1) second (q .times)
     (inr (ap (λ (h : ℕ). ringPlace h (place + 1)) (put-head q place first) ∙ next-place (q .head) place))
     (near-put _ q place first (q .times) (inl (omega arith)) (near-same _ (q .times)))
 
+-- the place with 64 added is the place
+two-place : (p i : ℕ) → ringPlace (twoFrom p) i ≡ ringPlace p i
+two-place p i = omega arith
+
+two-back : (p : ℕ) (a b : List ℕ) → length b ≡ 64 → Near p a b
+    → putBack (twoFrom p) (timeAt b (twoFrom p) 0) (secondAt b (twoFrom p)) a ≡ b
+unfolding putBack
+two-back p a b size n = rw (le-ltb (twoFrom p) 64 (omega arith), two-place p 0, two-place p 1) (both-back p a b size n)
+
 pub edit-back : (q : Ring) (e : Edit) → length (q .times) ≡ 64
-    → putBack (editPlace e q) (timeAt (q .times) (editPlace e q) 0) (timeAt (q .times) (editPlace e q) 1) (edited e q .times) ≡ q .times
-edit-back q e size = near-back (editPlace e q) (edited e q .times) (q .times) size (near-edited q e)
+    → putBack (editPlace e q) (timeAt (q .times) (editPlace e q) 0) (secondAt (q .times) (editPlace e q)) (edited e q .times) ≡ q .times
+unfolding putBack
+edit-back q (Drop d) size = same-set (q .times) 0 size
+edit-back q (Push d word) size =
+    let p : ℕ = ringPlace (headAfter (q .head) d) (q .len - d) in
+    let one : ringPlace p 0 ≡ p = omega arith in
+    rw (lt-ltb p 64 (omega arith), one) (push-back (dropRing d q) word size)
+edit-back q (PushTwo d first second) size = two-back _ _ (q .times) size (near-pushed q d first second)
+edit-back q (Store place first second) size = two-back _ _ (q .times) size (near-stored q place first second)
+
+-- what stands at a place is put back where nothing was written
+pub same-back : (place : ℕ) (l : List ℕ) → length l ≡ 64 → putBack place (timeAt l place 0) (secondAt l place) l ≡ l
+unfolding putBack
+same-back place l size = by-size (ltb place 64)
+  where
+    by-size : (b : Bool) → cond b (set l (ringPlace place 0) (timeAt l place 0))
+        (set (set l (ringPlace place 0) (timeAt l place 0)) (ringPlace place 1) (cond b 0 (timeAt l place 1))) ≡ l
+    by-size true = same-set l (ringPlace place 0) size
+    by-size false = both-back place l l size (near-same place l)

@@ -3,7 +3,7 @@ use Prim.Native.Nat.{ℕ, zero, suc, _+_, _-_, _%_}
 use mathlib.Core.Bool.{cond}
 use mathlib.Core.List.{List, [], _∷_, _++_}
 use lib.ListN.{getD, set, drop}
-use lib.Dec.{ltb}
+use lib.Dec.{ltb, eqb}
 use Rattle.queue.specs.declared.Edit.{Edit}
 use Rattle.queue.specs.declared.Edit.the-variants.{Drop, Push, PushTwo, Store}
 
@@ -39,9 +39,12 @@ changed (Push dropped word) list = drop dropped list ++ (word ∷ [])
 changed (PushTwo dropped first second) list = drop dropped list ++ (first ∷ second ∷ [])
 changed (Store place first second) list = set (set list place first) (place + 1) second
 
--- the ring without its oldest: the head moves on
+-- the ring without its oldest: the head moves on, and stays as it is where none leaves
+abbrev pub headAfter : ℕ → ℕ → ℕ
+headAfter head dropped = cond (eqb dropped 0) head (ringPlace head dropped)
+
 abbrev pub dropRing : ℕ → Ring → Ring
-dropRing dropped q = record { times = q .times; head = ringPlace (q .head) dropped; len = q .len - dropped }
+dropRing dropped q = record { times = q .times; head = headAfter (q .head) dropped; len = q .len - dropped }
 
 -- the ring with a word behind the rest; one that would hold more than 64 takes none
 unfoldable pub pushRing : ℕ → Ring → Ring
@@ -61,13 +64,21 @@ edited (Store place first second) q = putRing (place + 1) second (putRing place 
 
 -- ---- what an edit overwrites
 
--- where an edit writes first; it writes nowhere else but at the next place (§3.13)
+-- where an edit writes (§3.13): at one place, or, with 64 added, at one and the next
+abbrev pub twoFrom : ℕ → ℕ
+twoFrom place = 64 + place
+
 abbrev pub editPlace : Edit → Ring → ℕ
 editPlace (Drop dropped) q = 0
-editPlace (Push dropped word) q = ringPlace (ringPlace (q .head) dropped) (q .len - dropped)
-editPlace (PushTwo dropped first second) q = ringPlace (ringPlace (q .head) dropped) (q .len - dropped)
-editPlace (Store place first second) q = ringPlace (q .head) place
+editPlace (Push dropped word) q = ringPlace (headAfter (q .head) dropped) (q .len - dropped)
+editPlace (PushTwo dropped first second) q = twoFrom (ringPlace (headAfter (q .head) dropped) (q .len - dropped))
+editPlace (Store place first second) q = twoFrom (ringPlace (q .head) place)
 
--- the words with two put back from a place on
+-- the second of the words that such an edit overwrites; 0 where it writes at one place
+abbrev pub secondAt : List ℕ → ℕ → ℕ
+secondAt times place = cond (ltb place 64) 0 (timeAt times place 1)
+
+-- the words with one put back at a place, or two from it on
 unfoldable pub putBack : ℕ → ℕ → ℕ → List ℕ → List ℕ
-putBack place first second times = set (set times (ringPlace place 0) first) (ringPlace place 1) second
+putBack place first second times =
+    cond (ltb place 64) (set times (ringPlace place 0) first) (set (set times (ringPlace place 0) first) (ringPlace place 1) second)

@@ -2,7 +2,7 @@
 // end, the oldest first.
 ghost use mathlib.Core.Path.{_≡_};
 ghost use Prim.Native.Nat.{_+_, _-_};
-ghost use Rattle.queue.specs.Ring.{ringPlace, timeAt, ringOf, pushRing, putRing, putBack};
+ghost use Rattle.queue.specs.Ring.{ringPlace, headAfter, timeAt, secondAt, ringOf, pushRing, putRing, putBack};
 
 // How many times a ring holds at most.
 pub const SIZE: usize = 64;
@@ -53,6 +53,16 @@ pub fn place_of(head: usize, i: usize) -> usize
     (head % SIZE + i % SIZE) % SIZE
 }
 
+// The place of the oldest without so many of them: as it is where none leaves.
+pub fn head_after(head: usize, dropped: usize) -> usize
+    ensures { λ r. ⌜ r ≡ headAfter head dropped ⌝ }
+{
+    if dropped == 0 {
+        return head;
+    }
+    place_of(head, dropped)
+}
+
 // The time that is i places behind the head.
 pub fn time_at(times: &[u64; SIZE], head: usize, i: usize) -> u64
     ensures { λ r. ⌜ r ≡ timeAt (now (times .entry)) head i ⌝ }
@@ -100,12 +110,25 @@ pub fn put_pair(
     }
 }
 
-// Two words put back from a place on.
+// The second of the words that are overwritten from a place on; 0 where one is, as a place below 64 says.
+pub fn second_at(times: &[u64; SIZE], place: usize) -> u64
+    ensures { λ r. ⌜ r ≡ secondAt (now (times .entry)) place ⌝ }
+{
+    if place < SIZE {
+        return 0;
+    }
+    time_at(times, place, 1)
+}
+
+// A word put back at a place, or two from it on where 64 is added to it.
 pub fn put_back(times: &mut [u64; SIZE], place: usize, first: u64, second: u64)
     ensures { λ r. ⌜ now (times .exit) ≡ putBack place first second (now (times .entry)) ⌝ }
 {
     let at = place_of(place, 0);
     times[at] = first;
+    if place < SIZE {
+        return;
+    }
     let after = place_of(place, 1);
     times[after] = second;
 }

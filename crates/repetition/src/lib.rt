@@ -9,13 +9,13 @@ use queue::time_at;
 ghost use mathlib.Core.Path.{_≡_};
 ghost use Prim.Native.Nat.{ℕ};
 ghost use Rattle.queue.specs.Ring.{ring};
-ghost use Rattle.machine.specs.Words.{askedOf, Applies};
+ghost use Rattle.machine.specs.Words.{noneKept, askedOf, Applies};
 ghost use Rattle.repetition.specs.Repetition.{fillsRepetition, firstHigh, decideRepetition};
 
 // What an event makes of the row, where it lies. Its point comes at most upper behind the oldest that is kept, less one place for each point that is
 // still to come before the span is over; one of the first span is tied to no earlier one from below; with a later one the oldest leaves.
 pub fn apply(row: &mut [[u64; SIZE]; 2], t: u64, number: u64)
-    ensures { λ _. ⌜ ((stream : ℕ) → Applies decideRepetition (now (row .entry)) stream t number (now (row .exit))) ⌝ }
+    ensures { λ _. ⌜ ((stream : ℕ) → Applies noneKept decideRepetition (now (row .entry)) stream t number (now (row .exit))) ⌝ }
 {
     let head = row[1][words::HEAD] as usize;
     let len = row[1][words::LEN] as usize;
@@ -37,7 +37,7 @@ pub fn apply(row: &mut [[u64; SIZE]; 2], t: u64, number: u64)
         words::settle(&mut row[1], NO_LIMIT, 1);
         return;
     }
-    words::break_at(row, 0, number);
+    words::break_at(row, number);
 }
 
 // Whether an event lets two more numbers come, where there is no room for two.

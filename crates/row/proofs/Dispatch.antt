@@ -1,7 +1,7 @@
 -- The types by their number, as the code picks them and as `decide` does.
 use Prim.Native.Nat.{ℕ}
 use mathlib.Core.Path.{_≡_}
-use mathlib.Core.Bool.{cond, _||_}
+use mathlib.Core.Bool.{Bool, true, false, cond, _||_}
 use mathlib.Core.Logic.{_⊎_, inl, inr, ⊎-elim}
 use borrow.Author.Tests.{ne-eqb}
 use lib.Dec.{eqb}
@@ -56,3 +56,15 @@ module _ {A : Type 0} (n : ℕ) (a b c d e f g h j : A) where
         ne-eqb n 9 (is .0 .1),
         ne-eqb n 10 (is .1),
       )
+
+-- what holds of each choice of two holds of the one that is chosen
+module _ {A B : Type 0} (n : ℕ) (a b c d e f g h j : A) (k l m o p q r s t : B) (P : A → B → Type 0) where
+  pick : (x : Bool) (u v : A) (w z : B) → P u w → P v z → P (cond x u v) (cond x w z)
+  pick true u v w z one other = one
+  pick false u v w z one other = other
+
+  pub chosen-both : P a k → P b l → P c m → P d o → P e p → P f q → P g r → P h s → P j t
+      → P (chosen n a b c d e f g h j) (chosen n k l m o p q r s t)
+  chosen-both pa pb pc pd pe pf pg ph pj =
+      pick (eqb n 1) _ _ _ _ pa (pick (eqb n 2) _ _ _ _ pb (pick (eqb n 3 || eqb n 5) _ _ _ _ pc (pick (eqb n 4) _ _ _ _ pd
+      (pick (eqb n 6) _ _ _ _ pe (pick (eqb n 8) _ _ _ _ pf (pick (eqb n 9) _ _ _ _ pg (pick (eqb n 10) _ _ _ _ ph pj)))))))

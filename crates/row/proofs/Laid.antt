@@ -2,34 +2,46 @@
 -- clock or the close alone make of it, or what the event does.
 use Prim.Native.Nat.{ℕ}
 use native.Mathlib.Omega.{arith}
-use mathlib.Core.Path.{_≡_, refl}
+use mathlib.Core.Path.{_≡_, refl, ap, _∙_}
 use mathlib.Core.Bool.{Bool, true, false, cond, _&&_}
+use mathlib.Core.List.{List}
 use lib.Dec.{ltb, eqb}
 use borrow.Author.Tests.{ltb-true, ltb-false, eq-eqb, ne-eqb}
 use Rattle.constraint.proofs.Lists.{split, both}
-use Rattle.queue.specs.Ring.{ringOf, editPlace}
+use Rattle.queue.specs.Ring.{ringOf, edited, editPlace}
 use Rattle.machine.specs.declared.Change.{Change}
 use Rattle.machine.specs.declared.State.{State}
-use Rattle.machine.specs.Words.{changedWords}
+use Rattle.machine.specs.Words.{rowWords, changedWords}
 use Rattle.row.specs.declared.Before.{Before}
 use Rattle.row.specs.declared.Occurrence.{Occurrence}
 use Rattle.row.specs.declared.Row.{Row}
-use Rattle.row.specs.Machine.{concerns, rowFrom, brokenState, brokenRow, applied, eventAt}
+use Rattle.row.specs.Machine.{concerns, rowFrom, mark, brokenState, brokenRow, applied, eventAt}
 use Rattle.row.specs.Undo.{movesBy, stepPlace, savedAt, savedBy}
 use Rattle.row.specs.Apart.{endsBy, endedState, withChange, heardRow, writesAt, steppedRow}
-use Rattle.row.specs.Stored.{wordsOf, eventRow, eventSaves, endedRow, endedSaves}
+use Rattle.row.specs.Stored.{pastOf, wordsOf, keptMarks, keptAtPlace, eventRow, eventSaves, eventKeeps, endedRow, endedSaves, stepKeeps}
+use Rattle.row.proofs.Kept.{KeepsWhole, event-keeps-all}
 
-module _ (r : Row) (change : Change) (number : ℕ) where
-  pub changed-words : changedWords (r .rule) (r .times) (r .now) change number
-      ≡ wordsOf (withChange r change number) (savedAt r (editPlace (change .edit) (ringOf (r .times) (r .now .head) (r .now .len))) number)
+module _ (r : Row) (b : Before) (change : Change) (number : ℕ) where
+  abbrev at : ℕ
+  at = editPlace (change .edit) (ringOf (r .times) (r .now .head) (r .now .len))
+
+  pub changed-words : r .now .broken ≡ 0
+      → changedWords (keptMarks (r .rule .form)) (r .rule) (r .times) (r .now) (pastOf b) change number
+      ≡ wordsOf (withChange r change number) (cond (change .breaks) (savedAt r at number) (keptAtPlace r b at number))
   unfolding changedWords withChange wordsOf brokenRow applied
-  changed-words =
+  changed-words is-open =
       split (change .breaks)
-      (λ b. cond b (wordsOf (brokenRow r number) (savedAt r (editPlace (change .edit) (ringOf (r .times) (r .now .head) (r .now .len))) number))
-      (wordsOf (applied r change) (savedAt r (editPlace (change .edit) (ringOf (r .times) (r .now .head) (r .now .len))) number))
-      ≡ wordsOf (cond b (brokenRow r number) (applied r change))
-      (savedAt r (editPlace (change .edit) (ringOf (r .times) (r .now .head) (r .now .len))) number))
-      (λ _. refl) (λ _. refl)
+      (λ x. cond x (wordsOf (brokenRow r number) (savedAt r at number)) (goes (r .now .broken))
+      ≡ wordsOf (cond x (brokenRow r number) (applied r change)) (cond x (savedAt r at number) (keptAtPlace r b at number)))
+      (λ _. refl) (λ _. ap goes is-open)
+    where
+      -- the words of the row that goes on
+      goes : ℕ → List (List ℕ)
+      goes broken =
+          let q = edited (change .edit) (ringOf (r .times) (r .now .head) (r .now .len)) in
+          rowWords (r .rule) (q .times)
+          (record { marks = change .marks; head = q .head; len = q .len; due = change .due; kept = mark (change .kept); broken = broken })
+          (pastOf (keptAtPlace r b at number))
 
 -- ---- what occurs
 
@@ -64,14 +76,16 @@ module _ (r : Row) (o : Occurrence) (number : ℕ) (b : Before) where
   ended-saves false false false false place e = refl
 
   -- an overdue row, and one that is not concerned
-  pub stepped-ended : cond (ltb (r .now .due) (o .time)) false (concerns (r .rule) (o .kind)) ≡ false
-      → wordsOf (endedRow o number r) (endedSaves o number r b) ≡ wordsOf (steppedRow o number r) (savedBy o number r b)
-  unfolding endsBy endedState brokenRow steppedRow savedBy movesBy stepPlace
-  stepped-ended e i =
-      wordsOf
-      (ended-row (ltb 0 (r .now .broken)) (ltb (r .now .due) (o .time)) (concerns (r .rule) (o .kind)) (o .closes) (eqb (r .now .kept) 0)
-      (heardRow r o number) (brokenState number) (r .now) e i)
-      (ended-saves (ltb 0 (r .now .broken)) (ltb (r .now .due) (o .time)) (concerns (r .rule) (o .kind)) (o .closes) (writesAt r o) e i)
+  pub stepped-ended : cond (ltb (r .now .due) (o .time)) false (concerns (r .rule) (o .kind)) ≡ false → endedRow o number r ≡ steppedRow o number r
+  unfolding endsBy endedState brokenRow steppedRow
+  stepped-ended =
+      ended-row (ltb 0 (r .now .broken)) (ltb (r .now .due) (o .time)) (concerns (r .rule) (o .kind)) (o .closes) (eqb (r .now .kept) 0)
+      (heardRow r o number) (brokenState number) (r .now)
+
+  saved-ended : cond (ltb (r .now .due) (o .time)) false (concerns (r .rule) (o .kind)) ≡ false → endedSaves o number r b ≡ savedBy o number r b
+  unfolding endsBy savedBy movesBy stepPlace
+  saved-ended =
+      ended-saves (ltb 0 (r .now .broken)) (ltb (r .now .due) (o .time)) (concerns (r .rule) (o .kind)) (o .closes) (writesAt r o)
 
   heard-row : (broken : Bool) (heard : Row) → cond (cond broken false true) heard r ≡ cond broken r heard
   heard-row true heard = refl
@@ -85,9 +99,30 @@ module _ (r : Row) (o : Occurrence) (number : ℕ) (b : Before) where
 
   -- any other
   pub stepped-heard : ltb (r .now .due) (o .time) ≡ false → concerns (r .rule) (o .kind) ≡ true
-      → wordsOf (eventRow (eventAt (o .stream) (o .time)) number r) (eventSaves (eventAt (o .stream) (o .time)) number r b)
-      ≡ wordsOf (steppedRow o number r) (savedBy o number r b)
-  unfolding steppedRow savedBy movesBy stepPlace
-  stepped-heard early own =
-      rw (early, own, not-zero (r .now .broken))
-      (λ i. wordsOf (heard-row (ltb 0 (r .now .broken)) (heardRow r o number) i) (heard-saves (ltb 0 (r .now .broken)) (o .closes) (writesAt r o) i))
+      → eventRow (eventAt (o .stream) (o .time)) number r ≡ steppedRow o number r
+  unfolding steppedRow
+  stepped-heard early own = rw (early, own, not-zero (r .now .broken)) (heard-row (ltb 0 (r .now .broken)) (heardRow r o number))
+
+  saved-heard : ltb (r .now .due) (o .time) ≡ false → concerns (r .rule) (o .kind) ≡ true
+      → eventSaves (eventAt (o .stream) (o .time)) number r b ≡ savedBy o number r b
+  unfolding savedBy movesBy stepPlace
+  saved-heard early own =
+      rw (early, own, not-zero (r .now .broken)) (heard-saves (ltb 0 (r .now .broken)) (o .closes) (writesAt r o))
+
+  -- where the words keep all that the row was, they do so after what occurs
+  pub step-keeps-all : KeepsWhole r b → stepKeeps o number r b ≡ savedBy o number r b
+  unfolding stepKeeps
+  step-keeps-all whole =
+      split late
+      (λ x. cond x (endedSaves o number r b) (cond own (eventKeeps (eventAt (o .stream) (o .time)) number r b) (endedSaves o number r b))
+      ≡ savedBy o number r b)
+      (λ e. saved-ended (ap (λ (x : Bool). cond x false own) e))
+      (λ e. split own (λ x. cond x (eventKeeps (eventAt (o .stream) (o .time)) number r b) (endedSaves o number r b) ≡ savedBy o number r b)
+      (λ is. event-keeps-all r b (eventAt (o .stream) (o .time)) number whole ∙ saved-heard e is)
+      (λ other. saved-ended (ap (λ (x : Bool). cond x false own) e ∙ other)))
+    where
+      late : Bool
+      late = ltb (r .now .due) (o .time)
+
+      own : Bool
+      own = concerns (r .rule) (o .kind)

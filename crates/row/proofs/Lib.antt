@@ -10,3 +10,4 @@ pub mod Apart
 pub mod Filling
 mod Dispatch
 pub mod Laid
+pub mod Kept

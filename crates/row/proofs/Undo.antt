@@ -1,5 +1,5 @@
--- A row that a step may change is put back word for word: an edit writes at its own place and the next, and a break writes no word. A row that it
--- may not change stays as it is.
+-- A row that a step may change is put back word for word: an edit writes at its own place, or there and at the next, and a break writes no word. A
+-- row that it may not change stays as it is.
 use Prim.Native.Nat.{ℕ}
 use mathlib.Core.Path.{_≡_, refl, ap}
 use mathlib.Core.Bool.{Bool, true, false, cond, _&&_}
@@ -9,8 +9,8 @@ use lib.Dec.{ltb, eqb}
 use borrow.Author.Tests.{eq-eqb, ne-eqb}
 use Rattle.constraint.specs.Limits.{waitingLimit}
 use Rattle.constraint.proofs.Lists.{split, both}
-use Rattle.queue.specs.Ring.{ringOf, timeAt, changed, editPlace, putBack}
-use Rattle.queue.proofs.Laws.{near-same, near-back, edit-back}
+use Rattle.queue.specs.Ring.{ringOf, timeAt, secondAt, changed, editPlace, putBack}
+use Rattle.queue.proofs.Laws.{same-back, edit-back}
 use Rattle.machine.specs.declared.Change.{Change}
 use Rattle.row.specs.Machine.{decide, concerns, rowFrom, itemsOf, brokenRow, applied, stays, crowding, changedRow, rowStep}
 use Rattle.row.specs.Undo.{movesBy, stepPlace, savedAt, savedRow, savedBy, backRow, rowWithout}
@@ -25,8 +25,8 @@ module _ (r : Row) (whole : length (r .times) ≡ 64) where
   Back place now = (number : ℕ) → backRow now (savedAt r place number) ≡ r
 
   -- one with the same words
-  back-words : (place : ℕ) → putBack place (timeAt (r .times) place 0) (timeAt (r .times) place 1) (r .times) ≡ r .times
-  back-words place = near-back place (r .times) (r .times) whole (near-same place (r .times))
+  back-words : (place : ℕ) → putBack place (timeAt (r .times) place 0) (secondAt (r .times) place) (r .times) ≡ r .times
+  back-words place = same-back place (r .times) whole
 
   back-same : (place : ℕ) → Back place r
   unfolding backRow

@@ -1,18 +1,22 @@
 -- A row where it lies: the words that it is, with what is kept of it, and what a step, a withdrawal and a fresh start make of them.
 use Prim.Native.Nat.{ℕ, _-_, min}
 use mathlib.Core.Path.{_≡_}
-use mathlib.Core.Bool.{cond}
+use mathlib.Core.Bool.{cond, _||_}
 use mathlib.Core.List.{List}
 use lib.ListN.{getD}
 use lib.Dec.{eqb, ltb}
+use Rattle.queue.specs.Ring.{ring, timeAt, secondAt}
+use Rattle.machine.specs.Parts.{noMarks}
+use Rattle.machine.specs.declared.Marks.{Marks}
+use Rattle.machine.specs.declared.Rule.{Rule}
 use Rattle.machine.specs.declared.State.{State}
-use Rattle.machine.specs.Words.{Past, rowWords, marksAt}
+use Rattle.machine.specs.Words.{Past, rowWords, marksAt, changedWords, noneKept, lastKept, firstThreeKept, countsKept}
 use Rattle.row.specs.declared.Before.{Before}
 use Rattle.row.specs.declared.Occurrence.{Occurrence}
 use Rattle.row.specs.declared.Row.{Row}
-use Rattle.row.specs.Machine.{rowFrom}
+use Rattle.row.specs.Machine.{decide, concerns, rowFrom, eventAt}
 use Rattle.row.specs.Undo.{noBefore, savedAt}
-use Rattle.row.specs.Apart.{endsBy, endedState, heardRow, heardBefore}
+use Rattle.row.specs.Apart.{endsBy, endedState, changeBy, heardRow, writesAt, heardBefore}
 
 -- what is kept of a row, as its words have it
 abbrev pub pastOf : Before → Past
@@ -38,6 +42,57 @@ eventRow o number r = cond (eqb (r .now .broken) 0) (heardRow r o number) r
 abbrev pub eventSaves : Occurrence → ℕ → Row → Before → Before
 eventSaves o number r b = cond (eqb (r .now .broken) 0) (heardBefore r o number) b
 
+-- ---- what the words keep then: of the marks only those that the row's type changes, and not that it was open
+
+-- the marks of the past, by the number of the type: those that it keeps are the state's
+abbrev pub keptMarks : ℕ → Marks → Marks → Marks
+keptMarks form =
+    cond (eqb form 1) lastKept
+    (cond (eqb form 2) lastKept
+    (cond (eqb form 3 || eqb form 5) lastKept
+    (cond (eqb form 4) firstThreeKept
+    (cond (eqb form 6) firstThreeKept
+    (cond (eqb form 8) firstThreeKept
+    (cond (eqb form 9) noneKept
+    (cond (eqb form 10) noneKept
+    countsKept)))))))
+
+-- what is kept of a row that goes on, by an event that writes at a place
+abbrev pub keptAtPlace : Row → Before → ℕ → ℕ → Before
+keptAtPlace r b place number =
+    record {
+      state =
+          record {
+            marks = keptMarks (r .rule .form) (r .now .marks) (b .state .marks);
+            head = r .now .head;
+            len = r .now .len;
+            due = r .now .due;
+            kept = r .now .kept;
+            broken = b .state .broken;
+          };
+      place = place;
+      first = timeAt (r .times) place 0;
+      second = secondAt (r .times) place;
+      stamp = number;
+    }
+
+-- of a row that breaks all is kept
+unfoldable pub heardKeeps : Row → Before → Occurrence → ℕ → Before
+heardKeeps r b o number = cond (changeBy r o .breaks) (heardBefore r o number) (keptAtPlace r b (writesAt r o) number)
+
+abbrev pub eventKeeps : Occurrence → ℕ → Row → Before → Before
+eventKeeps o number r b = cond (eqb (r .now .broken) 0) (heardKeeps r b o number) b
+
+-- marks in which what the type of that number never changes is 0
+abbrev pub Unused : ℕ → Marks → Type 0
+Unused form marks = keptMarks form marks noMarks ≡ marks
+
+-- a row and what is kept of it in which all that its type never stores is 0: then the words keep all that the row was
+pub record RestZero (r : Row) (b : Before) : Type 0 where
+  pub now-unused : Unused (r .rule .form) (r .now .marks)
+  pub past-unused : Unused (r .rule .form) (b .state .marks)
+  pub past-open : b .state .broken ≡ 0
+
 -- ---- what the clock or the close alone makes of it
 
 abbrev pub endedRow : Occurrence → ℕ → Row → Row
@@ -45,6 +100,14 @@ endedRow o number r = cond (endsBy (r .rule) (r .now) o) (rowFrom (r .rule) (r .
 
 abbrev pub endedSaves : Occurrence → ℕ → Row → Before → Before
 endedSaves o number r b = cond (endsBy (r .rule) (r .now) o) (savedAt r 0 number) b
+
+-- ---- what the words keep after what occurs
+
+unfoldable pub stepKeeps : Occurrence → ℕ → Row → Before → Before
+stepKeeps o number r b =
+    cond (ltb (r .now .due) (o .time)) (endedSaves o number r b)
+    (cond (concerns (r .rule) (o .kind)) (eventKeeps (eventAt (o .stream) (o .time)) number r b)
+    (endedSaves o number r b))
 
 -- ---- how full it is
 
@@ -79,6 +142,13 @@ abbrev pub roomIn : Row → ℕ → ℕ
 roomIn r room = cond (ltb 62 (r .now .len)) (min room (64 - filledBy (r .rule .form) (r .rule .span) (r .now .len))) room
 
 -- ---- what a function on a row's words promises, whatever row they are
+
+-- what an event of one of its streams makes of them, by its type
+abbrev pub Changes : List (List ℕ) → ℕ → ℕ → ℕ → List (List ℕ) → Type 0
+Changes entry stream t number exit =
+    (rule : Rule) (times : List ℕ) (state : State) (past : Past) → entry ≡ rowWords rule times state past
+    → exit ≡ changedWords (keptMarks (rule .form)) rule times state past
+    (decide rule (state .marks) (ring times (state .head) (state .len)) stream t) number
 
 abbrev pub Becomes : List (List ℕ) → (Row → Row) → (Row → Before → Before) → List (List ℕ) → Type 0
 Becomes entry step saves exit = (r : Row) (b : Before) → entry ≡ wordsOf r b → exit ≡ wordsOf (step r) (saves r b)

@@ -3,7 +3,7 @@ use Prim.Native.Nat.{ℕ}
 use mathlib.Core.List.{List}
 use mathlib.Core.Bool.{Bool, true, false, cond}
 use lib.Dec.{ltb, eqb}
-use Rattle.queue.specs.Ring.{ringOf, timeAt, editPlace, putBack}
+use Rattle.queue.specs.Ring.{ringOf, timeAt, secondAt, editPlace, putBack}
 use Rattle.machine.specs.Parts.{noMarks}
 use Rattle.machine.specs.declared.Rule.{Rule}
 use Rattle.machine.specs.declared.State.{State}
@@ -16,8 +16,12 @@ use Rattle.row.specs.Machine.{decide, concerns, rowFrom, itemsOf}
 abbrev pub noState : State
 noState = record { marks = noMarks; head = 0; len = 0; due = 0; kept = 0; broken = 0 }
 
+-- a state is, and nothing else
+abbrev pub beforeOf : State → Before
+beforeOf state = record { state = state; place = 0; first = 0; second = 0; stamp = 0 }
+
 abbrev pub noBefore : Before
-noBefore = record { state = noState; place = 0; first = 0; second = 0; stamp = 0 }
+noBefore = beforeOf noState
 
 -- what occurs may change a row: one that is not broken and is overdue, or that the close finds, or that the event concerns
 unfoldable pub movesBy : Rule → State → Occurrence → Bool
@@ -33,10 +37,10 @@ stepPlace r o =
     (editPlace (decide (r .rule) (r .now .marks) (itemsOf r) (o .stream) (o .time) .edit) (ringOf (r .times) (r .now .head) (r .now .len)))
     0))
 
--- what a row is before the step of that number, which writes from a place on: what it keeps, and the two words there
+-- what a row is before the step of that number, which writes at a place: what it keeps, and the words there
 abbrev pub savedFrom : State → List ℕ → ℕ → ℕ → Before
 savedFrom now times place number =
-    record { state = now; place = place; first = timeAt times place 0; second = timeAt times place 1; stamp = number }
+    record { state = now; place = place; first = timeAt times place 0; second = secondAt times place; stamp = number }
 
 abbrev pub savedAt : Row → ℕ → ℕ → Before
 savedAt r = savedFrom (r .now) (r .times)

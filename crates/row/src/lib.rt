@@ -8,7 +8,7 @@ use machine::numbers;
 use machine::parts;
 use queue::SIZE;
 ghost use mathlib.Core.Path.{_≡_};
-ghost use Rattle.row.specs.Undo.{savedBy, rowWithout, keptWithout, noBefore};
+ghost use Rattle.row.specs.Undo.{movesBy, savedBy, rowWithout, keptWithout, beforeOf, noBefore};
 ghost use Rattle.row.specs.Machine.{concerns, rowOf, rowStep};
 
 pub mod stored;
@@ -35,8 +35,8 @@ pub struct RowStep {
     pub row: Row,
 }
 
-// What a row was before the step that last changed it: what it kept, the two words of its ring from a place on, and the number of that step;
-// 0 where there is none.
+// What a row was before the step that last changed it: what it kept, the word of its ring at a place, or two from it on where 64 is added to it, and
+// the number of that step; 0 where there is none.
 #[repr(C)]
 pub struct Before {
     pub state: State,
@@ -51,6 +51,22 @@ pub fn concerns(rule: Rule, kind: u64) -> bool
     ensures { λ r. ⌜ r ≡ concerns rule kind ⌝ }
 {
     kind == rule.first || (kind == rule.second || (kind == rule.third || kind == rule.fourth))
+}
+
+// Whether what occurs may change a row: one that is not broken and is overdue, or that the close finds, or that the event concerns.
+fn moves(rule: Rule, now: State, o: Occurrence) -> bool
+    ensures { λ r. ⌜ r ≡ movesBy rule now o ⌝ }
+{
+    if 0 < now.broken {
+        return false;
+    }
+    if now.due < o.time {
+        return true;
+    }
+    if o.closes {
+        return true;
+    }
+    concerns(rule, o.kind)
 }
 
 impl Row {
@@ -96,7 +112,10 @@ impl Row {
     pub fn saved(self, before: Before, o: Occurrence, number: u64) -> Before
         ensures { λ r. ⌜ r ≡ savedBy o number self before ⌝ }
     {
-        let mut words = stored::laid(self, before);
+        if !moves(self.rule, self.now, o) {
+            return before;
+        }
+        let mut words = stored::laid(self, Before::of(self.now));
         stored::step(&mut words, o, number);
         stored::before_at(&words)
     }
@@ -112,18 +131,10 @@ impl Row {
 }
 
 impl Before {
-    // Nothing is kept.
-    pub fn none() -> Self
-        ensures { λ r. ⌜ r ≡ noBefore ⌝ }
+    // A state is kept, and nothing else.
+    fn of(state: State) -> Self
+        ensures { λ r. ⌜ r ≡ beforeOf state ⌝ }
     {
-        let state = State {
-            marks: parts::no_marks(),
-            head: 0,
-            len: 0,
-            due: 0,
-            kept: 0,
-            broken: 0,
-        };
         Before {
             state,
             place: 0,
@@ -131,6 +142,20 @@ impl Before {
             second: 0,
             stamp: 0,
         }
+    }
+
+    // Nothing is kept.
+    pub fn none() -> Self
+        ensures { λ r. ⌜ r ≡ noBefore ⌝ }
+    {
+        Before::of(State {
+            marks: parts::no_marks(),
+            head: 0,
+            len: 0,
+            due: 0,
+            kept: 0,
+            broken: 0,
+        })
     }
 
     // What is kept without the step of that number.

@@ -26,15 +26,15 @@ use spans::repeat;
 ghost use Prim.Native.Nat.{ℕ};
 ghost use mathlib.Core.Path.{_≡_};
 ghost use lib.ListN.{replicate};
-ghost use Rattle.machine.specs.Words.{Applies, Past, askedOf, numberWords};
+ghost use Rattle.machine.specs.Words.{Past, askedOf, numberWords};
 ghost use Rattle.machine.specs.declared.Rule.{Rule};
 ghost use Rattle.machine.specs.declared.State.{State};
-ghost use Rattle.row.specs.Undo.{noState, noBefore, savedBy, rowWithout, keptWithout};
+ghost use Rattle.row.specs.Undo.{noState, noBefore, rowWithout, keptWithout};
 ghost use Rattle.row.specs.Apart.{fills, fullFor, crowdedBy, heardBy, steppedRow};
-ghost use Rattle.row.specs.Machine.{decide, eventAt, rowOf, rowStep};
+ghost use Rattle.row.specs.Machine.{eventAt, rowOf, rowStep};
 ghost use Rattle.row.specs.declared.Before.{Before};
 ghost use Rattle.row.specs.declared.Row.{Row};
-ghost use Rattle.row.specs.Stored.{pastOf, wordsOf, eventRow, eventSaves, endedRow, endedSaves};
+ghost use Rattle.row.specs.Stored.{pastOf, wordsOf, eventRow, eventKeeps, endedRow, endedSaves, stepKeeps, Changes};
 ghost use Rattle.row.specs.Stored.{larger, beyond, filledInTwos, filledBy, filledIn, roomIn, Becomes, stateAt, nothing};
 
 // A row with fewer waiting has room for two more words.
@@ -56,7 +56,7 @@ fn state_at(w: &[u64; SIZE]) -> State
 
 // What an event of one of its streams makes of the row, by its type.
 fn change(row: &mut [[u64; SIZE]; 2], stream: u64, t: u64, number: u64)
-    ensures { λ _. ⌜ Applies decide (now (row .entry)) stream t number (now (row .exit)) ⌝ }
+    ensures { λ _. ⌜ Changes (now (row .entry)) stream t number (now (row .exit)) ⌝ }
 {
     let form = row[1][words::FORM];
     match form {
@@ -74,7 +74,7 @@ fn change(row: &mut [[u64; SIZE]; 2], stream: u64, t: u64, number: u64)
 
 // The row after an event that concerns it, which is the step of that number.
 pub fn event(row: &mut [[u64; SIZE]; 2], stream: u64, t: u64, number: u64)
-    ensures { λ _. ⌜ Becomes (now (row .entry)) (eventRow (eventAt stream t) number) (eventSaves (eventAt stream t) number) (now (row .exit)) ⌝ }
+    ensures { λ _. ⌜ Becomes (now (row .entry)) (eventRow (eventAt stream t) number) (eventKeeps (eventAt stream t) number) (now (row .exit)) ⌝ }
 {
     if row[1][words::BROKEN] == 0 {
         change(row, stream, t, number);
@@ -89,7 +89,7 @@ pub fn end(row: &mut [[u64; SIZE]; 2], o: Occurrence, number: u64)
         return;
     }
     if row[1][words::DUE] < o.time {
-        words::break_at(row, 0, number);
+        words::break_at(row, number);
         return;
     }
     if !o.closes {
@@ -99,15 +99,15 @@ pub fn end(row: &mut [[u64; SIZE]; 2], o: Occurrence, number: u64)
         return;
     }
     if row[1][words::KEPT] == 0 {
-        words::break_at(row, 0, number);
+        words::break_at(row, number);
         return;
     }
-    words::keep(row, 0, number);
+    words::keep_all(row, number);
 }
 
 // The row after what occurs, which does not crowd it and is the step of that number.
 pub fn step(row: &mut [[u64; SIZE]; 2], o: Occurrence, number: u64)
-    ensures { λ _. ⌜ Becomes (now (row .entry)) (steppedRow o number) (savedBy o number) (now (row .exit)) ⌝ }
+    ensures { λ _. ⌜ Becomes (now (row .entry)) (steppedRow o number) (stepKeeps o number) (now (row .exit)) ⌝ }
 {
     if row[1][words::DUE] < o.time {
         end(row, o, number);

@@ -5,15 +5,15 @@ use machine::words;
 use queue::SIZE;
 ghost use mathlib.Core.Path.{_≡_};
 ghost use Prim.Native.Nat.{ℕ};
-ghost use Rattle.machine.specs.Words.{askedOf, Applies};
+ghost use Rattle.machine.specs.Words.{askedOf, lastKept, Applies};
 ghost use Rattle.spans.specs.Repeat.{fillsRepeat, decideRepeat};
 
 // What an event makes of the row, where it lies.
 pub fn apply(row: &mut [[u64; SIZE]; 2], t: u64, number: u64)
-    ensures { λ _. ⌜ ((stream : ℕ) → Applies decideRepeat (now (row .entry)) stream t number (now (row .exit))) ⌝ }
+    ensures { λ _. ⌜ ((stream : ℕ) → Applies lastKept decideRepeat (now (row .entry)) stream t number (now (row .exit))) ⌝ }
 {
     if !parts::far_enough(row[1][words::MINIMUM], row[1][words::LAST], t) {
-        words::break_at(row, 0, number);
+        words::break_at(row, number);
         return;
     }
     let head = row[1][words::HEAD] as usize;
@@ -21,11 +21,12 @@ pub fn apply(row: &mut [[u64; SIZE]; 2], t: u64, number: u64)
     let mut dropped = 0;
     if row[1][words::SPAN] <= len as u64 {
         if !parts::reaches(parts::front(&row[0], head, len), row[1][words::LOWER], t) {
-            words::break_at(row, 0, number);
+            words::break_at(row, number);
             return;
         }
         dropped = 1;
     }
+    words::keep_last(row);
     words::one_more_waits(row, dropped, t, number);
     row[1][words::LAST] = parts::plus(t, 1);
     row[1][words::KEPT] = 1;

@@ -1,17 +1,21 @@
 -- In memory of zeros lies a monitor without rows whose word for "open" is 0: so it reads as closed, and takes nothing.
 use Prim.Native.Nat.{ℕ, _-_, _<_, min}
 use native.Mathlib.Omega.{arith}
-use mathlib.Core.Path.{_≡_, refl, ap}
+use mathlib.Core.Path.{_≡_, refl, sym, ap, subst₂}
 use mathlib.Core.List.{[]}
 use lib.ListN.{replicate, getD-replicate}
 use Rattle.constraint.specs.Run.{asks, withdraws}
 use Rattle.constraint.specs.declared.Call.{Call}
 use Rattle.machine.specs.Words.{rowWords, numberWords}
+use Rattle.constraint.specs.Limits.{rowLimit}
+use Rattle.row.specs.Undo.{noBefore}
 use Rattle.row.specs.Stored as Stored
+use Rattle.row.specs.Stored.{RestZero}
+use Rattle.monitor.specs.Machine.{noRow}
 use Rattle.lent.specs.Layout.{Lent, Words, rowBlocks, wordsOf, Shaped, startOf, endOf}
 use Rattle.lent.specs.Contract.{namedRows, rowsOf, Indexes, Takes, Holds, ReadOff}
 use Rattle.status.specs.Contract.{AsksClosed}
-use Rattle.status.specs.Zeros.{zeros, zeroMonitor}
+use Rattle.status.specs.Zeros.{zeros, zeroRow, zeroMonitor}
 
 -- ---- the monitor that lies there
 
@@ -23,7 +27,16 @@ unfolding wordsOf rowBlocks Stored.wordsOf rowWords numberWords
 are = refl
 
 shaped : Shaped zeroLent
-shaped = record { rows-there = refl; kept-there = refl; next-there = refl; ends-there = refl; entries-there = refl }
+shaped =
+    record {
+      rows-there = refl;
+      kept-there = refl;
+      next-there = refl;
+      ends-there = refl;
+      entries-there = refl;
+      rest-zero = λ i l. subst₂ RestZero (sym (getD-replicate rowLimit i zeroRow noRow l)) (sym (getD-replicate rowLimit i noBefore noBefore l))
+          (record { now-unused = refl; past-unused = refl; past-open = refl });
+    }
 
 -- no entry is of a kind
 none-of : (kind : ℕ) → kind < 64 → rowsOf zeroLent kind ≡ []

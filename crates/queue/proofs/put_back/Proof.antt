@@ -1,5 +1,6 @@
--- Each word is stored at its place.
+-- Each word is stored at its place; the test is that of `putBack`.
 use borrow.Author.Needs.{needs}
+use borrow.Author.Tests.{lt-ltb, le-ltb}
 use Rattle.queue.specs.Ring.{putBack}
 use Rattle.queue.proofs.Shared.{free}
 use Rattle.queue.proofs.put_back.Statement.{statement}
@@ -7,8 +8,12 @@ use Rattle.queue.proofs.put_back.Tie as tie
 
 returns : tie.Need-returns
 unfolding putBack
-returns c = rw (← c .before .place-of .ensures, ← c .place-of2 .ensures)
+returns c = rw (lt-ltb _ _ (c .if1 .taken), ← c .before .place-of .ensures)
+
+returns-2 : tie.Need-returns-2
+unfolding putBack
+returns-2 c = rw (le-ltb _ _ (c .before .if1 .left), ← c .before .before .place-of .ensures, ← c .place-of2 .ensures)
 
 pub put-back-spec : {M : Type 1} → statement M
 put-back-spec =
-    tie.close (tie.spec free (λ c. search needs) (λ c. search needs) free (λ c. search needs) (λ c. search needs) returns)
+    tie.close (tie.spec free (λ c. search needs) (λ c. search needs) returns free (λ c. search needs) (λ c. search needs) returns-2)

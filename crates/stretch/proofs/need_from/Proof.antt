@@ -9,8 +9,7 @@ use borrow.Author.Needs.{needs}
 use Rattle.machine.specs.Words.{rowWords, numberWords}
 use Rattle.row.specs.declared.Row.{Row}
 use Rattle.row.specs.Apart.{crowdedBy, steppedRow}
-use Rattle.row.specs.Undo.{savedBy}
-use Rattle.row.specs.Stored.{wordsOf}
+use Rattle.row.specs.Stored.{wordsOf, stepKeeps}
 use Rattle.constraint.specs.Steps.{at}
 use Rattle.stretch.specs.Machine.{seenAs}
 use Rattle.stretch.proofs.Runs.{Lies, to-start, to-end, to-crowded, to-broken, to-next, rule-lies}
@@ -49,7 +48,7 @@ stepped : (c : tie.After-step Inv-loop μ-loop) →
     let lying = at-loop .loop .inv .1 in
     let o = seenAs (at (args .streams .now) (at-loop .loop .at)) (at (args .times .now) (at-loop .loop .at)) in
     c .step .last .0 ≡ wordsOf (steppedRow o (at-loop .loop .size + 1) (lying .row))
-    (savedBy o (at-loop .loop .size + 1) (lying .row) (lying .before))
+    (stepKeeps o (at-loop .loop .size + 1) (lying .row) (lying .before))
 stepped c =
     let seen = c .before .before .before .before .before in
     let at-loop = seen .before .before .before .before in

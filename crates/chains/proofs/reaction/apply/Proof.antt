@@ -7,7 +7,7 @@ use lib.ListN.{getD}
 use borrow.Author.Tests.{eq-eqb, ne-eqb}
 use Rattle.constraint.specs.Streams.{kindOf}
 use Rattle.queue.specs.Ring.{ring}
-use Rattle.machine.specs.Words.{rowWords, numberWords, changedWords}
+use Rattle.machine.specs.Words.{rowWords, numberWords, changedWords, noneKept}
 use Rattle.chains.specs.Reaction.{afterStimulus, afterResponse, paired, decideReaction}
 use Rattle.chains.specs.declared.reaction.Pair.{Pair}
 use borrow.Author.Needs.{needs}
@@ -29,8 +29,8 @@ returns c rule times state past e =
     let pair : a .after-stimulus .result ≡ cond (eqb (kindOf (s .stream)) (rule .first)) (afterStimulus (rule .lower) (rule .upper) low high (s .t))
     (afterResponse low high (s .t)) =
     a .after-stimulus .ensures ∙ rw (h .word2 .ensures, l .word .ensures, e, ← k .kind-of .ensures, eq-eqb _ _ (rw e at (i .if1 .taken))) refl in
-    c .store .ensures rule times state past e ∙ ap (λ (p : Pair). changedWords rule times state (paired (state .marks) words (s .stream % 8) p)
-    (s .number)) pair
+    c .store .ensures rule times state past e
+    ∙ ap (λ (p : Pair). changedWords noneKept rule times state past (paired (state .marks) words (s .stream % 8) p) (s .number)) pair
 
 returns-2 : tie.Need-returns-2
 unfolding rowWords numberWords decideReaction
@@ -47,8 +47,8 @@ returns-2 c rule times state past e =
     let pair : a .after-response .result ≡ cond (eqb (kindOf (s .stream)) (rule .first)) (afterStimulus (rule .lower) (rule .upper) low high (s .t))
     (afterResponse low high (s .t)) =
     a .after-response .ensures ∙ rw (h .word2 .ensures, l .word .ensures, e, ← k .kind-of .ensures, ne-eqb _ _ (rw e at (i .if1 .left))) refl in
-    c .store2 .ensures rule times state past e ∙ ap (λ (p : Pair). changedWords rule times state (paired (state .marks) words (s .stream % 8) p)
-    (s .number)) pair
+    c .store2 .ensures rule times state past e
+    ∙ ap (λ (p : Pair). changedWords noneKept rule times state past (paired (state .marks) words (s .stream % 8) p) (s .number)) pair
 
 pub apply-spec : {M : Type 1} → statement M
 apply-spec =

@@ -5,7 +5,7 @@ use lib.Dec.{ltb}
 use lib.ListN.{getD, set}
 use borrow.Author.Tests.{not-true, not-false}
 use Rattle.queue.proofs.Laws.{ring-length}
-use Rattle.machine.specs.Words.{rowWords, numberWords, changedWords}
+use Rattle.machine.specs.Words.{rowWords, numberWords, changedWords, pastWith, countsKept}
 use Rattle.groups.specs.StrongSynchronization.{decideStrongSynchronization}
 use borrow.Author.Needs.{needs}
 use Rattle.groups.proofs.strong_synchronization.apply.Statement.{statement}
@@ -17,14 +17,15 @@ returns c rule times state past e =
     let w = c .before .before in
     let i = w .before .before in
     let k = i .before .before in
-    let waited = w .one-more-waits .ensures rule times state past e in
+    let kept = k .before .before .keep-counts .ensures rule times state past e in
+    let waited = w .one-more-waits .ensures rule times state (pastWith past (countsKept (state .marks) (past .state .marks))) kept in
     let counted = c .count .ensures rule _ _ (ap (λ m. getD m 1 []) waited) in
     rw (
       counted,
       waited,
       ring-length,
-      ← rw e at (k .count-at .ensures),
-      not-true (ltb (k .count-at .result) (state .len)) (rw e at (i .if1 .taken)),
+      ← rw kept at (k .count-at .ensures),
+      not-true (ltb (k .count-at .result) (state .len)) (rw kept at (i .if1 .taken)),
     ) refl
 
 returns-2 : tie.Need-returns-2
@@ -36,16 +37,17 @@ returns-2 c rule times state past e =
     let m = i .before in
     let f = m .before .before in
     let k = f .before .before in
-    let waited = w .fewer-wait .ensures rule times state past e in
+    let kept = k .before .before .keep-counts .ensures rule times state past e in
+    let waited = w .fewer-wait .ensures rule times state (pastWith past (countsKept (state .marks) (past .state .marks))) kept in
     let counted = n .count2 .ensures rule _ _ (ap (λ m. getD m 1 []) waited) in
     let gone = c .forget .ensures rule _ _ (ap (λ m. getD (set m 1 (n .count2 .last .0)) 1 []) waited ∙ counted) in
     rw (
       gone,
       waited,
       ring-length,
-      ← rw e at (k .count-at .ensures),
-      not-false (ltb (k .count-at .result) (state .len)) (rw e at (f .if1 .left)),
-      ← rw e at (m .completes .ensures),
+      ← rw kept at (k .count-at .ensures),
+      not-false (ltb (k .count-at .result) (state .len)) (rw kept at (f .if1 .left)),
+      ← rw kept at (m .completes .ensures),
       i .if2 .taken,
     )
     refl
@@ -58,21 +60,23 @@ returns-3 c rule times state past e =
     let m = i .before in
     let f = m .before .before in
     let k = f .before .before in
-    let waited = w .fewer-wait2 .ensures rule times state past e in
+    let kept = k .before .before .keep-counts .ensures rule times state past e in
+    let waited = w .fewer-wait2 .ensures rule times state (pastWith past (countsKept (state .marks) (past .state .marks))) kept in
     let counted = c .count3 .ensures rule _ _ (ap (λ m. getD m 1 []) waited) in
     rw (
       counted,
       waited,
       ring-length,
-      ← rw e at (k .count-at .ensures),
-      not-false (ltb (k .count-at .result) (state .len)) (rw e at (f .if1 .left)),
-      ← rw e at (m .completes .ensures),
+      ← rw kept at (k .count-at .ensures),
+      not-false (ltb (k .count-at .result) (state .len)) (rw kept at (f .if1 .left)),
+      ← rw kept at (m .completes .ensures),
       i .if2 .left,
     )
     refl
 
 pub apply-spec : {M : Type 1} → statement M
 apply-spec =
-    tie.close (tie.spec (λ c. search needs) (λ c κs. search needs) (λ c. search needs) (λ c. search needs) (λ c κs. search needs) (λ c. search
-    needs) (λ c κs. search needs) returns (λ c. search needs) (λ c κs. search needs) (λ c κs. search needs) (λ c. search needs) (λ c κs. search
-    needs) (λ c. search needs) (λ c κs. search needs) returns-2 (λ c κs. search needs) (λ c. search needs) (λ c κs. search needs) returns-3)
+    tie.close (tie.spec (λ c κs. search needs) (λ c. search needs) (λ c κs. search needs) (λ c. search needs) (λ c. search needs) (λ c κs. search
+    needs) (λ c. search needs) (λ c κs. search needs) returns (λ c. search needs) (λ c κs. search needs) (λ c κs. search needs) (λ c. search needs)
+    (λ c κs. search needs) (λ c. search needs) (λ c κs. search needs) returns-2 (λ c κs. search needs) (λ c. search needs) (λ c κs. search needs)
+    returns-3)

@@ -9,6 +9,7 @@ use denote.Ref.{now}
 use Rattle.machine.specs.Words.{rowWords, numberWords}
 use Rattle.row.specs.Machine.{eventAt}
 use Rattle.row.specs.Stored as Stored
+use Rattle.row.proofs.Kept.{rest-zero-keeps, rest-zero-event}
 use Rattle.lent.specs.Layout.{Lent, Words, wordsOf, Shaped, rowNamed, rowAt, keptAt}
 use Rattle.lent.specs.Steps.{withSoonest, visitAt, visited, roomAfter, heardOn}
 use Rattle.lent.proofs.Blocks.{row-lies, row-stored}
@@ -95,10 +96,13 @@ loop-again c =
             let b = keptAt (h′ .monitor) i in
             let row′ = Stored.eventRow o (a .number) r in
             let kept′ = Stored.eventSaves o (a .number) r b in
-            let taken = v .event .ensures r b (row-lies h′ wide _ (so-far .0) i there) in
+            let zero-there = wide .rest-zero i there in
+            let taken = v .event .ensures r b (row-lies h′ wide _ (so-far .0) i there)
+            ∙ ap (Stored.wordsOf row′) (rest-zero-keeps r b o (a .number) zero-there) in
             let stored = row-stored h′ wide _ (so-far .0) i there (v .event .last .0) row′ kept′ taken in
             let x = visitAt (visited h (a .first) j o (a .number)) i o (a .number) in
-            let lies = row-lies (withSoonest x (h .soonest)) (shaped-row h′ i row′ kept′ wide) _ stored i there in
+            let wide′ = shaped-row h′ i row′ kept′ (λ _. rest-zero-event r b o (a .number) zero-there) wide in
+            let lies = row-lies (withSoonest x (h .soonest)) wide′ _ stored i there in
             let due = ap (λ (y : List (List ℕ)). getD (getD y 1 []) 17 0) lies in
             let room = c .room-in .ensures (rowAt (x .monitor) i) (keptAt (x .monitor) i) lies in
             let next : visitAt (visited h (a .first) j o (a .number)) i o (a .number) ≡ visited h (a .first) (place + 1 - a .first) o (a .number) =

@@ -12,10 +12,9 @@ returns : tie.Need-returns
 unfolding rowWords
 returns c rule times state past e =
     let k = c .before .before in
-    let a = k .before .before .args in
-    let kept = k .keep .ensures rule times state past e in
-    let done = c .break-numbers .ensures rule state (pastOf times state (a .place) (a .number)) (ap (λ m. getD m 1 []) kept) in
-    ap (λ (w : List ℕ). set (k .keep .last .0) 1 w) done ∙ rw kept refl
+    let kept = k .keep-all .ensures rule times state past e in
+    let done = c .break-numbers .ensures rule state (pastOf times state 0 (k .before .before .args .number)) (ap (λ m. getD m 1 []) kept) in
+    ap (λ (w : List ℕ). set (k .keep-all .last .0) 1 w) done ∙ rw kept refl
 
 pub break-at-spec : {M : Type 1} → statement M
 break-at-spec =

@@ -1,5 +1,8 @@
--- What the row is becomes its past; its ring begins further on and holds fewer times.
-use mathlib.Core.Path.{refl}
+-- What the row is becomes its past; its ring begins further on and holds fewer times, or stays where none leaves.
+use Prim.Native.Nat.{_-_}
+use mathlib.Core.Path.{_≡_, refl}
+use native.Mathlib.Omega.{arith}
+use borrow.Author.Tests.{ne-eqb}
 use Rattle.machine.specs.Words.{rowWords, numberWords}
 use borrow.Author.Needs.{needs}
 use Rattle.machine.proofs.words.drop_oldest.Statement.{statement}
@@ -9,10 +12,20 @@ returns : tie.Need-returns
 unfolding rowWords numberWords
 returns c rule times state past e =
     let p = c .before .before in
-    let kept = p .before .before .keep .ensures rule times state past e in
-    rw (c .left .ensures, p .place-of .ensures, kept) refl
+    let t = p .before .before in
+    let kept = t .before .keep .ensures rule times state past e in
+    rw (c .left .ensures, p .place-of .ensures, kept, ne-eqb (t .before .before .before .args .dropped) 0 (λ none. omega (arith, t .if1 .taken))) refl
+
+returns-2 : tie.Need-returns-2
+unfolding rowWords numberWords
+returns-2 c rule times state past e =
+    let a = c .before .before .before .args in
+    let kept = c .before .keep .ensures rule times state past e in
+    let none : a .dropped ≡ 0 = omega (arith, c .if1 .left) in
+    let all : state .len - 0 ≡ state .len = omega arith in
+    rw (kept, none, all) refl
 
 pub drop-oldest-spec : {M : Type 1} → statement M
 drop-oldest-spec =
     tie.close (tie.spec (λ c κs. search needs) (λ c. search needs) (λ c. search needs) (λ c κs. search needs) (λ c. search needs) (λ c. search
-    needs) (λ c. search needs) (λ c. search needs) (λ c κs. search needs) (λ c. search needs) (λ c. search needs) returns)
+    needs) (λ c. search needs) (λ c. search needs) (λ c κs. search needs) (λ c. search needs) (λ c. search needs) returns returns-2)

@@ -1,4 +1,4 @@
--- The state becomes the past, and so do the two words of the ring; the ring stays.
+-- The state but for its marks becomes the past, and so do the words of the ring; the ring stays.
 use mathlib.Core.Path.{refl, ap}
 use mathlib.Core.List.{[]}
 use lib.ListN.{getD}
@@ -13,7 +13,7 @@ returns c rule times state past e =
     let o = c .before .before in
     let k = o .before .before in
     let done = k .keep-numbers .ensures rule state past (ap (λ m. getD m 1 []) e) in
-    rw (c .time-at2 .ensures, o .time-at .ensures, done, e) refl
+    rw (c .second-at .ensures, o .time-at .ensures, done, e) refl
 
 pub keep-spec : {M : Type 1} → statement M
 keep-spec =

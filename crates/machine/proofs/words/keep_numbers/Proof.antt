@@ -1,4 +1,4 @@
--- Ten numbers are read before the first is stored, so each stands ten places on; place and stamp are stored as they are given.
+-- Four numbers are read before the first is stored, so each stands ten places on; place and stamp are stored as they are given.
 use mathlib.Core.Path.{refl}
 use Rattle.machine.specs.Words.{numberWords}
 use borrow.Author.Needs.{needs}
@@ -11,7 +11,5 @@ returns c rule state past e = rw e refl
 
 pub keep-numbers-spec : {M : Type 1} → statement M
 keep-numbers-spec =
-    tie.close (tie.spec (λ c. search needs) (λ c. search needs) (λ c. search needs) (λ c. search needs) (λ c. search needs) (λ c. search needs) (λ
-    c. search needs) (λ c. search needs) (λ c. search needs) (λ c. search needs) (λ c. search needs) (λ c. search needs) (λ c. search needs) (λ c.
-    search needs) (λ c. search needs) (λ c. search needs) (λ c. search needs) (λ c. search needs) (λ c. search needs) (λ c. search needs) (λ c.
-    search needs) (λ c. search needs) returns)
+    tie.close (tie.spec (λ c. search needs) (λ c. search needs) (λ c. search needs) (λ c. search needs) (λ c. search needs) (λ c. search needs)
+    (λ c. search needs) (λ c. search needs) (λ c. search needs) (λ c. search needs) returns)

@@ -1,5 +1,6 @@
 -- What the row is becomes its past, the place being that of the push; the ring is the one that is pushed to.
 use mathlib.Core.Path.{_≡_, refl, _∙_}
+use native.Mathlib.Omega.{arith}
 use Rattle.queue.specs.Ring.{ringOf, pushRing, dropRing}
 use Rattle.machine.specs.Words.{rowWords, numberWords}
 use borrow.Author.Needs.{needs}
@@ -9,19 +10,36 @@ use Rattle.machine.proofs.words.push_one.Tie as tie
 returns : tie.Need-returns
 unfolding rowWords numberWords
 returns c rule times state past e =
-    let k = c .before .before in
+    let u = c .before in
+    let k = u .before .before in
     let o = k .before in
     let l = o .before .before in
     let p = l .before .before in
     let a = p .before .before .args in
     let kept = k .keep .ensures rule times state past e in
-    let pushed : ringOf (c .push .last .0) (p .place-of .result) (c .push .result)
+    let pushed : ringOf (u .push .last .0) (p .head-after .result) (u .push .result)
     ≡ pushRing (a .word) (dropRing (a .dropped) (ringOf times (state .head) (state .len))) =
-    c .push .ensures ∙ rw (l .left .ensures, p .place-of .ensures, kept, e) refl in
-    rw (← pushed, kept, o .place-of2 .ensures, l .left .ensures, p .place-of .ensures, e) refl
+    u .push .ensures ∙ rw (l .left .ensures, p .head-after .ensures, kept, e) refl in
+    rw (← pushed, kept, o .place-of .ensures, l .left .ensures, p .head-after .ensures, e) refl
+
+returns-2 : tie.Need-returns-2
+unfolding rowWords numberWords
+returns-2 c rule times state past e =
+    let u = c .before in
+    let k = u .before .before in
+    let o = k .before in
+    let l = o .before .before in
+    let p = l .before .before in
+    let a = p .before .before .args in
+    let kept = k .keep .ensures rule times state past e in
+    let none : a .dropped ≡ 0 = omega (arith, c .if1 .left) in
+    let pushed : ringOf (u .push .last .0) (p .head-after .result) (u .push .result)
+    ≡ pushRing (a .word) (dropRing (a .dropped) (ringOf times (state .head) (state .len))) =
+    u .push .ensures ∙ rw (l .left .ensures, p .head-after .ensures, kept, e) refl in
+    rw (← pushed, kept, o .place-of .ensures, l .left .ensures, p .head-after .ensures, e, none) refl
 
 pub push-one-spec : {M : Type 1} → statement M
 push-one-spec =
     tie.close (tie.spec (λ c. search needs) (λ c. search needs) (λ c κs. search needs) (λ c. search needs) (λ c. search needs) (λ c κs. search
-    needs) (λ c κs. search needs) (λ c κs. search needs) (λ c. search needs) (λ c κs. search needs) (λ c. search needs) (λ c. search needs) (λ c.
-    search needs) (λ c. search needs) returns)
+    needs) (λ c κs. search needs) (λ c κs. search needs) (λ c. search needs) (λ c κs. search needs) (λ c. search needs) (λ c. search needs) (λ
+    c. search needs) (λ c. search needs) returns returns-2)

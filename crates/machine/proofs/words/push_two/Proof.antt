@@ -16,16 +16,16 @@ returns c rule times state past e =
     let p = l .before .before in
     let a = p .before .before .args in
     let kept = k .keep .ensures rule times state past e in
-    let one : ringOf (f .push .last .0) (p .place-of .result) (f .push .result)
+    let one : ringOf (f .push .last .0) (p .head-after .result) (f .push .result)
     ≡ pushRing (a .first) (dropRing (a .dropped) (ringOf times (state .head) (state .len))) =
-    f .push .ensures ∙ rw (l .left .ensures, p .place-of .ensures, kept, e) refl in
-    let both : ringOf (c .push2 .last .0) (p .place-of .result) (c .push2 .result)
+    f .push .ensures ∙ rw (l .left .ensures, p .head-after .ensures, kept, e) refl in
+    let both : ringOf (c .push2 .last .0) (p .head-after .result) (c .push2 .result)
     ≡ pushRing (a .second) (pushRing (a .first) (dropRing (a .dropped) (ringOf times (state .head) (state .len)))) =
     c .push2 .ensures ∙ rw (← one, kept) refl in
-    rw (← both, kept, o .place-of2 .ensures, l .left .ensures, p .place-of .ensures, e) refl
+    rw (← both, kept, o .place-of .ensures, l .left .ensures, p .head-after .ensures, e) refl
 
 pub push-two-spec : {M : Type 1} → statement M
 push-two-spec =
     tie.close (tie.spec (λ c. search needs) (λ c. search needs) (λ c κs. search needs) (λ c. search needs) (λ c. search needs) (λ c κs. search
-    needs) (λ c κs. search needs) (λ c κs. search needs) (λ c. search needs) (λ c κs. search needs) (λ c. search needs) (λ c κs. search needs) (λ c.
-    search needs) (λ c. search needs) (λ c. search needs) (λ c. search needs) returns)
+    needs) (λ c κs. search needs) (λ c. search needs) (λ c κs. search needs) (λ c. search needs) (λ c κs. search needs) (λ c. search needs) (λ c
+    κs. search needs) (λ c. search needs) (λ c. search needs) (λ c. search needs) (λ c. search needs) returns)

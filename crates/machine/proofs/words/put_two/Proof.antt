@@ -21,5 +21,5 @@ returns c rule times state past e =
 
 pub put-two-spec : {M : Type 1} → statement M
 put-two-spec =
-    tie.close (tie.spec (λ c. search needs) (λ c. search needs) (λ c. search needs) (λ c. search needs) (λ c κs. search needs) (λ c κs. search
-    needs) (λ c. search needs) (λ c κs. search needs) returns)
+    tie.close (tie.spec (λ c. search needs) (λ c. search needs) (λ c. search needs) (λ c. search needs) (λ c κs. search needs) (λ c. search
+    needs) (λ c κs. search needs) (λ c. search needs) (λ c κs. search needs) returns)

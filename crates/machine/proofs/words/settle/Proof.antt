@@ -1,4 +1,4 @@
--- The three numbers are stored at their places, and nothing else.
+-- The two numbers are stored at their places, and nothing else.
 use mathlib.Core.Path.{refl}
 use Rattle.machine.specs.Words.{numberWords}
 use borrow.Author.Needs.{needs}
@@ -11,4 +11,4 @@ returns c rule state past e = rw e refl
 
 pub settle-spec : {M : Type 1} → statement M
 settle-spec =
-    tie.close (tie.spec (λ c. search needs) (λ c. search needs) (λ c. search needs) returns)
+    tie.close (tie.spec (λ c. search needs) (λ c. search needs) returns)

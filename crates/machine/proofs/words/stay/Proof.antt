@@ -1,4 +1,4 @@
--- What the row is becomes its past; its ring begins where it did.
+-- What the row is becomes its past; its ring stays.
 use Prim.Native.Nat.{_-_}
 use mathlib.Core.Path.{_≡_, refl}
 use native.Mathlib.Omega.{arith}
@@ -10,11 +10,10 @@ use Rattle.machine.proofs.words.stay.Tie as tie
 returns : tie.Need-returns
 unfolding rowWords numberWords
 returns c rule times state past e =
-    let kept = c .before .before .keep .ensures rule times state past e in
+    let kept = c .keep .ensures rule times state past e in
     let all : state .len - 0 ≡ state .len = omega arith in
-    rw (c .place-of .ensures, kept, all) refl
+    rw (kept, all) refl
 
 pub stay-spec : {M : Type 1} → statement M
 stay-spec =
-    tie.close (tie.spec (λ c κs. search needs) (λ c. search needs) (λ c. search needs) (λ c κs. search needs) (λ c. search needs) (λ c. search
-    needs) returns)
+    tie.close (tie.spec (λ c κs. search needs) returns)

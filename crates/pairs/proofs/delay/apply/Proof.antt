@@ -1,35 +1,37 @@
 -- A source joins the times unless the last target answers it; a target leaves with those that it answers.
 use mathlib.Core.Path.{refl}
 use borrow.Author.Tests.{eq-eqb, ne-eqb}
-use Rattle.machine.specs.Words.{rowWords, numberWords, changedWords}
+use Rattle.machine.specs.Words.{rowWords, numberWords, changedWords, pastWith, lastKept}
 use Rattle.pairs.specs.Delay.{decideDelay}
 use borrow.Author.Needs.{needs}
 use Rattle.pairs.proofs.delay.apply.Statement.{statement}
 use Rattle.pairs.proofs.delay.apply.Tie as tie
 
 returns : tie.Need-returns
-unfolding rowWords numberWords decideDelay
+unfolding rowWords numberWords changedWords decideDelay
 returns c rule times state past e =
     let i = c .before .before in
     let a = i .before in
     let f = a .before .before in
+    let k = f .before .before .before .keep-last .ensures rule times state past e in
     rw (
-      c .fewer-wait .ensures rule times state past e,
-      eq-eqb _ _ (rw e at (f .if1 .taken)),
-      ← rw e at (a .answered-at-once .ensures),
+      c .fewer-wait .ensures rule times state (pastWith past (lastKept (state .marks) (past .state .marks))) k,
+      eq-eqb _ _ (rw k at (f .if1 .taken)),
+      ← rw k at (a .answered-at-once .ensures),
       i .if2 .taken,
     ) refl
 
 returns-2 : tie.Need-returns-2
-unfolding rowWords numberWords decideDelay
+unfolding rowWords numberWords changedWords decideDelay
 returns-2 c rule times state past e =
     let i = c .before .before in
     let a = i .before in
     let f = a .before .before in
+    let k = f .before .before .before .keep-last .ensures rule times state past e in
     rw (
-      c .one-more-waits .ensures rule times state past e,
-      eq-eqb _ _ (rw e at (f .if1 .taken)),
-      ← rw e at (a .answered-at-once .ensures),
+      c .one-more-waits .ensures rule times state (pastWith past (lastKept (state .marks) (past .state .marks))) k,
+      eq-eqb _ _ (rw k at (f .if1 .taken)),
+      ← rw k at (a .answered-at-once .ensures),
       i .if2 .left,
     ) refl
 
@@ -39,11 +41,17 @@ returns-3 c rule times state past e =
     let f = c .before in
     let a = f .before .before in
     let i = a .before .before .before .before in
-    rw (f .fewer-wait2 .ensures rule times state past e, c .plus .ensures, ne-eqb _ _ (rw e at (i .if1 .left)), rw e at (a .answered .ensures)) refl
+    let k = i .before .before .before .keep-last .ensures rule times state past e in
+    rw (
+      f .fewer-wait2 .ensures rule times state (pastWith past (lastKept (state .marks) (past .state .marks))) k,
+      c .plus .ensures,
+      ne-eqb _ _ (rw k at (i .if1 .left)),
+      rw k at (a .answered .ensures),
+    ) refl
 
 pub apply-spec : {M : Type 1} → statement M
 apply-spec =
-    tie.close (tie.spec (λ c. search needs) (λ c. search needs) (λ c. search needs) (λ c. search needs) (λ c. search needs) (λ c. search needs) (λ c
-    κs. search needs) (λ c κs. search needs) returns (λ c κs. search needs) returns-2 (λ c. search needs) (λ c. search needs) (λ c. search needs) (λ
-    c. search needs) (λ c. search needs) (λ c κs. search needs) (λ c κs. search needs) (λ c κs. search needs) (λ c. search needs) (λ c. search
-    needs) returns-3)
+    tie.close (tie.spec (λ c κs. search needs) (λ c. search needs) (λ c. search needs) (λ c. search needs) (λ c. search needs) (λ c. search needs)
+    (λ c. search needs) (λ c κs. search needs) (λ c κs. search needs) returns (λ c κs. search needs) returns-2 (λ c. search needs) (λ c. search
+    needs) (λ c. search needs) (λ c. search needs) (λ c. search needs) (λ c κs. search needs) (λ c κs. search needs) (λ c κs. search needs) (λ c.
+    search needs) (λ c. search needs) returns-3)

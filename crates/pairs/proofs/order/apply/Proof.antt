@@ -9,31 +9,31 @@ use borrow.Author.Tests.{eq-eqb, ne-eqb}
 use Rattle.constraint.specs.Limits.{noLimit}
 use Rattle.queue.specs.Ring.{ringOf, dropRing}
 use Rattle.queue.specs.declared.Edit.the-variants.{Drop}
-use Rattle.machine.specs.Parts.{continuesWith}
-use Rattle.machine.specs.Words.{rowWords, numberWords, changedWords, pastOf, goingOn}
+use Rattle.machine.specs.Parts.{earlyOf, continuesWith}
+use Rattle.machine.specs.Words.{Past, rowWords, numberWords, changedWords, firstThreeKept, pastWith, keptOf, goingOn}
 use Rattle.machine.specs.declared.Rule.{Rule}
 use Rattle.machine.specs.declared.Marks.{Marks}
 use Rattle.machine.specs.declared.State.{State}
-use Rattle.pairs.specs.Order.{changesTo, decideOrder}
+use Rattle.pairs.specs.Order.{aheadOf, changesTo, decideOrder}
 use borrow.Author.Needs.{needs}
 use Rattle.pairs.proofs.order.apply.Statement.{statement}
 use Rattle.pairs.proofs.order.apply.Tie as tie
 
 -- a change to other marks, as the words have it
-going-to : (rule : Rule) (times : List ℕ) (state : State) (marks : Marks) (number : ℕ)
-    → changedWords rule times state (changesTo marks) number
-    ≡ rowWords rule times (goingOn (dropRing 0 (ringOf times (state .head) (state .len))) marks (changesTo marks .due) (changesTo marks .kept))
-    (pastOf times state 0 number)
+going-to : (rule : Rule) (times : List ℕ) (state : State) (past : Past) (marks : Marks) (number : ℕ)
+    → changedWords firstThreeKept rule times state past (changesTo marks) number
+    ≡ rowWords rule times (goingOn state (dropRing 0 (ringOf times (state .head) (state .len))) marks (changesTo marks .due) (changesTo marks .kept))
+    (keptOf times state (pastWith past (firstThreeKept (state .marks) (past .state .marks))) 0 number)
 unfolding changedWords changesTo
-going-to rule times state marks number = either (eqb (marks .last) 0) noLimit (marks .last - 1) (eqb (marks .first) 0) false
+going-to rule times state past marks number = either (eqb (earlyOf marks) 0) noLimit (earlyOf marks - 1) (eqb (aheadOf marks) 0) false
   where
-    either : (b : Bool) (d f : ℕ) (k l : Bool) → changedWords rule times state
+    either : (b : Bool) (d f : ℕ) (k l : Bool) → changedWords firstThreeKept rule times state past
         (cond b (continuesWith (Drop 0) marks d k) (continuesWith (Drop 0) marks f l)) number
         ≡ rowWords rule times
-        (goingOn (dropRing 0 (ringOf times (state .head) (state .len))) marks
+        (goingOn state (dropRing 0 (ringOf times (state .head) (state .len))) marks
         (cond b (continuesWith (Drop 0) marks d k) (continuesWith (Drop 0) marks f l) .due)
         (cond b (continuesWith (Drop 0) marks d k) (continuesWith (Drop 0) marks f l) .kept))
-        (pastOf times state 0 number)
+        (keptOf times state (pastWith past (firstThreeKept (state .marks) (past .state .marks))) 0 number)
     either true d f k l = refl
     either false d f k l = refl
 
@@ -43,7 +43,8 @@ returns c rule times state past e =
     let b = c .before .before .before in
     let i = b .before in
     let s = i .before .before .before .before in
-    let stayed = s .stay .ensures rule times state past e in
+    let k = s .before .before .keep-first-three .ensures rule times state past e in
+    let stayed = s .stay .ensures rule times state (pastWith past (firstThreeKept (state .marks) (past .state .marks))) k in
     rw (
       c .store .ensures rule _ _ (ap (λ w. getD w 1 []) stayed),
       c .before .plus .ensures,
@@ -59,7 +60,8 @@ returns-2 c rule times state past e =
     let b = c .before .before in
     let i = b .before in
     let s = i .before .before .before .before in
-    let stayed = s .stay .ensures rule times state past e in
+    let k = s .before .before .keep-first-three .ensures rule times state past e in
+    let stayed = s .stay .ensures rule times state (pastWith past (firstThreeKept (state .marks) (past .state .marks))) k in
     rw (
       c .store2 .ensures rule _ _ (ap (λ w. getD w 1 []) stayed),
       stayed,
@@ -74,7 +76,8 @@ returns-3 c rule times state past e =
     let b = c .before .before .before in
     let i = b .before in
     let s = i .before .before .before .before in
-    let stayed = s .stay .ensures rule times state past e in
+    let k = s .before .before .keep-first-three .ensures rule times state past e in
+    let stayed = s .stay .ensures rule times state (pastWith past (firstThreeKept (state .marks) (past .state .marks))) k in
     rw (
       c .store3 .ensures rule _ _ (ap (λ w. getD w 1 []) stayed),
       c .before .plus2 .ensures,
@@ -90,7 +93,8 @@ returns-4 c rule times state past e =
     let b = c .before .before in
     let i = b .before in
     let s = i .before .before .before .before in
-    let stayed = s .stay .ensures rule times state past e in
+    let k = s .before .before .keep-first-three .ensures rule times state past e in
+    let stayed = s .stay .ensures rule times state (pastWith past (firstThreeKept (state .marks) (past .state .marks))) k in
     rw (
       c .store4 .ensures rule _ _ (ap (λ w. getD w 1 []) stayed),
       stayed,
@@ -101,7 +105,7 @@ returns-4 c rule times state past e =
 
 pub apply-spec : {M : Type 1} → statement M
 apply-spec =
-    tie.close (tie.spec (λ c κs. search needs) (λ c. search needs) (λ c. search needs) (λ c. search needs) (λ c. search needs) (λ c. search needs)
-    (λ c. search needs) (λ c. search needs) (λ c κs. search needs) (λ c κs. search needs) returns (λ c. search needs) (λ c κs. search needs)
-    returns-2 (λ c. search needs) (λ c κs. search needs) (λ c κs. search needs) returns-3 (λ c. search needs) (λ c. search needs) (λ c κs. search
-    needs) returns-4)
+    tie.close (tie.spec (λ c κs. search needs) (λ c κs. search needs) (λ c. search needs) (λ c. search needs) (λ c. search needs) (λ c. search
+    needs) (λ c. search needs) (λ c. search needs) (λ c. search needs) (λ c κs. search needs) (λ c κs. search needs) returns (λ c. search needs) (λ
+    c κs. search needs) returns-2 (λ c. search needs) (λ c κs. search needs) (λ c κs. search needs) returns-3 (λ c. search needs) (λ c. search
+    needs) (λ c κs. search needs) returns-4)

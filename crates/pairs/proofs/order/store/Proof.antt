@@ -1,9 +1,9 @@
 -- The tests are those of `changesTo`; each number is stored at its place.
-use mathlib.Core.Path.{refl, ap, _∙_}
-use lib.ListN.{set}
+use mathlib.Core.Path.{refl, _∙_}
 use borrow.Author.Tests.{eq-eqb, ne-eqb}
-use Rattle.machine.specs.Words.{numberWords}
-use Rattle.pairs.specs.Order.{changesTo}
+use Rattle.machine.specs.Parts.{withLast}
+use Rattle.machine.specs.Words.{numberWords, withMarks}
+use Rattle.pairs.specs.Order.{withAhead, changesTo}
 use borrow.Author.Needs.{needs}
 use Rattle.pairs.proofs.order.store.Statement.{statement}
 use Rattle.pairs.proofs.order.store.Tie as tie
@@ -13,7 +13,7 @@ unfolding numberWords changesTo
 returns c rule state past e =
     let i = c .before .before .before in
     let a = i .before .args in
-    c .settle .ensures rule _ past (ap (λ w. set (set w 10 (a .early)) 11 (a .ahead)) e)
+    c .settle .ensures rule (withMarks state (withAhead (withLast (state .marks) (a .early)) (a .ahead))) past (rw e refl)
     ∙ rw (eq-eqb _ _ (i .if1 .taken), c .before .one-if .ensures) refl
 
 returns-2 : tie.Need-returns-2
@@ -21,7 +21,8 @@ unfolding numberWords changesTo
 returns-2 c rule state past e =
     let i = c .before .before in
     let a = i .before .args in
-    c .settle2 .ensures rule _ past (ap (λ w. set (set w 10 (a .early)) 11 (a .ahead)) e) ∙ rw (ne-eqb _ _ (i .if1 .left)) refl
+    c .settle2 .ensures rule (withMarks state (withAhead (withLast (state .marks) (a .early)) (a .ahead))) past (rw e refl)
+    ∙ rw (ne-eqb _ _ (i .if1 .left)) refl
 
 pub store-spec : {M : Type 1} → statement M
 store-spec =

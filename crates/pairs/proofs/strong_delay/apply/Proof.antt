@@ -3,7 +3,7 @@ use mathlib.Core.Path.{refl, ap}
 use mathlib.Core.List.{[]}
 use lib.ListN.{getD, set}
 use borrow.Author.Tests.{eq-eqb, ne-eqb}
-use Rattle.machine.specs.Words.{rowWords, numberWords, changedWords}
+use Rattle.machine.specs.Words.{rowWords, numberWords, changedWords, pastWith, lastKept}
 use Rattle.machine.proofs.Oldest.{none-left-ring}
 use Rattle.pairs.specs.StrongDelay.{sourceStrongDelay, targetStrongDelay, decideStrongDelay}
 use borrow.Author.Needs.{needs}
@@ -14,20 +14,24 @@ returns : tie.Need-returns
 unfolding rowWords numberWords changedWords decideStrongDelay sourceStrongDelay
 returns c rule times state past e =
     let i = c .before .before in
+    let f = i .before .before in
+    let k = f .before .before .keep-last .ensures rule times state past e in
     rw (
-      c .one-more-waits .ensures rule times state past e,
-      eq-eqb _ _ (rw e at (i .before .before .if1 .taken)),
-      eq-eqb _ _ (rw e at (i .if2 .taken)),
+      c .one-more-waits .ensures rule times state (pastWith past (lastKept (state .marks) (past .state .marks))) k,
+      eq-eqb _ _ (rw k at (f .if1 .taken)),
+      rw k at (i .if2 .taken),
     ) refl
 
 returns-2 : tie.Need-returns-2
 unfolding rowWords numberWords changedWords decideStrongDelay sourceStrongDelay
 returns-2 c rule times state past e =
     let i = c .before .before in
+    let f = i .before .before in
+    let k = f .before .before .keep-last .ensures rule times state past e in
     rw (
-      c .fewer-wait .ensures rule times state past e,
-      eq-eqb _ _ (rw e at (i .before .before .if1 .taken)),
-      ne-eqb _ _ (rw e at (i .if2 .left)),
+      c .fewer-wait .ensures rule times state (pastWith past (lastKept (state .marks) (past .state .marks))) k,
+      eq-eqb _ _ (rw k at (f .if1 .taken)),
+      ne-eqb _ _ (rw k at (i .if2 .left)),
     ) refl
 
 returns-3 : tie.Need-returns-3
@@ -38,16 +42,17 @@ returns-3 c rule times state past e =
     let i = s .before .before in
     let n = i .before in
     let f = n .before .before .before .before in
-    let stayed = s .stay .ensures rule times state past e in
+    let k = f .before .before .keep-last .ensures rule times state past e in
+    let stayed = s .stay .ensures rule times state (pastWith past (lastKept (state .marks) (past .state .marks))) k in
     let done = c .settle .ensures rule _ _ (ap (λ w. getD (set w 1 (set (getD w 1 []) 10 (p .plus .result))) 1 []) stayed) in
     rw (
       done,
       p .plus .ensures,
       stayed,
-      ne-eqb _ _ (rw e at (f .if1 .left)),
+      ne-eqb _ _ (rw k at (f .if1 .left)),
       none-left-ring,
-      eq-eqb _ _ (rw e at (n .if3 .taken)),
-      eq-eqb _ _ (rw e at (i .if4 .taken)),
+      eq-eqb _ _ (rw k at (n .if3 .taken)),
+      eq-eqb _ _ (rw k at (i .if4 .taken)),
     ) refl
 
 returns-4 : tie.Need-returns-4
@@ -56,29 +61,31 @@ returns-4 c rule times state past e =
     let i = c .before .before in
     let n = i .before in
     let f = n .before .before .before .before in
+    let k = f .before .before .keep-last .ensures rule times state past e in
     rw (
-      c .break-at .ensures rule times state past e,
-      ne-eqb _ _ (rw e at (f .if1 .left)),
+      c .break-at .ensures rule times state (pastWith past (lastKept (state .marks) (past .state .marks))) k,
+      ne-eqb _ _ (rw k at (f .if1 .left)),
       none-left-ring,
-      eq-eqb _ _ (rw e at (n .if3 .taken)),
-      ne-eqb _ _ (rw e at (i .if4 .left)),
+      eq-eqb _ _ (rw k at (n .if3 .taken)),
+      ne-eqb _ _ (rw k at (i .if4 .left)),
     ) refl
 
 returns-5 : tie.Need-returns-5
-unfolding rowWords numberWords decideStrongDelay targetStrongDelay
+unfolding rowWords numberWords changedWords decideStrongDelay targetStrongDelay
 returns-5 c rule times state past e =
     let i = c .before .before in
     let r = i .before in
     let o = r .before in
     let n = o .before .before in
     let f = n .before .before .before .before in
+    let k = f .before .before .keep-last .ensures rule times state past e in
     rw (
-      c .fewer-wait2 .ensures rule times state past e,
-      ne-eqb _ _ (rw e at (f .if1 .left)),
+      c .fewer-wait2 .ensures rule times state (pastWith past (lastKept (state .marks) (past .state .marks))) k,
+      ne-eqb _ _ (rw k at (f .if1 .left)),
       none-left-ring,
-      ne-eqb _ _ (rw e at (n .if3 .left)),
-      ← rw e at (o .front .ensures),
-      ← rw e at (r .reaches .ensures),
+      ne-eqb _ _ (rw k at (n .if3 .left)),
+      ← rw k at (o .front .ensures),
+      ← rw k at (r .reaches .ensures),
       i .if5 .taken,
     ) refl
 
@@ -90,20 +97,21 @@ returns-6 c rule times state past e =
     let o = r .before in
     let n = o .before .before in
     let f = n .before .before .before .before in
+    let k = f .before .before .keep-last .ensures rule times state past e in
     rw (
-      c .break-at2 .ensures rule times state past e,
-      ne-eqb _ _ (rw e at (f .if1 .left)),
+      c .break-at2 .ensures rule times state (pastWith past (lastKept (state .marks) (past .state .marks))) k,
+      ne-eqb _ _ (rw k at (f .if1 .left)),
       none-left-ring,
-      ne-eqb _ _ (rw e at (n .if3 .left)),
-      ← rw e at (o .front .ensures),
-      ← rw e at (r .reaches .ensures),
+      ne-eqb _ _ (rw k at (n .if3 .left)),
+      ← rw k at (o .front .ensures),
+      ← rw k at (r .reaches .ensures),
       i .if5 .left,
     ) refl
 
 pub apply-spec : {M : Type 1} → statement M
 apply-spec =
-    tie.close (tie.spec (λ c. search needs) (λ c. search needs) (λ c. search needs) (λ c. search needs) (λ c κs. search needs) (λ c. search needs)
-    (λ c. search needs) returns (λ c κs. search needs) (λ c. search needs) (λ c. search needs) returns-2 (λ c. search needs) (λ c. search needs) (λ
-    c. search needs) (λ c. search needs) (λ c. search needs) (λ c. search needs) (λ c κs. search needs) (λ c κs. search needs) (λ c. search needs)
-    (λ c. search needs) (λ c. search needs) (λ c κs. search needs) returns-3 (λ c κs. search needs) returns-4 (λ c. search needs) (λ c κs. search
-    needs) (λ c κs. search needs) (λ c κs. search needs) returns-5 (λ c κs. search needs) returns-6)
+    tie.close (tie.spec (λ c κs. search needs) (λ c. search needs) (λ c. search needs) (λ c. search needs) (λ c. search needs) (λ c κs. search
+    needs) returns (λ c κs. search needs) (λ c. search needs) (λ c. search needs) returns-2 (λ c. search needs) (λ c. search needs) (λ c. search
+    needs) (λ c. search needs) (λ c. search needs) (λ c. search needs) (λ c κs. search needs) (λ c κs. search needs) (λ c. search needs) (λ c.
+    search needs) (λ c. search needs) (λ c κs. search needs) returns-3 (λ c κs. search needs) returns-4 (λ c. search needs) (λ c κs. search needs)
+    (λ c κs. search needs) (λ c κs. search needs) returns-5 (λ c κs. search needs) returns-6)

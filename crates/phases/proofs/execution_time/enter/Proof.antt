@@ -3,7 +3,7 @@ use Prim.Native.Nat.{ℕ}
 use mathlib.Core.Path.{refl, ap}
 use mathlib.Core.List.{List, []}
 use lib.ListN.{getD, set}
-use Rattle.machine.specs.Words.{rowWords, numberWords, changedWords}
+use Rattle.machine.specs.Words.{rowWords, numberWords, changedWords, pastWith, firstThreeKept}
 use borrow.Author.Needs.{needs}
 use Rattle.phases.proofs.execution_time.enter.Statement.{statement}
 use Rattle.phases.proofs.execution_time.enter.Tie as tie
@@ -18,12 +18,14 @@ returns c rule times state past e =
     let o = c .before in
     let p = o .before .before in
     let s = p .before in
-    let a = s .before .before .args in
-    let stayed = s .stay .ensures rule times state past e in
+    let k = s .before .before in
+    let a = k .before .before .args in
+    let kept = k .keep-first-three .ensures rule times state past e in
+    let stayed = s .stay .ensures rule times state (pastWith past (firstThreeKept (state .marks) (past .state .marks))) kept in
     let done = c .settle .ensures rule _ _ (ap (λ w. getD (with (with (with w 10 (p .plus .result)) 11 (a .phase)) 12 (a .ran)) 1 []) stayed) in
     rw (done, o .one-if .ensures, p .plus .ensures, stayed) refl
 
 pub enter-spec : {M : Type 1} → statement M
 enter-spec =
-    tie.close (tie.spec (λ c κs. search needs) (λ c κs. search needs) (λ c. search needs) (λ c. search needs) (λ c. search needs) (λ c. search
-    needs) (λ c. search needs) (λ c. search needs) (λ c. search needs) (λ c κs. search needs) (λ c κs. search needs) returns)
+    tie.close (tie.spec (λ c κs. search needs) (λ c κs. search needs) (λ c κs. search needs) (λ c. search needs) (λ c. search needs) (λ c. search
+    needs) (λ c. search needs) (λ c. search needs) (λ c. search needs) (λ c. search needs) (λ c κs. search needs) (λ c κs. search needs) returns)

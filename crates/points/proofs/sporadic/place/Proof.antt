@@ -3,7 +3,7 @@ use Prim.Native.Nat.{ℕ}
 use mathlib.Core.Path.{refl, ap}
 use mathlib.Core.List.{List, []}
 use lib.ListN.{getD, set}
-use Rattle.machine.specs.Words.{rowWords, numberWords, changedWords}
+use Rattle.machine.specs.Words.{rowWords, numberWords, changedWords, pastWith, firstThreeKept}
 use borrow.Author.Needs.{needs}
 use Rattle.points.proofs.sporadic.place.Statement.{statement}
 use Rattle.points.proofs.sporadic.place.Tie as tie
@@ -17,15 +17,17 @@ unfolding rowWords numberWords changedWords
 returns c rule times state past e =
     let p = c .before .before in
     let s = p .before in
-    let d = s .before .before in
+    let k = s .before .before in
+    let d = k .before .before in
     let u = d .before .before in
     let a = u .before .before .args in
-    let stayed = s .stay .ensures rule times state past e in
+    let kept = k .keep-first-three .ensures rule times state past e in
+    let stayed = s .stay .ensures rule times state (pastWith past (firstThreeKept (state .marks) (past .state .marks))) kept in
     let done = c .settle .ensures rule _ _ (ap (λ w. getD (with (with (with w 10 (p .plus3 .result)) 11 (a .low)) 12 (a .high)) 1 []) stayed) in
     rw (done, p .plus3 .ensures, d .plus2 .ensures, u .plus .ensures, stayed, e) refl
 
 pub place-spec : {M : Type 1} → statement M
 place-spec =
     tie.close (tie.spec (λ c. search needs) (λ c. search needs) (λ c κs. search needs) (λ c. search needs) (λ c. search needs) (λ c κs. search
-    needs) (λ c κs. search needs) (λ c κs. search needs) (λ c. search needs) (λ c. search needs) (λ c. search needs) (λ c. search needs) (λ c.
-    search needs) (λ c. search needs) (λ c. search needs) (λ c κs. search needs) returns)
+    needs) (λ c κs. search needs) (λ c κs. search needs) (λ c κs. search needs) (λ c. search needs) (λ c. search needs) (λ c. search needs) (λ c.
+    search needs) (λ c. search needs) (λ c. search needs) (λ c. search needs) (λ c κs. search needs) returns)

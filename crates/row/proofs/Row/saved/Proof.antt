@@ -1,14 +1,41 @@
--- The row takes the step where it lies, and what is kept of it is read off there.
+-- A row that may move takes the step where it lies, its own state being its past before, and what is kept of it is read off there.
+use Prim.Native.Nat.{ℕ}
+use mathlib.Core.Path.{_≡_, refl, sym, ap, _∙_}
+use mathlib.Core.Bool.{true}
+use borrow.Author.Tests.{not-true, not-false}
+use Rattle.row.specs.Stored.{wordsOf}
+use Rattle.row.specs.declared.Before.{Before}
+use Rattle.row.specs.declared.Occurrence.{Occurrence}
+use Rattle.row.specs.declared.Row.{Row}
+use Rattle.row.specs.Undo.{movesBy, savedBy, beforeOf}
+use Rattle.row.proofs.Laid.{step-keeps-all}
+use Rattle.row.proofs.Kept.{keeps-own}
 use borrow.Author.Needs.{needs}
 use Rattle.row.proofs.Row.saved.Statement.{statement}
 use Rattle.row.proofs.Row.saved.Tie as tie
 
+-- what is kept of a row that may move does not depend on what was kept before
+moved : (r : Row) (b before : Before) (o : Occurrence) (number : ℕ) → movesBy (r .rule) (r .now) o ≡ true
+    → savedBy o number r b ≡ savedBy o number r before
+unfolding savedBy
+moved r b before o number e = rw e refl
+
 returns : tie.Need-returns
-returns c =
+unfolding savedBy
+returns c = rw (sym (c .before .moves .ensures) ∙ not-true _ (c .if1 .taken))
+
+returns-2 : tie.Need-returns-2
+returns-2 c =
     let w = c .before .before in
     let l = w .before .before in
-    let a = l .before .args in
-    c .before-at .ensures _ _ (w .step .ensures (a .self) (a .before) (l .laid .ensures))
+    let i = l .before .before in
+    let a = i .before .before .args in
+    let own = beforeOf (a .self .now) in
+    c .before-at .ensures _ _ (w .step .ensures (a .self) own (l .laid .ensures ∙ ap (wordsOf (a .self)) (l .before .of .ensures)))
+    ∙ step-keeps-all (a .self) (a .o) (a .number) own (keeps-own (a .self) own refl)
+    ∙ moved (a .self) own (a .before) (a .o) (a .number) (sym (i .before .moves .ensures) ∙ not-false _ (i .if1 .left))
 
 pub saved-spec : {M : Type 1} → statement M
-saved-spec = tie.close (tie.spec (λ c κs. search needs) (λ c κs. search needs) (λ c κs. search needs) returns)
+saved-spec =
+    tie.close (tie.spec (λ c κs. search needs) returns (λ c κs. search needs) (λ c κs. search needs) (λ c κs. search needs) (λ c κs. search
+    needs) returns-2)

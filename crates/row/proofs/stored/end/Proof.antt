@@ -87,7 +87,7 @@ returns-6 c r b e =
     ∙ ap (λ w. concerns w (s .before .before .before .args .o .kind)) (sym (u .rule-at .ensures)) ∙ sym (k .concerns .ensures) ∙ x .if4 .left in
     let kept = ap (λ m. eqb (at 18 m) 0) (sym e) ∙ ne-eqb _ _ (f .if5 .left) in
     rw (goes, early, not-false (s .before .before .before .args .o .closes) (t .if3 .left), own, kept)
-    (c .keep .ensures (r .rule) (r .times) (r .now) (pastOf b) e)
+    (c .keep-all .ensures (r .rule) (r .times) (r .now) (pastOf b) e)
 
 pub end-spec : {M : Type 1} → statement M
 end-spec =

@@ -6,19 +6,21 @@ use borrow.Author.Tests.{eq-eqb, ne-eqb}
 use Rattle.machine.specs.Words.{rowWords, numberWords}
 use Rattle.row.specs.Apart.{changeBy}
 use Rattle.row.specs.Machine.{eventAt}
-use Rattle.row.specs.Stored.{pastOf, wordsOf}
+use Rattle.row.specs.Stored.{pastOf, wordsOf, heardKeeps}
 use Rattle.row.proofs.Laid.{changed-words}
 use borrow.Author.Needs.{needs}
 use Rattle.row.proofs.stored.event.Statement.{statement}
 use Rattle.row.proofs.stored.event.Tie as tie
 
 returns : tie.Need-returns
-unfolding wordsOf rowWords numberWords
+unfolding wordsOf rowWords numberWords heardKeeps
 returns c r b e =
     let i = c .before .before in
     let a = i .before .before .args in
-    rw (eq-eqb _ _ (sym (ap (λ m. getD (getD m 1 []) 19 0) e) ∙ i .if1 .taken))
-    (c .change .ensures (r .rule) (r .times) (r .now) (pastOf b) e ∙ changed-words r (changeBy r (eventAt (a .stream) (a .t))) (a .number))
+    let is-open = sym (ap (λ m. getD (getD m 1 []) 19 0) e) ∙ i .if1 .taken in
+    rw (eq-eqb _ _ is-open)
+    (c .change .ensures (r .rule) (r .times) (r .now) (pastOf b) e
+    ∙ changed-words r b (changeBy r (eventAt (a .stream) (a .t))) (a .number) is-open)
 
 returns-2 : tie.Need-returns-2
 unfolding wordsOf rowWords numberWords

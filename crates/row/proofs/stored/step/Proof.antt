@@ -7,8 +7,9 @@ use lib.ListN.{getD}
 use lib.Dec.{ltb}
 use borrow.Author.Tests.{lt-ltb, le-ltb}
 use Rattle.machine.specs.Words.{rowWords, numberWords, ruleAt}
-use Rattle.row.specs.Machine.{concerns}
-use Rattle.row.specs.Stored.{wordsOf}
+use Rattle.row.specs.Machine.{concerns, eventAt}
+use Rattle.row.specs.Stored.{wordsOf, eventKeeps, endedSaves, stepKeeps}
+use Rattle.row.specs.declared.Row.{Row}
 use Rattle.row.proofs.Laid.{stepped-ended, stepped-heard}
 use borrow.Author.Needs.{needs}
 use Rattle.row.proofs.stored.step.Statement.{statement}
@@ -22,16 +23,22 @@ none : (b : Bool) → cond b false false ≡ false
 none true = refl
 none false = refl
 
+same : (b : Bool) {A : Type 0} (x : A) → cond b x x ≡ x
+same true x = refl
+same false x = refl
+
 returns : tie.Need-returns
-unfolding wordsOf rowWords numberWords
+unfolding wordsOf rowWords numberWords stepKeeps
 returns c r b e =
     let i = c .before .before in
     let a = i .before .before .before .args in
     let late = ap (λ m. ltb (at 17 m) (a .o .time)) (sym e) ∙ lt-ltb _ _ (i .if1 .taken) in
-    c .end .ensures r b e ∙ stepped-ended r (a .o) (a .number) b (rw late refl)
+    rw late
+    (c .end .ensures r b e
+    ∙ ap (λ (x : Row). wordsOf x (endedSaves (a .o) (a .number) r b)) (stepped-ended r (a .o) (a .number) b (rw late refl)))
 
 returns-2 : tie.Need-returns-2
-unfolding wordsOf rowWords numberWords
+unfolding wordsOf rowWords numberWords stepKeeps
 returns-2 c r b e =
     let k = c .before .before in
     let u = k .before .before in
@@ -40,10 +47,12 @@ returns-2 c r b e =
     let early = ap (λ m. ltb (at 17 m) (a .o .time)) (sym e) ∙ le-ltb _ _ (i .if1 .left) in
     let own = ap (λ m. concerns (ruleAt (getD m 1 [])) (a .o .kind)) (sym e) ∙ ap (λ w. concerns w (a .o .kind)) (sym (u .rule-at .ensures))
     ∙ sym (k .before .concerns .ensures) ∙ k .if2 .taken in
-    c .event .ensures r b e ∙ stepped-heard r (a .o) (a .number) b early own
+    rw (early, own)
+    (c .event .ensures r b e
+    ∙ ap (λ (x : Row). wordsOf x (eventKeeps (eventAt (a .o .stream) (a .o .time)) (a .number) r b)) (stepped-heard r (a .o) (a .number) b early own))
 
 returns-3 : tie.Need-returns-3
-unfolding wordsOf rowWords numberWords
+unfolding wordsOf rowWords numberWords stepKeeps
 returns-3 c r b e =
     let k = c .before .before in
     let u = k .before .before in
@@ -51,9 +60,12 @@ returns-3 c r b e =
     let a = i .before .before .before .args in
     let other = ap (λ m. concerns (ruleAt (getD m 1 [])) (a .o .kind)) (sym e) ∙ ap (λ w. concerns w (a .o .kind)) (sym (u .rule-at .ensures))
     ∙ sym (k .before .concerns .ensures) ∙ k .if2 .left in
-    c .end2 .ensures r b e ∙ stepped-ended r (a .o) (a .number) b (rw other (none (ltb (r .now .due) (a .o .time))))
+    rw (other, same (ltb (r .now .due) (a .o .time)) (endedSaves (a .o) (a .number) r b))
+    (c .end2 .ensures r b e
+    ∙ ap (λ (x : Row). wordsOf x (endedSaves (a .o) (a .number) r b))
+    (stepped-ended r (a .o) (a .number) b (rw other (none (ltb (r .now .due) (a .o .time))))))
 
 pub step-spec : {M : Type 1} → statement M
 step-spec =
-    tie.close (tie.spec (λ c. search needs) (λ c. search needs) (λ c κs. search needs) returns (λ c. search needs) (λ c κs. search needs)
-    (λ c κs. search needs) (λ c κs. search needs) returns-2 (λ c κs. search needs) returns-3)
+    tie.close (tie.spec (λ c. search needs) (λ c. search needs) (λ c κs. search needs) returns (λ c. search needs) (λ c κs. search needs) (λ c
+    κs. search needs) (λ c κs. search needs) returns-2 (λ c κs. search needs) returns-3)

@@ -2,19 +2,34 @@
 use Prim.Native.Nat.{ℕ}
 use mathlib.Core.Path.{_≡_, refl, sym, ap, _∙_}
 use mathlib.Core.Bool.{true}
+use mathlib.Core.List.{List, [], _∷_, _++_}
 use mathlib.Core.Logic.{⊎-elim}
-use lib.ListN.{drop}
+use lib.ListN.{length, drop}
 use borrow.Author.Tests.{lt-ltb, le-ltb, not-true, not-false}
 use Rattle.queue.specs.Ring.{ring}
 use Rattle.queue.proofs.Laws.{ring-length}
 use Rattle.queue.specs.declared.Edit.the-variants.{Push}
-use Rattle.machine.specs.Parts.{plus, continuesWith, withLast}
-use Rattle.machine.specs.Words.{rowWords, numberWords, changedWords}
+use Rattle.machine.specs.Parts.{plus, farEnough, continuesWith, withLast, dueOldest}
+use Rattle.machine.specs.Words.{rowWords, numberWords, changedWords, pastWith, lastKept}
+use Rattle.machine.specs.declared.Rule.{Rule}
+use Rattle.machine.specs.declared.Marks.{Marks}
+use Rattle.machine.specs.declared.Change.{Change}
 use Rattle.machine.proofs.Oldest.{due-or-pushed}
 use Rattle.spans.specs.Repeat.{leaving, spanReached, decideRepeat}
 use borrow.Author.Needs.{needs}
 use Rattle.spans.proofs.repeat.apply.Statement.{statement}
 use Rattle.spans.proofs.repeat.apply.Tie as tie
+
+-- where both tests hold, the change is that of times that wait, but kept
+goes-on : (rule : Rule) (marks : Marks) (kept : List ℕ) (stream t dropped : ℕ) → farEnough (rule .minimum) (marks .last) t ≡ true
+    → spanReached rule kept t ≡ true → dropped ≡ leaving rule (length kept)
+    → decideRepeat rule marks kept stream t
+    ≡ continuesWith (Push dropped t) (withLast marks (plus t 1)) (dueOldest (rule .upper) (drop dropped kept ++ (t ∷ []))) true
+unfolding decideRepeat
+goes-on rule marks kept stream t dropped far reached left =
+    rw (far, reached, left)
+    (ap (λ (due : ℕ). continuesWith (Push (leaving rule (length kept)) t) (withLast marks (plus t 1)) due true)
+    (due-or-pushed (rule .upper) t (drop (leaving rule (length kept)) kept)))
 
 returns : tie.Need-returns
 unfolding rowWords numberWords changedWords decideRepeat
@@ -50,12 +65,14 @@ returns-3 : tie.Need-returns-3
 unfolding rowWords numberWords changedWords decideRepeat
 returns-3 c stream rule times state past e =
     let w = c .before in
-    let j = w .before .before in
+    let k = w .before .before in
+    let j = k .before .before in
     let n = j .before .before .before .before in
     let a = n .before .before .before .before .args in
     let kept = ring times (state .head) (state .len) in
-    let left : j .if2 .dropped ≡ leaving rule (state .len) =
-    ⊎-elim (λ b. b .6 ∙ rw (le-ltb _ _ (rw e at (b .0 .taken))) refl) (λ b. b .1 ∙ rw (lt-ltb _ _ (rw e at (b .0 .left))) refl) (j .if2 .came) in
+    let left : j .if2 .dropped ≡ leaving rule (length kept) =
+    ⊎-elim (λ b. b .6 ∙ rw (ring-length, le-ltb _ _ (rw e at (b .0 .taken))) refl)
+    (λ b. b .1 ∙ rw (ring-length, lt-ltb _ _ (rw e at (b .0 .left))) refl) (j .if2 .came) in
     let reached : spanReached rule kept (a .t) ≡ true =
     ⊎-elim
     (λ b. rw (
@@ -67,22 +84,20 @@ returns-3 c stream rule times state past e =
     ) refl)
     (λ b. rw (ring-length, lt-ltb _ _ (rw e at (b .0 .left))) refl)
     (j .if2 .came) in
+    let far : farEnough (rule .minimum) (state .marks .last) (a .t) ≡ true =
+    sym (rw e at (n .before .far-enough .ensures)) ∙ not-false (n .before .far-enough .result) (n .if1 .left) in
+    let decided = goes-on rule (state .marks) kept stream (a .t) (j .if2 .dropped) far reached left in
     rw (
-      w .one-more-waits .ensures rule times state past e,
+      w .one-more-waits .ensures rule times state (pastWith past (lastKept (state .marks) (past .state .marks)))
+          (k .keep-last .ensures rule times state past e),
       c .plus .ensures,
-      ← rw e at (n .before .far-enough .ensures),
-      not-false (n .before .far-enough .result) (n .if1 .left),
-      reached,
-      ring-length,
-      left,
     )
-    (ap (λ (due : ℕ). changedWords rule times state (continuesWith (Push (leaving rule (state .len)) (a .t))
-    (withLast (state .marks) (plus (a .t) 1)) due true) (a .number))
-    (sym (due-or-pushed (rule .upper) (a .t) (drop (leaving rule (state .len)) kept))))
+    (ap (λ (change : Change). changedWords lastKept rule times state past change (a .number)) (sym decided))
 
 pub apply-spec : {M : Type 1} → statement M
 apply-spec =
     tie.close (tie.spec (λ c. search needs) (λ c. search needs) (λ c. search needs) (λ c. search needs) (λ c κs. search needs) (λ c κs. search
     needs) returns (λ c. search needs) (λ c. search needs) (λ c. search needs) (λ c. search needs) (λ c. search needs) (λ c. search needs) (λ c.
     search needs) (λ c κs. search needs) (λ c. search needs) (λ c. search needs) (λ c κs. search needs) (λ c κs. search needs) returns-2 (λ c κs.
-    search needs) (λ c κs. search needs) (λ c. search needs) (λ c. search needs) (λ c. search needs) (λ c. search needs) returns-3)
+    search needs) (λ c κs. search needs) (λ c κs. search needs) (λ c. search needs) (λ c. search needs) (λ c. search needs) (λ c. search needs)
+    returns-3)

@@ -1,0 +1,16 @@
+-- The four numbers are read before the first is stored, so each stands ten places on.
+use mathlib.Core.Path.{refl}
+use Rattle.machine.specs.Words.{rowWords, numberWords}
+use borrow.Author.Needs.{needs}
+use Rattle.machine.proofs.words.keep_counts.Statement.{statement}
+use Rattle.machine.proofs.words.keep_counts.Tie as tie
+
+returns : tie.Need-returns
+unfolding rowWords numberWords
+returns c rule times state past e = rw e refl
+
+pub keep-counts-spec : {M : Type 1} → statement M
+keep-counts-spec =
+    tie.close (tie.spec (λ c. search needs) (λ c. search needs) (λ c. search needs) (λ c. search needs) (λ c. search needs) (λ c. search needs)
+    (λ c. search needs) (λ c. search needs) (λ c. search needs) (λ c. search needs) (λ c. search needs) (λ c. search needs) (λ c. search needs)
+    (λ c. search needs) (λ c. search needs) (λ c. search needs) returns)

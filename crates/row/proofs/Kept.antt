@@ -1,0 +1,183 @@
+-- What a row's words keep by an event is all that the row was, where what its type never stores is 0; and that stays so: a type changes only marks
+-- that it keeps, and a row that breaks or begins has none.
+use Prim.Native.Nat.{ℕ}
+use native.Mathlib.Omega.{arith}
+use mathlib.Core.Path.{_≡_, refl, sym, ap, _∙_}
+use mathlib.Core.Bool.{true, false, cond}
+use mathlib.Core.List.{List}
+use lib.Dec.{ltb, eqb}
+use borrow.Author.Tests.{ltb-false, eqb-true}
+use Rattle.constraint.specs.declared.Constraint.{Constraint}
+use Rattle.constraint.proofs.Lists.{split, both}
+use Rattle.queue.specs.Ring.{timeAt, secondAt}
+use Rattle.machine.specs.Parts.{noMarks}
+use Rattle.machine.specs.Rule.{ruleOf}
+use Rattle.machine.specs.Words.{noneKept, lastKept, firstThreeKept, countsKept}
+use Rattle.machine.specs.declared.Marks.{Marks}
+use Rattle.machine.specs.declared.Rule.{Rule}
+use Rattle.machine.specs.declared.State.{State}
+use Rattle.pairs.specs.Delay.{decideDelay}
+use Rattle.pairs.specs.StrongDelay.{decideStrongDelay}
+use Rattle.pairs.specs.Order.{decideOrder}
+use Rattle.pairs.proofs.Unused.{unused-delay, unused-strong-delay, unused-order}
+use Rattle.spans.specs.Repeat.{decideRepeat}
+use Rattle.spans.proofs.Unused.{unused-repeat}
+use Rattle.points.specs.Sporadic.{decideSporadic}
+use Rattle.points.proofs.Unused.{unused-sporadic}
+use Rattle.groups.specs.StrongSynchronization.{decideStrongSynchronization}
+use Rattle.groups.proofs.Unused.{unused-strong-synchronization}
+use Rattle.phases.specs.ExecutionTime.{decideExecutionTime}
+use Rattle.phases.proofs.Unused.{unused-execution-time}
+use Rattle.chains.specs.Reaction.{decideReaction}
+use Rattle.chains.proofs.Unused.{unused-reaction}
+use Rattle.repetition.specs.Repetition.{decideRepetition}
+use Rattle.repetition.proofs.Unused.{unused-repetition}
+use Rattle.row.specs.declared.Before.{Before}
+use Rattle.row.specs.declared.Occurrence.{Occurrence}
+use Rattle.row.specs.declared.Row.{Row}
+use Rattle.row.specs.Machine.{decide, concerns, rowFrom, rowOf, itemsOf, brokenState, brokenRow, applied}
+use Rattle.row.specs.Undo.{noBefore, savedAt, backRow, rowWithout, keptWithout}
+use Rattle.row.specs.Apart.{endsBy, endedState, changeBy, withChange, heardRow, writesAt, heardBefore}
+use Rattle.row.specs.Stored.{keptMarks, keptAtPlace, heardKeeps, eventRow, eventSaves, eventKeeps, endedRow, endedSaves, Unused, RestZero}
+use Rattle.row.proofs.Dispatch.{chosen-both}
+
+-- ---- the marks that a type keeps
+
+abbrev Keeping : Type 0
+Keeping = Marks → Marks → Marks
+
+-- what holds of each type's holds of the one that is chosen
+of-each : (Q : Keeping → Type 0) (form : ℕ) → Q lastKept → Q firstThreeKept → Q noneKept → Q countsKept → Q (keptMarks form)
+of-each Q form last three none counts =
+    chosen-both form _ _ _ _ _ _ _ _ _ lastKept lastKept lastKept firstThreeKept firstThreeKept firstThreeKept noneKept noneKept countsKept
+    (λ keeps _. Q keeps) last last last three three three none none counts
+
+-- marks of the past in which only kept ones are above 0 make no difference
+over-past : (form : ℕ) (marks past : Marks) → keptMarks form marks (keptMarks form past noMarks) ≡ keptMarks form marks noMarks
+over-past form marks past = of-each (λ keeps. keeps marks (keeps past noMarks) ≡ keeps marks noMarks) form refl refl refl refl
+
+-- the state's own marks as those of the past
+over-own : (form : ℕ) (marks : Marks) → keptMarks form marks marks ≡ marks
+over-own form marks = of-each (λ keeps. keeps marks marks ≡ marks) form refl refl refl refl
+
+none-unused : (form : ℕ) → Unused form noMarks
+none-unused form = of-each (λ keeps. keeps noMarks noMarks ≡ noMarks) form refl refl refl refl
+
+-- a type changes only marks that it keeps
+stays-unused : (rule : Rule) (marks : Marks) (times : List ℕ) (s t : ℕ) → Unused (rule .form) marks
+    → Unused (rule .form) (decide rule marks times s t .marks)
+stays-unused rule marks times s t =
+    chosen-both (rule .form) lastKept lastKept lastKept firstThreeKept firstThreeKept firstThreeKept noneKept noneKept countsKept
+    (decideDelay rule) (decideStrongDelay rule) (decideRepeat rule) (decideSporadic rule) (decideOrder rule) (decideExecutionTime rule)
+    (decideReaction rule) (decideRepetition rule) (decideStrongSynchronization rule)
+    (λ keeps machine. keeps marks noMarks ≡ marks → keeps (machine marks times s t .marks) noMarks ≡ machine marks times s t .marks)
+    (unused-delay rule marks times s t) (unused-strong-delay rule marks times s t) (unused-repeat rule marks times s t)
+    (unused-sporadic rule marks times s t) (unused-order rule marks times s t) (unused-execution-time rule marks times s t)
+    (unused-reaction rule marks times s t) (unused-repetition rule marks times s t) (unused-strong-synchronization rule marks times s t)
+
+-- ---- where the words keep all that the row was
+
+module _ (r : Row) (b : Before) where
+  -- the marks and the step that broke the row are those that they would be
+  abbrev pub KeepsWhole : Type 0
+  KeepsWhole = (keptMarks (r .rule .form) (r .now .marks) (b .state .marks) ≡ r .now .marks) × (b .state .broken ≡ r .now .broken)
+
+  -- so where what it was is what it is
+  pub keeps-own : b .state ≡ r .now → KeepsWhole
+  keeps-own same = (
+    ap (λ (x : State). keptMarks (r .rule .form) (r .now .marks) (x .marks)) same ∙ over-own (r .rule .form) (r .now .marks),
+    ap (λ (x : State). x .broken) same,
+  )
+
+  kept-all : (place number : ℕ) → KeepsWhole → keptAtPlace r b place number ≡ savedAt r place number
+  kept-all place number whole = λ i.
+      record {
+        state =
+            record {
+              marks = whole .0 i;
+              head = r .now .head;
+              len = r .now .len;
+              due = r .now .due;
+              kept = r .now .kept;
+              broken = whole .1 i;
+            };
+        place = place;
+        first = timeAt (r .times) place 0;
+        second = secondAt (r .times) place;
+        stamp = number;
+      }
+
+  heard-all : (o : Occurrence) (number : ℕ) → KeepsWhole → heardKeeps r b o number ≡ heardBefore r o number
+  unfolding heardKeeps
+  heard-all o number whole =
+      split (changeBy r o .breaks)
+      (λ x. cond x (heardBefore r o number) (keptAtPlace r b (writesAt r o) number) ≡ heardBefore r o number)
+      (λ _. refl) (λ _. kept-all (writesAt r o) number whole)
+
+  pub event-keeps-all : (o : Occurrence) (number : ℕ) → KeepsWhole → eventKeeps o number r b ≡ eventSaves o number r b
+  event-keeps-all o number whole = ap (λ (x : Before). cond (eqb (r .now .broken) 0) x b) (heard-all o number whole)
+
+  pub rest-zero-keeps : (o : Occurrence) (number : ℕ) → RestZero r b → eventKeeps o number r b ≡ eventSaves o number r b
+  rest-zero-keeps o number f =
+      split (eqb (r .now .broken) 0) (λ x. cond x (heardKeeps r b o number) b ≡ cond x (heardBefore r o number) b)
+      (λ e. heard-all o number (marks, f .past-open ∙ sym (eqb-true (r .now .broken) 0 e))) (λ _. refl)
+    where
+      marks : keptMarks (r .rule .form) (r .now .marks) (b .state .marks) ≡ r .now .marks
+      marks =
+          ap (keptMarks (r .rule .form) (r .now .marks)) (sym (f .past-unused)) ∙ over-past (r .rule .form) (r .now .marks) (b .state .marks)
+          ∙ f .now-unused
+
+  -- ---- it stays so
+
+  heard-rest-zero : (o : Occurrence) (number : ℕ) → RestZero r b → r .now .broken ≡ 0 → RestZero (heardRow r o number) (heardBefore r o number)
+  unfolding withChange brokenRow applied
+  heard-rest-zero o number f is-open =
+      split (changeBy r o .breaks)
+      (λ x. RestZero (cond x (brokenRow r number) (applied r (changeBy r o))) (heardBefore r o number))
+      (λ _. record { now-unused = none-unused (r .rule .form); past-unused = f .now-unused; past-open = is-open })
+      (λ _.
+      record {
+        now-unused = stays-unused (r .rule) (r .now .marks) (itemsOf r) (o .stream) (o .time) (f .now-unused);
+        past-unused = f .now-unused;
+        past-open = is-open;
+      })
+
+  pub rest-zero-event : (o : Occurrence) (number : ℕ) → RestZero r b → RestZero (eventRow o number r) (eventSaves o number r b)
+  rest-zero-event o number f =
+      split (eqb (r .now .broken) 0) (λ x. RestZero (cond x (heardRow r o number) r) (cond x (heardBefore r o number) b))
+      (λ e. heard-rest-zero o number f (eqb-true (r .now .broken) 0 e)) (λ _. f)
+
+  ends-open : (o : Occurrence) → endsBy (r .rule) (r .now) o ≡ true → r .now .broken ≡ 0
+  unfolding endsBy
+  ends-open o =
+      split (ltb 0 (r .now .broken))
+      (λ x. cond x false (cond (ltb (r .now .due) (o .time)) true (cond (o .closes) (cond (concerns (r .rule) (o .kind)) false true) false)) ≡ true
+      → r .now .broken ≡ 0)
+      (λ _ e. both (sym e)) (λ l _. omega (arith, ltb-false 0 (r .now .broken) l))
+
+  ended-unused : (o : Occurrence) (number : ℕ) → Unused (r .rule .form) (r .now .marks)
+      → Unused (r .rule .form) (endedState (r .now) o number .marks)
+  unfolding endedState
+  ended-unused o number unused =
+      split (ltb (r .now .due) (o .time))
+      (λ x. Unused (r .rule .form) (cond x (brokenState number) (cond (eqb (r .now .kept) 0) (brokenState number) (r .now)) .marks))
+      (λ _. none-unused (r .rule .form))
+      (λ _. split (eqb (r .now .kept) 0) (λ x. Unused (r .rule .form) (cond x (brokenState number) (r .now) .marks))
+      (λ _. none-unused (r .rule .form)) (λ _. unused))
+
+  pub rest-zero-ended : (o : Occurrence) (number : ℕ) → RestZero r b → RestZero (endedRow o number r) (endedSaves o number r b)
+  rest-zero-ended o number f =
+      split (endsBy (r .rule) (r .now) o)
+      (λ x. RestZero (cond x (rowFrom (r .rule) (r .times) (endedState (r .now) o number)) r) (cond x (savedAt r 0 number) b))
+      (λ e. record { now-unused = ended-unused o number (f .now-unused); past-unused = f .now-unused; past-open = ends-open o e })
+      (λ _. f)
+
+  pub rest-zero-without : (number : ℕ) → RestZero r b → RestZero (rowWithout number r b) (keptWithout number b)
+  unfolding rowWithout keptWithout backRow
+  rest-zero-without number f =
+      split (eqb (b .stamp) number) (λ x. RestZero (cond x (backRow r b) r) (cond x noBefore b))
+      (λ _. record { now-unused = f .past-unused; past-unused = none-unused (r .rule .form); past-open = refl }) (λ _. f)
+
+pub rest-zero-fresh : (c : Constraint) → RestZero (rowOf c) noBefore
+unfolding rowOf
+rest-zero-fresh c = record { now-unused = none-unused (ruleOf c .form); past-unused = none-unused (ruleOf c .form); past-open = refl }

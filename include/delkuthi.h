@@ -767,6 +767,8 @@ uint8_t delkuthi_withdraw(delkuthi_monitor *monitor);
  *   DELKUTHI_BROKEN  it cannot be met any more: delkuthi_row_step says since
  *                    which step
  *   DELKUTHI_NO_ROW  the table has no row of that number
+ *
+ * It is one of these four whatever the memory holds.
  */
 DELKUTHI_NONNULL
 uint8_t delkuthi_row_verdict(const delkuthi_monitor *monitor, uint64_t row);
@@ -805,7 +807,10 @@ uint64_t delkuthi_clock(const delkuthi_monitor *monitor);
 DELKUTHI_NONNULL
 uint64_t delkuthi_steps(const delkuthi_monitor *monitor);
 
-/* Returns 1 once the recording is closed, else 0. */
+/*
+ * Returns 1 once the recording is closed, else 0: one of the two whatever the
+ * memory holds.
+ */
 DELKUTHI_NONNULL
 uint8_t delkuthi_closed(const delkuthi_monitor *monitor);
 
@@ -825,8 +830,9 @@ uint64_t delkuthi_row_waiting(const delkuthi_monitor *monitor, uint64_t row);
  * would answer DELKUTHI_CROWDED: the row would be open with more than 64
  * waiting. So a host that met a 12 learns in which row it has to be answered.
  *
- * Returns DELKUTHI_ROW_LIMIT where that call would answer anything else. An
- * event of a coloured kind, a tick and the close never crowd a row.
+ * Returns DELKUTHI_ROW_LIMIT where that call would answer anything else, and
+ * no more than that whatever the memory holds. An event of a coloured kind, a
+ * tick and the close never crowd a row.
  */
 DELKUTHI_NONNULL
 uint8_t delkuthi_crowded_row(const delkuthi_monitor *monitor, uint8_t kind,

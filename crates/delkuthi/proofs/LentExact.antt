@@ -27,8 +27,7 @@ use Rattle.delkuthi.specs.Taking.{Took, RecordingTakenAs}
 use Rattle.delkuthi.specs.Reporting.{LeftBy, unused, used, ReportsOn, ReportsSteps}
 use Rattle.delkuthi.specs.LentExact.{Memory, Host, over, asked, Untouched, ReadsAs, ReadsRecorded, whole, cut, Reported, LentExact}
 use Rattle.delkuthi.proofs.Lying.{call-holds}
-use Rattle.delkuthi.proofs.Outcome.{begun-over}
-use Rattle.delkuthi.proofs.Telling.{told-reports}
+use Rattle.delkuthi.proofs.Telling.{begun-over, told-reports}
 
 -- ---- what is read
 

@@ -39,9 +39,6 @@ module _ (words : Words) (m : Monitor) (holds : Holds words m) where
       let here : n ≡ min (h .monitor .len) rowLimit = says h (holds .words-are) (holds .indexes .shaped) in
       subst (λ (x : Monitor). n ≡ x .len) is (omega (arith, here, holds .indexes .sound .rows-few))
 
-  pub held-read : (n : ℕ) → Said words (λ x. n ≡ heldRows (x .monitor)) → n ≡ heldRows m
-  held-read n says = subst (λ (x : Monitor). n ≡ heldRows x) is (says h (holds .words-are) (holds .indexes .shaped))
-
   pub closed-read : (n : ℕ) → Said words (λ x. n ≡ 1 - (1 - x .monitor .closed)) → n ≡ m .closed
   closed-read n says =
       let here : n ≡ 1 - (1 - h .monitor .closed) = says h (holds .words-are) (holds .indexes .shaped) in

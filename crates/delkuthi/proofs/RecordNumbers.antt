@@ -1,75 +1,77 @@
--- Each question of a record and of its step has a number from 1 to 127, and so has each refusal of a recording.
-use Prim.Native.Nat.{ℕ, _<_}
+-- Each question of a table, of a record and of its step has a number from 1 to 127, as a test over the list computes, and so has each refusal.
+use Prim.Native.Nat.{ℕ, _+_, _<_}
 use native.Mathlib.Omega.{arith}
-use mathlib.Core.Path.{_≡_}
+use mathlib.Core.Path.{_≡_, refl}
+use mathlib.Core.Bool.{Bool, true, false, _&&_}
 use mathlib.Core.List.{List, [], _∷_}
 use mathlib.Core.Logic.{inl, inr}
+use lib.Dec.{ltb}
+use borrow.Author.Tests.{ltb-true}
 use Rattle.constraint.specs.Steps.{Step}
+use Rattle.constraint.specs.Accepted.{rowsQuestions}
 use Rattle.constraint.specs.Questions.{Question, Judged}
 use Rattle.constraint.specs.Run.{questions}
 use Rattle.constraint.specs.Recording.{callAt, recordQuestions, recording-refused, ReadsRecords, record-refused, record-taken, ReadsInOrder}
 use Rattle.constraint.specs.Recording.{version-refused, version-taken}
+use Rattle.constraint.specs.Stamps.{stampsQuestions, AnswersStamps, no-table, no-recording, not-asked}
 use Rattle.constraint.specs.declared.Answer.the-variants.{Refused}
 use Rattle.constraint.specs.declared.Call.{Call}
+use Rattle.constraint.specs.declared.Constraint.{Constraint}
+use Rattle.constraint.specs.declared.StampedAnswer.{StampedAnswer}
 use Rattle.constraint.proofs.Judged.{never}
+use Rattle.lent.proofs.Refusals.{refused-small}
 
 -- a number that leaves room for one bit more in its byte
 abbrev pub Short : ℕ → Type 0
 Short n = (0 < n) × (n < 128)
 
-unfoldable AllShort : List Question → Type 0
-AllShort [] = Unit {0}
-AllShort (q ∷ later) = Short (q .0) × AllShort later
+unfoldable pub short? : List Question → Bool
+short? [] = true
+short? (q ∷ later) = (ltb 0 (q .0) && ltb (q .0) 128) && short? later
 
-number-short : (questions : List Question) (n : ℕ) → AllShort questions → Judged questions (Refused n) → Short n
-unfolding AllShort Judged
-number-short [] n all e = never (cc)
-number-short (q ∷ later) n all (inl h) = number-short later n (all .1) (h .1)
-number-short (q ∷ later) n all (inr h) = let same : n ≡ q .0 = cc (h .1) in (omega (arith, all .0 .0), omega (arith, all .0 .1))
+and-true : (a b : Bool) → (a && b) ≡ true → (a ≡ true) × (b ≡ true)
+and-true true b e = (refl, e)
+and-true false b e = never (cc)
 
-call-short : (steps : List Step) (s : Call) → AllShort (questions [] steps s)
-unfolding questions AllShort
-call-short steps (Call.Event k t) = (
-  (omega arith, omega arith),
-  (
-    (omega arith, omega arith),
-    (
-      (omega arith, omega arith),
-      (
-        (omega arith, omega arith),
-        ((omega arith, omega arith), ((omega arith, omega arith), ((omega arith, omega arith), tt))),
-      ),
-    ),
-  ),
-)
-call-short steps (Call.ColouredEvent k c t) = (
-  (omega arith, omega arith),
-  (
-    (omega arith, omega arith),
-    (
-      (omega arith, omega arith),
-      (
-        (omega arith, omega arith),
-        ((omega arith, omega arith), ((omega arith, omega arith), ((omega arith, omega arith), tt))),
-      ),
-    ),
-  ),
-)
-call-short steps (Call.Tick t) = (
-  (omega arith, omega arith),
-  (
-    (omega arith, omega arith),
-    ((omega arith, omega arith), ((omega arith, omega arith), ((omega arith, omega arith), tt))),
-  ),
-)
-call-short steps Call.Close = ((omega arith, omega arith), ((omega arith, omega arith), tt))
+pub number-short : (questions : List Question) (n : ℕ) → short? questions ≡ true → Judged questions (Refused n) → Short n
+unfolding short? Judged
+number-short [] n e judged = never (cc)
+number-short (q ∷ later) n e (inl h) = number-short later n (and-true (ltb 0 (q .0) && ltb (q .0) 128) (short? later) e .1) (h .1)
+number-short (q ∷ later) n e (inr h) =
+    let here = and-true (ltb 0 (q .0)) (ltb (q .0) 128) (and-true (ltb 0 (q .0) && ltb (q .0) 128) (short? later) e .0) in
+    let same : n ≡ q .0 = cc (h .1) in
+    (omega (arith, ltb-true 0 (q .0) (here .0)), omega (arith, ltb-true (q .0) 128 (here .1)))
+
+-- ---- of rows
+
+pub rows-short : (i : ℕ) (rows : List Constraint) (later : List Question) → short? later ≡ true → short? (rowsQuestions i rows later) ≡ true
+unfolding rowsQuestions short?
+rows-short i [] later e = e
+rows-short i (c ∷ rows) later e = rows-short (i + 1) rows later e
+
+-- ---- of a recording
+
+call-short : (steps : List Step) (s : Call) → short? (questions [] steps s) ≡ true
+unfolding questions short?
+call-short steps (Call.Event k t) = refl
+call-short steps (Call.ColouredEvent k c t) = refl
+call-short steps (Call.Tick t) = refl
+call-short steps Call.Close = refl
 
 records-short : (bytes : List ℕ) {before : List Step} {place n last : ℕ} → ReadsRecords [] bytes before place (recording-refused n last) → Short n
-unfolding recordQuestions AllShort
+unfolding recordQuestions short?
 records-short bytes (record-refused {before} {place} n there judged) =
-    number-short (recordQuestions [] before bytes place) n ((omega arith, omega arith), call-short before (callAt bytes place)) judged
+    number-short (recordQuestions [] before bytes place) n (call-short before (callAt bytes place)) judged
 records-short bytes (record-taken there judged later) = records-short bytes later
 
 pub refusal-short : (bytes : List ℕ) (n place : ℕ) → ReadsInOrder bytes (recording-refused n place) → Short n
 refusal-short bytes n place (version-refused one) = (omega arith, omega arith)
 refusal-short bytes n place (version-taken one records) = records-short bytes records
+
+-- ---- of late stamps
+
+pub stamped-above : (table recording : List ℕ) (i e n place : ℕ) → AnswersStamps table recording i e (StampedAnswer.Refused n place) → 0 < n
+unfolding short?
+stamped-above table recording i e n place (no-table m at read) = refused-small table m at read .0
+stamped-above table recording i e n place (no-recording rows m at read refused) = refusal-short recording m at refused .0
+stamped-above table recording i e n place (not-asked rows steps m read taken judged) = number-short (stampsQuestions rows i e) m refl judged .0

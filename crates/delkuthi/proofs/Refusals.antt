@@ -16,42 +16,31 @@ use Rattle.table.specs.Writing.{Writes, answerIn}
 use Rattle.table.specs.declared.WriteAnswer.{WriteAnswer}
 use Rattle.table.proofs.Bodies.{row-length}
 use Rattle.table.proofs.Standing.{body-short}
-use Rattle.lent.proofs.Refusals.{AllAbove, number-above}
 use Rattle.delkuthi.specs.Tables.{tableNumber, MakesTable}
-
-rows-above : (i : ℕ) (rows : List Constraint) (later : List Question) → AllAbove later → AllAbove (rowsQuestions i rows later)
-unfolding rowsQuestions AllAbove
-rows-above i [] later above = above
-rows-above i (c ∷ rows) later above = (omega arith, (omega arith, (omega arith, (omega arith, (omega arith, rows-above (i + 1) rows later above)))))
-
-one-above : (n : ℕ) (asked : Type 0) → 0 < n → AllAbove ((n, asked) ∷ [])
-unfolding AllAbove
-one-above n asked above = (above, tt)
-
-two-above : (m n : ℕ) (asked also : Type 0) → 0 < m → 0 < n → AllAbove ((m, asked) ∷ (n, also) ∷ [])
-unfolding AllAbove
-two-above m n asked also first second = (first, one-above n also second)
+use Rattle.delkuthi.proofs.RecordNumbers.{short?, number-short, rows-short}
 
 writer-number : (rows : List Constraint) (before after : List ℕ) (r : WriteAnswer) (n : ℕ) → r ≡ WriteAnswer.Refused n → Writes rows before r after
     → 0 < n
+unfolding short?
 writer-number rows before after r n e writes =
-    number-above (writerQuestions rows before) n (rows-above 0 rows _ (one-above 16 _ (omega arith)))
-    (subst (λ (w : WriteAnswer). Judged (writerQuestions rows before) (answerIn w)) e (writes .judged))
+    number-short (writerQuestions rows before) n (rows-short 0 rows _ refl)
+    (subst (λ (w : WriteAnswer). Judged (writerQuestions rows before) (answerIn w)) e (writes .judged)) .0
 
 raw-number : (bytes before after : List ℕ) (r : WriteAnswer) (n : ℕ) → r ≡ WriteAnswer.Refused n → WritesRaw bytes before r after → 0 < n
+unfolding short?
 raw-number bytes before after r n e (all-read rows raw past writes) = writer-number rows before _ _ n e writes
 raw-number bytes before after r n e (stopped-at rows m raw more judged) =
     let same : m ≡ n = cc in
-    omega (arith, same, number-above _ m (rows-above 0 rows _ (two-above 3 4 _ _ (omega arith) (omega arith))) judged)
+    omega (arith, same, number-short _ m (rows-short 0 rows _ refl) judged .0)
 
-rows-short : (rows : List Constraint) → length (rowsBytes rows) ≤ 40 * length rows
+rows-length : (rows : List Constraint) → length (rowsBytes rows) ≤ 40 * length rows
 unfolding rowsBytes
-rows-short [] = omega arith
-rows-short (c ∷ rows) = omega (arith, length-append (rowBytes c) (rowsBytes rows), row-length c, body-short c, rows-short rows)
+rows-length [] = omega arith
+rows-length (c ∷ rows) = omega (arith, length-append (rowBytes c) (rowsBytes rows), row-length c, body-short c, rows-length rows)
 
 table-short : (rows : List Constraint) → length (tableBytes rows) ≤ 1 + 40 * length rows
 unfolding tableBytes
-table-short rows = omega (arith, rows-short rows)
+table-short rows = omega (arith, rows-length rows)
 
 writer-short : (rows : List Constraint) (before after : List ℕ) (r : WriteAnswer) (n : ℕ) → r ≡ WriteAnswer.Written n → Writes rows before r after
     → n ≤ 1281

@@ -1,51 +1,29 @@
 -- A monitor to which some steps are left answers the next as its questions say over those steps, and where it takes it has taken one more: a list of
 -- requests has one outcome.
-use Prim.Native.Nat.{ℕ}
 use mathlib.Core.Path.{_≡_, sym, _∙_, subst}
 use mathlib.Core.List.{List, [], _∷_, _++_, map}
-use mathlib.Core.Option.{Option}
 use Rattle.constraint.specs.Steps.{Step}
 use Rattle.constraint.specs.Questions.{Judged}
 use Rattle.constraint.specs.Run.{stepFor, questions, asks, Left}
-use Rattle.constraint.specs.Promise.{ReadsRow}
 use Rattle.constraint.specs.declared.Answer.the-variants.{Taken}
 use Rattle.constraint.specs.declared.Call.{Call}
 use Rattle.constraint.specs.declared.Constraint.{Constraint}
-use Rattle.constraint.specs.declared.Verdict.{Verdict}
 use Rattle.row.proofs.Engine.{engine}
 use Rattle.constraint.proofs.Sanity.{run-once}
-use Rattle.monitor.specs.Contract.{Steps, Reading as VerdictReading}
+use Rattle.monitor.specs.Contract.{Steps}
 use Rattle.monitor.specs.Beside.{allTaken}
 use Rattle.monitor.specs.declared.Monitor.{Monitor}
 use Rattle.monitor.specs.declared.Stepped.{Stepped}
 use Rattle.monitor.proofs.Following.{Follows}
 use Rattle.monitor.proofs.Withdrawing.{takes-more, after-call, remains-follows}
-use Rattle.delkuthi.specs.Taking.{Took, Stands}
-
-module _ (rows : List Constraint) (steps : List Step) (m : Monitor) (stands : Stands rows steps m) where
-  -- its records follow the steps
-  pub stands-follows : Follows engine rows steps m
-  stands-follows =
-      subst (λ (x : Monitor). Follows engine rows steps x) (sym (stands .made))
-      (remains-follows engine rows (stands .accepted) (stands .requests) (stands .remains))
-
-  -- a row reads what the definitions say after the steps
-  pub stands-reads : (i : ℕ) (verdict : Option Verdict) → VerdictReading m i verdict → ReadsRow rows steps i verdict
-  stands-reads i verdict reading =
-      let means = reading .means rows (stands .requests) (stands .accepted) (stands .made) in
-      subst (λ (left : Left). ReadsRow rows (left .steps) i verdict) (run-once rows (means .1 .1) (stands .remains .1) .1) (means .2)
+use Rattle.delkuthi.specs.Taking.{Took}
 
 module _ (rows : List Constraint) (steps : List Step) (m : Monitor) (took : Took rows steps m) where
-  -- a list of calls that are all taken is one of requests
-  pub took-stands : Stands rows steps m
-  took-stands =
-      record {
-        accepted = took .accepted;
-        requests = map asks (took .calls);
-        may = took .all-taken .0;
-        remains = (allTaken (took .calls), took .all-taken .1);
-        made = took .made;
-      }
+  -- its records follow the steps
+  pub took-follows : Follows engine rows steps m
+  took-follows =
+      subst (Follows engine rows steps) (sym (took .made))
+      (remains-follows engine rows (took .accepted) (map asks (took .calls)) (allTaken (took .calls), took .all-taken .1))
 
   module _ (s : Call) (result : Stepped) (kept : Steps m (asks s) result) where
     pub took-judged : Judged (questions rows steps s) (result .answer)

@@ -2,6 +2,7 @@
 use Prim.Native.Nat.{ℕ, _+_, _*_, _<_, _≤_}
 use mathlib.Core.Path.{_≡_}
 use mathlib.Core.List.{List}
+use mathlib.Core.Logic.{_⊎_}
 use mathlib.Core.Option.{Option, none, some}
 use lib.ListN.{length}
 use Rattle.constraint.specs.Accepted.{Accepted}
@@ -31,6 +32,10 @@ wordOf (some Verdict.Open) = 0
 wordOf (some Verdict.Kept) = 1
 wordOf (some (Verdict.Broken n)) = 2
 wordOf none = 15
+
+-- one of these words, as is answered whatever was lent
+abbrev pub KnownWord : ℕ → Type 0
+KnownWord word = (word ≤ 2) ⊎ (word ≡ 15)
 
 -- a number for what a row number reads: that of its verdict after the steps that the requests have left
 pub record NumberOfVerdict (number : Option Verdict → ℕ) (m : Monitor) (i answer : ℕ) : Type 0 where

@@ -1,5 +1,5 @@
 -- What the calls for a printed page promise.
-use Prim.Native.Nat.{ℕ, zero, suc, min}
+use Prim.Native.Nat.{ℕ, min}
 use mathlib.Core.Path.{_≡_}
 use mathlib.Core.List.{List}
 use lib.ListN.{getD}
@@ -12,8 +12,7 @@ use Rattle.text.specs.Content.{Copied}
 use Rattle.monitor.specs.Machine.{noRow}
 use Rattle.monitor.specs.Contract.{after, Remains}
 use Rattle.monitor.specs.declared.Monitor.{Monitor}
-use Rattle.page.specs.Sheet.{verdictFor, blankPage, withLine}
-use Rattle.page.specs.declared.Page.{Page}
+use Rattle.page.specs.Sheet.{verdictFor}
 
 -- how many rows a page has: a monitor's, and no more than 32
 abbrev pub printedRows : Monitor → ℕ
@@ -25,11 +24,6 @@ typeIn m i = getD (m .rows) i noRow .rule .form
 
 abbrev pub brokenIn : Monitor → ℕ → ℕ
 brokenIn m i = getD (m .rows) i noRow .now .broken
-
--- the page after its first i rows
-unfoldable pub filled : Monitor → ℕ → Page
-filled m zero = blankPage (printedRows m) (m .closed)
-filled m (suc i) = withLine (filled m i) i (typeIn m i) (brokenIn m i)
 
 -- the page's bytes, for any monitor
 abbrev pub printed : Monitor → List ℕ

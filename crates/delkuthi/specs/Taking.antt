@@ -1,7 +1,6 @@
 -- What taking a recording gives: each record is put to the monitor that has taken those before it, and then the close.
 use Prim.Native.Nat.{ℕ, _+_, _<_}
 use mathlib.Core.Path.{_≡_}
-use mathlib.Core.Bool.{Bool}
 use mathlib.Core.List.{List, [], _∷_, _++_, map}
 use Rattle.constraint.specs.Steps.{Step, close}
 use Rattle.constraint.specs.Questions.{Judged}
@@ -10,10 +9,10 @@ use Rattle.constraint.specs.Table.{lengthAt}
 use Rattle.constraint.specs.Recording.{callAt, recordQuestions, recording-of, recording-refused}
 use Rattle.constraint.specs.Recording.{ReadsRecording}
 use Rattle.constraint.specs.declared.Answer.the-variants.{Taken}
-use Rattle.constraint.specs.Run.{stepFor, Request, asks}
+use Rattle.constraint.specs.Run.{stepFor, asks}
 use Rattle.constraint.specs.declared.Call.{Call}
 use Rattle.constraint.specs.declared.Constraint.{Constraint}
-use Rattle.monitor.specs.Contract.{after, Remains}
+use Rattle.monitor.specs.Contract.{after}
 use Rattle.monitor.specs.Beside.{TakesAll}
 use Rattle.monitor.specs.declared.Monitor.{Monitor}
 use Rattle.lent.specs.Layout.{Words}
@@ -26,14 +25,6 @@ pub record Took (rows : List Constraint) (steps : List Step) (m : Monitor) : Typ
   pub calls : List Call
   pub all-taken : TakesAll rows calls steps
   pub made : m ≡ after rows (map asks calls)
-
--- a monitor over an accepted table after requests that have left just these steps
-pub record Stands (rows : List Constraint) (steps : List Step) (m : Monitor) : Type 0 where
-  pub accepted : Accepted rows
-  pub requests : List Request
-  pub may : Bool
-  pub remains : Remains rows requests (record { steps = steps; may = may })
-  pub made : m ≡ after rows requests
 
 -- the steps of the records before a place: none before the version byte and before the first record, which stands behind it
 pub data StepsBefore (rows : List Constraint) (bytes : List ℕ) : ℕ → List Step → Type 0 where

@@ -9,12 +9,12 @@ use monitor::verdicts;
 ghost use Prim.Native.Nat.{_≤_};
 ghost use mathlib.Core.Path.{_≡_};
 ghost use Rattle.constraint.specs.declared.Call.{Call};
-ghost use Rattle.monitor.specs.Contract.{verdictIn, stepIn};
-ghost use Rattle.monitor.specs.Parts.{verdictBy};
+ghost use Rattle.monitor.specs.Contract.{verdictIn, Reading};
+ghost use Rattle.monitor.specs.declared.Monitor.{Monitor};
 ghost use Rattle.constraint.specs.Run.{asks, withdraws};
-ghost use Rattle.lent.specs.Contract.{Takes, ReadOff};
+ghost use Rattle.lent.specs.Contract.{Takes, Holds, ReadOff};
 ghost use Rattle.lent.specs.Fresh.{Begins};
-ghost use Rattle.delkuthi.specs.Lent.{wordOf, WordOfVerdict, StepOfVerdict, NumberOfRows, version, monitorSize};
+ghost use Rattle.delkuthi.specs.Lent.{KnownWord, WordOfVerdict, StepOfVerdict, NumberOfRows, version, monitorSize};
 
 // The version of the library: 0.5.0 as major * 1,000,000 + minor * 1,000 + patch.
 pub const VERSION: u32 = 5000;
@@ -55,32 +55,13 @@ pub const BROKEN: u8 = 2;
 
 pub const NO_ROW: u8 = 15;
 
-// The word for a row's verdict, by the numbers that the verdict is read off.
-fn word_by(row: u64, len: usize, closed: u64, broken: u64) -> u8
-    ensures { λ r. ⌜ r ≡ wordOf (verdictIn (verdictBy row len closed broken)) ⌝ }
+// What a row reads, by the monitor that is lent.
+fn read(m: &Words, row: u64) -> RowVerdict
+    ensures { λ r. ⌜ ((n : Monitor) → Holds (now (m .entry)) n → Reading n row (verdictIn r)) ⌝ }
 {
-    match verdicts::by(row, len, closed, broken) {
-        RowVerdict::Refused(_) => NO_ROW,
-        RowVerdict::Reads(v) => match v {
-            Verdict::Open => OPEN,
-            Verdict::Kept => KEPT,
-            Verdict::Broken(_) => BROKEN,
-        },
-    }
-}
-
-// The step that broke a row, by the numbers that its verdict is read off: 0 where none did.
-fn step_by(row: u64, len: usize, closed: u64, broken: u64) -> u64
-    ensures { λ r. ⌜ r ≡ stepIn (verdictIn (verdictBy row len closed broken)) ⌝ }
-{
-    match verdicts::by(row, len, closed, broken) {
-        RowVerdict::Refused(_) => 0,
-        RowVerdict::Reads(v) => match v {
-            Verdict::Open => 0,
-            Verdict::Kept => 0,
-            Verdict::Broken(step) => step,
-        },
-    }
+    let at = verdicts::place(row);
+    let broken = m[at][1][words::BROKEN];
+    verdicts::by(row, lent::held(m), lent::closed(m), broken)
 }
 
 // An event of a kind at a time: 0 if it is taken, else the number of its refusal.
@@ -123,14 +104,19 @@ pub extern "C" fn delkuthi_withdraw(m: &mut Words) -> u8
     calls::withdraw(m)
 }
 
-// The word for what a row reads: OPEN, KEPT, BROKEN, or NO_ROW.
+// The word for what a row reads: OPEN, KEPT, BROKEN, or NO_ROW, whatever was lent.
 #[no_mangle]
 pub extern "C" fn delkuthi_row_verdict(m: &Words, row: u64) -> u8
-    ensures { λ r. ⌜ ReadOff (now (m .entry)) (λ n. WordOfVerdict n row) r ⌝ }
+    ensures { λ r. ⌜ (KnownWord r × ReadOff (now (m .entry)) (λ n. WordOfVerdict n row) r) ⌝ }
 {
-    let at = verdicts::place(row);
-    let broken = m[at][1][words::BROKEN];
-    word_by(row, lent::held(m), lent::closed(m), broken)
+    match read(m, row) {
+        RowVerdict::Refused(_) => NO_ROW,
+        RowVerdict::Reads(v) => match v {
+            Verdict::Open => OPEN,
+            Verdict::Kept => KEPT,
+            Verdict::Broken(_) => BROKEN,
+        },
+    }
 }
 
 // The step that broke a row: 0 where none did, and where there is no row of that number.
@@ -138,9 +124,14 @@ pub extern "C" fn delkuthi_row_verdict(m: &Words, row: u64) -> u8
 pub extern "C" fn delkuthi_row_step(m: &Words, row: u64) -> u64
     ensures { λ r. ⌜ ReadOff (now (m .entry)) (λ n. StepOfVerdict n row) r ⌝ }
 {
-    let at = verdicts::place(row);
-    let broken = m[at][1][words::BROKEN];
-    step_by(row, lent::held(m), lent::closed(m), broken)
+    match read(m, row) {
+        RowVerdict::Refused(_) => 0,
+        RowVerdict::Reads(v) => match v {
+            Verdict::Open => 0,
+            Verdict::Kept => 0,
+            Verdict::Broken(step) => step,
+        },
+    }
 }
 
 // The number of rows, at most 32 whatever was lent.

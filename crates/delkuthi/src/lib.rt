@@ -28,7 +28,9 @@ pub fn program_text(table: &[u8], recording: &[u8]) -> Text
     if TABLE_SIZE_LIMIT < table.len() || RECORDING_SIZE_LIMIT < recording.len() {
         return Text::new().refused_line(17, 0);
     }
-    report::text_of(report::summary_alone(table, recording))
+    let mut m = [[[0u64; 64]; 2]; 35];
+    let answer = report::answer_on(&mut m, table, recording);
+    report::text_of(answer, report::summary_of(&m))
 }
 
 // Writes the report on a recording under a table to a lent buffer and answers the number of bytes written; where the buffer is too short, answers 0
@@ -37,7 +39,8 @@ pub fn program_text(table: &[u8], recording: &[u8]) -> Text
 pub extern "C" fn delkuthi_report(table: &[u8], recording: &[u8], buffer: &mut [u8]) -> usize
     ensures { λ r. ⌜ Reports (now (table .entry)) (now (recording .entry)) (now (buffer .entry)) r (now (buffer .exit)) ⌝ }
 {
-    report::write(report::summary_alone(table, recording), buffer)
+    let mut m = [[[0u64; 64]; 2]; 35];
+    report::report_on(&mut m, table, recording, buffer)
 }
 
 // Writes the report on a recording under a table to a lent buffer, on a monitor that is lent: the number of bytes written, or 0 where the buffer is
@@ -49,10 +52,10 @@ pub extern "C" fn delkuthi_report_on(
     recording: &[u8],
     buffer: &mut [u8],
 ) -> usize
-    ensures { λ r. ⌜ ReportsOn (now (m .entry)) (now (table .entry)) (now (recording .entry)) (now (buffer .entry)) r (now (buffer .exit)) (now (m .exit)) ⌝ }
+    ensures { λ r. ⌜ ReportsOn (now (m .entry)) (now (table .entry)) (now (recording .entry))
+        (now (buffer .entry)) r (now (buffer .exit)) (now (m .exit)) ⌝ }
 {
-    let summary = report::summary_on(m, table, recording);
-    report::write(summary, buffer)
+    report::report_on(m, table, recording, buffer)
 }
 
 // Writes the report of a monitor that was stepped call by call to a lent buffer: the number of bytes written, or 0 where the buffer is too short or
@@ -61,9 +64,9 @@ pub extern "C" fn delkuthi_report_on(
 pub extern "C" fn delkuthi_report_of(m: &Words, buffer: &mut [u8]) -> usize
     ensures { λ r. ⌜ ReadOff (now (m .entry)) (λ n answer. ReportsOf n (now (buffer .entry)) answer (now (buffer .exit))) r ⌝ }
 {
-    if lent::closed(m) == 0 {
+    let summary = report::summary_of(m);
+    if summary.closed == 0 {
         return 0;
     }
-    let summary = report::summary_by(m, ReadAnswer::Accepted);
-    report::write(summary, buffer)
+    report::write(ReadAnswer::Accepted, summary, buffer)
 }

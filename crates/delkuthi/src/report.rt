@@ -1,32 +1,24 @@
-// The report on a recording: a summary is gathered from the monitor where that lies, and then written.
+// The report and the page of a monitor: its summary is gathered where it lies, and then written.
 use crate::records::take_recording;
 use lent::COUNT;
 use lent::NUMBERS;
 use lent::Words;
 use lent::fresh::fresh;
 use machine::words;
-use monitor::RowVerdict;
-use monitor::verdicts;
+use page::Summary;
 use table::ReadAnswer;
 use text::Text;
-ghost use Prim.Native.Nat.{_<_};
+ghost use Prim.Native.Nat.{_≤_};
 ghost use mathlib.Core.Path.{_≡_};
-ghost use Rattle.constraint.specs.Limits.{rowLimit};
-ghost use Rattle.delkuthi.specs.Telling.{refusalOf, summaryOf, withStep, GathersFrom, TellsRows, TellsSummary, SummaryOn, SummaryAlone};
-ghost use Rattle.delkuthi.specs.Telling.{WritesSummary};
-
-// The summary that a report is written from: the answer to the recording, and of the monitor that took it the numbers that the lines are made of.
-pub struct Summary {
-    pub answer: ReadAnswer,
-    // the steps taken, the close included
-    pub count: u64,
-    // the number of rows
-    pub len: usize,
-    // 0: not closed
-    pub closed: u64,
-    // for each row the step that broke it; 0: none did
-    pub steps: [u64; 32],
-}
+ghost use mathlib.Core.List.{map};
+ghost use lib.ListN.{length, take};
+ghost use Rattle.constraint.specs.Report.{rowLines};
+ghost use Rattle.text.specs.Content.{extended, Holds as Contains, Copied};
+ghost use Rattle.page.specs.Sheet.{verdictFor};
+ghost use Rattle.monitor.specs.declared.Monitor.{Monitor};
+ghost use Rattle.lent.specs.Contract.{Holds};
+ghost use Rattle.delkuthi.specs.Reporting.{LeftBy, ReportsOn};
+ghost use Rattle.delkuthi.specs.Telling.{refusalOf, summaryOf, reportText};
 
 // The refusal that a number other than 0 stands for.
 fn refusal_of(number: u64) -> ReadAnswer
@@ -38,98 +30,84 @@ fn refusal_of(number: u64) -> ReadAnswer
     }
 }
 
-// An answer and a monitor's numbers, before its rows'.
-fn summary_of(answer: ReadAnswer, count: u64, len: usize, closed: u64) -> Summary
-    ensures { λ r. ⌜ r ≡ summaryOf answer count len closed ⌝ }
-{
-    Summary {
-        answer,
-        count,
-        len,
-        closed,
-        steps: [0u64; 32],
-    }
-}
-
-// The same with the step that broke row i.
-fn with_step(mut summary: Summary, i: usize, step: u64) -> Summary
-    requires { ⌜ i < rowLimit ⌝ }
-    ensures { λ r. ⌜ r ≡ withStep summary i step ⌝ }
-{
-    summary.steps[i] = step;
-    summary
-}
-
-// The summary of a monitor that is lent, with an answer.
-pub(crate) fn summary_by(m: &Words, answer: ReadAnswer) -> Summary
-    ensures { λ r. ⌜ GathersFrom (now (m .entry)) answer r ⌝ }
-{
-    let mut summary = summary_of(answer, m[NUMBERS][0][COUNT], lent::held(m), lent::closed(m));
-    let mut i = 0;
-    while i < 32 {
-        let step = m[i][1][words::BROKEN];
-        summary = with_step(summary, i, step);
-        i += 1;
-    }
-    summary
-}
-
-// The summary of a recording under a table, on a monitor that is lent.
-pub(crate) fn summary_on(m: &mut Words, table: &[u8], recording: &[u8]) -> Summary
-    ensures { λ r. ⌜ SummaryOn (now (m .entry)) (now (table .entry)) (now (recording .entry)) r (now (m .exit)) ⌝ }
+// The answer to a recording under a table, on a monitor that is lent, which takes it.
+pub(crate) fn answer_on(m: &mut Words, table: &[u8], recording: &[u8]) -> ReadAnswer
+    ensures { λ r. ⌜ LeftBy (now (m .entry)) (now (table .entry)) (now (recording .entry)) r (now (m .exit)) ⌝ }
 {
     let number = fresh(m, table);
     if number == 0 {
-        let answer = take_recording(m, recording);
-        return summary_by(m, answer);
+        return take_recording(m, recording);
     }
-    summary_by(m, refusal_of(number))
+    refusal_of(number)
 }
 
-// The text with the lines of the rows behind it.
-fn row_lines(text: Text, summary: Summary) -> Text
-    ensures { λ r. ⌜ TellsRows summary text r ⌝ }
+// The summary of a monitor that is lent: nothing of it is copied but numbers.
+pub(crate) fn summary_of(m: &Words) -> Summary
+    ensures { λ r. ⌜ ((n : Monitor) → Holds (now (m .entry)) n → r ≡ summaryOf n) ⌝ }
+{
+    let mut types = [0u64; 32];
+    let mut steps = [0u64; 32];
+    let mut i = 0;
+    while i < 32 {
+        types[i] = m[i][1][words::FORM];
+        steps[i] = m[i][1][words::BROKEN];
+        i += 1;
+    }
+    Summary {
+        types,
+        steps,
+        rows: lent::held(m),
+        count: m[NUMBERS][0][COUNT],
+        closed: lent::closed(m),
+    }
+}
+
+// The text with the lines of the first rows behind it, by the steps that broke them and the mark of the close.
+fn row_lines(text: Text, steps: &[u64], rows: usize, closed: u64) -> Text
+    requires { ⌜ rows ≤ length (now steps) ⌝ }
+    ensures { λ r. ⌜ r ≡ extended (rowLines 0 (map (verdictFor closed) (take rows (now (steps .entry))))) text ⌝ }
 {
     let mut lines = text;
     let mut row = 0;
-    while row < summary.len {
-        let at = verdicts::place(row as u64);
-        let step = summary.steps[at];
-        match verdicts::by(row as u64, summary.len, summary.closed, step) {
-            RowVerdict::Reads(verdict) => {
-                lines = lines.row_line(row, verdict);
-            }
-            RowVerdict::Refused(_) => {
-                return lines;
-            }
-        }
+    while row < rows {
+        let verdict = page::verdict(closed, steps[row]);
+        lines = lines.row_line(row, verdict);
         row += 1;
     }
     lines
 }
 
 // The text of the report: "closed N" and the lines of the rows, or "refused N P".
-pub(crate) fn text_of(summary: Summary) -> Text
-    ensures { λ r. ⌜ TellsSummary summary r ⌝ }
+pub(crate) fn text_of(answer: ReadAnswer, summary: Summary) -> Text
+    ensures { λ r. ⌜ Contains r (reportText answer summary) ⌝ }
 {
-    let answer = summary.answer;
     match answer {
-        ReadAnswer::Accepted => row_lines(Text::new().closed_line(summary.count), summary),
+        ReadAnswer::Accepted => {
+            let rows = page::held(summary.rows);
+            row_lines(
+                Text::new().closed_line(summary.count),
+                &summary.steps,
+                rows,
+                summary.closed,
+            )
+        }
         ReadAnswer::Refused { number, place } => Text::new().refused_line(number, place),
     }
 }
 
 // Writes the report to the front of a buffer and answers its length; where the buffer is too short, answers 0 and leaves it as it was.
-pub(crate) fn write(summary: Summary, buffer: &mut [u8]) -> usize
-    ensures { λ r. ⌜ WritesSummary summary (now (buffer .entry)) r (now (buffer .exit)) ⌝ }
+pub(crate) fn write(answer: ReadAnswer, summary: Summary, buffer: &mut [u8]) -> usize
+    ensures { λ r. ⌜ Copied (reportText answer summary) (now (buffer .entry)) r (now (buffer .exit)) ⌝ }
 {
-    text_of(summary).copy_to(buffer)
+    text_of(answer, summary).copy_to(buffer)
 }
 
-// The summary of a recording under a table, on a monitor of its own.
-pub(crate) fn summary_alone(table: &[u8], recording: &[u8]) -> Summary
-    ensures { λ r. ⌜ SummaryAlone (now (table .entry)) (now (recording .entry)) r ⌝ }
+// Writes the report on a recording under a table, which a monitor takes that is lent.
+pub(crate) fn report_on(m: &mut Words, table: &[u8], recording: &[u8], buffer: &mut [u8]) -> usize
+    ensures { λ r. ⌜ ReportsOn (now (m .entry)) (now (table .entry)) (now (recording .entry))
+        (now (buffer .entry)) r (now (buffer .exit)) (now (m .exit)) ⌝ }
 {
-    let mut m = [[[0u64; 64]; 2]; 35];
-    summary_on(&mut m, table, recording)
+    let answer = answer_on(m, table, recording);
+    let summary = summary_of(m);
+    write(answer, summary, buffer)
 }

@@ -232,8 +232,8 @@ shaped-row h i r b zero-there s =
           (λ same. subst (λ (k : ℕ). RestZero (rowAt (withRow h i r b .monitor) k) (keptAt (withRow h i r b .monitor) k)) (sym same)
           (subst₂ RestZero (sym (getD-set-same (h .monitor .rows) i r noRow (omega (arith, s .rows-there, same, l))))
           (sym (getD-set-same (h .monitor .before) i b noBefore (omega (arith, s .kept-there, same, l)))) (zero-there (omega (arith, same, l)))))
-          (λ far. subst₂ RestZero (sym (getD-set-other (h .monitor .rows) i j r noRow far)) (sym (getD-set-other (h .monitor .before) i j b noBefore far))
-          (s .rest-zero j l));
+          (λ far. subst₂ RestZero (sym (getD-set-other (h .monitor .rows) i j r noRow far))
+          (sym (getD-set-other (h .monitor .before) i j b noBefore far)) (s .rest-zero j l));
     }
 
 pub shaped-visited : (h : Lent) (first n : ℕ) (o : Occurrence) (number : ℕ) → Shaped h → Shaped (visited h first n o number)

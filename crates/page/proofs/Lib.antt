@@ -2,4 +2,3 @@
 pub mod Lines
 pub mod Pages
 pub mod ReadBack
-pub mod Writing

@@ -11,16 +11,7 @@ use lib.Dec.{leb, ltb}
 use borrow.Author.Tests.{leb-true, ltb-true}
 use Rattle.constraint.specs.Report.{decimal, blank, lineEnd}
 use Rattle.constraint.specs.Types.{synchronizationName, typeNames}
-use Rattle.constraint.specs.Page.{
-  leftIn,
-  rightIn,
-  nameOf,
-  verdictWord,
-  stepText,
-  lineText,
-  pageWidth,
-  pageLine,
-}
+use Rattle.constraint.specs.Page.{leftIn, rightIn, nameOf, verdictWord, stepText, lineText, pageWidth, pageLine}
 use Rattle.constraint.specs.declared.Verdict.{Verdict}
 use Rattle.constraint.specs.declared.Verdict.the-variants.{Open, Kept, Broken}
 use Rattle.constraint.proofs.Lists.{Each, each-none, each-cons, each-append}
@@ -132,77 +123,72 @@ last-columns i few =
 
 -- ---- the line
 
-regroup : (a b c d : List ℕ) → a ++ b ++ c ++ d ≡ a ++ (b ++ c ++ d)
-regroup a b c d = simp append-assoc
+-- its columns
+abbrev pub number : ℕ → List ℕ
+number i = rightIn 3 (decimal i)
 
-module _ (i type : ℕ) (v : Verdict) where
-  -- its columns
-  abbrev pub number : List ℕ
-  number = rightIn 3 (decimal i)
+abbrev pub gap : List ℕ
+gap = replicate 2 blank
 
-  abbrev pub gap : List ℕ
-  gap = replicate 2 blank
+abbrev pub name : ℕ → List ℕ
+name type = leftIn 24 (nameOf type)
 
-  abbrev pub name : List ℕ
-  name = leftIn 24 (nameOf type)
+abbrev pub word : Verdict → List ℕ
+word v = leftIn 8 (verdictWord v)
 
-  abbrev pub word : List ℕ
-  word = leftIn 8 (verdictWord v)
+abbrev pub step : Verdict → List ℕ
+step v = rightIn 20 (stepText v)
 
-  abbrev pub step : List ℕ
-  step = rightIn 20 (stepText v)
+abbrev rest : List ℕ
+rest = replicate 15 blank
 
-  abbrev pub rest : List ℕ
-  rest = replicate 15 blank
+abbrev pub end : List ℕ
+end = rest ++ lineEnd ∷ []
 
-  module _ (few : i < 1000) where
-    -- where each begins
-    pub at-gap : length number ≡ 3
-    at-gap = right-length 3 (decimal i) (number-fits i few)
+module _ (i type : ℕ) (v : Verdict) (few : i < 1000) where
+  -- where each begins
+  pub at-gap : length (number i) ≡ 3
+  at-gap = right-length 3 (decimal i) (number-fits i few)
 
-    pub at-name : length (number ++ gap) ≡ 5
-    at-name = omega (arith, length-append number gap, at-gap)
+  pub at-name : length (number i ++ gap) ≡ 5
+  at-name = omega (arith, length-append (number i) gap, at-gap)
 
-    pub at-word : length (number ++ gap ++ name) ≡ 29
-    at-word = omega (arith, length-append (number ++ gap) name, at-name, left-length 24 (nameOf type) (name-fits type))
+  pub at-word : length (number i ++ gap ++ name type) ≡ 29
+  at-word = omega (arith, length-append (number i ++ gap) (name type), at-name, left-length 24 (nameOf type) (name-fits type))
 
-    pub at-step : length (number ++ gap ++ name ++ word) ≡ 37
-    at-step = omega (arith, length-append (number ++ gap ++ name) word, at-word, left-length 8 (verdictWord v) (word-fits v))
+  pub at-step : length (number i ++ gap ++ name type ++ word v) ≡ 37
+  at-step = omega (arith, length-append (number i ++ gap ++ name type) (word v), at-word, left-length 8 (verdictWord v) (word-fits v))
 
-    pub at-rest : length (number ++ gap ++ name ++ word ++ step) ≡ 57
-    at-rest = omega (arith, length-append (number ++ gap ++ name ++ word) step, at-step, right-length 20 (stepText v) (step-fits v))
+  pub at-rest : length (number i ++ gap ++ name type ++ word v ++ step v) ≡ 57
+  at-rest = omega (arith, length-append (number i ++ gap ++ name type ++ word v) (step v), at-step, right-length 20 (stepText v) (step-fits v))
 
-    -- 15 blanks fill up to 72
-    pub text-is : lineText i type v ≡ number ++ gap ++ name ++ word ++ step ++ rest
-    unfolding lineText
-    text-is = rw at-rest
+  -- 15 blanks fill up to 72
+  pub text-is : lineText i type v ≡ number i ++ gap ++ name type ++ word v ++ step v ++ rest
+  unfolding lineText
+  text-is = rw at-rest
 
-    pub text-length : length (lineText i type v) ≡ pageWidth
-    text-length = omega (arith, ap length text-is, length-append (number ++ gap ++ name ++ word ++ step) rest, at-rest)
+  pub text-length : length (lineText i type v) ≡ pageWidth
+  text-length = omega (arith, ap length text-is, length-append (number i ++ gap ++ name type ++ word v ++ step v) rest, at-rest)
 
-    pub text-printed : Each Printed (lineText i type v)
-    text-printed =
-        rw text-is
-        (each-append Printed (number ++ gap ++ name ++ word ++ step) rest
-        (each-append Printed (number ++ gap ++ name ++ word) step
-        (each-append Printed (number ++ gap ++ name) word
-        (each-append Printed (number ++ gap) name
-        (each-append Printed number gap (right-printed 3 (decimal i) (number-fits i few)) (blanks-printed 2))
-        (left-printed 24 (nameOf type) (name-fits type)))
-        (left-printed 8 (verdictWord v) (word-fits v)))
-        (right-printed 20 (stepText v) (step-fits v)))
-        (blanks-printed 15))
+  pub text-printed : Each Printed (lineText i type v)
+  text-printed =
+      rw text-is
+      (each-append Printed (number i ++ gap ++ name type ++ word v ++ step v) rest
+      (each-append Printed (number i ++ gap ++ name type ++ word v) (step v)
+      (each-append Printed (number i ++ gap ++ name type) (word v)
+      (each-append Printed (number i ++ gap) (name type)
+      (each-append Printed (number i) gap (right-printed 3 (decimal i) (number-fits i few)) (blanks-printed 2))
+      (left-printed 24 (nameOf type) (name-fits type)))
+      (left-printed 8 (verdictWord v) (word-fits v)))
+      (right-printed 20 (stepText v) (step-fits v)))
+      (blanks-printed 15))
 
-    pub line-length : length (pageLine i type v) ≡ 73
-    line-length = omega (arith, length-append (lineText i type v) (lineEnd ∷ []), text-length)
+  pub line-length : length (pageLine i type v) ≡ 73
+  line-length = omega (arith, length-append (lineText i type v) (lineEnd ∷ []), text-length)
 
-    pub line-is : pageLine i type v ≡ number ++ gap ++ name ++ word ++ step ++ (rest ++ lineEnd ∷ [])
-    line-is =
-        ap (λ (line : List ℕ). line ++ lineEnd ∷ []) text-is ∙ append-assoc (number ++ gap ++ name ++ word ++ step) rest (lineEnd ∷ [])
-
-    -- in two parts, at 29
-    pub line-parts : pageLine i type v ≡ (number ++ gap ++ name) ++ (word ++ step ++ (rest ++ lineEnd ∷ []))
-    line-parts = line-is ∙ regroup (number ++ gap ++ name) word step (rest ++ lineEnd ∷ [])
+  pub line-is : pageLine i type v ≡ number i ++ gap ++ name type ++ word v ++ step v ++ end
+  line-is =
+      ap (λ (line : List ℕ). line ++ lineEnd ∷ []) text-is ∙ append-assoc (number i ++ gap ++ name type ++ word v ++ step v) rest (lineEnd ∷ [])
 
 -- ---- in a buffer
 

@@ -1,6 +1,6 @@
 -- The page line after line: row i's line stands behind i lines and a heading for each 16 of them, so its place and the page's length follow from the
 -- number of rows alone; and each line has 72 bytes, none of them a line end.
-use Prim.Native.Nat.{ℕ, zero, suc, _+_, _-_, _*_, _/_, _%_, _≤_, _<_}
+use Prim.Native.Nat.{ℕ, zero, suc, _+_, _-_, _*_, _/_, _%_, _≤_, _<_, min}
 use native.Mathlib.Decide.{decLt}
 use native.Mathlib.Nat.{suc-add, zero-add}
 use native.Mathlib.Numerals.{add-one}
@@ -13,11 +13,17 @@ use lib.ListN.{length, replicate, length-append, getD-replicate}
 use lib.Seq.{sets}
 use lib.Dec.{eqb}
 use borrow.Author.Tests.{eqb-true, eqb-false}
+use Rattle.constraint.specs.Limits.{rowLimit}
+use Rattle.constraint.specs.Steps.{at}
 use Rattle.constraint.specs.Report.{lineEnd}
 use Rattle.constraint.specs.Page.{pageWidth, lineText, pageLine, hyphens, heading, pageLines, pageText}
 use Rattle.page.specs.ReadBack.{linesOf, pageLength, Lines, no-line, one-more, lineStart}
 use Rattle.constraint.specs.declared.Verdict.{Verdict}
 use Rattle.constraint.proofs.Lists.{split}
+use Rattle.text.specs.Content.{Copied}
+use Rattle.text.proofs.Texts.{copied-all, copied-none}
+use Rattle.page.specs.Sheet.{verdictsOf, textOf}
+use Rattle.page.specs.declared.Summary.{Summary}
 use Rattle.page.proofs.Lines.{text-length, text-printed, line-length, stored}
 
 -- ---- headings
@@ -172,3 +178,22 @@ module _ (types : ℕ → ℕ) (verdicts : ℕ → Verdict) where
             (stored l 0 place (pageLines types verdicts i) (heading i) buffer middle before so-far (rw (zero-add place) headed))
             (rw (zero-add behind) put)),
       )
+
+-- ---- written
+
+-- a page of some rows is their lines
+pub some-rows : (types : ℕ → ℕ) (verdicts : ℕ → Verdict) (n : ℕ) → ¬ (n ≡ 0) → pageText types verdicts n ≡ pageLines types verdicts n
+some-rows types verdicts zero some = absurd (some refl)
+some-rows types verdicts (suc n) some = refl
+
+module _ (page : Summary) (before : List ℕ) (size : ℕ) (counted : size ≡ pageLength (min (page .rows) rowLimit)) where
+  text-size : length (textOf page) ≡ size
+  text-size = omega (arith, page-length (at (page .types)) (verdictsOf (page .closed) (page .steps)) (min (page .rows) rowLimit) (omega arith))
+
+  -- the buffer is too short
+  pub copied-nothing : length before < size → Copied (textOf page) before 0 before
+  copied-nothing short = copied-none (textOf page) before (omega (arith, text-size))
+
+  -- the page is stored
+  pub copied-page : (after : List ℕ) → size ≤ length before → after ≡ sets before 0 (textOf page) → Copied (textOf page) before size after
+  copied-page after long put = rw (put, ← text-size) (copied-all (textOf page) before (omega (arith, text-size)))

@@ -8,7 +8,7 @@ ghost use Rattle.constraint.specs.Steps.{at};
 ghost use Rattle.constraint.specs.Page.{leftIn, rightIn, nameOf, verdictWord, stepText, pageLine, pageLines};
 ghost use Rattle.page.specs.ReadBack.{pageLength};
 ghost use Rattle.text.specs.Content.{Copied};
-ghost use Rattle.page.specs.Sheet.{verdictFor, verdictsOf, blankPage, withLine, textOf, rowColumns, verdictColumns, Headed};
+ghost use Rattle.page.specs.Sheet.{verdictFor, verdictsOf, textOf, Headed};
 
 // How many rows a page has at most.
 const ROW_LIMIT: usize = constraint::ROW_LIMIT;
@@ -34,11 +34,17 @@ const NAMES: [[u8; 24]; 11] = [
     *b"Repetition              ",
 ];
 
-// What a page says of its rows: their types, the steps that broke them (0: none did), how many there are, and the mark of the close (0: not closed).
-pub struct Page {
+// What a page and a report say of a monitor.
+pub struct Summary {
+    // for each row its type
     pub types: [u64; 32],
+    // and the step that broke it; 0: none did
     pub steps: [u64; 32],
+    // the number of rows
     pub rows: usize,
+    // the steps taken, the close included
+    pub count: u64,
+    // 0: not closed
     pub closed: u64,
 }
 
@@ -54,7 +60,7 @@ fn name(form: u64) -> [u8; 24]
 }
 
 // The verdict of a row, by the mark of the close and the step that broke it.
-fn verdict(closed: u64, step: u64) -> Verdict
+pub fn verdict(closed: u64, step: u64) -> Verdict
     ensures { λ r. ⌜ r ≡ verdictFor closed step ⌝ }
 {
     if 0 < step {
@@ -102,35 +108,19 @@ fn size(rows: usize) -> usize
     LINE * (rows + (rows + 15) / GROUP)
 }
 
-// Puts a row's number and the name of its type at a place of a buffer: the first 29 bytes of its line.
-fn put_row(buffer: &mut [u8], place: usize, row: usize, form: u64)
+// Puts a row's line at a place of a buffer, column by column.
+fn put_line(buffer: &mut [u8], place: usize, row: usize, form: u64, verdict: Verdict)
     requires { ⌜ (place ≤ 4096) × (row < rowLimit) ⌝ }
-    ensures { λ _. ⌜ now (buffer .exit) ≡ sets (now (buffer .entry)) place (rowColumns row form) ⌝ }
+    ensures { λ _. ⌜ now (buffer .exit) ≡ sets (now (buffer .entry)) place (pageLine row form verdict) ⌝ }
 {
     let digits = text::digits_of(row as u64);
     let bytes = digits.bytes;
     number::put(buffer, place, &bytes[17..]);
     number::put(buffer, place + 3, b"  ");
     number::put(buffer, place + 5, &name(form));
-}
-
-// Puts a verdict's word and step at a place of a buffer, and blanks up to the line's end: the bytes of a line from 29 on.
-fn put_verdict(buffer: &mut [u8], place: usize, verdict: Verdict)
-    requires { ⌜ place ≤ 4096 ⌝ }
-    ensures { λ _. ⌜ now (buffer .exit) ≡ sets (now (buffer .entry)) place (verdictColumns verdict) ⌝ }
-{
-    number::put(buffer, place, &word(verdict));
-    number::put(buffer, place + 8, &step(verdict));
-    number::put(buffer, place + 28, b"               \n");
-}
-
-// Puts a row's line at a place of a buffer.
-fn put_line(buffer: &mut [u8], place: usize, row: usize, form: u64, verdict: Verdict)
-    requires { ⌜ (place ≤ 4000) × (row < rowLimit) ⌝ }
-    ensures { λ _. ⌜ now (buffer .exit) ≡ sets (now (buffer .entry)) place (pageLine row form verdict) ⌝ }
-{
-    put_row(buffer, place, row, form);
-    put_verdict(buffer, place + 29, verdict);
+    number::put(buffer, place + 29, &word(verdict));
+    number::put(buffer, place + 37, &step(verdict));
+    number::put(buffer, place + 57, b"               \n");
 }
 
 // Puts the heading of a row, if it has one, at a place of a buffer, and answers the place behind it.
@@ -167,38 +157,14 @@ fn put_rows<'a>(
     }
 }
 
-// How many rows a page of so many has: no more than 32.
+// How many rows are told of so many: no more than 32.
 pub fn held(rows: usize) -> usize
     ensures { λ r. ⌜ r ≡ min rows rowLimit ⌝ }
 {
     if rows < ROW_LIMIT { rows } else { ROW_LIMIT }
 }
 
-impl Page {
-    // The page of so many rows, with nothing yet said of any.
-    pub fn blank(rows: usize, closed: u64) -> Self
-        ensures { λ r. ⌜ r ≡ blankPage rows closed ⌝ }
-    {
-        Page {
-            types: [0u64; 32],
-            steps: [0u64; 32],
-            rows,
-            closed,
-        }
-    }
-
-    // The page with a row's type and the step that broke it; a row past the last is left out.
-    pub fn with_row(mut self, row: usize, form: u64, step: u64) -> Self
-        ensures { λ r. ⌜ r ≡ withLine self row form step ⌝ }
-    {
-        if ROW_LIMIT <= row {
-            return self;
-        }
-        self.types[row] = form;
-        self.steps[row] = step;
-        self
-    }
-
+impl Summary {
     // Writes the page to the front of a buffer and answers its length; where the buffer is too short, answers 0 and leaves it as it was.
     pub fn write(self, buffer: &mut [u8]) -> usize
         ensures { λ r. ⌜ Copied (textOf self) (now (buffer .entry)) r (now (buffer .exit)) ⌝ }

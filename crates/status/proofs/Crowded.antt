@@ -7,10 +7,11 @@ use mathlib.Core.List.{List, [], _∷_, _++_}
 use mathlib.Core.Logic.{inl, inr}
 use mathlib.Core.Option.{some}
 use lib.ListN.{length, getElem?}
-use lib.Dec.{leb, ltb}
+use lib.Dec.{leb, ltb, eqb}
+use borrow.Author.Tests.{eq-eqb}
 use Rattle.constraint.specs.Limits.{lastKind, firstColoured, lastColour, lastTime, lastCount, rowLimit}
 use Rattle.constraint.specs.Steps.{Step}
-use Rattle.constraint.specs.Questions.{Judged}
+use Rattle.constraint.specs.Questions.{Question, Judged}
 use Rattle.constraint.specs.Run.{stepFor, questions}
 use Rattle.constraint.specs.declared.Answer.{Answer}
 use Rattle.constraint.specs.declared.Answer.the-variants.{Taken, Refused}
@@ -101,34 +102,37 @@ module _ (engine : (c : Constraint) → Sound c → Exact c) (steps : List Step)
 
 -- ---- a call that is refused with 12 is accepted but for that
 
+-- what is asked before 12
+Passed : List Question → Type 0
+Passed [] = ⊥
+Passed (q ∷ later) = cond (eqb (q .0) 12) (Unit {0}) (q .1 × Passed later)
+
+passed : (asked : List Question) → Judged asked (Refused 12) → Passed asked
+unfolding Judged Passed
+passed [] e = never (cc)
+passed (q ∷ later) (inl h) =
+    split (eqb (q .0) 12) (λ b. cond b (Unit {0}) (q .1 × Passed later)) (λ _. tt) (λ _. (h .0, passed later (h .1)))
+passed (q ∷ later) (inr h) = let same : q .0 ≡ 12 = cc (h .1) in rw (eq-eqb (q .0) 12 same) tt
+
 pub accepts-crowded : (rows : List Constraint) (steps : List Step) (call : Call) → Judged (questions rows steps call) (Refused 12)
     → Accepts steps (stepFor call)
-unfolding Judged questions
-accepts-crowded rows steps (Call.Event k t) (inl (o, inl (counted, inl (kind, inl (plain, inl (small, inl (order, last))))))) =
-    record { not-closed = o; counted = counted; stream-small = omega arith; time-small = small; in-order = order }
-accepts-crowded rows steps (Call.Event k t) (inl (a8, inl (a24, inl (a9, inl (a19, inl (a10, inr e)))))) = never (cc (e .1))
-accepts-crowded rows steps (Call.Event k t) (inl (a8, inl (a24, inl (a9, inl (a19, inr e))))) = never (cc (e .1))
-accepts-crowded rows steps (Call.Event k t) (inl (a8, inl (a24, inl (a9, inr e)))) = never (cc (e .1))
-accepts-crowded rows steps (Call.Event k t) (inl (a8, inl (a24, inr e))) = never (cc (e .1))
-accepts-crowded rows steps (Call.Event k t) (inl (a8, inr e)) = never (cc (e .1))
-accepts-crowded rows steps (Call.Event k t) (inr e) = never (cc (e .1))
-accepts-crowded rows steps (Call.ColouredEvent k c t) (inl (o, inl (counted, inl (kind, inl (coloured, inl (small, inl (order, last))))))) =
-    record { not-closed = o; counted = counted; stream-small = stream-below k c kind (coloured .1); time-small = small; in-order = order }
-accepts-crowded rows steps (Call.ColouredEvent k c t) (inl (a8, inl (a24, inl (a9, inl (a19, inl (a10, inr e)))))) = never (cc (e .1))
-accepts-crowded rows steps (Call.ColouredEvent k c t) (inl (a8, inl (a24, inl (a9, inl (a19, inr e))))) = never (cc (e .1))
-accepts-crowded rows steps (Call.ColouredEvent k c t) (inl (a8, inl (a24, inl (a9, inr e)))) = never (cc (e .1))
-accepts-crowded rows steps (Call.ColouredEvent k c t) (inl (a8, inl (a24, inr e))) = never (cc (e .1))
-accepts-crowded rows steps (Call.ColouredEvent k c t) (inl (a8, inr e)) = never (cc (e .1))
-accepts-crowded rows steps (Call.ColouredEvent k c t) (inr e) = never (cc (e .1))
-accepts-crowded rows steps (Call.Tick t) (inl (o, inl (counted, inl (small, inl (later, last))))) =
-    record { not-closed = o; counted = counted; time-small = small; later = later }
-accepts-crowded rows steps (Call.Tick t) (inl (a8, inl (a24, inl (a10, inr e)))) = never (cc (e .1))
-accepts-crowded rows steps (Call.Tick t) (inl (a8, inl (a24, inr e))) = never (cc (e .1))
-accepts-crowded rows steps (Call.Tick t) (inl (a8, inr e)) = never (cc (e .1))
-accepts-crowded rows steps (Call.Tick t) (inr e) = never (cc (e .1))
-accepts-crowded rows steps Call.Close (inl (o, inl (counted, e))) = never (cc)
-accepts-crowded rows steps Call.Close (inl (a8, inr e)) = never (cc (e .1))
-accepts-crowded rows steps Call.Close (inr e) = never (cc (e .1))
+unfolding Judged questions Passed
+accepts-crowded rows steps (Call.Event k t) judged =
+    let a = passed (questions rows steps (Call.Event k t)) judged in
+    record { not-closed = a .0; counted = a .1 .0; stream-small = omega arith; time-small = a .1 .1 .1 .1 .0; in-order = a .1 .1 .1 .1 .1 .0 }
+accepts-crowded rows steps (Call.ColouredEvent k c t) judged =
+    let a = passed (questions rows steps (Call.ColouredEvent k c t)) judged in
+    record {
+      not-closed = a .0;
+      counted = a .1 .0;
+      stream-small = stream-below k c (a .1 .1 .0) (a .1 .1 .1 .0 .1);
+      time-small = a .1 .1 .1 .1 .0;
+      in-order = a .1 .1 .1 .1 .1 .0;
+    }
+accepts-crowded rows steps (Call.Tick t) judged =
+    let a = passed (questions rows steps (Call.Tick t)) judged in
+    record { not-closed = a .0; counted = a .1 .0; time-small = a .1 .1 .0; later = a .1 .1 .1 .0 }
+accepts-crowded rows steps Call.Close judged = absurd (passed (questions rows steps Call.Close) judged .1 .1)
 
 -- ---- the answer
 
@@ -181,7 +185,7 @@ module _ (engine : (c : Constraint) → Sound c → Exact c) (rows : List Constr
       (crowded (found .0) (found .2 .0) judged (found .2 .1) (found .2 .2) (found .2 .3))
 
   pub crowded-says : CrowdedRow rows steps call (crowdedRowOf m call)
-  unfolding crowdedRowOf stepOf
+  unfolding stepOf
   crowded-says =
       split (ltb 0 refusal)
       (λ b. Judged (questions rows steps call) (cond b (refuses refusal m) (cond (crowds m call) (refuses 12 m) (takes (takenCall m call))) .answer)

@@ -1,66 +1,69 @@
--- The words of a lent monitor at their places are the numbers that a host asks for.
-use Prim.Native.Nat.{ℕ, zero, suc, _-_, _<_}
+-- The words of a lent monitor at their places are the numbers of the monitor that lies there.
+use Prim.Native.Nat.{ℕ, _-_, _≤_, _<_}
 use native.Mathlib.Omega.{arith}
-use mathlib.Core.Path.{_≡_, refl, sym, ap, _∙_, subst}
+use mathlib.Core.Path.{_≡_, ap, subst}
 use mathlib.Core.List.{List, []}
-use lib.ListN.{getD}
-use lib.Dec.{ltb}
-use borrow.Author.Tests.{lt-ltb}
+use lib.ListN.{length, getD}
+use Rattle.constraint.specs.Limits.{rowLimit, waitingLimit}
+use Rattle.constraint.specs.declared.Call.{Call}
 use Rattle.machine.specs.Words.{rowWords, numberWords}
 use Rattle.row.specs.Stored as Stored
-use Rattle.lent.specs.Layout.{Lent, Words, wordsOf, Shaped, rowAt}
-use Rattle.lent.specs.Contract.{Indexes, ReadOff}
+use Rattle.monitor.specs.Machine.{nextFor, refusalBy}
+use Rattle.monitor.specs.declared.Monitor.{Monitor}
+use Rattle.lent.specs.Layout.{Lent, Words, wordsOf, Shaped, heldRows, rowAt, keptAt}
+use Rattle.lent.specs.Steps.{refusalOf}
+use Rattle.lent.specs.Contract.{Holds}
 use Rattle.lent.proofs.Blocks.{row-lies}
 use Rattle.lent.proofs.Parts.{number-at}
-use Rattle.monitor.specs.declared.Monitor.{Monitor}
-use Rattle.status.specs.Numbers.{deadlineBy, waitingBy}
 
--- what is so of the monitor whose words they are is so of the one that lies in them
-pub read-off : (Asks : Monitor → ℕ → Type 0) {m : Words} {answer : ℕ}
-    → ((h : Lent) → m ≡ wordsOf h → Indexes h → Asks (h .monitor) answer) → ReadOff m Asks answer
-read-off Asks {m} {answer} so x l = subst (λ (y : Monitor). Asks y answer) (l .monitor-is) (so (l .lent) (l .words-are) (l .indexes))
+-- the numbers of row i that are read
+pub record RowLies (words : Words) (m : Monitor) (i : ℕ) : Type 0 where
+  pub form-is : getD (getD (getD words i []) 1 []) 0 0 ≡ rowAt m i .rule .form
+  pub kept-is : getD (getD (getD words i []) 1 []) 16 0 ≡ rowAt m i .now .len
+  pub due-is : getD (getD (getD words i []) 1 []) 17 0 ≡ rowAt m i .now .due
+  pub broken-is : getD (getD (getD words i []) 1 []) 19 0 ≡ rowAt m i .now .broken
 
--- ---- words at their places
+module _ (words : Words) (m : Monitor) (holds : Holds words m) where
+  -- what is said of the monitor whose words they are is so of the one that lies in them
+  pub said : (P : Monitor → Type 0) → ((h : Lent) → words ≡ wordsOf h → Shaped h → P (h .monitor)) → P m
+  said P so = subst P (holds .monitor-is) (so (holds .lent) (holds .words-are) (holds .indexes .shaped))
 
-module _ (h : Lent) (m : Words) (e : m ≡ wordsOf h) (s : Shaped h) where
-  pub clock-lies : getD (getD (getD m 32 []) 0 []) 0 0 ≡ h .monitor .clock
-  clock-lies = number-at h s m e 0
+  pub held-lies : (n : ℕ) → ((h : Lent) → words ≡ wordsOf h → Shaped h → n ≡ heldRows (h .monitor)) → n ≡ heldRows m
+  held-lies n = said (λ x. n ≡ heldRows x)
 
-  pub count-lies : getD (getD (getD m 32 []) 0 []) 1 0 ≡ h .monitor .count
-  count-lies = number-at h s m e 1
+  pub closed-lies : (n : ℕ) → ((h : Lent) → words ≡ wordsOf h → Shaped h → n ≡ 1 - (1 - h .monitor .closed)) → n ≡ m .closed
+  closed-lies n so =
+      omega (
+        arith,
+        said (λ x. n ≡ 1 - (1 - x .closed)) so,
+        subst (λ (x : Monitor). x .closed < 2) (holds .monitor-is)
+            (omega (arith, holds .indexes .sound .closed-mark)),
+      )
+
+  pub clock-lies : getD (getD (getD words 32 []) 0 []) 0 0 ≡ m .clock
+  clock-lies = said (λ x. getD (getD (getD words 32 []) 0 []) 0 0 ≡ x .clock) (λ h e s. number-at h s words e 0)
+
+  pub count-lies : getD (getD (getD words 32 []) 0 []) 1 0 ≡ m .count
+  count-lies = said (λ x. getD (getD (getD words 32 []) 0 []) 1 0 ≡ x .count) (λ h e s. number-at h s words e 1)
+
+  pub refusal-lies : (call : Call) (n : ℕ) → ((h : Lent) → words ≡ wordsOf h → Shaped h → n ≡ refusalOf h call)
+      → n ≡ refusalBy call (m .closed) (m .count) (m .clock) (nextFor m call)
+  refusal-lies call n = said (λ x. n ≡ refusalBy call (x .closed) (x .count) (x .clock) (nextFor x call))
+
+  pub few-wait : (i : ℕ) → i < heldRows m → rowAt m i .now .len ≤ waitingLimit
+  few-wait =
+      subst (λ (x : Monitor). (i : ℕ) → i < heldRows x → rowAt x i .now .len ≤ waitingLimit) (holds .monitor-is) (holds .indexes .roomy .now-few)
+
+  pub rows-there : length (m .rows) ≡ rowLimit
+  rows-there = said (λ x. length (x .rows) ≡ rowLimit) (λ h e s. s .rows-there)
 
   module _ (i : ℕ) (l : i < 32) where
-    abbrev place : ℕ → List (List ℕ) → ℕ
-    place k w = getD (getD w 1 []) k 0
+    pub block-lies : getD words i [] ≡ Stored.wordsOf (rowAt m i) (keptAt m i)
+    block-lies = said (λ x. getD words i [] ≡ Stored.wordsOf (rowAt x i) (keptAt x i)) (λ h e s. row-lies h s words e i l)
 
-    pub form-lies : getD (getD (getD m i []) 1 []) 0 0 ≡ rowAt (h .monitor) i .rule .form
+    pub numbers-lie : RowLies words m i
     unfolding Stored.wordsOf rowWords numberWords
-    form-lies = ap (place 0) (row-lies h s m e i l)
-
-    pub kept-lies : getD (getD (getD m i []) 1 []) 16 0 ≡ rowAt (h .monitor) i .now .len
-    unfolding Stored.wordsOf rowWords numberWords
-    kept-lies = ap (place 16) (row-lies h s m e i l)
-
-    pub due-lies : getD (getD (getD m i []) 1 []) 17 0 ≡ rowAt (h .monitor) i .now .due
-    unfolding Stored.wordsOf rowWords numberWords
-    due-lies = ap (place 17) (row-lies h s m e i l)
-
-    pub broken-lies : getD (getD (getD m i []) 1 []) 19 0 ≡ rowAt (h .monitor) i .now .broken
-    unfolding Stored.wordsOf rowWords numberWords
-    broken-lies = ap (place 19) (row-lies h s m e i l)
-
--- ---- the mark of the close, of which only 0 is asked
-
-pub mark-same : (shut : ℕ) → ltb 0 (1 - (1 - shut)) ≡ ltb 0 shut
-mark-same zero = refl
-mark-same (suc shut) = lt-ltb 0 (1 - (1 - suc shut)) (omega arith) ∙ sym (lt-ltb 0 (suc shut) (omega arith))
-
--- ---- the same of numbers that are the same
-
-pub deadline-same : (closed shut broken step due time : ℕ) → closed ≡ 1 - (1 - shut) → broken ≡ step → due ≡ time
-    → deadlineBy closed broken due ≡ deadlineBy shut step time
-deadline-same closed shut broken step due time e f g = rw (e, f, g, mark-same shut) refl
-
-pub waiting-same : (closed shut broken step form type kept len : ℕ) → closed ≡ 1 - (1 - shut) → broken ≡ step → form ≡ type → kept ≡ len
-    → waitingBy closed broken form kept ≡ waitingBy shut step type len
-waiting-same closed shut broken step form type kept len e f g h = rw (e, f, g, h, mark-same shut) refl
+    numbers-lie = record { form-is = place 0; kept-is = place 16; due-is = place 17; broken-is = place 19 }
+      where
+        place : (k : ℕ) → getD (getD (getD words i []) 1 []) k 0 ≡ getD (getD (Stored.wordsOf (rowAt m i) (keptAt m i)) 1 []) k 0
+        place k = ap (λ (w : List (List ℕ)). getD (getD w 1 []) k 0) block-lies

@@ -5,7 +5,7 @@ use native.Mathlib.Omega.{arith}
 use mathlib.Core.Path.{_≡_, refl, sym, ap, _∙_, subst}
 use mathlib.Core.Bool.{Bool, true, false, cond, _&&_}
 use mathlib.Core.List.{List, [], _∷_}
-use mathlib.Core.Logic.{⊎-elim, by-cases}
+use mathlib.Core.Logic.{by-cases}
 use mathlib.Core.Option.{none, some}
 use lib.ListN.{length, getD, getElem?}
 use lib.Dec.{ltb}
@@ -18,12 +18,11 @@ use Rattle.constraint.specs.declared.Call.{Call}
 use Rattle.constraint.specs.declared.Constraint.{Constraint}
 use Rattle.constraint.proofs.Lists.{split}
 use Rattle.constraint.proofs.Judged.{never}
-use Rattle.constraint.proofs.Verdicts.{broken-shut, open-of-meets}
 use Rattle.row.specs.Machine.{mark}
 use Rattle.row.specs.declared.Row.{Row}
 use Rattle.row.proofs.Exact.{Sound}
 use Rattle.row.proofs.Engine.{engine}
-use Rattle.row.proofs.Steps.{Going, Broken, Fits}
+use Rattle.row.proofs.Steps.{Fits}
 use Rattle.monitor.specs.Machine.{noRow}
 use Rattle.monitor.specs.declared.Monitor.{Monitor}
 use Rattle.monitor.proofs.Demand.{has-row, has-none}
@@ -35,9 +34,8 @@ use Rattle.status.specs.Numbers.{there, deadlineBy, deadlineOf, leastOf,
 use Rattle.status.specs.Contract as C
 use Rattle.status.specs.Contract.{BrokenRows, RowWaiting, Asked, AsksClock, AsksSteps, AsksClosed, AsksBrokenRows, AsksWaiting, AsksRowDeadline}
 use Rattle.status.specs.Contract.{AsksDeadline, AsksCrowdedRow}
-use Rattle.status.proofs.Deadlines.{open-now, fits-deadline, row-deadline-once}
-use Rattle.status.proofs.Waiting.{fits-waiting}
-use Rattle.status.proofs.Marks.{bit-is, marks-small}
+use Rattle.status.proofs.Rows.{fits-deadline, fits-waiting, fits-broken, row-deadline-once}
+use Rattle.status.proofs.There.{least-limit, bit-is, marks-below}
 use Rattle.status.proofs.Crowded.{crowded-says}
 
 -- the row of a number fits the steps
@@ -64,18 +62,16 @@ module _ (rows : List Constraint) (steps : List Step) (m : Monitor) (f : Follows
       (λ h. rw (f .len-is, le-ltb i (length rows) (omega arith)) (missing (has-none rows i (omega arith))))
 
   deadline-says : (i : ℕ) → RowDeadline rows steps i (deadlineOf m i)
-  unfolding deadlineOf
   deadline-says i =
       by-row i (λ b. RowDeadline rows steps i (cond b (deadlineBy (m .closed) (rowAt m i .now .broken) (rowAt m i .now .due)) noLimit))
       (λ c small is sound fit. row c is (fits-deadline c (engine c sound) steps (f .valid) (rowAt m i) fit (m .closed) (f .closed-is)))
       no-row
 
   waiting-says : (i : ℕ) → RowWaiting rows steps i (waitingOf m i)
-  unfolding waitingOf
   waiting-says i =
       by-row i (λ b. RowWaiting rows steps i (cond b
       (waitingBy (m .closed) (rowAt m i .now .broken) (rowAt m i .rule .form) (rowAt m i .now .len)) 0))
-      (λ c small is sound fit. fits-waiting c (engine c sound) steps (f .valid) rows i is (rowAt m i) fit (m .closed) (f .closed-is))
+      (λ c small is sound fit. fits-waiting c (engine c sound) steps (f .valid) (rowAt m i) fit rows i is (m .closed) (f .closed-is))
       C.no-row
 
   -- ---- the least deadline
@@ -95,11 +91,6 @@ module _ (rows : List Constraint) (steps : List Step) (m : Monitor) (f : Follows
       by-cases (decLt i n) (λ g. omega (arith, least-below n i g))
       (λ g. let same : i ≡ n = omega arith in subst (λ (k : ℕ). min (leastOf m n) (deadlineOf m n) ≤ deadlineOf m k) (sym same) (omega arith))
 
-  least-limit : (n : ℕ) → leastOf m n ≤ noLimit
-  unfolding leastOf
-  least-limit zero = omega arith
-  least-limit (suc n) = omega (arith, least-limit n)
-
   least-says : LeastDeadline rows steps (leastOf m rowLimit)
   least-says =
       record {
@@ -109,26 +100,13 @@ module _ (rows : List Constraint) (steps : List Step) (m : Monitor) (f : Follows
             (λ h. omega (arith, least-below rowLimit i h, row-deadline-once rows steps i (deadlineOf m i) e (deadline-says i) is))
             (λ h. omega (
               arith,
-              least-limit rowLimit,
+              least-limit m rowLimit,
               row-deadline-once rows steps i noLimit e
                   (no-row (has-none rows i (omega (arith, f .few)))) is,
             ));
       }
 
   -- ---- broken rows
-
-  -- the row's mark, as a statement
-  broken-fits : (c : Constraint) (sound : Sound c) (r : Row) → Fits c (engine c sound) steps r
-      → cond (ltb 0 (r .now .broken)) (¬ Open c steps) (Open c steps)
-  broken-fits c sound r fit =
-      ⊎-elim
-      (λ (g : Going c (engine c sound) steps (r .times) (r .now)).
-      rw (le-ltb 0 (r .now .broken) (omega (arith, g .unbroken)))
-      (split (closed steps) (λ b. closed steps ≡ b → Open c steps) (λ _ e. open-of-meets c steps (g .met e))
-      (λ _ o. open-now c (engine c sound) steps (f .valid) (r .times) (r .now) g o) refl))
-      (λ (b : Broken c (engine c sound) steps (r .now .broken)). rw (lt-ltb 0 (r .now .broken) (b .counted))
-      (broken-shut c (r .now .broken) (f .valid) (b .first)))
-      (fit .state)
 
   -- what a mark of 1 says, and that a row that is broken has it
   marked-broken : (i : ℕ) → brokenMark m i ≡ 1 → (c : Constraint) × (getElem? rows i ≡ some c) × (¬ Open c steps)
@@ -137,7 +115,7 @@ module _ (rows : List Constraint) (steps : List Step) (m : Monitor) (f : Follows
       (λ c small is sound fit.
       split (ltb 0 (rowAt m i .now .broken)) (λ b. cond b (¬ Open c steps) (Open c steps) → mark b ≡ 1 → (d : Constraint)
       × (getElem? rows i ≡ some d) × (¬ Open d steps))
-      (λ _ shut one. (c, is, shut)) (λ _ is-open one. absurd (omega arith)) (broken-fits c sound (rowAt m i) fit))
+      (λ _ shut one. (c, is, shut)) (λ _ is-open one. absurd (omega arith)) (fits-broken c (engine c sound) steps (f .valid) (rowAt m i) fit))
       (λ missing one. absurd (omega arith))
 
   broken-marked : (i : ℕ) (c : Constraint) → getElem? rows i ≡ some c → ¬ Open c steps → (i < rowLimit) × (brokenMark m i ≡ 1)
@@ -147,14 +125,14 @@ module _ (rows : List Constraint) (steps : List Step) (m : Monitor) (f : Follows
         small,
         split (ltb 0 (rowAt m i .now .broken)) (λ b. cond b (¬ Open d steps) (Open d steps) → mark b ≡ 1)
             (λ _ x. refl) (λ _ is-open. let same : d ≡ c = cc in absurd (shut (subst (λ (x : Constraint). Open x steps) same is-open)))
-            (broken-fits d sound (rowAt m i) fit),
+            (fits-broken d (engine d sound) steps (f .valid) (rowAt m i) fit),
       ))
       (λ missing. never (cc))
 
   broken-says : BrokenRows rows steps (brokenRowsOf m)
   broken-says =
       record {
-        small = marks-small m 0;
+        small = marks-below m rowLimit 0;
         broken = λ i h one. marked-broken i (sym (bit-is m rowLimit 0 i h ∙ ap (brokenMark m) (omega arith)) ∙ one);
         marked = λ i c is shut. let found = broken-marked i c is shut in bit-is m rowLimit 0 i (found .0) ∙ ap (brokenMark m) (omega arith)
             ∙ found .1;

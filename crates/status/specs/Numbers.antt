@@ -22,7 +22,7 @@ there i len = ltb i len && ltb i rowLimit
 abbrev pub deadlineBy : ℕ → ℕ → ℕ → ℕ
 deadlineBy closed broken due = cond (ltb 0 closed) noLimit (cond (ltb 0 broken) noLimit (cond (ltb due lastTime) due noLimit))
 
-unfoldable pub deadlineOf : Monitor → ℕ → ℕ
+abbrev pub deadlineOf : Monitor → ℕ → ℕ
 deadlineOf m i = cond (there i (m .len)) (deadlineBy (m .closed) (rowAt m i .now .broken) (rowAt m i .now .due)) noLimit
 
 -- the least of the first n
@@ -36,7 +36,7 @@ leastOf m (suc n) = min (leastOf m n) (deadlineOf m n)
 abbrev pub waitingBy : ℕ → ℕ → ℕ → ℕ → ℕ
 waitingBy closed broken form kept = cond (ltb 0 closed) 0 (cond (ltb 0 broken) 0 (cond (waitsIn form) kept 0))
 
-unfoldable pub waitingOf : Monitor → ℕ → ℕ
+abbrev pub waitingOf : Monitor → ℕ → ℕ
 waitingOf m i = cond (there i (m .len)) (waitingBy (m .closed) (rowAt m i .now .broken) (rowAt m i .rule .form) (rowAt m i .now .len)) 0
 
 -- ---- broken rows
@@ -65,5 +65,5 @@ abbrev pub crowdedFirst : Monitor → Call → ℕ
 crowdedFirst m call = firstMarked (m .len) (λ r. rowStep r (occurrenceOf m call) (nextStep m) .crowded) 0 (m .rows)
 
 -- of a call that no other question refuses
-unfoldable pub crowdedRowOf : Monitor → Call → ℕ
+abbrev pub crowdedRowOf : Monitor → Call → ℕ
 crowdedRowOf m call = cond (ltb 0 (refusalBy call (m .closed) (m .count) (m .clock) (nextFor m call))) rowLimit (crowdedFirst m call)

@@ -23,8 +23,9 @@ ghost use lib.Dec.{ltb};
 ghost use Rattle.constraint.specs.declared.Call.{Call};
 ghost use Rattle.row.specs.Apart.{crowdedBy};
 ghost use Rattle.row.specs.Machine.{mark};
-ghost use Rattle.lent.specs.Layout.{Lent, wordsOf, Shaped, rowAt};
-ghost use Rattle.lent.specs.Contract.{ReadOff};
+ghost use Rattle.monitor.specs.declared.Monitor.{Monitor};
+ghost use Rattle.lent.specs.Layout.{rowAt};
+ghost use Rattle.lent.specs.Contract.{Holds, ReadOff};
 ghost use Rattle.status.specs.Numbers.{deadlineBy, firstMarked};
 ghost use Rattle.status.specs.Contract.{AsksClock, AsksSteps, AsksClosed, AsksBrokenRows, AsksWaiting};
 ghost use Rattle.status.specs.Contract.{AsksRowDeadline, AsksDeadline, AsksCrowdedRow};
@@ -45,10 +46,10 @@ pub extern "C" fn delkuthi_steps(m: &Words) -> u64
     m[NUMBERS][0][COUNT]
 }
 
-// 1 once the recording is closed, else 0.
+// 1 once the recording is closed, else 0: one of the two whatever was lent.
 #[no_mangle]
 pub extern "C" fn delkuthi_closed(m: &Words) -> u8
-    ensures { λ r. ⌜ ReadOff (now (m .entry)) AsksClosed r ⌝ }
+    ensures { λ r. ⌜ ((r ≤ 1) × ReadOff (now (m .entry)) AsksClosed r) ⌝ }
 {
     if 0 < closed(m) { 1 } else { 0 }
 }
@@ -56,7 +57,7 @@ pub extern "C" fn delkuthi_closed(m: &Words) -> u8
 // The deadline of a row that is there.
 fn deadline_at(m: &Words, i: usize) -> u64
     requires { ⌜ i < 32 ⌝ }
-    ensures { λ r. ⌜ ((h : Lent) → now (m .entry) ≡ wordsOf h → Shaped h → r ≡ deadlineBy (h .monitor .closed) (rowAt (h .monitor) i .now .broken) (rowAt (h .monitor) i .now .due)) ⌝ }
+    ensures { λ r. ⌜ ((n : Monitor) → Holds (now (m .entry)) n → r ≡ deadlineBy (n .closed) (rowAt n i .now .broken) (rowAt n i .now .due)) ⌝ }
 {
     deadline_by(closed(m), m[i][1][BROKEN], m[i][1][DUE])
 }
@@ -102,7 +103,7 @@ pub extern "C" fn delkuthi_row_waiting(m: &Words, row: u64) -> u64
 // 1 where a row is broken.
 fn broken_at(m: &Words, i: usize) -> u32
     requires { ⌜ i < 32 ⌝ }
-    ensures { λ r. ⌜ ((r ≤ 1) × ((h : Lent) → now (m .entry) ≡ wordsOf h → Shaped h → r ≡ mark (ltb 0 (rowAt (h .monitor) i .now .broken)))) ⌝ }
+    ensures { λ r. ⌜ ((r ≤ 1) × ((n : Monitor) → Holds (now (m .entry)) n → r ≡ mark (ltb 0 (rowAt n i .now .broken)))) ⌝ }
 {
     if 0 < m[i][1][BROKEN] { 1 } else { 0 }
 }
@@ -121,13 +122,14 @@ pub extern "C" fn delkuthi_broken_rows(m: &Words) -> u32
     mask
 }
 
-// The first of n rows that what occurs crowds; 32 where it crowds none.
-fn first_crowded(m: &Words, n: usize, o: Occurrence) -> u8
-    requires { ⌜ n ≤ 32 ⌝ }
-    ensures { λ r. ⌜ ((h : Lent) → now (m .entry) ≡ wordsOf h → Shaped h → r ≡ firstMarked n (λ w. crowdedBy (w .rule) (w .now) o) 0 (h .monitor .rows)) ⌝ }
+// The first of so many rows that what occurs crowds; 32 where it crowds none.
+fn first_crowded(m: &Words, rows: usize, o: Occurrence) -> u8
+    requires { ⌜ rows ≤ 32 ⌝ }
+    ensures { λ r. ⌜ ((r ≤ 32) × ((n : Monitor) → Holds (now (m .entry)) n
+        → r ≡ firstMarked rows (λ w. crowdedBy (w .rule) (w .now) o) 0 (n .rows))) ⌝ }
 {
     let mut i = 0;
-    while i < n {
+    while i < rows {
         if crowds(&m[i], o) {
             return i as u8;
         }
@@ -136,10 +138,10 @@ fn first_crowded(m: &Words, n: usize, o: Occurrence) -> u8
     32
 }
 
-// The first row that an event of a plain kind would crowd; 32 where it would not be refused with 12.
+// The first row that an event of a plain kind would crowd; 32 where it would not be refused with 12. At most 32 whatever was lent.
 #[no_mangle]
 pub extern "C" fn delkuthi_crowded_row(m: &Words, kind: u8, time: u64) -> u8
-    ensures { λ r. ⌜ ReadOff (now (m .entry)) (λ monitor. AsksCrowdedRow monitor (Call.Event kind time)) r ⌝ }
+    ensures { λ r. ⌜ ((r ≤ 32) × ReadOff (now (m .entry)) (λ monitor. AsksCrowdedRow monitor (Call.Event kind time)) r) ⌝ }
 {
     if 0 < event_refusal(m, kind, time) {
         return 32;

@@ -8,20 +8,8 @@ use native.Mathlib.Omega.{arith}
 use native.Mathlib.Decide.{decLt}
 use borrow.Author.Tests.{lt-ltb, le-ltb, ne-eqb}
 use lib.Dec.{ltb, eqb}
-use lib.ListN.{
-  length,
-  set,
-  take,
-  drop,
-  replicate,
-  length-append,
-  length-set,
-  length-drop,
-  length-replicate,
-  getD-replicate,
-  take-append-drop,
-  List·getD-append,
-}
+use lib.ListN.{length, set, take, drop, replicate, length-append, length-set, length-drop, length-replicate, getD-replicate, take-append-drop}
+use lib.ListN.{List·getD-append}
 use lib.Seq.{length-take-le, drop-cons, getD-set-same, drop-set-lt, getD-take, ext-getD}
 use Rattle.constraint.specs.Steps.{at}
 use Rattle.constraint.specs.Report.{digits, decimal, blank}

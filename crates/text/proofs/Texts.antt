@@ -49,7 +49,6 @@ zeros (suc n) zero = refl
 zeros (suc n) (suc i) = zeros n i
 
 pub holds-nothing : Holds emptyText []
-unfolding emptyText
 holds-nothing = record { size = length-replicate {A = ℕ} textLimit 0; within = omega arith; held = refl; rest = λ i h. zeros textLimit i }
 
 holds-pushed : (text : Text) (list : List ℕ) (byte : ℕ) → Holds text list → length list < textLimit → Holds (withByte byte text) (list ++ (byte ∷ []))

@@ -31,7 +31,7 @@ abbrev pub content : Text → List ℕ
 content text = take (text .len) (text .bytes)
 
 -- the text that holds nothing
-unfoldable pub emptyText : Text
+abbrev pub emptyText : Text
 emptyText = record { bytes = replicate textLimit 0; len = 0 }
 
 -- the text with one byte more; a full one takes none

@@ -6,7 +6,6 @@ use lib.ListN.{getD, List·getD-map, List·getD-eq-default}
 use Rattle.constraint.proofs.Lists.{getD-within}
 use Rattle.constraint.specs.Types.{synchronizationName, typeNames}
 use Rattle.constraint.specs.Page.{leftIn, nameOf}
--- The table of the code is that of the definitions, with each name in its 24 columns.
 use borrow.Author.Needs.{needs}
 use Rattle.page.proofs.name.Statement.{statement}
 use Rattle.page.proofs.name.Tie as tie

@@ -6,7 +6,6 @@ use mathlib.Core.Bool.{true, false}
 use lib.Dec.{eqb}
 use borrow.Author.Tests.{eq-eqb, ne-eqb}
 use Rattle.constraint.specs.Page.{hyphens}
--- A row is headed where its number is a multiple of 16.
 use borrow.Author.Needs.{needs}
 use Rattle.page.proofs.put_heading.Statement.{statement}
 use Rattle.page.proofs.put_heading.Tie as tie

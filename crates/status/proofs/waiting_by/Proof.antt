@@ -11,22 +11,14 @@ returns-2 : tie.Need-returns-2
 returns-2 c = rw (le-ltb _ _ (c .before .if1 .left), lt-ltb _ _ (c .if2 .taken))
 
 returns-3 : tie.Need-returns-3
-returns-3 c = let w = c .before in rw (
-  le-ltb _ _ (w .before .before .if1 .left),
-  le-ltb _ _
-      (w .before .if2 .left),
-  ← w .waits-in .ensures,
-  c .if3 .taken,
-)
+returns-3 c =
+    let w = c .before in
+    rw (le-ltb _ _ (w .before .before .if1 .left), le-ltb _ _ (w .before .if2 .left), ← w .waits-in .ensures, c .if3 .taken)
 
 returns-4 : tie.Need-returns-4
-returns-4 c = let w = c .before in rw (
-  le-ltb _ _ (w .before .before .if1 .left),
-  le-ltb _ _
-      (w .before .if2 .left),
-  ← w .waits-in .ensures,
-  c .if3 .left,
-)
+returns-4 c =
+    let w = c .before in
+    rw (le-ltb _ _ (w .before .before .if1 .left), le-ltb _ _ (w .before .if2 .left), ← w .waits-in .ensures, c .if3 .left)
 
 pub waiting-by-spec : {M : Type 1} → statement M
 waiting-by-spec = tie.close (tie.spec returns returns-2 (λ c κs. search needs) returns-3 returns-4)

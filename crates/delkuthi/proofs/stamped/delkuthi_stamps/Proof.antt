@@ -8,7 +8,7 @@ use Rattle.constraint.specs.Stamps.{AnswersStamps}
 use Rattle.constraint.specs.declared.StampedAnswer.{StampedAnswer}
 use Rattle.constraint.proofs.Judged.{never}
 use Rattle.queue.proofs.Shared.{free}
-use Rattle.delkuthi.proofs.StampNumbers.{stamped-above}
+use Rattle.delkuthi.proofs.RecordNumbers.{stamped-above}
 use Rattle.delkuthi.proofs.stamped.delkuthi_stamps.Statement.{statement}
 use Rattle.delkuthi.proofs.stamped.delkuthi_stamps.Tie as tie
 

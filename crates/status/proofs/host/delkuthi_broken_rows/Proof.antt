@@ -1,13 +1,15 @@
 -- From the last row to the first, each adds its bit below those behind it.
 use borrow.Author.Needs.{needs}
 use native.Mathlib.Omega.{arith}
-use mathlib.Core.Path.{_≡_, sym, ap, _∙_}
-use Prim.Native.Nat.{ℕ, _-_, _^_, _≤_, _<_}
+use mathlib.Core.Path.{_≡_, sym}
+use Prim.Native.Nat.{_-_, _^_, _≤_, _<_}
 use Rattle.constraint.specs.Limits.{rowLimit}
-use Rattle.lent.specs.Layout.{Lent, wordsOf, Shaped, heldRows}
+use denote.Ref.{now}
+use Rattle.monitor.specs.declared.Monitor.{Monitor}
+use Rattle.lent.specs.Layout.{heldRows}
+use Rattle.lent.specs.Contract.{Holds}
 use Rattle.status.specs.Numbers.{brokenMarks}
-use Rattle.status.specs.Contract.{AsksBrokenRows}
-use Rattle.status.proofs.Places.{read-off}
+use Rattle.status.proofs.Places.{held-lies}
 use Rattle.status.proofs.Theorem.{broken-rows-asked}
 use Rattle.status.proofs.There.{marks-none, marks-next, power-some, bits-next, bits-room}
 use Rattle.status.proofs.host.delkuthi_broken_rows.Statement.{statement}
@@ -16,7 +18,7 @@ use Rattle.status.proofs.host.delkuthi_broken_rows.Tie as tie
 abbrev Inv-loop : tie.InvT-loop
 Inv-loop m mask₀ i₀ mask i =
     (i ≤ 32) × (mask < 2 ^ (32 - i))
-    × ((h : Lent) → m ≡ wordsOf h → Shaped h → (i ≤ heldRows (h .monitor)) × (mask ≡ brokenMarks (h .monitor) i (rowLimit - i)))
+    × ((n : Monitor) → Holds m n → (i ≤ heldRows n) × (mask ≡ brokenMarks n i (rowLimit - i)))
 
 abbrev μ-loop : tie.MeasureT-loop
 μ-loop m mask₀ i₀ mask i = i
@@ -25,9 +27,9 @@ loop-holds : tie.Need-loop-holds Inv-loop μ-loop
 loop-holds c = (
   c .held .ensures .0,
   power-some (32 - c .held .result),
-  λ h e s.
-      let all : c .held .result ≡ heldRows (h .monitor) = c .held .ensures .1 h e s in
-      (omega (arith, all), sym (marks-none (h .monitor) (rowLimit - c .held .result) (c .held .result) (omega (arith, all)))),
+  λ n holds.
+      let all = held-lies (now (c .before .args .m)) n holds _ (c .held .ensures .1) in
+      (omega (arith, all), sym (marks-none n (rowLimit - c .held .result) (c .held .result) (omega (arith, all)))),
 )
 
 mul-mask : tie.Need-mul-mask Inv-loop μ-loop
@@ -43,19 +45,16 @@ loop-again c =
     let loop = c .before .before .loop in (
       omega (arith, loop .inv .0),
       bits-next (loop .i) (loop .mask) (c .broken-at .result) (omega arith) (loop .inv .0) (loop .inv .1) (c .broken-at .ensures .0),
-      λ h e s. (
-        omega (arith, loop .inv .2 h e s .0),
-        marks-next (h .monitor) (loop .i) (loop .mask) (c .broken-at .result) (omega arith) (loop .inv .2 h e s .0) (loop .inv .2 h e s .1)
-            (c .broken-at .ensures .1 h e s),
-      ),
+      λ n holds.
+          let so-far = loop .inv .2 n holds in
+          (omega arith, marks-next n (loop .i) _ _ (omega arith) (so-far .0) (so-far .1) (c .broken-at .ensures .1 n holds)),
     )
 
 returns : tie.Need-returns Inv-loop μ-loop
-returns c =
+returns c n holds =
     let loop = c .before .loop in
     let none-left : loop .i ≡ 0 = omega arith in
-    read-off AsksBrokenRows (λ h e x.
-    broken-rows-asked (h .monitor) (loop .inv .2 h e (x .shaped) .1 ∙ ap (λ (i : ℕ). brokenMarks (h .monitor) i (rowLimit - i)) none-left))
+    broken-rows-asked n (rw none-left at (loop .inv .2 n holds .1))
 
 pub delkuthi-broken-rows-spec : {M : Type 1} → statement M
 delkuthi-broken-rows-spec =

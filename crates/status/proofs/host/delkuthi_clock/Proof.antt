@@ -1,13 +1,12 @@
 -- The clock stands at its place.
 use borrow.Author.Needs.{needs}
-use Rattle.status.specs.Contract.{AsksClock}
-use Rattle.status.proofs.Places.{read-off, clock-lies}
+use Rattle.status.proofs.Places.{clock-lies}
 use Rattle.status.proofs.Theorem.{clock-asked}
 use Rattle.status.proofs.host.delkuthi_clock.Statement.{statement}
 use Rattle.status.proofs.host.delkuthi_clock.Tie as tie
 
 returns : tie.Need-returns
-returns c = read-off AsksClock (λ h e x. clock-asked (h .monitor) (clock-lies h _ e (x .shaped)))
+returns c n holds = clock-asked n (clock-lies _ n holds)
 
 pub delkuthi-clock-spec : {M : Type 1} → statement M
 delkuthi-clock-spec = tie.close (tie.spec (λ c. search needs) (λ c. search needs) (λ c. search needs) returns)

@@ -1,44 +1,40 @@
 -- Where another question is answered "no" the event is not refused with 12; else the first row is found that it crowds.
 use borrow.Author.Needs.{needs}
 use native.Mathlib.Omega.{arith}
-use Prim.Native.Nat.{ℕ}
-use mathlib.Core.Path.{ap₂, _∙_}
+use borrow.Author.Tests.{lt-ltb, le-ltb}
+use denote.Ref.{now}
 use Rattle.constraint.specs.declared.Call.{Call}
-use Rattle.row.specs.Apart.{crowdedBy}
-use Rattle.row.specs.declared.Occurrence.{Occurrence}
-use Rattle.status.specs.Numbers.{firstMarked}
-use Rattle.status.specs.Contract.{AsksCrowdedRow}
-use Rattle.status.proofs.Places.{read-off}
+use Rattle.status.proofs.Places.{held-lies, refusal-lies, few-wait, rows-there}
 use Rattle.status.proofs.Theorem.{crowded-row-asked}
-use Rattle.status.proofs.FirstCrowded.{first-crowded-is, refused-crowds-none, else-first-crowded}
+use Rattle.status.proofs.There.{first-crowded-is}
 use Rattle.status.proofs.host.delkuthi_crowded_row.Statement.{statement}
 use Rattle.status.proofs.host.delkuthi_crowded_row.Tie as tie
 
 returns : tie.Need-returns
 returns c =
-    let a = c .before .before .args in
-    let call = Call.Event (a .kind) (a .time) in
-    read-off (λ m. AsksCrowdedRow m call) (λ h e x.
-    let is = c .before .event-refusal .ensures .1 h e (x .shaped) in
-    crowded-row-asked (h .monitor) call (refused-crowds-none (h .monitor) call _ is (c .if1 .taken)))
-
-first-crowded-requires : tie.Need-first-crowded-requires
-first-crowded-requires c κs = c .before .held .ensures .0
+    let refusal = c .before .event-refusal in
+    let args = c .before .before .args in
+    let call = Call.Event (args .kind) (args .time) in
+    (omega arith, λ n holds. crowded-row-asked n call (rw (← refusal-lies _ n holds call _ (refusal .ensures .1), lt-ltb _ _ (c .if1 .taken))))
 
 returns-2 : tie.Need-returns-2
 returns-2 c =
-    let o = c .before in
-    let n = o .before in
-    let t = n .before in
-    let a = t .before .before .args in
-    let call = Call.Event (a .kind) (a .time) in
-    read-off (λ m. AsksCrowdedRow m call) (λ h e x.
-    let s = x .shaped in
-    crowded-row-asked (h .monitor) call (c .first-crowded .ensures h e s
-    ∙ ap₂ (λ (k : ℕ) (y : Occurrence). firstMarked k (λ w. crowdedBy (w .rule) (w .now) y) 0 (h .monitor .rows)) (n .held .ensures .1 h e s)
-    (o .event-of .ensures)
-    ∙ first-crowded-is h call x ∙ else-first-crowded (h .monitor) call _ (t .before .event-refusal .ensures .1 h e s) (omega (arith, t .if1 .left))))
+    let at-held = c .before .before in
+    let at-test = at-held .before in
+    let args = at-test .before .before .args in
+    let m = now (args .m) in
+    let call = Call.Event (args .kind) (args .time) in (
+      c .first-crowded .ensures .0,
+      λ n holds. crowded-row-asked n call
+          (rw (
+            ← refusal-lies m n holds call _ (at-test .before .event-refusal .ensures .1),
+            le-ltb _ _ (at-test .if1 .left),
+            c .first-crowded .ensures .1 n holds,
+            held-lies m n holds _ (at-held .held .ensures .1),
+            c .before .event-of .ensures,
+          ) (first-crowded-is n call (rows-there m n holds) (few-wait m n holds))),
+    )
 
 pub delkuthi-crowded-row-spec : {M : Type 1} → statement M
 delkuthi-crowded-row-spec =
-    tie.close (tie.spec (λ c κs. search needs) returns (λ c κs. search needs) (λ c κs. search needs) first-crowded-requires returns-2)
+    tie.close (tie.spec (λ c κs. search needs) returns (λ c κs. search needs) (λ c κs. search needs) (λ c κs. c .before .held .ensures .0) returns-2)

@@ -1,69 +1,64 @@
 -- Row after row: before the turn of number i none of the first i has the mark.
 use borrow.Author.Needs.{needs}
 use native.Mathlib.Omega.{arith}
-use Prim.Native.Nat.{ℕ, _-_, _≤_, _<_}
-use mathlib.Core.Path.{_≡_, sym, ap, _∙_}
-use mathlib.Core.Bool.{Bool}
+use Prim.Native.Nat.{_+_, _-_, _≤_, _<_}
+use mathlib.Core.Path.{_≡_, sym, _∙_}
+use mathlib.Core.Bool.{Bool, cond}
 use lib.ListN.{drop}
 use denote.Ref.{now}
-use Rattle.queue.proofs.Shared.{cond-true, cond-false}
 use Rattle.row.specs.Apart.{crowdedBy}
 use Rattle.row.specs.declared.Occurrence.{Occurrence}
 use Rattle.row.specs.declared.Row.{Row}
-use Rattle.lent.specs.Layout.{Lent, wordsOf, Shaped, rowAt, keptAt}
-use Rattle.lent.proofs.Blocks.{row-lies}
+use Rattle.monitor.specs.declared.Monitor.{Monitor}
+use Rattle.lent.specs.Layout.{rowAt, keptAt}
+use Rattle.lent.specs.Contract.{Holds}
 use Rattle.status.specs.Numbers.{firstMarked}
-use Rattle.status.proofs.FirstCrowded.{first-here, first-none}
+use Rattle.status.proofs.Places.{rows-there, block-lies}
+use Rattle.status.proofs.There.{first-here, first-none}
 use Rattle.status.proofs.host.first_crowded.Statement.{statement}
 use Rattle.status.proofs.host.first_crowded.Tie as tie
 
 abbrev test : Occurrence → Row → Bool
 test o r = crowdedBy (r .rule) (r .now) o
 
--- the first of all n is the first of those from row i on
+-- the first of all is the first of those from row i on
 abbrev Inv-loop : tie.InvT-loop
-Inv-loop m n o i₀ i =
-    (i ≤ n)
-    × ((h : Lent) → m ≡ wordsOf h → Shaped h → firstMarked n (test o) 0 (h .monitor .rows)
-    ≡ firstMarked (n - i) (test o) i (drop i (h .monitor .rows)))
+Inv-loop m rows o i₀ i =
+    (i ≤ rows)
+    × ((n : Monitor) → Holds m n → firstMarked rows (test o) 0 (n .rows) ≡ firstMarked (rows - i) (test o) i (drop i (n .rows)))
 
 abbrev μ-loop : tie.MeasureT-loop
-μ-loop m n o i₀ i = n - i
+μ-loop m rows o i₀ i = rows - i
 
 loop-holds : tie.Need-loop-holds Inv-loop μ-loop
-loop-holds c =
-    let a = c .args in
-    let all : a .n ≡ a .n - 0 = omega arith in (omega arith, λ h e s. ap (λ (k : ℕ). firstMarked k (test (a .o)) 0 (h .monitor .rows)) all)
+loop-holds c = let all : c .args .rows - 0 ≡ c .args .rows = omega arith in (omega arith, λ n holds. rw all)
+
+-- the test of row i, and what is found from there on
+found : (c : tie.After-crowds Inv-loop μ-loop) (n : Monitor) → Holds (now (c .before .before .before .before .args .m)) n
+    → firstMarked (c .before .before .before .before .args .rows) (test (c .before .before .before .before .args .o)) 0 (n .rows)
+    ≡ cond (c .crowds .result) (c .before .before .before .loop .i) (firstMarked
+    (c .before .before .before .before .args .rows - (c .before .before .before .loop .i + 1)) (test (c .before .before .before .before .args .o))
+    (c .before .before .before .loop .i + 1) (drop (c .before .before .before .loop .i + 1) (n .rows)))
+found c n holds =
+    let l = c .before .before .before in
+    let a = l .before .args in
+    let i = l .loop .i in
+    let m = now (a .m) in
+    let there : i < 32 = omega arith in
+    rw (c .crowds .ensures (rowAt n i) (keptAt n i) (block-lies m n holds i there))
+    (l .loop .inv .1 n holds ∙ first-here (test (a .o)) (a .rows) i (n .rows) (omega arith) (omega (arith, rows-there m n holds)))
 
 returns : tie.Need-returns Inv-loop μ-loop
-returns c h e s =
-    let w = c .before in
-    let l = w .before .before .before in
-    let a = l .before .args in
-    let i = l .loop .i in
-    let there : i < 32 = omega arith in
-    let marked = w .crowds .ensures (rowAt (h .monitor) i) (keptAt (h .monitor) i) (row-lies h s (now (a .m)) e i there) in
-    sym (l .loop .inv .1 h e s ∙ first-here (test (a .o)) (a .n) i (h .monitor .rows) (omega arith) (omega (arith, s .rows-there))
-    ∙ cond-true (test (a .o) (rowAt (h .monitor) i)) i _ (sym marked ∙ c .if1 .taken))
+returns c = (omega arith, λ n holds. sym (rw (c .if1 .taken) at (found (c .before) n holds)))
 
 loop-again : tie.Need-loop-again Inv-loop μ-loop
-loop-again c =
-    let w = c .before in
-    let l = w .before .before .before in
-    let a = l .before .args in
-    let i = l .loop .i in
-    let there : i < 32 = omega arith in (
-      omega arith,
-      λ h e s.
-          let marked = w .crowds .ensures (rowAt (h .monitor) i) (keptAt (h .monitor) i) (row-lies h s (now (a .m)) e i there) in
-          l .loop .inv .1 h e s ∙ first-here (test (a .o)) (a .n) i (h .monitor .rows) (omega arith) (omega (arith, s .rows-there))
-          ∙ cond-false (test (a .o) (rowAt (h .monitor) i)) i _ (sym marked ∙ c .if1 .left),
-    )
+loop-again c = (omega arith, λ n holds. rw (c .if1 .left) at (found (c .before) n holds))
 
 returns-2 : tie.Need-returns-2 Inv-loop μ-loop
-returns-2 c h e s =
+returns-2 c =
     let l = c .before in
-    sym (l .loop .inv .1 h e s ∙ first-none (test (l .before .args .o)) (l .before .args .n) (l .loop .i) (h .monitor .rows) (omega arith))
+    let a = l .before .args in
+    (omega arith, λ n holds. sym (l .loop .inv .1 n holds ∙ first-none (test (a .o)) (a .rows) (l .loop .i) (n .rows) (omega arith)))
 
 pub first-crowded-spec : {M : Type 1} → statement M
 first-crowded-spec =

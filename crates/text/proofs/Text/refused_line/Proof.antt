@@ -8,14 +8,9 @@ use Rattle.text.proofs.Text.refused_line.Tie as tie
 returns : tie.Need-returns
 unfolding extended
 returns c =
-    let line = c .before .before .before .before in
-    rw (
-      c .push2 .ensures,
-      c .before .decimal2 .ensures,
-      c .before .before .push .ensures,
-      c .before .before .before .decimal .ensures,
-      line .word .ensures,
-    ) (simp extended-append)
+    let l = c .before .before in
+    rw (c .push2 .ensures, c .before .decimal2 .ensures, l .push .ensures, l .before .decimal .ensures, l .before .before .word .ensures)
+    (simp extended-append)
 
 pub refused-line-spec : {M : Type 1} → statement M
 refused-line-spec =

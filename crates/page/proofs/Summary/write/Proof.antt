@@ -11,9 +11,9 @@ use Rattle.constraint.specs.Steps.{at}
 use Rattle.constraint.specs.Page.{hyphens, pageLines}
 use Rattle.page.specs.ReadBack.{pageLength}
 use Rattle.page.specs.Sheet.{verdictsOf}
-use Rattle.page.proofs.Writing.{some-rows, copied-nothing, copied-page}
-use Rattle.page.proofs.Page.write.Statement.{statement}
-use Rattle.page.proofs.Page.write.Tie as tie
+use Rattle.page.proofs.Pages.{some-rows, copied-nothing, copied-page}
+use Rattle.page.proofs.Summary.write.Statement.{statement}
+use Rattle.page.proofs.Summary.write.Tie as tie
 
 -- the length that was tested
 counted : (c : tie.After-size) → c .size .result ≡ pageLength (min (c .before .before .before .args .t1 .rows) rowLimit)

@@ -1,28 +1,41 @@
--- A row's due time is its deadline: until then a tick leaves it as it is, so that it is open, and a tick past it leaves no continuation.
+-- What a row that fits the steps says of them. Until its due time a tick leaves it as it is, so that it is open, and a tick past it leaves no
+-- continuation; of the times that it keeps all wait or none; and it is broken where no continuation is left.
 use Prim.Native.Nat.{ℕ, _+_, _≤_, _<_}
 use native.Mathlib.Decide.{decLt}
 use native.Mathlib.Omega.{arith}
-use mathlib.Core.Path.{_≡_, refl, sym, _∙_, subst}
-use mathlib.Core.Bool.{Bool, false, cond}
+use mathlib.Core.Path.{_≡_, refl, sym, ap, _∙_, subst}
+use mathlib.Core.Bool.{Bool, true, false, cond}
 use mathlib.Core.List.{List, [], _∷_, _++_}
-use mathlib.Core.Logic.{inl, inr, ⊎-elim, by-cases}
+use mathlib.Core.Logic.{_⊎_, inl, inr, ⊎-elim, by-cases}
+use mathlib.Core.Option.{some}
+use lib.ListN.{getElem?}
 use lib.Dec.{ltb}
 use borrow.Author.Tests.{ltb-true, ltb-false, lt-ltb, le-ltb}
 use Rattle.constraint.specs.Limits.{lastTime, noLimit}
 use Rattle.constraint.specs.Steps.{Step, tick, own, clock, closed}
 use Rattle.constraint.specs.Continuation.{Open}
-use Rattle.constraint.proofs.Streams.{streams}
+use Rattle.constraint.specs.Waiting.{waiting}
 use Rattle.constraint.specs.declared.Constraint.{Constraint}
+use Rattle.constraint.proofs.Streams.{streams}
 use Rattle.constraint.proofs.Lists.{split, both}
 use Rattle.constraint.proofs.Judged.{never}
 use Rattle.constraint.proofs.History.{own-tick, clock-tick, closed-tick, Valid, Past, past-tick, past-of}
-use Rattle.constraint.proofs.Verdicts.{broken-shut}
+use Rattle.constraint.proofs.Verdicts.{broken-shut, open-of-meets}
+use Rattle.queue.proofs.Laws.{ring-length}
+use Rattle.machine.specs.Rule.{ruleOf, waitsIn}
+use Rattle.machine.specs.declared.Rule.{Rule}
 use Rattle.machine.specs.declared.State.{State}
 use Rattle.row.specs.declared.Row.{Row}
-use Rattle.row.proofs.Exact.{Exact}
+use Rattle.row.proofs.Exact.{Exact, Waits}
 use Rattle.row.proofs.Steps.{Going, Broken, Fits}
 use Rattle.status.specs.Deadlines.{DeadlineWhileOpen, until, endless, Deadline, running, over, RowDeadline, row, no-row}
-use Rattle.status.specs.Numbers.{deadlineBy}
+use Rattle.status.specs.Numbers.{deadlineBy, waitingBy}
+use Rattle.status.specs.Contract.{RowWaiting, open-row, other-row}
+
+-- of n times, all or none
+waits-are : (b : Bool) (waiting n : ℕ) → Waits b waiting n → waiting ≡ cond b n 0
+waits-are true waiting n w = w
+waits-are false waiting n w = w .0
 
 module _ (c : Constraint) (exact : Exact c) (steps : List Step) (valid : Valid steps) where
   module _ (words : List ℕ) (s : State) (g : Going c exact steps words s) where
@@ -32,7 +45,7 @@ module _ (c : Constraint) (exact : Exact c) (steps : List Step) (valid : Valid s
     open-until later past o same soon =
         exact .is-open past o (exact .same same (g .live)) (subst (λ (n : ℕ). clock later ≤ n) (g .due-is) soon)
 
-    pub open-now : closed steps ≡ false → Open c steps
+    open-now : closed steps ≡ false → Open c steps
     open-now o = open-until steps (past-of valid) o refl (g .in-time)
 
     open-tick : closed steps ≡ false → (t : ℕ) → clock steps < t → t ≤ lastTime → t ≤ s .due → Open c (steps ++ (tick t ∷ []))
@@ -52,21 +65,47 @@ module _ (c : Constraint) (exact : Exact c) (steps : List Step) (valid : Valid s
         )))
         (λ e. endless (λ t later small. open-tick o t later small (omega (arith, ltb-false (s .due) lastTime e))))
 
-  -- whatever the row's type
-  pub fits-deadline : (r : Row) → Fits c exact steps r → (shut : ℕ) → ltb 0 shut ≡ closed steps
-      → Deadline c steps (deadlineBy shut (r .now .broken) (r .now .due))
-  fits-deadline r f shut is =
-      subst (λ (b : Bool). Deadline c steps (cond b noLimit
-      (cond (ltb 0 (r .now .broken)) noLimit (cond (ltb (r .now .due) lastTime) (r .now .due) noLimit)))) (sym is)
-      (split (closed steps) (λ b. Deadline c steps
-      (cond b noLimit (cond (ltb 0 (r .now .broken)) noLimit (cond (ltb (r .now .due) lastTime) (r .now .due) noLimit))))
-      (λ e. over (inl e))
-      (λ o. ⊎-elim
-      (λ (g : Going c exact steps (r .times) (r .now)). rw (le-ltb 0 (r .now .broken) (omega (arith, g .unbroken)))
-      (running o (open-now (r .times) (r .now) g o) (going-deadline (r .times) (r .now) g o)))
-      (λ (b : Broken c exact steps (r .now .broken)). rw (lt-ltb 0 (r .now .broken) (b .counted))
-      (over (inr (broken-shut c (r .now .broken) valid (b .first)))))
-      (f .state)))
+  module _ (r : Row) (f : Fits c exact steps r) where
+    -- by whether the recording is closed and the row broken
+    by-state : (P : ℕ → Type 0) (shut none value : ℕ) → ltb 0 shut ≡ closed steps → ((closed steps ≡ true) ⊎ (¬ Open c steps) → P none)
+        → (closed steps ≡ false → Going c exact steps (r .times) (r .now) → P value)
+        → P (cond (ltb 0 shut) none (cond (ltb 0 (r .now .broken)) none value))
+    by-state P shut none value is ends goes =
+        rw is (split (closed steps) (λ b. P (cond b none (cond (ltb 0 (r .now .broken)) none value)))
+        (λ e. ends (inl e))
+        (λ o. ⊎-elim
+        (λ (g : Going c exact steps (r .times) (r .now)). rw (le-ltb 0 (r .now .broken) (omega (arith, g .unbroken))) (goes o g))
+        (λ (b : Broken c exact steps (r .now .broken)). rw (lt-ltb 0 (r .now .broken) (b .counted))
+        (ends (inr (broken-shut c (r .now .broken) valid (b .first)))))
+        (f .state)))
+
+    pub fits-deadline : (shut : ℕ) → ltb 0 shut ≡ closed steps → Deadline c steps (deadlineBy shut (r .now .broken) (r .now .due))
+    fits-deadline shut is =
+        by-state (Deadline c steps) shut noLimit _ is over
+        (λ o g. running o (open-now (r .times) (r .now) g o) (going-deadline (r .times) (r .now) g o))
+
+    going-waits : Going c exact steps (r .times) (r .now) → waiting c steps ≡ cond (waitsIn (r .rule .form)) (r .now .len) 0
+    going-waits g =
+        waits-are (waitsIn (ruleOf c .form)) (waiting c steps) _ (exact .waits (past-of valid) (g .live))
+        ∙ ap (λ (n : ℕ). cond (waitsIn (ruleOf c .form)) n 0) (ring-length (r .times) (r .now .head) (r .now .len))
+        ∙ ap (λ (x : Rule). cond (waitsIn (x .form)) (r .now .len) 0) (sym (f .rule-is))
+
+    pub fits-waiting : (rows : List Constraint) (i : ℕ) → getElem? rows i ≡ some c → (shut : ℕ) → ltb 0 shut ≡ closed steps
+        → RowWaiting rows steps i (waitingBy shut (r .now .broken) (r .rule .form) (r .now .len))
+    fits-waiting rows i there shut is =
+        by-state (RowWaiting rows steps i) shut 0 _ is (other-row c there)
+        (λ o g. subst (RowWaiting rows steps i) (going-waits g) (open-row c there o (open-now (r .times) (r .now) g o)))
+
+    pub fits-broken : cond (ltb 0 (r .now .broken)) (¬ Open c steps) (Open c steps)
+    fits-broken =
+        ⊎-elim
+        (λ (g : Going c exact steps (r .times) (r .now)).
+        rw (le-ltb 0 (r .now .broken) (omega (arith, g .unbroken)))
+        (split (closed steps) (λ b. closed steps ≡ b → Open c steps) (λ _ e. open-of-meets c steps (g .met e))
+        (λ _ o. open-now (r .times) (r .now) g o) refl))
+        (λ (b : Broken c exact steps (r .now .broken)). rw (lt-ltb 0 (r .now .broken) (b .counted))
+        (broken-shut c (r .now .broken) valid (b .first)))
+        (f .state)
 
 -- ---- a deadline is one number
 
@@ -84,7 +123,7 @@ module _ {c : Constraint} {steps : List Step} where
       absurd (omega (arith, each′ (e + 1) (omega arith) (omega arith) .0 (each (e + 1) (omega arith) (omega arith))))
   while-open-once d e (endless each) (endless each′) = refl
 
-  pub deadline-once : (d e : ℕ) → Deadline c steps d → Deadline c steps e → d ≡ e
+  deadline-once : (d e : ℕ) → Deadline c steps d → Deadline c steps e → d ≡ e
   deadline-once d e (running o is w) (running o′ is′ w′) = while-open-once d e w w′
   deadline-once d e (running o is w) (over (inl shut)) = both (sym shut ∙ o)
   deadline-once d e (running o is w) (over (inr broken)) = absurd (broken is)

@@ -21,10 +21,10 @@ use Rattle.constraint.specs.declared.Call.{Call}
 use Rattle.constraint.proofs.Lists.{split, both}
 use Rattle.constraint.proofs.Streams.{plain-kind, stream-kind}
 use Rattle.constraint.proofs.Judged.{judged-all}
-use Rattle.order.specs.Order.{After, ReadsNext}
-use Rattle.order.specs.declared.Order.{Order}
-use Rattle.order.specs.declared.RecordRead.{RecordRead}
-use Rattle.order.proofs.Laws.{ReadUpTo, up-to-start, up-to-more, up-to-refused, up-to-end}
+use Rattle.clock.specs.Clock.{After, ReadsNext}
+use Rattle.clock.specs.declared.Clock.{Clock}
+use Rattle.clock.specs.declared.RecordRead.{RecordRead}
+use Rattle.clock.proofs.Laws.{ReadUpTo, up-to-start, up-to-more, up-to-refused, up-to-end}
 use Rattle.constraint.specs.Joined.{kindsOf, ofKinds, FirstOf, here, later}
 use Rattle.join.specs.Walk.{callKind, Marks, Found, firstCommon}
 
@@ -150,7 +150,7 @@ module _ (ks bytes : List ℕ) (place : ℕ) (steps : List Step) (s : Step) (k :
 -- ---- the pass
 
 -- the records before a place are read, their kinds are marked, and the search has come to the place
-pub record PassedTo (bytes avoid : List ℕ) (o : Order) (kinds : List ℕ) (common place : ℕ) : Type 0 where
+pub record PassedTo (bytes avoid : List ℕ) (o : Clock) (kinds : List ℕ) (common place : ℕ) : Type 0 where
   pub steps : List Step
   pub read : ReadUpTo bytes place steps o
   pub marks : Marks kinds (kindsOf steps)
@@ -158,7 +158,7 @@ pub record PassedTo (bytes avoid : List ℕ) (o : Order) (kinds : List ℕ) (com
   pub search : (ks : List ℕ) → Marks avoid ks → Search ks bytes place steps common
 
 module _ (bytes avoid : List ℕ) where
-  pub pass-start : VersionKnown bytes → (o : Order) → After [] o → PassedTo bytes avoid o (replicate 64 0) 0 1
+  pub pass-start : VersionKnown bytes → (o : Clock) → After [] o → PassedTo bytes avoid o (replicate 64 0) 0 1
   pass-start known o start =
       record {
         steps = [];
@@ -168,18 +168,18 @@ module _ (bytes avoid : List ℕ) where
         search = λ ks m. inl (refl, λ k e. refl, λ found first. first);
       }
 
-  module _ (o : Order) (kinds : List ℕ) (common place : ℕ) (before : PassedTo bytes avoid o kinds common place) where
+  module _ (o : Clock) (kinds : List ℕ) (common place : ℕ) (before : PassedTo bytes avoid o kinds common place) where
     module _ (there : place < length bytes) (r : RecordRead) (next : ReadsNext bytes place o r) where
       pub pass-more : r .number ≡ 0 → (kind : ℕ) (avoided : Bool) (kinds′ : List ℕ) (common′ : ℕ) → kind ≡ callKind (r .call) → avoided ≡ eqb (at avoid kind) 1
-          → kinds′ ≡ set kinds kind 1 → common′ ≡ firstCommon common avoided place → PassedTo bytes avoid (r .order) kinds′ common′ (r .next)
+          → kinds′ ≡ set kinds kind 1 → common′ ≡ firstCommon common avoided place → PassedTo bytes avoid (r .clock) kinds′ common′ (r .next)
       unfolding recordQuestions
       pass-more e kind avoided kinds′ common′ kind-is avoided-is kinds-are common-is =
-          let taken = next .taken e (before .steps) (before .read .order) in
+          let taken = next .taken e (before .steps) (before .read .after) in
           let asked = subst (λ (x : Call). Judged (questions [] (before .steps) x) Taken) (next .call-is (next .there e)) (judged-all 14 _ _ (taken .0) .1) in
           let is : KindIs (stepFor (r .call)) kind = subst (KindIs (stepFor (r .call))) (sym kind-is) (call-kind (before .steps) (r .call) asked) in
           record {
             steps = before .steps ++ (stepFor (r .call) ∷ []);
-            read = up-to-more bytes place (before .steps) o (before .read) (r .call) (r .next) (r .order) there (next .call-is (next .there e)) (next .next-is (next .there e) .0) (taken .0) (taken .1);
+            read = up-to-more bytes place (before .steps) o (before .read) (r .call) (r .next) (r .clock) there (next .call-is (next .there e)) (next .next-is (next .there e) .0) (taken .0) (taken .1);
             marks = subst (λ (l : List ℕ). Marks l (kindsOf (before .steps ++ (stepFor (r .call) ∷ [])))) (sym kinds-are)
                 (marks-more kinds (before .steps) (stepFor (r .call)) kind is (before .marks));
             positive = omega (arith, before .positive, next .next-is (next .there e) .0);
@@ -191,7 +191,7 @@ module _ (bytes avoid : List ℕ) where
           }
 
       pub pass-refused : 0 < r .number → ReadsInOrder bytes (recording-refused (r .number) place)
-      pass-refused h = up-to-refused bytes place (before .steps) o (before .read) (r .number) there (next .refused h (before .steps) (before .read .order))
+      pass-refused h = up-to-refused bytes place (before .steps) o (before .read) (r .number) there (next .refused h (before .steps) (before .read .after))
 
     pub pass-end : length bytes ≤ place → (steps : List Step) × ReadsInOrder bytes (recording-of steps) × Marks kinds (kindsOf steps)
         × ((ks : List ℕ) → Marks avoid ks → Found ks bytes steps common)

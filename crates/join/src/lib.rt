@@ -2,7 +2,7 @@
 // than the joined clock.
 use constraint::Call;
 use constraint::JoinAnswer;
-use order::Order;
+use clock::Clock;
 ghost use mathlib.Core.Path.{_≡_};
 ghost use mathlib.Core.Bool.{true, false, not, _&&_, _||_};
 ghost use Prim.Native.Nat.{_+_, _≤_, max};
@@ -260,12 +260,12 @@ fn pass(bytes: &[u8], avoid: [u8; 64]) -> Passed
             common: 0,
         };
     }
-    let mut order = Order::start();
+    let mut clock = Clock::start();
     let mut kinds = [0u8; 64];
     let mut common: usize = 0;
     let mut place: usize = 1;
     while place < bytes.len() {
-        let read = order::read(bytes, place, order);
+        let read = clock::read(bytes, place, clock);
         if 0 < read.number {
             return Passed {
                 number: read.number,
@@ -279,8 +279,8 @@ fn pass(bytes: &[u8], avoid: [u8; 64]) -> Passed
         common = first_common(common, marked(avoid, kind), place);
         let more = mark(kinds, kind);
         kinds = more;
-        let later = read.order;
-        order = later;
+        let later = read.clock;
+        clock = later;
         place = read.next;
     }
     Passed {

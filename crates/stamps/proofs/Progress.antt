@@ -15,10 +15,10 @@ use Rattle.constraint.specs.declared.Constraint.{Constraint}
 use Rattle.constraint.proofs.Judged.{judged-all}
 use Rattle.constraint.proofs.History.{past-of}
 use Rattle.constraint.proofs.Runs.{accepts-taken}
-use Rattle.order.specs.Order.{After, ReadsNext}
-use Rattle.order.specs.declared.Order.{Order}
-use Rattle.order.specs.declared.RecordRead.{RecordRead}
-use Rattle.order.proofs.Laws.{ReadUpTo, up-to-start, up-to-more, up-to-refused, up-to-end, after-valid, after-clock}
+use Rattle.clock.specs.Clock.{After, ReadsNext}
+use Rattle.clock.specs.declared.Clock.{Clock}
+use Rattle.clock.specs.declared.RecordRead.{RecordRead}
+use Rattle.clock.proofs.Laws.{ReadUpTo, up-to-start, up-to-more, up-to-refused, up-to-end, after-valid, after-clock}
 use Rattle.stamps.specs.Machine.{noStamps, callAfter, stampsVerdict}
 use Rattle.stamps.specs.declared.Asked.{Asked}
 use Rattle.stamps.specs.declared.Stamps.{Stamps}
@@ -31,38 +31,38 @@ unfolding recordQuestions
 record-accepts bytes rows steps place judged = judged-all 14 _ _ judged
 
 -- the records before a place are read, and this is kept of their stamps
-pub record PassedTo (bytes : List ℕ) (a : Asked) (o : Order) (s : Stamps) (place : ℕ) : Type 0 where
+pub record PassedTo (bytes : List ℕ) (a : Asked) (o : Clock) (s : Stamps) (place : ℕ) : Type 0 where
   pub steps : List Step
   pub read : ReadUpTo bytes place steps o
   pub keeps : a .event < firstColoured → a .lower ≤ lastTime → Keeps a (times (a .event) steps) s
 
 module _ (bytes : List ℕ) (a : Asked) where
-  pub pass-start : VersionKnown bytes → (o : Order) → After [] o → PassedTo bytes a o noStamps 1
+  pub pass-start : VersionKnown bytes → (o : Clock) → After [] o → PassedTo bytes a o noStamps 1
   unfolding times
   pass-start known o start = record { steps = []; read = up-to-start bytes known o start; keeps = λ plain small. keeps-none a }
 
-  module _ (o : Order) (s : Stamps) (place : ℕ) (before : PassedTo bytes a o s place) where
+  module _ (o : Clock) (s : Stamps) (place : ℕ) (before : PassedTo bytes a o s place) where
     module _ (there : place < length bytes) (r : RecordRead) (next : ReadsNext bytes place o r) where
-      pub pass-more : r .number ≡ 0 → PassedTo bytes a (r .order) (callAfter a s (r .call)) (r .next)
+      pub pass-more : r .number ≡ 0 → PassedTo bytes a (r .clock) (callAfter a s (r .call)) (r .next)
       pass-more e =
-          let taken = next .taken e (before .steps) (before .read .order) in
+          let taken = next .taken e (before .steps) (before .read .after) in
           let asked = subst (λ (x : Call). Judged (questions [] (before .steps) x) Taken) (next .call-is (next .there e)) (record-accepts bytes [] (before .steps) place (taken .0) .1) in
           record {
             steps = before .steps ++ (stepFor (r .call) ∷ []);
-            read = up-to-more bytes place (before .steps) o (before .read) (r .call) (r .next) (r .order) there (next .call-is (next .there e)) (next .next-is (next .there e) .0) (taken .0) (taken .1);
+            read = up-to-more bytes place (before .steps) o (before .read) (r .call) (r .next) (r .clock) there (next .call-is (next .there e)) (next .next-is (next .there e) .0) (taken .0) (taken .1);
             keeps = λ plain small. keeps-call a plain small (before .steps) s (before .keeps plain small) (r .call) (accepts-taken [] (before .steps) (r .call) asked);
           }
 
       pub pass-refused : 0 < r .number → ReadsInOrder bytes (recording-refused (r .number) place)
-      pass-refused h = up-to-refused bytes place (before .steps) o (before .read) (r .number) there (next .refused h (before .steps) (before .read .order))
+      pass-refused h = up-to-refused bytes place (before .steps) o (before .read) (r .number) there (next .refused h (before .steps) (before .read .after))
 
     pub pass-end : length bytes ≤ place → (steps : List Step) × ReadsInOrder bytes (recording-of steps)
-        × (a .event < firstColoured → a .lower ≤ lastTime → ReadsStamps (a .late) (a .lower) (a .upper) (times (a .event) steps) (clock steps) (stampsVerdict a s (o .clock)))
+        × (a .event < firstColoured → a .lower ≤ lastTime → ReadsStamps (a .late) (a .lower) (a .upper) (times (a .event) steps) (clock steps) (stampsVerdict a s (o .time)))
     pass-end end = (
       before .steps,
       up-to-end bytes place (before .steps) o (before .read) end,
       λ plain small.
           subst (λ (now : ℕ). ReadsStamps (a .late) (a .lower) (a .upper) (times (a .event) (before .steps)) (clock (before .steps)) (stampsVerdict a s now))
-          (sym (after-clock (before .steps) o (before .read .order)))
-          (reads-now a (times (a .event) (before .steps)) (clock (before .steps)) (past-of (after-valid (before .steps) o (before .read .order)) .small) s (before .keeps plain small)),
+          (sym (after-clock (before .steps) o (before .read .after)))
+          (reads-now a (times (a .event) (before .steps)) (clock (before .steps)) (past-of (after-valid (before .steps) o (before .read .after)) .small) s (before .keeps plain small)),
     )

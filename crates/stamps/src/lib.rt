@@ -8,7 +8,7 @@ use constraint::Table;
 use machine::parts::larger;
 use machine::parts::plus;
 use machine::parts::smaller;
-use order::Order;
+use clock::Clock;
 use queue::minus;
 use table::ReadAnswer;
 ghost use mathlib.Core.Path.{_≡_};
@@ -248,11 +248,11 @@ fn pass(bytes: &[u8], asked: Asked) -> Passed
             verdict: StampedVerdict::Kept,
         };
     }
-    let mut order = Order::start();
+    let mut clock = Clock::start();
     let mut stamps = Stamps::new();
     let mut place: usize = 1;
     while place < bytes.len() {
-        let read = order::read(bytes, place, order);
+        let read = clock::read(bytes, place, clock);
         if 0 < read.number {
             return Passed {
                 number: read.number,
@@ -262,14 +262,14 @@ fn pass(bytes: &[u8], asked: Asked) -> Passed
         }
         let call = read.call;
         stamps = stamps.after(asked, call);
-        let later = read.order;
-        order = later;
+        let later = read.clock;
+        clock = later;
         place = read.next;
     }
     Passed {
         number: 0,
         place: 0,
-        verdict: stamps.verdict(asked, order.clock),
+        verdict: stamps.verdict(asked, clock.time),
     }
 }
 

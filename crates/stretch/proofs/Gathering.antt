@@ -25,10 +25,10 @@ use Rattle.constraint.proofs.Judged.{judged-all}
 use Rattle.constraint.proofs.History.{Accepts}
 use Rattle.constraint.proofs.Runs.{accepts-taken}
 use Rattle.monitor.specs.Machine.{occurrenceBy}
-use Rattle.order.specs.Order.{After, ReadsNext}
-use Rattle.order.specs.declared.Order.{Order}
-use Rattle.order.specs.declared.RecordRead.{RecordRead}
-use Rattle.order.proofs.Laws.{ReadUpTo, up-to-start, up-to-more, up-to-refused, up-to-end}
+use Rattle.clock.specs.Clock.{After, ReadsNext}
+use Rattle.clock.specs.declared.Clock.{Clock}
+use Rattle.clock.specs.declared.RecordRead.{RecordRead}
+use Rattle.clock.proofs.Laws.{ReadUpTo, up-to-start, up-to-more, up-to-refused, up-to-end}
 use Rattle.stretch.specs.Machine.{stepAs, Kept, KeepsRecord}
 
 -- ---- a record's numbers
@@ -85,7 +85,7 @@ module _ (steps : List Step) (streams times : List ℕ) (count : ℕ) (counted :
 
 -- ---- the records before a place
 
-pub record GatheredTo (bytes streams times : List ℕ) (o : Order) (count place : ℕ) : Type 0 where
+pub record GatheredTo (bytes streams times : List ℕ) (o : Clock) (count place : ℕ) : Type 0 where
   pub steps : List Step
   pub read : ReadUpTo bytes place steps o
   pub counted : count ≡ min (length steps) 257
@@ -94,7 +94,7 @@ pub record GatheredTo (bytes streams times : List ℕ) (o : Order) (count place 
   pub whole′ : length times ≡ 256
 
 module _ (bytes streams times : List ℕ) where
-  pub gather-start : VersionKnown bytes → (o : Order) → After [] o → length streams ≡ 256 → length times ≡ 256 → GatheredTo bytes streams times o 0 1
+  pub gather-start : VersionKnown bytes → (o : Clock) → After [] o → length streams ≡ 256 → length times ≡ 256 → GatheredTo bytes streams times o 0 1
   gather-start known o start whole whole′ =
       record {
         steps = [];
@@ -105,15 +105,15 @@ module _ (bytes streams times : List ℕ) where
         whole′ = whole′;
       }
 
-  module _ (o : Order) (count place : ℕ) (before : GatheredTo bytes streams times o count place) where
+  module _ (o : Clock) (count place : ℕ) (before : GatheredTo bytes streams times o count place) where
     module _ (there : place < length bytes) (r : RecordRead) (next : ReadsNext bytes place o r) where
       pub gather-refused : 0 < r .number → ReadsInOrder bytes (recording-refused (r .number) place)
       gather-refused h =
-          up-to-refused bytes place (before .steps) o (before .read) (r .number) there (next .refused h (before .steps) (before .read .order))
+          up-to-refused bytes place (before .steps) o (before .read) (r .number) there (next .refused h (before .steps) (before .read .after))
 
       module _ (e : r .number ≡ 0) where
-        judged : Judged (recordQuestions [] (before .steps) bytes place) Taken × After (before .steps ++ (stepFor (r .call) ∷ [])) (r .order)
-        judged = next .taken e (before .steps) (before .read .order)
+        judged : Judged (recordQuestions [] (before .steps) bytes place) Taken × After (before .steps ++ (stepFor (r .call) ∷ [])) (r .clock)
+        judged = next .taken e (before .steps) (before .read .after)
 
         is : stepFor (r .call) ≡ stepAs (occurrenceBy (r .call) 0 .stream) (occurrenceBy (r .call) 0 .time)
         unfolding recordQuestions
@@ -124,11 +124,11 @@ module _ (bytes streams times : List ℕ) where
             (λ close. never-close (at bytes 0) (bodyAt bytes place) (next .call-is (next .there e) ∙ close))
 
         pub gather-more : (streams′ times′ : List ℕ) (count′ : ℕ) → KeepsRecord streams times count (occurrenceBy (r .call) 0) streams′ times′ count′
-            → GatheredTo bytes streams′ times′ (r .order) count′ (r .next)
+            → GatheredTo bytes streams′ times′ (r .clock) count′ (r .next)
         gather-more streams′ times′ count′ keeps =
             record {
               steps = before .steps ++ (stepFor (r .call) ∷ []);
-              read = up-to-more bytes place (before .steps) o (before .read) (r .call) (r .next) (r .order) there (next .call-is (next .there e))
+              read = up-to-more bytes place (before .steps) o (before .read) (r .call) (r .next) (r .clock) there (next .call-is (next .there e))
                   (next .next-is (next .there e) .0) (judged .0) (judged .1);
               counted = by-cases (decLt count 256)
                   (λ room. omega (arith, keeps .room room .0, before .counted, length-append (before .steps) (stepFor (r .call) ∷ [])))

@@ -7,7 +7,7 @@ use constraint::Table;
 use machine::parts::kind_of;
 use machine::words::BROKEN;
 use monitor::calls;
-use order::Order;
+use clock::Clock;
 use queue::SIZE;
 use row::Occurrence;
 use row::stored;
@@ -87,11 +87,11 @@ fn gather(bytes: &[u8], streams: &mut [u64; 256], times: &mut [u64; 256]) -> Gat
             count: 0,
         };
     }
-    let mut order = Order::start();
+    let mut clock = Clock::start();
     let mut count: usize = 0;
     let mut place: usize = 1;
     while place < bytes.len() {
-        let read = order::read(bytes, place, order);
+        let read = clock::read(bytes, place, clock);
         if 0 < read.number {
             return Gathered {
                 number: read.number,
@@ -102,8 +102,8 @@ fn gather(bytes: &[u8], streams: &mut [u64; 256], times: &mut [u64; 256]) -> Gat
         let call = read.call;
         let o = calls::occurrence(call, 0);
         count = keep(streams, times, count, o);
-        let later = read.order;
-        order = later;
+        let later = read.clock;
+        clock = later;
         place = read.next;
     }
     Gathered {

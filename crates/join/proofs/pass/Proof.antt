@@ -11,10 +11,10 @@ use Rattle.join.proofs.pass.Statement.{statement}
 use Rattle.join.proofs.pass.Tie as tie
 
 abbrev Inv-loop : tie.InvT-loop
-Inv-loop bytes avoid order₀ kinds₀ common₀ place₀ order kinds common place = PassedTo bytes avoid order kinds common place
+Inv-loop bytes avoid clock₀ kinds₀ common₀ place₀ clock kinds common place = PassedTo bytes avoid clock kinds common place
 
 abbrev μ-loop : tie.MeasureT-loop
-μ-loop bytes avoid order₀ kinds₀ common₀ place₀ order kinds common place = length bytes - place
+μ-loop bytes avoid clock₀ kinds₀ common₀ place₀ clock kinds common place = length bytes - place
 
 returns : tie.Need-returns Inv-loop μ-loop
 returns c =
@@ -38,7 +38,7 @@ returns-2 c =
     let at-loop = at-read .before .before in
     let args = at-loop .before .before .before .before .before .args in
     record {
-      refused = λ more. pass-refused (now (args .bytes)) (args .avoid) (at-loop .loop .order) (at-loop .loop .kinds) (at-loop .loop .common)
+      refused = λ more. pass-refused (now (args .bytes)) (args .avoid) (at-loop .loop .clock) (at-loop .loop .kinds) (at-loop .loop .common)
           (at-loop .loop .place) (at-loop .loop .inv)
           (at-read .before .loop-test .taken) (at-read .read .result) (at-read .read .ensures) (c .if2 .taken);
       taken = λ e. absurd (omega (arith, e, c .if2 .taken));
@@ -62,7 +62,7 @@ loop-again c =
     let at-read = left .before .before in
     let at-loop = at-read .before .before in
     let args = at-loop .before .before .before .before .before .args in
-    pass-more (now (args .bytes)) (args .avoid) (at-loop .loop .order) (at-loop .loop .kinds) (at-loop .loop .common) (at-loop .loop .place)
+    pass-more (now (args .bytes)) (args .avoid) (at-loop .loop .clock) (at-loop .loop .kinds) (at-loop .loop .common) (at-loop .loop .place)
     (at-loop .loop .inv)
     (at-read .before .loop-test .taken) (at-read .read .result) (at-read .read .ensures) (omega (arith, left .if2 .left)) (kind .kind-of .result)
     (avoided .marked .result)
@@ -75,7 +75,7 @@ returns-3 c =
     let args = at-loop .before .before .before .before .before .args in
     record {
       refused = λ more. absurd (omega (arith, more));
-      taken = λ e. pass-end (now (args .bytes)) (args .avoid) (at-loop .loop .order) (at-loop .loop .kinds) (at-loop .loop .common)
+      taken = λ e. pass-end (now (args .bytes)) (args .avoid) (at-loop .loop .clock) (at-loop .loop .kinds) (at-loop .loop .common)
           (at-loop .loop .place) (at-loop .loop .inv)
           (c .loop-test .left);
     }

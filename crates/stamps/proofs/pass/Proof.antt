@@ -11,10 +11,10 @@ use Rattle.stamps.proofs.pass.Statement.{statement}
 use Rattle.stamps.proofs.pass.Tie as tie
 
 abbrev Inv-loop : tie.InvT-loop
-Inv-loop bytes asked order₀ stamps₀ place₀ order stamps place = PassedTo bytes asked order stamps place
+Inv-loop bytes asked clock₀ stamps₀ place₀ clock stamps place = PassedTo bytes asked clock stamps place
 
 abbrev μ-loop : tie.MeasureT-loop
-μ-loop bytes asked order₀ stamps₀ place₀ order stamps place = length bytes - place
+μ-loop bytes asked clock₀ stamps₀ place₀ clock stamps place = length bytes - place
 
 returns : tie.Need-returns Inv-loop μ-loop
 returns c =
@@ -40,7 +40,7 @@ returns-2 c =
     let at-loop = at-read .before .before in
     let args = at-loop .before .before .before .before .before .before .args in
     record {
-      refused = λ more. pass-refused (now (args .bytes)) (args .asked) (at-loop .loop .order) (at-loop .loop .stamps) (at-loop .loop .place)
+      refused = λ more. pass-refused (now (args .bytes)) (args .asked) (at-loop .loop .clock) (at-loop .loop .stamps) (at-loop .loop .place)
           (at-loop .loop .inv) (at-read .before .loop-test .taken)
           (at-read .read .result) (at-read .read .ensures) (c .if2 .taken);
       taken = λ e. absurd (omega (arith, e, c .if2 .taken));
@@ -59,7 +59,7 @@ loop-again c =
     let at-loop = at-read .before .before in
     let args = at-loop .before .before .before .before .before .before .args in
     rw (c .before .after .ensures)
-    (pass-more (now (args .bytes)) (args .asked) (at-loop .loop .order) (at-loop .loop .stamps) (at-loop .loop .place) (at-loop .loop .inv)
+    (pass-more (now (args .bytes)) (args .asked) (at-loop .loop .clock) (at-loop .loop .stamps) (at-loop .loop .place) (at-loop .loop .inv)
     (at-read .before .loop-test .taken)
     (at-read .read .result) (at-read .read .ensures) (omega (arith, c .before .before .if2 .left)))
 
@@ -70,7 +70,7 @@ returns-3 c =
     record {
       refused = λ more. absurd (omega (arith, more));
       taken = λ e. rw (c .verdict .ensures)
-          (pass-end (now (args .bytes)) (args .asked) (at-loop .loop .order) (at-loop .loop .stamps) (at-loop .loop .place) (at-loop .loop .inv)
+          (pass-end (now (args .bytes)) (args .asked) (at-loop .loop .clock) (at-loop .loop .stamps) (at-loop .loop .place) (at-loop .loop .inv)
           (c .before .loop-test .left));
     }
 

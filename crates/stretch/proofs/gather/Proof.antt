@@ -11,10 +11,10 @@ use Rattle.stretch.proofs.gather.Statement.{statement}
 use Rattle.stretch.proofs.gather.Tie as tie
 
 abbrev Inv-loop : tie.InvT-loop
-Inv-loop bytes streams₀ times₀ order₀ count₀ place₀ streams times order count place = GatheredTo bytes streams times order count place
+Inv-loop bytes streams₀ times₀ clock₀ count₀ place₀ streams times clock count place = GatheredTo bytes streams times clock count place
 
 abbrev μ-loop : tie.MeasureT-loop
-μ-loop bytes streams₀ times₀ order₀ count₀ place₀ streams times order count place = length bytes - place
+μ-loop bytes streams₀ times₀ clock₀ count₀ place₀ streams times clock count place = length bytes - place
 
 returns : tie.Need-returns Inv-loop μ-loop
 returns c =
@@ -40,7 +40,7 @@ returns-2 c =
     let at-loop = at-read .before .before in
     let args = at-loop .before .before .before .before .before .args in
     record {
-      refused = λ more. gather-refused (now (args .bytes)) (at-loop .loop .streams) (at-loop .loop .times) (at-loop .loop .order)
+      refused = λ more. gather-refused (now (args .bytes)) (at-loop .loop .streams) (at-loop .loop .times) (at-loop .loop .clock)
           (at-loop .loop .count) (at-loop .loop .place)
           (at-loop .loop .inv) (at-read .before .loop-test .taken) (at-read .read .result) (at-read .read .ensures) (c .if2 .taken);
       taken = λ e. absurd (omega (arith, e, c .if2 .taken));
@@ -58,7 +58,7 @@ loop-again c =
     let at-read = c .before .before .before .before .before .before .before in
     let at-loop = at-read .before .before in
     let args = at-loop .before .before .before .before .before .args in
-    gather-more (now (args .bytes)) (at-loop .loop .streams) (at-loop .loop .times) (at-loop .loop .order) (at-loop .loop .count)
+    gather-more (now (args .bytes)) (at-loop .loop .streams) (at-loop .loop .times) (at-loop .loop .clock) (at-loop .loop .count)
     (at-loop .loop .place)
     (at-loop .loop .inv) (at-read .before .loop-test .taken) (at-read .read .result) (at-read .read .ensures)
     (omega (arith, c .before .before .before .before .before .if2 .left))
@@ -73,7 +73,7 @@ returns-3 c =
       refused = λ more. absurd (omega (arith, more));
       taken = λ e. (
         inv .steps,
-        gather-end (now (args .bytes)) (at-loop .loop .streams) (at-loop .loop .times) (at-loop .loop .order) (at-loop .loop .count)
+        gather-end (now (args .bytes)) (at-loop .loop .streams) (at-loop .loop .times) (at-loop .loop .clock) (at-loop .loop .count)
             (at-loop .loop .place) inv (c .loop-test .left),
         inv .counted,
         inv .kept,

@@ -1,7 +1,7 @@
 -- A fresh monitor over no rows has this clock, these first free times and this mark.
-use Rattle.order.proofs.Laws.{starts}
-use Rattle.order.proofs.Order.start.Statement.{statement}
-use Rattle.order.proofs.Order.start.Tie as tie
+use Rattle.clock.proofs.Laws.{starts}
+use Rattle.clock.proofs.Clock.start.Statement.{statement}
+use Rattle.clock.proofs.Clock.start.Tie as tie
 
 returns : tie.Need-returns
 returns c = starts

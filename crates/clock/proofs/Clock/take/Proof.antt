@@ -3,9 +3,9 @@ use native.Mathlib.Omega.{arith}
 use borrow.Author.Needs.{needs}
 use mathlib.Core.Path.{_≡_}
 use Rattle.monitor.proofs.Answers.{place-small}
-use Rattle.order.proofs.Laws.{refusalOf, takes-refused, takes-taken}
-use Rattle.order.proofs.Order.take.Statement.{statement}
-use Rattle.order.proofs.Order.take.Tie as tie
+use Rattle.clock.proofs.Laws.{refusalOf, takes-refused, takes-taken}
+use Rattle.clock.proofs.Clock.take.Statement.{statement}
+use Rattle.clock.proofs.Clock.take.Tie as tie
 
 -- what is asked
 number-is : (c : tie.After-refusal) → c .refusal .result ≡ refusalOf (c .before .before .before .args .t1) (c .before .before .before .args .call)
@@ -23,12 +23,12 @@ returns c =
     let args = asked .before .before .before .args in
     takes-refused (args .t1) (args .call) (asked .refusal .result) (number-is asked) (c .if1 .taken)
 
-mul-order : tie.Need-mul-order
-mul-order c = let placed = c .before .before .before .before .before in
+mul-clock : tie.Need-mul-clock
+mul-clock c = let placed = c .before .before .before .before .before in
     omega (arith, placed .place .ensures, place-small (placed .before .args .call))
 
-element-write-order : tie.Need-element-write-order
-element-write-order c = let placed = c .before .before .before .before .before in
+element-write-clock : tie.Need-element-write-clock
+element-write-clock c = let placed = c .before .before .before .before .before in
     omega (arith, placed .place .ensures, place-small (placed .before .args .call))
 
 returns-2 : tie.Need-returns-2
@@ -44,4 +44,4 @@ returns-2 c =
 pub take-spec : {M : Type 1} → statement M
 take-spec =
     tie.close (tie.spec (λ c κs. search needs) mul-next element-copy-out-next (λ c κs. search needs) returns (λ c κs. search needs) (λ c κs. search
-    needs) mul-order element-write-order (λ c κs. search needs) (λ c κs. search needs) returns-2)
+    needs) mul-clock element-write-clock (λ c κs. search needs) (λ c κs. search needs) returns-2)

@@ -35,25 +35,25 @@ use Rattle.monitor.proofs.Following.{Follows}
 use Rattle.monitor.proofs.Withdrawing.{takes-more, after-call, remains-follows, steps-keep}
 use Rattle.recording.specs.Record.{CallAt}
 use Rattle.recording.proofs.Records.{record-judged, record-refused as record-not-there}
-use Rattle.order.specs.Order.{orderOf, After, TakesCall, refusedRead, AsksCall, ReadsNext}
-use Rattle.order.specs.declared.RecordRead.{RecordRead}
-use Rattle.order.specs.declared.Order.{Order}
+use Rattle.clock.specs.Clock.{clockOf, After, TakesCall, refusedRead, AsksCall, ReadsNext}
+use Rattle.clock.specs.declared.RecordRead.{RecordRead}
+use Rattle.clock.specs.declared.Clock.{Clock}
 
--- ---- a call, on the order's numbers
+-- ---- a call, on the clock's numbers
 
 -- the first free time of a call's stream
-abbrev pub freeFor : Order → Call → ℕ
+abbrev pub freeFor : Clock → Call → ℕ
 freeFor o s = getD (o .next) (placeFor s) 0
 
 -- the number of the first "no" to its questions but 12, or 0
-abbrev pub refusalOf : Order → Call → ℕ
-refusalOf o s = refusalBy s (o .closed) (o .count) (o .clock) (freeFor o s)
+abbrev pub refusalOf : Clock → Call → ℕ
+refusalOf o s = refusalBy s (o .closed) (o .count) (o .time) (freeFor o s)
 
--- the order after it
-abbrev pub orderAfter : Order → Call → Order
-orderAfter o s =
+-- the clock after it
+abbrev pub clockAfter : Clock → Call → Clock
+clockAfter o s =
     record {
-      clock = occurrenceBy s (o .clock) .time;
+      time = occurrenceBy s (o .time) .time;
       count = plus (o .count) 1;
       next = set (o .next) (placeFor s) (freeAfter s (freeFor o s));
       closed = closedAfter s (o .closed);
@@ -65,7 +65,7 @@ none-accepted : Accepted []
 unfolding rowsQuestions
 none-accepted = judged-none
 
-pub starts : After [] (record { clock = 0; count = 0; next = replicate streamCount 0; closed = 0 })
+pub starts : After [] (record { time = 0; count = 0; next = replicate streamCount 0; closed = 0 })
 unfolding after play monitorOf
 starts = record { calls = []; all-taken = (false, done); is = refl }
 
@@ -77,7 +77,7 @@ taken-step m s number none e = rw (e, none)
 refused-step : (m : Monitor) (s : Call) (number : ℕ) → 0 < number → steppedBy m s number ≡ refuses number m
 refused-step m s number h = rw (lt-ltb 0 number h)
 
-module _ (steps : List Step) (o : Order) (before : After steps o) where
+module _ (steps : List Step) (o : Clock) (before : After steps o) where
   m : Monitor
   m = after [] (map asks (before .calls))
 
@@ -89,9 +89,9 @@ module _ (steps : List Step) (o : Order) (before : After steps o) where
   pub after-valid : Valid steps
   after-valid = run-valid (before .all-taken .1) valid-none
 
-  pub after-clock : o .clock ≡ clock steps
+  pub after-clock : o .time ≡ clock steps
   unfolding m
-  after-clock = ap (λ (x : Order). x .clock) (before .is) ∙ follows .clock-is
+  after-clock = ap (λ (x : Clock). x .time) (before .is) ∙ follows .clock-is
 
   module _ (s : Call) where
     kept : Steps m (asks s) (stepOf m s)
@@ -104,22 +104,22 @@ module _ (steps : List Step) (o : Order) (before : After steps o) where
         subst (λ (left : Left). Judged (questions [] (left .steps) s) (stepOf m s .answer)) (run-once [] (means .1 .1) (before .all-taken .1) .1)
         (means .2)
 
-    same-number : refusalOf o s ≡ refusalOf (orderOf m) s
+    same-number : refusalOf o s ≡ refusalOf (clockOf m) s
     unfolding m
-    same-number = ap (λ (x : Order). refusalOf x s) (before .is)
+    same-number = ap (λ (x : Clock). refusalOf x s) (before .is)
 
     pub call-refused : 0 < refusalOf o s → Judged (questions [] steps s) (Refused (refusalOf o s))
     unfolding stepOf
     call-refused h =
-        let number : 0 < refusalOf (orderOf m) s = subst (λ (n : ℕ). 0 < n) same-number h in
+        let number : 0 < refusalOf (clockOf m) s = subst (λ (n : ℕ). 0 < n) same-number h in
         subst (λ (n : ℕ). Judged (questions [] steps s) (Refused n)) (sym same-number)
-        (subst (λ (x : Stepped). Judged (questions [] steps s) (x .answer)) (refused-step m s (refusalOf (orderOf m) s) number) judged)
+        (subst (λ (x : Stepped). Judged (questions [] steps s) (x .answer)) (refused-step m s (refusalOf (clockOf m) s) number) judged)
 
     stepped : refusalOf o s ≡ 0 → stepOf m s ≡ takes (takenCall m s)
     unfolding stepOf
-    stepped e = taken-step m s (refusalOf (orderOf m) s) (follows .len-is) (sym same-number ∙ e)
+    stepped e = taken-step m s (refusalOf (clockOf m) s) (follows .len-is) (sym same-number ∙ e)
 
-    pub call-taken : refusalOf o s ≡ 0 → Judged (questions [] steps s) Taken × After (steps ++ (stepFor s ∷ [])) (orderAfter o s)
+    pub call-taken : refusalOf o s ≡ 0 → Judged (questions [] steps s) Taken × After (steps ++ (stepFor s ∷ [])) (clockAfter o s)
     unfolding takenCall m
     call-taken e =
         let yes-all : Judged (questions [] steps s) Taken = subst (λ (x : Stepped). Judged (questions [] steps s) (x .answer)) (stepped e) judged in (
@@ -127,16 +127,16 @@ module _ (steps : List Step) (o : Order) (before : After steps o) where
           record {
             calls = before .calls ++ (s ∷ []);
             all-taken = takes-more [] (before .calls) steps s (before .all-taken) yes-all;
-            is = ap (λ (x : Order). orderAfter x s) (before .is)
-                ∙ ap (λ (x : Stepped). orderOf (x .monitor)) (sym (stepped e))
-                ∙ ap orderOf (kept .means [] (map asks (before .calls)) none-accepted refl .1 ∙ after-call [] (before .calls) s);
+            is = ap (λ (x : Clock). clockAfter x s) (before .is)
+                ∙ ap (λ (x : Stepped). clockOf (x .monitor)) (sym (stepped e))
+                ∙ ap clockOf (kept .means [] (map asks (before .calls)) none-accepted refl .1 ∙ after-call [] (before .calls) s);
           },
         )
 
 -- ---- what the code promises of a call and of a record
 
-module _ (o : Order) (s : Call) (n : ℕ) (is : n ≡ refusalOf o s) where
-  pub takes-refused : 0 < n → TakesCall o s (record { number = n; order = o })
+module _ (o : Clock) (s : Call) (n : ℕ) (is : n ≡ refusalOf o s) where
+  pub takes-refused : 0 < n → TakesCall o s (record { number = n; clock = o })
   takes-refused h =
       record {
         taken = λ e. absurd (omega (arith, e, h));
@@ -145,16 +145,16 @@ module _ (o : Order) (s : Call) (n : ℕ) (is : n ≡ refusalOf o s) where
         as-it-was = λ more. refl;
       }
 
-  pub takes-taken : n ≤ 0 → (later : Order) → later ≡ orderAfter o s → TakesCall o s (record { number = 0; order = later })
+  pub takes-taken : n ≤ 0 → (later : Clock) → later ≡ clockAfter o s → TakesCall o s (record { number = 0; clock = later })
   takes-taken h later e =
       record {
-        taken = λ zero steps before. subst (λ (x : Order). Judged (questions [] steps s) Taken × After (steps ++ (stepFor s ∷ [])) x) (sym e)
+        taken = λ zero steps before. subst (λ (x : Clock). Judged (questions [] steps s) Taken × After (steps ++ (stepFor s ∷ [])) x) (sym e)
             (call-taken steps o before s (omega (arith, is, h)));
         refused = λ more. absurd (omega (arith, more));
         as-it-was = λ more. absurd (omega (arith, more));
       }
 
-module _ (bytes : List ℕ) (place : ℕ) (o : Order) where
+module _ (bytes : List ℕ) (place : ℕ) (o : Clock) where
   pub read-none : ¬ RecordAt bytes place → ReadsNext bytes place o (refusedRead o 14)
   read-none not-there =
       record {
@@ -172,7 +172,7 @@ module _ (bytes : List ℕ) (place : ℕ) (o : Order) where
       record {
         taken = λ e steps before. let given = answered .takes .taken e steps before in (
           record-judged [] steps bytes place s next Taken read (given .0),
-          subst (λ (x : Call). After (steps ++ (stepFor x ∷ [])) (r .order)) (sym (answered .call-is)) (given .1),
+          subst (λ (x : Call). After (steps ++ (stepFor x ∷ [])) (r .clock)) (sym (answered .call-is)) (given .1),
         );
         refused = λ more steps before. record-judged [] steps bytes place s next (Refused (r .number)) read
             (answered .takes .refused more steps before);
@@ -186,21 +186,21 @@ module _ (bytes : List ℕ) (place : ℕ) (o : Order) where
 -- ---- record by record
 
 -- the records before a place were read and taken, and what is read from there on is the whole
-pub record ReadUpTo (bytes : List ℕ) (place : ℕ) (steps : List Step) (o : Order) : Type 0 where
-  pub order : After steps o
+pub record ReadUpTo (bytes : List ℕ) (place : ℕ) (steps : List Step) (o : Clock) : Type 0 where
+  pub after : After steps o
   pub whole : (read : RecordingRead) → ReadsRecords [] bytes steps place read → ReadsInOrder bytes read
 
 module _ (bytes : List ℕ) where
-  pub up-to-start : VersionKnown bytes → (o : Order) → After [] o → ReadUpTo bytes 1 [] o
-  up-to-start known o start = record { order = start; whole = λ read reads. version-taken known reads }
+  pub up-to-start : VersionKnown bytes → (o : Clock) → After [] o → ReadUpTo bytes 1 [] o
+  up-to-start known o start = record { after = start; whole = λ read reads. version-taken known reads }
 
-  module _ (place : ℕ) (steps : List Step) (o : Order) (before : ReadUpTo bytes place steps o) where
-    pub up-to-more : (s : Call) (next : ℕ) (o′ : Order) → place < length bytes → callAt bytes place ≡ s → next ≡ place + 2 + lengthAt bytes place
+  module _ (place : ℕ) (steps : List Step) (o : Clock) (before : ReadUpTo bytes place steps o) where
+    pub up-to-more : (s : Call) (next : ℕ) (o′ : Clock) → place < length bytes → callAt bytes place ≡ s → next ≡ place + 2 + lengthAt bytes place
         → Judged (recordQuestions [] steps bytes place) Taken → After (steps ++ (stepFor s ∷ [])) o′
         → ReadUpTo bytes next (steps ++ (stepFor s ∷ [])) o′
     up-to-more s next o′ there is next-is taken later =
         record {
-          order = later;
+          after = later;
           whole = λ read reads.
               before .whole read
               (record-taken there taken

@@ -1,0 +1,61 @@
+-- The clock of a recording: the questions of its records and steps without 12.
+use Prim.Native.Nat.{ℕ, _+_, _<_, _≤_}
+use mathlib.Core.Path.{_≡_}
+use mathlib.Core.List.{List, [], _∷_, _++_, map}
+use lib.ListN.{length}
+use Rattle.constraint.specs.Steps.{Step, clock}
+use Rattle.constraint.specs.Questions.{Judged}
+use Rattle.constraint.specs.Run.{stepFor, questions, asks}
+use Rattle.constraint.specs.Table.{lengthAt}
+use Rattle.constraint.specs.Recording.{RecordAt, callAt, recordQuestions}
+use Rattle.constraint.specs.declared.Answer.the-variants.{Taken, Refused}
+use Rattle.constraint.specs.declared.Call.{Call}
+use Rattle.monitor.specs.Contract.{after}
+use Rattle.monitor.specs.Beside.{TakesAll}
+use Rattle.monitor.specs.declared.Monitor.{Monitor}
+use Rattle.clock.specs.declared.Clock.{Clock}
+use Rattle.clock.specs.declared.RecordRead.{RecordRead}
+use Rattle.clock.specs.declared.Answered.{Answered}
+
+-- the clock, count, first free times and mark of the close of a monitor
+abbrev pub clockOf : Monitor → Clock
+clockOf m = record { time = m .clock; count = m .count; next = m .next; closed = m .closed }
+
+-- the clock after these steps: that of a monitor over no rows, after calls that are all taken and have recorded them
+pub record After (steps : List Step) (o : Clock) : Type 0 where
+  pub calls : List Call
+  pub all-taken : TakesAll [] calls steps
+  pub is : o ≡ clockOf (after [] (map asks calls))
+
+-- the clock before any step
+abbrev pub Starts : Clock → Type 0
+Starts o = After [] o
+
+-- a call: 0 where its questions but 12 are all answered "yes", and the clock after it; else the number of the first "no", and the clock as it was
+pub record TakesCall (o : Clock) (call : Call) (r : Answered) : Type 0 where
+  pub taken : r .number ≡ 0 → (steps : List Step) → After steps o
+      → Judged (questions [] steps call) Taken × After (steps ++ (stepFor call ∷ [])) (r .clock)
+  pub refused : 0 < r .number → (steps : List Step) → After steps o → Judged (questions [] steps call) (Refused (r .number))
+  pub as-it-was : 0 < r .number → r .clock ≡ o
+
+-- the answer to a record that is refused
+abbrev pub refusedRead : Clock → ℕ → RecordRead
+refusedRead o n = record { number = n; call = Call.Close; next = 0; clock = o }
+
+-- the answer to a record that has a call and ends before a place
+pub record AsksCall (o : Clock) (call : Call) (next : ℕ) (r : RecordRead) : Type 0 where
+  pub takes : TakesCall o call (record { number = r .number; clock = r .clock })
+  pub call-is : r .call ≡ call
+  pub next-is : r .next ≡ next
+
+-- the record at a place: 0 where 14 and its step's questions but 12 are all answered "yes", and the clock after it; else the number of the
+-- first "no", and the clock as it was. Where 14 is answered "yes", its call and the place behind it
+pub record ReadsNext (bytes : List ℕ) (place : ℕ) (o : Clock) (r : RecordRead) : Type 0 where
+  pub taken : r .number ≡ 0 → (steps : List Step) → After steps o
+      → Judged (recordQuestions [] steps bytes place) Taken × After (steps ++ (stepFor (r .call) ∷ [])) (r .clock)
+  pub refused : 0 < r .number → (steps : List Step) → After steps o → Judged (recordQuestions [] steps bytes place) (Refused (r .number))
+  pub as-it-was : 0 < r .number → r .clock ≡ o
+  pub there : r .number ≡ 0 → RecordAt bytes place
+  pub call-is : RecordAt bytes place → callAt bytes place ≡ r .call
+  pub next-is : RecordAt bytes place → (r .next ≡ place + 2 + lengthAt bytes place) × (r .next ≤ length bytes)
+  pub none : ¬ RecordAt bytes place → r ≡ refusedRead o 14

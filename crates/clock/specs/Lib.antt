@@ -1,0 +1,2 @@
+-- What the clock of a recording promises.
+pub mod Clock

@@ -1,2 +1,0 @@
--- Why the order answers as the questions say, and how records are read over it one after the other.
-pub mod Laws

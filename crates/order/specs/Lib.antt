@@ -1,2 +1,0 @@
--- What the order of a recording promises.
-pub mod Order

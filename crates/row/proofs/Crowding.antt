@@ -307,9 +307,10 @@ module _ (times : List ℕ) (many : 63 ≤ length times) (few : length times ≤
       (pick (eqb (rule .form) 3 || eqb (rule .form) 5) _ _ _ _ marks s t (repeat rule marks s t)
       (pick (eqb (rule .form) 4) _ _ _ _ marks s t (sym (sporadic rule marks s t))
       (pick (eqb (rule .form) 6) _ _ _ _ marks s t (sym (order rule marks s t))
+      (pick (eqb (rule .form) 7) _ _ _ _ marks s t (synchronization rule marks s t)
       (pick (eqb (rule .form) 8) _ _ _ _ marks s t (sym (execution-time rule marks s t))
       (pick (eqb (rule .form) 9) _ _ _ _ marks s t (sym (reaction rule marks s t))
-      (pick (eqb (rule .form) 10) _ _ _ _ marks s t (repetition rule marks s t) (synchronization rule marks s t))))))))
+      (pick (eqb (rule .form) 10) _ _ _ _ marks s t (repetition rule marks s t) refl))))))))
 
 -- ---- the question
 

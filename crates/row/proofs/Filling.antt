@@ -27,15 +27,15 @@ use Rattle.row.proofs.Dispatch.{chosen}
 
 -- ---- by the number of a type
 
-by-form : (P : ℕ → Type 0) (n : ℕ) → P 1 → P 2 → P 3 → P 4 → P 5 → P 6 → P 8 → P 9 → P 10
-    → (eqb n 1 ≡ false → eqb n 2 ≡ false → eqb n 3 ≡ false → eqb n 4 ≡ false → eqb n 5 ≡ false → eqb n 6 ≡ false → eqb n 8 ≡ false → eqb n 9 ≡ false
-    → eqb n 10 ≡ false → P n) → P n
-by-form P n a b c d e f g h j rest =
-    step 1 a (λ p. step 2 b (λ q. step 3 c (λ r. step 4 d (λ s. step 5 e (λ t. step 6 f (λ u. step 8 g (λ v. step 9 h (λ w. step 10 j
-    (λ x. rest p q r s t u v w x)))))))))
+by-form : (P : ℕ → Type 0) (n : ℕ) → P 1 → P 2 → P 3 → P 4 → P 5 → P 6 → P 7 → P 8 → P 9 → P 10
+    → (eqb n 1 ≡ false → eqb n 2 ≡ false → eqb n 3 ≡ false → eqb n 4 ≡ false → eqb n 5 ≡ false → eqb n 6 ≡ false → eqb n 7 ≡ false → eqb n 8 ≡ false
+    → eqb n 9 ≡ false → eqb n 10 ≡ false → P n) → P n
+by-form P n a b c d e f g h j k rest =
+    step 1 a (λ p. step 2 b (λ q. step 3 c (λ r. step 4 d (λ s. step 5 e (λ t. step 6 f (λ u. step 7 g (λ v. step 8 h (λ w. step 9 j
+    (λ x. step 10 k (λ y. rest p q r s t u v w x y))))))))))
   where
-    step : (k : ℕ) → P k → (eqb n k ≡ false → P n) → P n
-    step k same other = split (eqb n k) (λ _. P n) (λ is. subst P (sym (eqb-true n k is)) same) other
+    step : (i : ℕ) → P i → (eqb n i ≡ false → P n) → P n
+    step i same other = split (eqb n i) (λ _. P n) (λ is. subst P (sym (eqb-true n i is)) same) other
 
 -- ---- a row in which a place is free is crowded by nothing
 
@@ -82,14 +82,14 @@ module _ (rule : Rule) (marks : Marks) (len s t : ℕ) (many : 63 ≤ len) where
 
   abbrev fillsOf : ℕ → Marks → ℕ → ℕ → ℕ → Bool
   fillsOf form =
-      chosen form (fillsDelay rule) (fillsStrongDelay rule) (fillsRepeat rule) fillsNever fillsNever fillsNever fillsNever (fillsRepetition rule)
-      (fillsStrongSynchronization rule)
+      chosen form (fillsDelay rule) (fillsStrongDelay rule) (fillsRepeat rule) fillsNever fillsNever (fillsStrongSynchronization rule)
+      fillsNever fillsNever (fillsRepetition rule) fillsNever
 
   free-by : (form : ℕ) → filledBy form (rule .span) len < 64 → fillsOf form marks len s t ≡ false
   free-by form =
       by-form (λ k. filledBy k (rule .span) len < 64 → fillsOf k marks len s t ≡ false) form free-delay free-strong-delay free-repeat (λ _. refl)
-      free-repeat (λ _. refl) (λ _. refl) (λ _. refl) free-repetition
-      (λ n1 n2 n3 n4 n5 n6 n8 n9 n10. rw (n1, n2, n3, n4, n5, n6, n8, n9, n10) free-synchronization)
+      free-repeat (λ _. refl) free-synchronization (λ _. refl) (λ _. refl) free-repetition
+      (λ n1 n2 n3 n4 n5 n6 n7 n8 n9 n10. rw (n1, n2, n3, n4, n5, n6, n7, n8, n9, n10) (λ _. refl))
 
 pub room-free : (rule : Rule) (now : State) (s t : ℕ) → filledBy (rule .form) (rule .span) (now .len) < 64 → fullFor rule now s t ≡ false
 unfolding fullFor
@@ -122,15 +122,15 @@ module _ (form span : ℕ) where
 
   pub taken-rises : (n m : ℕ) → n ≤ m → filledBy form span n ≤ filledBy form span m
   taken-rises n m l =
-      by-form (λ k. filledBy k span n ≤ filledBy k span m) form l l (beyond-rises 64 n m l) (omega arith) (beyond-rises 64 n m l) (omega arith)
+      by-form (λ k. filledBy k span n ≤ filledBy k span m) form l l (beyond-rises 64 n m l) (omega arith) (beyond-rises 64 n m l) (omega arith) l
       (omega arith) (omega arith) (beyond-rises 31 (filledInTwos n) (filledInTwos m) (twos-rise n m l))
-      (λ n1 n2 n3 n4 n5 n6 n8 n9 n10. rw (n3, n4, n5, n6, n8, n9, n10) l)
+      (λ n1 n2 n3 n4 n5 n6 n7 n8 n9 n10. rw (n1, n2, n7, n3, n5, n10) (omega arith))
 
   -- no more than a limit, where as many are kept
   at-most-by : (n limit : ℕ) → n ≤ limit → filledInTwos n ≤ limit → filledBy form span n ≤ limit
   at-most-by n limit l k =
-      by-form (λ j. filledBy j span n ≤ limit) form l l (few-beyond 64 n l) (omega arith) (few-beyond 64 n l) (omega arith) (omega arith)
-      (omega arith) (few-beyond 31 (filledInTwos n) k) (λ n1 n2 n3 n4 n5 n6 n8 n9 n10. rw (n3, n4, n5, n6, n8, n9, n10) l)
+      by-form (λ j. filledBy j span n ≤ limit) form l l (few-beyond 64 n l) (omega arith) (few-beyond 64 n l) (omega arith) l (omega arith)
+      (omega arith) (few-beyond 31 (filledInTwos n) k) (λ n1 n2 n3 n4 n5 n6 n7 n8 n9 n10. rw (n1, n2, n7, n3, n5, n10) (omega arith))
     where
       few-beyond : (above m : ℕ) → m ≤ limit → beyond above span m ≤ limit
       few-beyond above m p = split (ltb above span) (λ b. cond b m 0 ≤ limit) (λ _. p) (λ _. omega arith)

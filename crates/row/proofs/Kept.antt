@@ -35,7 +35,7 @@ use Rattle.repetition.proofs.Unused.{unused-repetition}
 use Rattle.row.specs.declared.Before.{Before}
 use Rattle.row.specs.declared.Occurrence.{Occurrence}
 use Rattle.row.specs.declared.Row.{Row}
-use Rattle.row.specs.Machine.{decide, concerns, rowFrom, rowOf, itemsOf, brokenState, brokenRow, applied}
+use Rattle.row.specs.Machine.{decide, decideNone, concerns, rowFrom, rowOf, itemsOf, brokenState, brokenRow, applied}
 use Rattle.row.specs.Undo.{noBefore, savedAt, backRow, rowWithout, keptWithout}
 use Rattle.row.specs.Apart.{endsBy, endedState, changeBy, withChange, heardRow, writesAt, heardBefore}
 use Rattle.row.specs.Stored.{keptMarks, keptAtPlace, heardKeeps, eventRow, eventSaves, eventKeeps, endedRow, endedSaves, Unused, RestZero}
@@ -49,8 +49,8 @@ Keeping = Marks → Marks → Marks
 -- what holds of each type's holds of the one that is chosen
 of-each : (Q : Keeping → Type 0) (form : ℕ) → Q lastKept → Q firstThreeKept → Q noneKept → Q countsKept → Q (keptMarks form)
 of-each Q form last three none counts =
-    chosen-both form _ _ _ _ _ _ _ _ _ lastKept lastKept lastKept firstThreeKept firstThreeKept firstThreeKept noneKept noneKept countsKept
-    (λ keeps _. Q keeps) last last last three three three none none counts
+    chosen-both form _ _ _ _ _ _ _ _ _ _ lastKept lastKept lastKept firstThreeKept firstThreeKept countsKept firstThreeKept noneKept noneKept noneKept
+    (λ keeps _. Q keeps) last last last three three counts three none none none
 
 -- marks of the past in which only kept ones are above 0 make no difference
 over-past : (form : ℕ) (marks past : Marks) → keptMarks form marks (keptMarks form past noMarks) ≡ keptMarks form marks noMarks
@@ -67,13 +67,13 @@ none-unused form = of-each (λ keeps. keeps noMarks noMarks ≡ noMarks) form re
 stays-unused : (rule : Rule) (marks : Marks) (times : List ℕ) (s t : ℕ) → Unused (rule .form) marks
     → Unused (rule .form) (decide rule marks times s t .marks)
 stays-unused rule marks times s t =
-    chosen-both (rule .form) lastKept lastKept lastKept firstThreeKept firstThreeKept firstThreeKept noneKept noneKept countsKept
-    (decideDelay rule) (decideStrongDelay rule) (decideRepeat rule) (decideSporadic rule) (decideOrder rule) (decideExecutionTime rule)
-    (decideReaction rule) (decideRepetition rule) (decideStrongSynchronization rule)
+    chosen-both (rule .form) lastKept lastKept lastKept firstThreeKept firstThreeKept countsKept firstThreeKept noneKept noneKept noneKept
+    (decideDelay rule) (decideStrongDelay rule) (decideRepeat rule) (decideSporadic rule) (decideOrder rule)
+    (decideStrongSynchronization rule) (decideExecutionTime rule) (decideReaction rule) (decideRepetition rule) decideNone
     (λ keeps machine. keeps marks noMarks ≡ marks → keeps (machine marks times s t .marks) noMarks ≡ machine marks times s t .marks)
     (unused-delay rule marks times s t) (unused-strong-delay rule marks times s t) (unused-repeat rule marks times s t)
-    (unused-sporadic rule marks times s t) (unused-order rule marks times s t) (unused-execution-time rule marks times s t)
-    (unused-reaction rule marks times s t) (unused-repetition rule marks times s t) (unused-strong-synchronization rule marks times s t)
+    (unused-sporadic rule marks times s t) (unused-order rule marks times s t) (unused-strong-synchronization rule marks times s t)
+    (unused-execution-time rule marks times s t) (unused-reaction rule marks times s t) (unused-repetition rule marks times s t) (λ _. refl)
 
 -- ---- where the words keep all that the row was
 

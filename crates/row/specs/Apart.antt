@@ -21,7 +21,7 @@ use Rattle.row.specs.Undo.{savedAt}
 
 -- ---- the question for 64 (§8.12)
 
--- a type in which no event lets more wait
+-- a type in which no event lets more wait, and a number that is no type's
 abbrev pub fillsNever : Marks → ℕ → ℕ → ℕ → Bool
 fillsNever marks len s t = false
 
@@ -33,10 +33,11 @@ fills rule =
     (cond (eqb (rule .form) 3 || eqb (rule .form) 5) (fillsRepeat rule)
     (cond (eqb (rule .form) 4) fillsNever
     (cond (eqb (rule .form) 6) fillsNever
+    (cond (eqb (rule .form) 7) (fillsStrongSynchronization rule)
     (cond (eqb (rule .form) 8) fillsNever
     (cond (eqb (rule .form) 9) fillsNever
     (cond (eqb (rule .form) 10) (fillsRepetition rule)
-    (fillsStrongSynchronization rule))))))))
+    fillsNever))))))))
 
 -- an event of one of the row's streams crowds it, where at most 64 wait
 unfoldable pub fullFor : Rule → State → ℕ → ℕ → Bool

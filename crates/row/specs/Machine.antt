@@ -11,7 +11,7 @@ use Rattle.constraint.specs.declared.Constraint.{Constraint}
 use Rattle.constraint.specs.declared.Verdict.{Verdict}
 use Rattle.queue.specs.Ring.{Ring, ringOf, ring, changed, edited}
 use Rattle.machine.specs.Rule.{ruleOf, wordsOf}
-use Rattle.machine.specs.Parts.{noMarks}
+use Rattle.machine.specs.Parts.{noMarks, breaking}
 use Rattle.machine.specs.declared.Rule.{Rule}
 use Rattle.machine.specs.declared.Marks.{Marks}
 use Rattle.machine.specs.declared.Change.{Change}
@@ -29,6 +29,10 @@ use Rattle.row.specs.declared.Occurrence.{Occurrence}
 use Rattle.row.specs.declared.Row.{Row}
 use Rattle.row.specs.declared.RowStep.{RowStep}
 
+-- a number that is no type's: the row breaks at its first event
+abbrev pub decideNone : Marks → List ℕ → ℕ → ℕ → Change
+decideNone marks times s t = breaking
+
 -- what an event of one of the row's streams makes of it, by the number of its type, the clock not being past its due time
 abbrev pub decide : Rule → Marks → List ℕ → ℕ → ℕ → Change
 decide rule =
@@ -37,10 +41,11 @@ decide rule =
     (cond (eqb (rule .form) 3 || eqb (rule .form) 5) (decideRepeat rule)
     (cond (eqb (rule .form) 4) (decideSporadic rule)
     (cond (eqb (rule .form) 6) (decideOrder rule)
+    (cond (eqb (rule .form) 7) (decideStrongSynchronization rule)
     (cond (eqb (rule .form) 8) (decideExecutionTime rule)
     (cond (eqb (rule .form) 9) (decideReaction rule)
     (cond (eqb (rule .form) 10) (decideRepetition rule)
-    (decideStrongSynchronization rule))))))))
+    decideNone))))))))
 
 -- the event is of one of the row's kinds
 abbrev pub concerns : Rule → ℕ → Bool

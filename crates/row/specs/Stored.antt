@@ -52,10 +52,11 @@ keptMarks form =
     (cond (eqb form 3 || eqb form 5) lastKept
     (cond (eqb form 4) firstThreeKept
     (cond (eqb form 6) firstThreeKept
+    (cond (eqb form 7) countsKept
     (cond (eqb form 8) firstThreeKept
     (cond (eqb form 9) noneKept
     (cond (eqb form 10) noneKept
-    countsKept)))))))
+    noneKept))))))))
 
 -- what is kept of a row that goes on, by an event that writes at a place
 abbrev pub keptAtPlace : Row → Before → ℕ → ℕ → Before
@@ -121,14 +122,13 @@ filledInTwos len = cond (ltb len 63) len 64
 
 abbrev pub filledBy : ℕ → ℕ → ℕ → ℕ
 filledBy form span len =
-    cond (eqb form 3) (beyond 64 span len)
+    cond (eqb form 1) len
+    (cond (eqb form 2) len
+    (cond (eqb form 7) len
+    (cond (eqb form 3) (beyond 64 span len)
     (cond (eqb form 5) (beyond 64 span len)
     (cond (eqb form 10) (beyond 31 span (filledInTwos len))
-    (cond (eqb form 4) 0
-    (cond (eqb form 6) 0
-    (cond (eqb form 8) 0
-    (cond (eqb form 9) 0
-    len))))))
+    0)))))
 
 -- now, or before its last step: the larger number
 abbrev pub larger : ℕ → ℕ → ℕ

@@ -54,7 +54,7 @@ fn state_at(w: &[u64; SIZE]) -> State
     }
 }
 
-// What an event of one of its streams makes of the row, by its type.
+// What an event of one of its streams makes of the row, by its type; a row of no type breaks.
 fn change(row: &mut [[u64; SIZE]; 2], stream: u64, t: u64, number: u64)
     ensures { λ _. ⌜ Changes (now (row .entry)) stream t number (now (row .exit)) ⌝ }
 {
@@ -65,10 +65,11 @@ fn change(row: &mut [[u64; SIZE]; 2], stream: u64, t: u64, number: u64)
         3 | 5 => repeat::apply(row, t, number),
         4 => sporadic::apply(row, t, number),
         6 => order::apply(row, stream, t, number),
+        7 => strong_synchronization::apply(row, stream, t, number),
         8 => execution_time::apply(row, stream, t, number),
         9 => reaction::apply(row, stream, t, number),
         10 => repetition::apply(row, t, number),
-        _ => strong_synchronization::apply(row, stream, t, number),
+        _ => words::break_at(row, number),
     }
 }
 
@@ -267,10 +268,11 @@ fn fills(w: &[u64; SIZE], stream: u64, t: u64) -> bool
         3 | 5 => repeat::fills(w, t),
         4 => false,
         6 => false,
+        7 => strong_synchronization::fills(w, stream),
         8 => false,
         9 => false,
         10 => repetition::fills(w),
-        _ => strong_synchronization::fills(w, stream),
+        _ => false,
     }
 }
 
@@ -356,6 +358,15 @@ fn filled_in_twos(len: u64) -> u64
 fn filled_by(form: u64, span: u64, len: u64) -> u64
     ensures { λ r. ⌜ r ≡ filledBy form span len ⌝ }
 {
+    if form == 1 {
+        return len;
+    }
+    if form == 2 {
+        return len;
+    }
+    if form == 7 {
+        return len;
+    }
     if form == 3 {
         return beyond(64, span, len);
     }
@@ -365,19 +376,7 @@ fn filled_by(form: u64, span: u64, len: u64) -> u64
     if form == 10 {
         return beyond(31, span, filled_in_twos(len));
     }
-    if form == 4 {
-        return 0;
-    }
-    if form == 6 {
-        return 0;
-    }
-    if form == 8 {
-        return 0;
-    }
-    if form == 9 {
-        return 0;
-    }
-    len
+    0
 }
 
 // How many places are taken in the row, now or before its last step.

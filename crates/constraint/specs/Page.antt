@@ -5,7 +5,7 @@ use mathlib.Core.List.{List, [], _∷_, _++_, map}
 use lib.ListN.{length, getD, drop, replicate}
 use lib.Dec.{eqb}
 use Rattle.constraint.specs.Steps.{Step, at}
-use Rattle.constraint.specs.Types.{typeOf, synchronizationName, typeNames}
+use Rattle.constraint.specs.Types.{typeOf, unknownName, typeNames}
 use Rattle.constraint.specs.Report.{decimal, blank, lineEnd, keptWord, brokenWord, EachReads}
 use Rattle.constraint.specs.declared.Constraint.{Constraint}
 use Rattle.constraint.specs.declared.Verdict.{Verdict}
@@ -21,9 +21,9 @@ leftIn width text = text ++ replicate (width - length text) blank
 abbrev pub rightIn : ℕ → List ℕ → List ℕ
 rightIn width text = replicate (width - length text) blank ++ text
 
--- §7.16; CR 5: the name of a type; a number that no table has is taken for 7 too
+-- §7.16; CR 5: the name of a type
 abbrev pub nameOf : ℕ → List ℕ
-nameOf type = getD typeNames type synchronizationName
+nameOf type = getD typeNames type unknownName
 
 -- §7.16; CR 5: the word open, beside the report's kept and broken
 abbrev pub openWord : List ℕ

@@ -94,15 +94,14 @@ lengths = 0 ∷ 19 ∷ 19 ∷ 19 ∷ 34 ∷ 19 ∷ 3 ∷ 10 ∷ 21 ∷ 19 ∷ 27
 abbrev pub lengthOf : ℕ → ℕ → ℕ
 lengthOf t n = at lengths t + cond (eqb t 7) n 0
 
--- §7.16; CR 5: the names of the types, as TADL2 has them without their last word: StrongSynchronization, the name of type 7
-abbrev pub synchronizationName : List ℕ
-synchronizationName =
-    83 ∷ 116 ∷ 114 ∷ 111 ∷ 110 ∷ 103 ∷ 83 ∷ 121 ∷ 110 ∷ 99 ∷ 104 ∷ 114 ∷ 111 ∷ 110 ∷ 105 ∷ 122 ∷ 97 ∷ 116 ∷ 105 ∷ 111 ∷ 110 ∷ []
+-- what stands for a number that is no type's, which no table has: Unknown
+abbrev pub unknownName : List ℕ
+unknownName = 85 ∷ 110 ∷ 107 ∷ 110 ∷ 111 ∷ 119 ∷ 110 ∷ []
 
--- §7.16; CR 5: the names by the number of the type, a line for each; 0 is no type, and is taken for 7 as in a row's step
+-- §7.16; CR 5: the names of the types, as TADL2 has them without their last word, by the number of the type, a line for each; 0 is no type's
 abbrev pub typeNames : List (List ℕ)
 typeNames =
-    synchronizationName
+    unknownName
     -- 1 Delay
     ∷ (68 ∷ 101 ∷ 108 ∷ 97 ∷ 121 ∷ [])
     -- 2 StrongDelay
@@ -116,7 +115,7 @@ typeNames =
     -- 6 Order
     ∷ (79 ∷ 114 ∷ 100 ∷ 101 ∷ 114 ∷ [])
     -- 7 StrongSynchronization
-    ∷ synchronizationName
+    ∷ (83 ∷ 116 ∷ 114 ∷ 111 ∷ 110 ∷ 103 ∷ 83 ∷ 121 ∷ 110 ∷ 99 ∷ 104 ∷ 114 ∷ 111 ∷ 110 ∷ 105 ∷ 122 ∷ 97 ∷ 116 ∷ 105 ∷ 111 ∷ 110 ∷ [])
     -- 8 ExecutionTime
     ∷ (69 ∷ 120 ∷ 101 ∷ 99 ∷ 117 ∷ 116 ∷ 105 ∷ 111 ∷ 110 ∷ 84 ∷ 105 ∷ 109 ∷ 101 ∷ [])
     -- 9 Reaction

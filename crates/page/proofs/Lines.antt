@@ -10,7 +10,7 @@ use lib.Seq.{sets, drop-at}
 use lib.Dec.{leb, ltb}
 use borrow.Author.Tests.{leb-true, ltb-true}
 use Rattle.constraint.specs.Report.{decimal, blank, lineEnd}
-use Rattle.constraint.specs.Types.{synchronizationName, typeNames}
+use Rattle.constraint.specs.Types.{unknownName, typeNames}
 use Rattle.constraint.specs.Page.{leftIn, rightIn, nameOf, verdictWord, stepText, lineText, pageWidth, pageLine}
 use Rattle.constraint.specs.declared.Verdict.{Verdict}
 use Rattle.constraint.specs.declared.Verdict.the-variants.{Open, Kept, Broken}
@@ -71,7 +71,7 @@ any-fits width (text ∷ texts) other e f (suc i) = any-fits width texts other (
 
 pub name-fits : (type : ℕ) → Fits 24 (nameOf type)
 unfolding all-fit? fits? letters?
-name-fits type = any-fits 24 typeNames synchronizationName refl (fits 24 synchronizationName refl) type
+name-fits type = any-fits 24 typeNames unknownName refl (fits 24 unknownName refl) type
 
 pub word-fits : (v : Verdict) → Fits 8 (verdictWord v)
 unfolding fits? letters?

@@ -19,9 +19,9 @@ const GROUP: usize = 16;
 // The line that heads each group of rows.
 const HYPHENS: [u8; 73] =
     *b"------------------------------------------------------------------------\n";
-// The names by the number of the type, a line for each, left-aligned in 24. 0 is no type, and is taken for 7 as in a row's step.
+// The names by the number of the type, a line for each, left-aligned in 24. 0 is no type's number.
 const NAMES: [[u8; 24]; 11] = [
-    *b"StrongSynchronization   ",
+    *b"Unknown                 ",
     *b"Delay                   ",
     *b"StrongDelay             ",
     *b"Repeat                  ",
@@ -48,7 +48,7 @@ pub struct Summary {
     pub closed: u64,
 }
 
-// The name of a type, left-aligned in 24; a number that no table has is taken for 7 too.
+// The name of a type, left-aligned in 24; that of 0 stands for every number that is no type's, which no table has.
 fn name(form: u64) -> [u8; 24]
     ensures { λ r. ⌜ r ≡ leftIn 24 (nameOf form) ⌝ }
 {

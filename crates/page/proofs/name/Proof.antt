@@ -4,20 +4,20 @@ use mathlib.Core.Path.{_≡_, _∙_}
 use mathlib.Core.List.{List, map}
 use lib.ListN.{getD, List·getD-map, List·getD-eq-default}
 use Rattle.constraint.proofs.Lists.{getD-within}
-use Rattle.constraint.specs.Types.{synchronizationName, typeNames}
+use Rattle.constraint.specs.Types.{unknownName, typeNames}
 use Rattle.constraint.specs.Page.{leftIn, nameOf}
 use borrow.Author.Needs.{needs}
 use Rattle.page.proofs.name.Statement.{statement}
 use Rattle.page.proofs.name.Tie as tie
 
 named : (form : ℕ) → form < 11 → (other : List ℕ) → getD (map (leftIn 24) typeNames) form other ≡ leftIn 24 (nameOf form)
-named form known other = getD-within (map (leftIn 24) typeNames) form other _ known ∙ List·getD-map (leftIn 24) typeNames form synchronizationName
+named form known other = getD-within (map (leftIn 24) typeNames) form other _ known ∙ List·getD-map (leftIn 24) typeNames form unknownName
 
 returns : tie.Need-returns
 returns c = named (c .before .before .args .form) (c .before .if1 .taken) _
 
 returns-2 : tie.Need-returns-2
-returns-2 c = rw (List·getD-eq-default typeNames synchronizationName {n = c .before .before .args .form} (c .before .if1 .left))
+returns-2 c = rw (List·getD-eq-default typeNames unknownName {n = c .before .before .args .form} (c .before .if1 .left))
 
 pub name-spec : {M : Type 1} → statement M
 name-spec =

@@ -25,7 +25,8 @@ use Rattle.constraint.proofs.Runs.{run-valid}
 use Rattle.constraint.proofs.Sanity.{run-once}
 use Rattle.machine.specs.Parts.{plus}
 use Rattle.row.proofs.Engine.{engine}
-use Rattle.monitor.specs.Machine.{monitorOf, anyFirst, refuses, takes, placeFor, refusalBy, occurrenceBy, freeAfter, closedAfter, takenCall}
+use Rattle.questions.specs.Questions.{placeFor, refusalBy, occurrenceBy, freeAfter, closedAfter}
+use Rattle.monitor.specs.Machine.{monitorOf, anyFirst, refuses, takes, takenCall}
 use Rattle.monitor.specs.Machine.{steppedBy, stepOf}
 use Rattle.monitor.specs.Contract.{after, Steps}
 use Rattle.monitor.specs.Beside.{allTaken}

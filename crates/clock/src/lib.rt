@@ -2,7 +2,6 @@
 // it one by one, with no row stepped.
 use constraint::Call;
 use machine::parts::plus;
-use monitor::calls;
 ghost use mathlib.Core.Path.{_≡_};
 ghost use Rattle.clock.specs.Clock.{Starts, TakesCall, refusedRead, AsksCall, ReadsNext};
 
@@ -47,21 +46,21 @@ impl Clock {
     pub fn take(self, call: Call) -> Answered
         ensures { λ r. ⌜ TakesCall self call r ⌝ }
     {
-        let at = calls::place(call);
+        let at = questions::place(call);
         let next = self.next[at];
-        let number = calls::refusal(call, self.closed, self.count, self.time, next);
+        let number = questions::refusal(call, self.closed, self.count, self.time, next);
         if 0 < number {
             return Answered {
                 number,
                 clock: self,
             };
         }
-        let o = calls::occurrence(call, self.time);
+        let o = questions::occurrence(call, self.time);
         let mut clock = self;
-        clock.next[at] = calls::free(call, next);
+        clock.next[at] = questions::free(call, next);
         clock.time = o.time;
         clock.count = plus(self.count, 1);
-        clock.closed = calls::closed(call, self.closed);
+        clock.closed = questions::closed(call, self.closed);
         Answered { number: 0, clock }
     }
 }

@@ -10,7 +10,8 @@ use Rattle.constraint.specs.Run.{asks}
 use Rattle.constraint.specs.declared.Call.{Call}
 use Rattle.constraint.proofs.Lists.{split}
 use Rattle.queue.proofs.Shared.{cond-true, cond-false}
-use Rattle.monitor.specs.Machine.{ownRefusal, nextFor}
+use Rattle.questions.specs.Questions.{ownRefusal}
+use Rattle.monitor.specs.Machine.{nextFor}
 use Rattle.lent.specs.Layout.{Lent, Words, wordsOf, Shaped}
 use Rattle.lent.specs.Steps.{refusalOf, answerTo, leftAfter, Stores}
 

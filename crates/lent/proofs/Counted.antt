@@ -12,7 +12,7 @@ use Rattle.row.specs.declared.Occurrence.{Occurrence}
 use Rattle.row.specs.declared.Row.{Row}
 use Rattle.monitor.specs.Machine.{mapFirst, zipFirst, nextStep, steppedBy}
 use Rattle.monitor.specs.Parts.{withRows}
-use Rattle.monitor.specs.declared.calls.Undo.{Undo}
+use Rattle.questions.specs.declared.Undo.{Undo}
 use Rattle.monitor.specs.declared.Monitor.{Monitor}
 use Rattle.monitor.proofs.First.{map-all, zip-all}
 use Rattle.lent.specs.Layout.{Lent, heldRows}

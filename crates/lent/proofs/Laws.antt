@@ -17,7 +17,8 @@ use Rattle.constraint.proofs.Streams.{plain-kind, stream-kind, stream-below}
 use Rattle.machine.specs.Parts.{plus}
 use Rattle.row.specs.Machine.{eventAt, tickAt, closeAt}
 use Rattle.row.specs.declared.Occurrence.{Occurrence}
-use Rattle.monitor.specs.Machine.{refuses, takes, timeRefusal, ownRefusal, nextFor, takenCall, steppedBy, stepOf, withdrawOf, withdrawn}
+use Rattle.questions.specs.Questions.{timeRefusal, ownRefusal}
+use Rattle.monitor.specs.Machine.{refuses, takes, nextFor, takenCall, steppedBy, stepOf, withdrawOf, withdrawn}
 use Rattle.monitor.specs.Contract.{Steps}
 use Rattle.monitor.specs.declared.Monitor.{Monitor}
 use Rattle.monitor.proofs.Theorem.{step-kept}

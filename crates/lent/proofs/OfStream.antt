@@ -14,7 +14,8 @@ use Rattle.row.specs.declared.Occurrence.{Occurrence}
 use Rattle.row.proofs.Crowding.{crowds}
 use Rattle.row.proofs.Filling.{quiet-taken}
 use Rattle.monitor.specs.Machine as Machine
-use Rattle.monitor.specs.Machine.{anyFirst, refuses, takes, nextStep, occurrenceBy, takenCall}
+use Rattle.questions.specs.Questions.{occurrenceBy}
+use Rattle.monitor.specs.Machine.{anyFirst, refuses, takes, nextStep, takenCall}
 use Rattle.monitor.specs.declared.Monitor.{Monitor}
 use Rattle.lent.specs.Layout.{Lent, Shaped, startOf, heldRows, rowAt}
 use Rattle.lent.specs.Steps.{visited, roomFor, roomed, countedOn, begun, rowCount, crowdedOn, leftOn}

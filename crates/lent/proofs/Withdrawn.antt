@@ -17,7 +17,8 @@ use Rattle.row.specs.declared.Before.{Before}
 use Rattle.row.specs.declared.Row.{Row}
 use Rattle.row.proofs.Apart.{without-state, kept-state}
 use Rattle.row.proofs.Filling.{taken-rises}
-use Rattle.monitor.specs.Machine.{noRow, zipFirst, placeIn, withdrawn}
+use Rattle.questions.specs.Questions.{placeIn}
+use Rattle.monitor.specs.Machine.{noRow, zipFirst, withdrawn}
 use Rattle.monitor.specs.Parts.{rowsWithout}
 use Rattle.monitor.specs.declared.Monitor.{Monitor}
 use Rattle.monitor.proofs.First.{zip-length, without-none, without-next, without-all}

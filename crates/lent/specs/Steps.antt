@@ -17,7 +17,8 @@ use Rattle.row.specs.declared.Before.{Before}
 use Rattle.row.specs.declared.Occurrence.{Occurrence}
 use Rattle.row.specs.declared.Row.{Row}
 use Rattle.row.specs.Machine.{eventAt, tickAt, closeAt}
-use Rattle.monitor.specs.Machine.{noRow, noUndo, placeIn, refusalBy, nextFor}
+use Rattle.questions.specs.Questions.{noUndo, placeIn}
+use Rattle.monitor.specs.Machine.{noRow, refusalFor}
 use Rattle.monitor.specs.Parts.{withRows}
 use Rattle.monitor.specs.declared.Monitor.{Monitor}
 use Rattle.lent.specs.Layout.{Lent, Words, wordsOf, Shaped, rowNamed, startOf, endOf, heldRows, rowAt, keptAt, dueAt}
@@ -245,7 +246,7 @@ withdrawnLent h = uncounted (withFree (backRows h))
 -- ---- a call: its number, and what it leaves
 
 abbrev pub refusalOf : Lent → Call → ℕ
-refusalOf h call = refusalBy call (h .monitor .closed) (h .monitor .count) (h .monitor .clock) (nextFor (h .monitor) call)
+refusalOf h call = refusalFor (h .monitor) call
 
 abbrev pub answerTo : Lent → Call → ℕ
 answerTo h (Call.Event kind time) = cond (crowdedOn h kind kind time) 12 0

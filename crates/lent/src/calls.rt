@@ -23,37 +23,21 @@ use constraint::FIRST_COLOURED;
 use constraint::LAST_COLOUR;
 use constraint::LAST_KIND;
 use constraint::LAST_TIME;
-use machine::parts::kind_of;
 use machine::parts::smaller;
-use monitor::calls::place_in;
-use monitor::calls::time_refusal;
+use questions::NO_EVENT;
+use questions::NO_STREAM;
+use questions::place_in;
+use questions::time_refusal;
 use queue::minus;
 use row::Occurrence;
 ghost use Prim.Native.Nat.{_<_, _≤_};
 ghost use mathlib.Core.Path.{_≡_};
 ghost use Rattle.constraint.specs.declared.Call.{Call};
 ghost use Rattle.constraint.specs.Run.{asks, withdraws};
-ghost use Rattle.row.specs.Machine.{eventAt, tickAt};
+ghost use Rattle.row.specs.Machine.{tickAt};
 ghost use Rattle.lent.specs.Layout.{Lent, wordsOf, Shaped};
 ghost use Rattle.constraint.specs.Streams.{stream};
 ghost use Rattle.lent.specs.Steps.{Turns, roomFound, passed, begun, Asks, OnStream, refusalOf, Stores};
-
-const NO_EVENT: u64 = 65;
-
-const NO_STREAM: u64 = 176;
-
-// What a row sees of an event of a stream.
-pub fn event_of(stream: usize, time: u64) -> Occurrence
-    ensures { λ r. ⌜ r ≡ eventAt stream time ⌝ }
-{
-    let stream = stream as u64;
-    Occurrence {
-        kind: kind_of(stream),
-        stream,
-        time,
-        closes: false,
-    }
-}
 
 // The rows to which the clock goes, where one may be overdue: they see nothing else of the step yet.
 fn pass(m: &mut Words, time: u64)

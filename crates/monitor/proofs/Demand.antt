@@ -13,7 +13,7 @@ use lib.ListN.{length, getD, replicate, getElem?, getD-replicate, length-replica
 use lib.Dec.{ltb}
 use borrow.Author.Tests.{lt-ltb, le-ltb}
 use Rattle.constraint.specs.Limits.{rowLimit}
-use Rattle.constraint.specs.Steps.{Step, times, clockFrom, clock, closed}
+use Rattle.constraint.specs.Steps.{Step, times, clockFrom, closed}
 use Rattle.constraint.specs.Continuation.{BrokenAt, Reads, reads-broken}
 use Rattle.constraint.specs.Questions.{Judged}
 use Rattle.constraint.specs.Accepted.{rowsQuestions, Accepted}
@@ -28,7 +28,7 @@ use Rattle.constraint.proofs.Judged.{never}
 use Rattle.constraint.proofs.Runs.{reads-once}
 use Rattle.row.specs.Machine.{rowVerdict}
 use Rattle.row.proofs.Exact.{Sound, Exact}
-use Rattle.monitor.specs.Machine.{noRow, monitorOf, refuses, takes, crowds, refusalBy, nextFor, takenCall, stepOf, verdictOf}
+use Rattle.monitor.specs.Machine.{noRow, monitorOf, refuses, takes, crowds, takenCall, stepOf, verdictOf, refusalFor}
 use Rattle.monitor.specs.declared.Monitor.{Monitor}
 use Rattle.monitor.specs.declared.Stepped.{Stepped}
 use Rattle.monitor.proofs.FittingRows.{SoundRows, fit-start, fit-reads}
@@ -51,7 +51,7 @@ untouched-taken m after = record { same = λ n e. never (cc) }
 pub step-untouched : (m : Monitor) (s : Call) → Untouched m (stepOf m s)
 unfolding stepOf
 step-untouched m s =
-    let number = refusalBy s (m .closed) (m .count) (m .clock) (nextFor m s) in
+    let number = refusalFor m s in
     untouched-or m number (ltb 0 number) (untouched-or m 12 (crowds m s) (untouched-taken m (takenCall m s)))
 
 -- ---- fresh

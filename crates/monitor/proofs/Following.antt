@@ -30,11 +30,12 @@ use Rattle.machine.specs.Parts.{plus}
 use Rattle.row.specs.Machine.{closeAt, rowStep}
 use Rattle.row.proofs.Exact.{Sound, Exact}
 use Rattle.row.proofs.Steps.{seen}
-use Rattle.monitor.specs.Machine.{anyFirst, refuses, takes, nextStep, placeFor, timeRefusal, ownRefusal, refusalBy, freeAfter, closedAfter}
+use Rattle.questions.specs.Questions.{placeFor, timeRefusal, ownRefusal, freeAfter, closedAfter}
+use Rattle.monitor.specs.Machine.{anyFirst, refuses, takes, nextStep, refusalFor}
 use Rattle.monitor.specs.Machine.{nextFor, occurrenceOf, takenCall, crowds, steppedBy, stepOf}
 use Rattle.monitor.specs.declared.Monitor.{Monitor}
 use Rattle.monitor.specs.declared.Stepped.{Stepped}
-use Rattle.monitor.proofs.Answers.{stream-place}
+use Rattle.questions.proofs.Places.{stream-place}
 use Rattle.monitor.proofs.FittingRows.{FitRows, fit-step, fit-crowded, fit-calm, fit-room}
 
 -- the steps once a call has its answer: one more where it is taken, the same where it is refused
@@ -232,7 +233,7 @@ module _ (engine : (c : Constraint) → Sound c → Exact c) where
         → ((a : Answer) → Judged ((8, closed steps ≡ false) ∷ (24, length steps < lastCount) ∷ later) a → Judged (questions rows steps call) a)
         → (closed steps ≡ false → length steps < lastCount → ((a : Answer) → Judged later a → Judged (questions rows steps call) a)
         → Left call (ownRefusal call (m .clock) (nextFor m call)))
-        → Left call (refusalBy call (m .closed) (m .count) (m .clock) (nextFor m call))
+        → Left call (refusalFor m call)
     unfolding Judged
     first-asked call later others own =
         let last = ownRefusal call (m .clock) (nextFor m call) in
@@ -243,7 +244,7 @@ module _ (engine : (c : Constraint) → Sound c → Exact c) where
         own (not-closed e8) (not-full e24) (λ a j. others a (inl (not-closed e8, inl (not-full e24, j))))))
 
     abbrev Asked : Call → Type 0
-    Asked call = Left call (refusalBy call (m .closed) (m .count) (m .clock) (nextFor m call))
+    Asked call = Left call (refusalFor m call)
 
     event-answered : (k t : ℕ) → Asked (Call.Event k t)
     unfolding Judged questions

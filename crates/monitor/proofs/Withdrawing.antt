@@ -35,14 +35,14 @@ use Rattle.row.specs.declared.Occurrence.{Occurrence}
 use Rattle.row.specs.declared.Row.{Row}
 use Rattle.row.proofs.Exact.{Sound, Exact}
 use Rattle.row.proofs.Undo.{row-without}
-use Rattle.monitor.specs.Machine.{monitorOf, mapFirst, zipFirst, refuses, takes, nextStep, placeFor, freeAfter, nextFor, occurrenceOf, crowds}
-use Rattle.monitor.specs.Machine.{refusalBy}
-use Rattle.monitor.specs.Machine.{takenCall, stepOf, verdictOf, placeIn, withdrawn, withdrawOf, bare, SameBare}
+use Rattle.questions.specs.Questions.{placeFor, placeIn, freeAfter}
+use Rattle.monitor.specs.Machine.{monitorOf, mapFirst, zipFirst, refuses, takes, nextStep, nextFor, occurrenceOf, crowds, refusalFor}
+use Rattle.monitor.specs.Machine.{takenCall, stepOf, verdictOf, withdrawn, withdrawOf, bare, SameBare}
 use Rattle.monitor.specs.Contract.{resultOf, step, after, Remains, Steps, Reading}
 use Rattle.monitor.specs.Beside.{allTaken, TakesAll}
 use Rattle.monitor.specs.declared.Monitor.{Monitor}
 use Rattle.monitor.specs.declared.Stepped.{Stepped}
-use Rattle.monitor.proofs.Answers.{place-small}
+use Rattle.questions.proofs.Places.{place-small}
 use Rattle.monitor.proofs.FittingRows.{FitRows}
 use Rattle.monitor.proofs.Following.{recorded, Follows, step-is, step-answered}
 use Rattle.monitor.proofs.Demand.{step-untouched, start-follows, verdict-reads, broken-row, reads-still}
@@ -68,13 +68,13 @@ module _ (m : Monitor) (s : Call) where
   bare-answer : stepOf (bare m) s .answer ≡ stepOf m s .answer
   unfolding stepOf bare
   bare-answer =
-      let number = refusalBy s (m .closed) (m .count) (m .clock) (nextFor m s) in
+      let number = refusalFor m s in
       answer-by (ltb 0 number) (crowds m s) number (bare m) (takenCall (bare m) s) m (takenCall m s)
 
   bare-step : SameBare (stepOf (bare m) s .monitor) (stepOf m s .monitor)
   unfolding stepOf bare takenCall
   bare-step =
-      let number = refusalBy s (m .closed) (m .count) (m .clock) (nextFor m s) in
+      let number = refusalFor m s in
       same-by (ltb 0 number) (crowds m s) number (bare m) (takenCall (bare m) s) m (takenCall m s) refl refl
 
 pub same-answer : (a b : Monitor) (s : Call) → SameBare a b → stepOf a s .answer ≡ stepOf b s .answer
@@ -96,7 +96,7 @@ taken-by-tests false false n m x e = refl
 taken-monitor : (m : Monitor) (s : Call) → stepOf m s .answer ≡ Taken → stepOf m s .monitor ≡ takenCall m s
 unfolding stepOf
 taken-monitor m s e =
-    let number = refusalBy s (m .closed) (m .count) (m .clock) (nextFor m s) in taken-by-tests (ltb 0 number) (crowds m s) number m (takenCall m s) e
+    let number = refusalFor m s in taken-by-tests (ltb 0 number) (crowds m s) number m (takenCall m s) e
 
 -- ---- each row is put back
 

@@ -5,30 +5,25 @@ use mathlib.Core.Bool.{Bool, false, cond, _&&_, _||_}
 use mathlib.Core.List.{List, [], _∷_, _++_, map}
 use mathlib.Core.Option.{Option, none, some}
 use lib.ListN.{length, getD, set, replicate}
-use lib.Dec.{leb, ltb}
-use Rattle.constraint.specs.Limits.{lastKind, firstColoured, lastColour, streamCount, lastTime, lastCount, rowLimit}
-use Rattle.constraint.specs.Streams.{stream}
+use lib.Dec.{ltb}
+use Rattle.constraint.specs.Limits.{streamCount, rowLimit}
 use Rattle.constraint.specs.Records.{filler}
 use Rattle.constraint.specs.declared.Answer.the-variants.{Taken, Refused}
 use Rattle.constraint.specs.declared.Call.{Call}
 use Rattle.constraint.specs.declared.Constraint.{Constraint}
 use Rattle.constraint.specs.declared.Verdict.{Verdict}
 use Rattle.machine.specs.Parts.{plus}
-use Rattle.row.specs.Machine.{rowOf, eventAt, tickAt, closeAt, rowStep, rowVerdict}
+use Rattle.row.specs.Machine.{rowOf, rowStep, rowVerdict}
 use Rattle.row.specs.Undo.{noBefore, savedBy, rowWithout, keptWithout}
 use Rattle.row.specs.declared.Occurrence.{Occurrence}
 use Rattle.row.specs.declared.Row.{Row}
+use Rattle.questions.specs.Questions.{noUndo, placeFor, placeIn, refusalBy, occurrenceBy, freeAfter, closedAfter, undoBy}
 use Rattle.monitor.specs.declared.Monitor.{Monitor}
 use Rattle.monitor.specs.declared.Stepped.{Stepped}
-use Rattle.monitor.specs.declared.calls.Undo.{Undo}
 
 -- a place for a row that no row was put in
 abbrev pub noRow : Row
 noRow = rowOf filler
-
--- nothing to withdraw
-abbrev pub noUndo : Undo
-noUndo = record { may = 0; place = 0; next = 0; clock = 0; count = 0; closed = 0 }
 
 -- §1.6: over the rows, the clock at 0, no events, count 0, not closed
 unfoldable pub monitorOf : List Constraint → Monitor
@@ -73,64 +68,14 @@ takes m = record { answer = Taken; monitor = m }
 abbrev pub nextStep : Monitor → ℕ
 nextStep m = plus (m .count) 1
 
--- ---- what a call asks and does, on numbers
-
--- the stream of a call's event; 0 where there is no event
-abbrev pub streamFor : Call → ℕ
-streamFor (Call.Event kind t) = kind
-streamFor (Call.ColouredEvent kind colour t) = stream kind colour
-streamFor (Call.Tick t) = 0
-streamFor Call.Close = 0
-
--- its place among the first free times; 0 where there is no such stream
-abbrev pub placeFor : Call → ℕ
-placeFor call = cond (ltb (streamFor call) streamCount) (streamFor call) 0
-
--- 10 and 11 for an event: the number of the first "no", or 0
-abbrev pub timeRefusal : ℕ → ℕ → ℕ → ℕ
-timeRefusal t clock next = cond (ltb lastTime t) 10 (cond (ltb t clock) 11 (cond (ltb t next) 11 0))
-
--- 9, 19, 10, 11 for an event; 10, 11 for a tick; none for the close
-abbrev pub ownRefusal : Call → ℕ → ℕ → ℕ
-ownRefusal (Call.Event kind t) clock next = cond (ltb lastKind kind) 9 (cond (leb firstColoured kind) 19 (timeRefusal t clock next))
-ownRefusal (Call.ColouredEvent kind colour t) clock next =
-    cond (ltb lastKind kind) 9 (cond (ltb kind firstColoured) 19 (cond (ltb lastColour colour) 19 (timeRefusal t clock next)))
-ownRefusal (Call.Tick t) clock next = cond (ltb lastTime t) 10 (cond (leb t clock) 11 0)
-ownRefusal Call.Close clock next = 0
-
--- 8 and 24, by the mark of the close and the count; then the call's own
-abbrev pub refusalBy : Call → ℕ → ℕ → ℕ → ℕ → ℕ
-refusalBy call closed count clock next = cond (ltb 0 closed) 8 (cond (leb lastCount count) 24 (ownRefusal call clock next))
-
--- what the rows see of a call at a clock
-abbrev pub occurrenceBy : Call → ℕ → Occurrence
-occurrenceBy (Call.Event kind t) clock = eventAt kind t
-occurrenceBy (Call.ColouredEvent kind colour t) clock = eventAt (stream kind colour) t
-occurrenceBy (Call.Tick t) clock = tickAt t
-occurrenceBy Call.Close clock = closeAt clock
-
--- the first free time of its stream after a call, and the mark of the close
-abbrev pub freeAfter : Call → ℕ → ℕ
-freeAfter (Call.Event kind t) next = plus t 1
-freeAfter (Call.ColouredEvent kind colour t) next = plus t 1
-freeAfter (Call.Tick t) next = next
-freeAfter Call.Close next = next
-
-abbrev pub closedAfter : Call → ℕ → ℕ
-closedAfter (Call.Event kind t) closed = closed
-closedAfter (Call.ColouredEvent kind colour t) closed = closed
-closedAfter (Call.Tick t) closed = closed
-closedAfter Call.Close closed = 1
-
--- what a call changes beside the rows, as it was: its step may be withdrawn
-abbrev pub undoBy : Call → ℕ → ℕ → ℕ → ℕ → Undo
-undoBy call closed clock next count =
-    record { may = 1; place = placeFor call; next = next; clock = clock; count = count; closed = closed }
-
 -- ---- a call
 
 abbrev pub nextFor : Monitor → Call → ℕ
 nextFor m call = getD (m .next) (placeFor call) 0
+
+-- the number of its first "no" but 12, or 0
+abbrev pub refusalFor : Monitor → Call → ℕ
+refusalFor m call = refusalBy call (m .closed) (m .count) (m .clock) (nextFor m call)
 
 abbrev pub occurrenceOf : Monitor → Call → Occurrence
 occurrenceOf m call = occurrenceBy call (m .clock)
@@ -158,17 +103,13 @@ abbrev pub steppedBy : Monitor → Call → ℕ → Stepped
 steppedBy m call number = cond (ltb 0 number) (refuses number m) (cond (crowds m call) (refuses 12 m) (takes (takenCall m call)))
 
 unfoldable pub stepOf : Monitor → Call → Stepped
-stepOf m call = steppedBy m call (refusalBy call (m .closed) (m .count) (m .clock) (nextFor m call))
+stepOf m call = steppedBy m call (refusalFor m call)
 
 -- the verdict of a row number, or none where there is no row of that number
 unfoldable pub verdictOf : Monitor → ℕ → Option Verdict
 verdictOf m i = cond (ltb i (m .len) && ltb i rowLimit) (some (rowVerdict (getD (m .rows) i noRow) (ltb 0 (m .closed)))) none
 
 -- ---- withdrawing the last step
-
--- a place among the first free times, whatever the record says
-abbrev pub placeIn : ℕ → ℕ
-placeIn place = cond (ltb place streamCount) place 0
 
 -- the rows, what is kept of them, and the other numbers, as they were before the last step (§3.12); nothing may be withdrawn then
 unfoldable pub withdrawn : Monitor → Monitor

@@ -1,10 +1,10 @@
 // The monitor: a table's rows, stepped by events, ticks and the close.
-pub use calls::Undo;
 use constraint::Answer;
 use constraint::Call;
 use constraint::Table;
 use constraint::Verdict;
 use machine::parts::plus;
+pub use questions::Undo;
 use row::Before;
 use row::Row;
 ghost use mathlib.Core.Path.{_≡_};
@@ -13,7 +13,6 @@ ghost use Rattle.constraint.specs.declared.Call.{Call};
 ghost use Rattle.monitor.specs.Machine.{refuses, takes};
 ghost use Rattle.monitor.specs.Contract.{Freshly, Steps, VerdictOf};
 
-pub mod calls;
 mod rows;
 pub mod verdicts;
 
@@ -78,24 +77,24 @@ impl Monitor {
     pub fn step(self, call: Call) -> Stepped
         ensures { λ r. ⌜ Steps self (asks call) r ⌝ }
     {
-        let at = calls::place(call);
+        let at = questions::place(call);
         let next = self.next[at];
-        let number = calls::refusal(call, self.closed, self.count, self.clock, next);
+        let number = questions::refusal(call, self.closed, self.count, self.clock, next);
         if 0 < number {
             return self.refused(number);
         }
-        let o = calls::occurrence(call, self.clock);
+        let o = questions::occurrence(call, self.clock);
         let step = plus(self.count, 1);
         let stepped = rows::step(self, o, step);
         if stepped.crowded {
             return self.refused(12);
         }
         let mut after = stepped.monitor;
-        after.next[at] = calls::free(call, next);
+        after.next[at] = questions::free(call, next);
         after.clock = o.time;
         after.count = step;
-        after.closed = calls::closed(call, self.closed);
-        after.undo = calls::undo_of(call, self.closed, self.clock, next, self.count);
+        after.closed = questions::closed(call, self.closed);
+        after.undo = questions::undo_of(call, self.closed, self.clock, next, self.count);
         after.taken()
     }
 
@@ -107,13 +106,13 @@ impl Monitor {
         if undo.may == 0 {
             return self.refused(21);
         }
-        let at = calls::place_in(undo.place);
+        let at = questions::place_in(undo.place);
         let mut after = rows::back(self, self.count);
         after.next[at] = undo.next;
         after.clock = undo.clock;
         after.count = undo.count;
         after.closed = undo.closed;
-        after.undo = calls::no_undo();
+        after.undo = questions::no_undo();
         after.taken()
     }
 

@@ -1,6 +1,5 @@
 // The rows of a monitor, one after the other: made from a table, and after a step.
 use crate::Monitor;
-use crate::calls;
 use constraint::Constraint;
 use constraint::Table;
 use row::Before;
@@ -55,7 +54,7 @@ pub(crate) fn over(table: Table, len: usize) -> Monitor
         closed: 0,
         len,
         before: [Before::none(); 32],
-        undo: calls::no_undo(),
+        undo: questions::no_undo(),
     }
 }
 

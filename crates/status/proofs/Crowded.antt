@@ -25,7 +25,8 @@ use Rattle.row.specs.Machine.{rowStep}
 use Rattle.row.specs.declared.Row.{Row}
 use Rattle.row.proofs.Exact.{Sound, Exact}
 use Rattle.row.proofs.Steps.{After, seen, fits-room, fits-step}
-use Rattle.monitor.specs.Machine.{anyFirst, nextStep, nextFor, occurrenceOf, refusalBy, ownRefusal, timeRefusal, crowds, stepOf, refuses, takes}
+use Rattle.questions.specs.Questions.{ownRefusal, timeRefusal}
+use Rattle.monitor.specs.Machine.{anyFirst, nextStep, nextFor, occurrenceOf, crowds, stepOf, refuses, takes, refusalFor}
 use Rattle.monitor.specs.Machine.{takenCall}
 use Rattle.monitor.specs.declared.Monitor.{Monitor}
 use Rattle.monitor.proofs.FittingRows.{FitRows}
@@ -159,7 +160,7 @@ own-number Call.Close clock next = λ e. omega arith
 module _ (engine : (c : Constraint) → Sound c → Exact c) (rows : List Constraint) (steps : List Step) (m : Monitor) (f : Follows engine rows steps m)
     (call : Call) where
   abbrev refusal : ℕ
-  refusal = refusalBy call (m .closed) (m .count) (m .clock) (nextFor m call)
+  refusal = refusalFor m call
 
   refusal-other : ¬ (refusal ≡ 12)
   refusal-other =

@@ -8,7 +8,7 @@ use Rattle.constraint.specs.Limits.{rowLimit, waitingLimit}
 use Rattle.constraint.specs.declared.Call.{Call}
 use Rattle.machine.specs.Words.{rowWords, numberWords}
 use Rattle.row.specs.Stored as Stored
-use Rattle.monitor.specs.Machine.{nextFor, refusalBy}
+use Rattle.monitor.specs.Machine.{refusalFor}
 use Rattle.monitor.specs.declared.Monitor.{Monitor}
 use Rattle.lent.specs.Layout.{Lent, Words, wordsOf, Shaped, heldRows, rowAt, keptAt}
 use Rattle.lent.specs.Steps.{refusalOf}
@@ -47,8 +47,8 @@ module _ (words : Words) (m : Monitor) (holds : Holds words m) where
   count-lies = said (λ x. getD (getD (getD words 32 []) 0 []) 1 0 ≡ x .count) (λ h e s. number-at h s words e 1)
 
   pub refusal-lies : (call : Call) (n : ℕ) → ((h : Lent) → words ≡ wordsOf h → Shaped h → n ≡ refusalOf h call)
-      → n ≡ refusalBy call (m .closed) (m .count) (m .clock) (nextFor m call)
-  refusal-lies call n = said (λ x. n ≡ refusalBy call (x .closed) (x .count) (x .clock) (nextFor x call))
+      → n ≡ refusalFor m call
+  refusal-lies call n = said (λ x. n ≡ refusalFor x call)
 
   pub few-wait : (i : ℕ) → i < heldRows m → rowAt m i .now .len ≤ waitingLimit
   few-wait =

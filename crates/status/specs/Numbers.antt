@@ -8,7 +8,7 @@ use Rattle.constraint.specs.declared.Call.{Call}
 use Rattle.machine.specs.Rule.{waitsIn}
 use Rattle.row.specs.Machine.{mark, rowStep}
 use Rattle.row.specs.declared.Row.{Row}
-use Rattle.monitor.specs.Machine.{nextStep, nextFor, occurrenceOf, refusalBy}
+use Rattle.monitor.specs.Machine.{nextStep, occurrenceOf, refusalFor}
 use Rattle.monitor.specs.declared.Monitor.{Monitor}
 use Rattle.lent.specs.Layout.{rowAt}
 
@@ -66,4 +66,4 @@ crowdedFirst m call = firstMarked (m .len) (λ r. rowStep r (occurrenceOf m call
 
 -- of a call that no other question refuses
 abbrev pub crowdedRowOf : Monitor → Call → ℕ
-crowdedRowOf m call = cond (ltb 0 (refusalBy call (m .closed) (m .count) (m .clock) (nextFor m call))) rowLimit (crowdedFirst m call)
+crowdedRowOf m call = cond (ltb 0 (refusalFor m call)) rowLimit (crowdedFirst m call)

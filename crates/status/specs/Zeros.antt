@@ -5,7 +5,7 @@ use Rattle.machine.specs.declared.Rule.{Rule}
 use Rattle.row.specs.Machine.{rowFrom}
 use Rattle.row.specs.Undo.{noState, noBefore}
 use Rattle.row.specs.declared.Row.{Row}
-use Rattle.monitor.specs.Machine.{noUndo}
+use Rattle.questions.specs.Questions.{noUndo}
 use Rattle.monitor.specs.declared.Monitor.{Monitor}
 use Rattle.lent.specs.Layout.{Words}
 

@@ -6,7 +6,6 @@ use lent::CLOCK;
 use lent::COUNT;
 use lent::NUMBERS;
 use lent::Words;
-use lent::calls::event_of;
 use lent::calls::event_refusal;
 use lent::closed;
 use lent::held;
@@ -15,6 +14,7 @@ use machine::words::BROKEN;
 use machine::words::DUE;
 use machine::words::FORM;
 use machine::words::LEN;
+use questions::event_of;
 use row::Occurrence;
 use row::stored::crowds;
 ghost use Prim.Native.Nat.{_<_, _≤_};
@@ -146,5 +146,5 @@ pub extern "C" fn delkuthi_crowded_row(m: &Words, kind: u8, time: u64) -> u8
     if 0 < event_refusal(m, kind, time) {
         return 32;
     }
-    first_crowded(m, held(m), event_of(kind as usize, time))
+    first_crowded(m, held(m), event_of(kind as u64, time))
 }

@@ -24,7 +24,7 @@ use Rattle.constraint.proofs.Lists.{split}
 use Rattle.constraint.proofs.Judged.{judged-all}
 use Rattle.constraint.proofs.History.{Accepts}
 use Rattle.constraint.proofs.Runs.{accepts-taken}
-use Rattle.monitor.specs.Machine.{occurrenceBy}
+use Rattle.questions.specs.Questions.{occurrenceBy}
 use Rattle.clock.specs.Clock.{After, ReadsNext}
 use Rattle.clock.specs.declared.Clock.{Clock}
 use Rattle.clock.specs.declared.RecordRead.{RecordRead}

@@ -1,13 +1,13 @@
 // The shortest stretch of consecutive records that breaks a row. Each start is run once, over one row and no monitor, for the least number of
 // records that break the row from there; then the stretches are tried by length and by start.
+use clock::Clock;
 use constraint::Constraint;
-use constraint::STREAM_COUNT;
 use constraint::StretchAnswer;
 use constraint::Table;
 use machine::parts::kind_of;
 use machine::words::BROKEN;
-use monitor::calls;
-use clock::Clock;
+use questions::NO_EVENT;
+use questions::NO_STREAM;
 use queue::SIZE;
 use row::Occurrence;
 use row::stored;
@@ -23,11 +23,6 @@ pub const RECORD_LIMIT: usize = 256;
 
 // More records than there are.
 const NEVER: usize = RECORD_LIMIT + 1;
-
-// No event: a kind that no row has, and no stream.
-const NO_EVENT: u64 = 65;
-
-const NO_STREAM: u64 = STREAM_COUNT as u64;
 
 // How many records there are, more than 256 counting as 257; or (number above 0) a refusal with its place.
 pub struct Gathered {
@@ -100,7 +95,7 @@ fn gather(bytes: &[u8], streams: &mut [u64; 256], times: &mut [u64; 256]) -> Gat
             };
         }
         let call = read.call;
-        let o = calls::occurrence(call, 0);
+        let o = questions::occurrence(call, 0);
         count = keep(streams, times, count, o);
         let later = read.clock;
         clock = later;

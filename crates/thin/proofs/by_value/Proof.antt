@@ -8,7 +8,7 @@ use Rattle.constraint.specs.Run.{asks}
 use Rattle.constraint.specs.declared.Answer.{Answer}
 use Rattle.constraint.specs.declared.Answer.the-variants.{Taken, Refused}
 use Rattle.constraint.specs.declared.Call.{Call}
-use Rattle.monitor.specs.Machine.{refuses, takes, crowds, nextFor, refusalBy, takenCall, steppedBy, stepOf}
+use Rattle.monitor.specs.Machine.{refuses, takes, crowds, takenCall, steppedBy, stepOf, refusalFor}
 use Rattle.monitor.specs.Contract.{Steps}
 use Rattle.monitor.specs.declared.Monitor.{Monitor}
 use Rattle.monitor.specs.declared.Stepped.{Stepped}
@@ -35,7 +35,7 @@ told-by m call (suc n) = subst Told (refused-by m call (suc n) (omega arith)) re
 
 step-told : (m : Monitor) (call : Call) → Told (stepOf m call)
 unfolding stepOf
-step-told m call = told-by m call (refusalBy call (m .closed) (m .count) (m .clock) (nextFor m call))
+step-told m call = told-by m call (refusalFor m call)
 
 numbered : (m : Monitor) (call : Call) (s : Stepped) (n : ℕ) → Steps m (asks call) s → n ≡ numberOf (s .answer)
     → Steps m (asks call) (steppedFrom n (s .monitor))

@@ -2,7 +2,7 @@
 use native.Mathlib.Omega.{arith}
 use borrow.Author.Needs.{needs}
 use mathlib.Core.Path.{_≡_}
-use Rattle.monitor.proofs.Answers.{place-small}
+use Rattle.questions.proofs.Places.{place-small}
 use Rattle.clock.proofs.Laws.{refusalOf, takes-refused, takes-taken}
 use Rattle.clock.proofs.Clock.take.Statement.{statement}
 use Rattle.clock.proofs.Clock.take.Tie as tie

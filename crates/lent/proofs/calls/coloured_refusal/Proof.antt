@@ -6,7 +6,7 @@ use denote.Ref.{now}
 use borrow.Author.Tests.{lt-ltb, le-ltb}
 use lib.ListN.{getD}
 use Rattle.constraint.specs.Limits.{lastKind, firstColoured, lastColour, streamCount}
-use Rattle.monitor.specs.Machine.{timeRefusal}
+use Rattle.questions.specs.Questions.{timeRefusal}
 use Rattle.constraint.specs.declared.Call.{Call}
 use Rattle.lent.proofs.Parts.{number-at}
 use Rattle.lent.proofs.Asked.{first-number, own-number}

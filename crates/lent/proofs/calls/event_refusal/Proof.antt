@@ -5,7 +5,7 @@ use native.Mathlib.Omega.{arith}
 use denote.Ref.{now}
 use borrow.Author.Tests.{lt-ltb, le-ltb, le-leb, lt-leb}
 use Rattle.constraint.specs.Limits.{lastKind, firstColoured, streamCount}
-use Rattle.monitor.specs.Machine.{timeRefusal}
+use Rattle.questions.specs.Questions.{timeRefusal}
 use Rattle.constraint.specs.declared.Call.{Call}
 use Rattle.lent.proofs.Parts.{number-at}
 use Rattle.lent.proofs.Asked.{first-number, own-number}

@@ -10,7 +10,7 @@ use denote.Ref.{now}
 use borrow.Author.Tests.{lt-ltb, le-ltb, ltb-true}
 use Rattle.constraint.specs.Limits.{streamCount}
 use Rattle.constraint.proofs.Lists.{split}
-use Rattle.monitor.specs.Machine.{placeIn}
+use Rattle.questions.specs.Questions.{placeIn}
 use Rattle.lent.specs.Layout.{Words, wordsOf, heldRows}
 use Rattle.lent.specs.Steps.{withMonitor, withSoonest, withNext, backed, backRows, uncountedMonitor}
 use Rattle.lent.proofs.Parts.{numbers-read, number-at, block-written, shaped-backed, shaped-next}

@@ -6,7 +6,8 @@ use mathlib.Core.Path.{_≡_, sym, ap, _∙_}
 use mathlib.Core.Bool.{false}
 use Rattle.constraint.specs.Run.{asks}
 use Rattle.monitor.specs.Machine.{crowds, takenCall, steppedBy, stepOf}
-use Rattle.monitor.proofs.Answers.{place-small, refused-by, crowded-by, taken-by}
+use Rattle.questions.proofs.Places.{place-small}
+use Rattle.monitor.proofs.Answers.{refused-by, crowded-by, taken-by}
 use Rattle.monitor.proofs.Theorem.{step-kept}
 use Rattle.monitor.proofs.Monitor.step.Statement.{statement}
 use Rattle.monitor.proofs.Monitor.step.Tie as tie

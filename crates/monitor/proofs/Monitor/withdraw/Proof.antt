@@ -7,7 +7,7 @@ use borrow.Author.Tests.{lt-ltb, le-ltb}
 use Rattle.constraint.specs.Run.{withdraws}
 use Rattle.queue.proofs.Shared.{cond-true, cond-false}
 use Rattle.monitor.specs.Machine.{takes, refuses, withdrawn, withdrawOf}
-use Rattle.monitor.proofs.Answers.{place-in-small}
+use Rattle.questions.proofs.Places.{place-in-small}
 use Rattle.monitor.proofs.Theorem.{step-kept}
 use Rattle.monitor.proofs.Monitor.withdraw.Statement.{statement}
 use Rattle.monitor.proofs.Monitor.withdraw.Tie as tie

@@ -1,0 +1,24 @@
+-- A place is a stream that was tested to be one, or 0.
+use Prim.Native.Nat.{ℕ, _<_}
+use native.Mathlib.Omega.{arith}
+use mathlib.Core.Path.{_≡_}
+use mathlib.Core.Bool.{cond}
+use lib.Dec.{ltb}
+use borrow.Author.Tests.{ltb-true, lt-ltb}
+use Rattle.constraint.specs.Limits.{streamCount}
+use Rattle.constraint.specs.declared.Call.{Call}
+use Rattle.constraint.proofs.Lists.{split}
+use Rattle.questions.specs.Questions.{streamFor, placeFor, placeIn}
+
+-- a stream is its own place
+pub stream-place : (call : Call) → streamFor call < streamCount → placeFor call ≡ streamFor call
+stream-place call small = rw (lt-ltb (streamFor call) streamCount small)
+
+pub place-small : (call : Call) → placeFor call < streamCount
+place-small call =
+    split (ltb (streamFor call) streamCount) (λ x. cond x (streamFor call) 0 < streamCount) (λ e. ltb-true (streamFor call) streamCount e)
+    (λ e. omega arith)
+
+pub place-in-small : (place : ℕ) → placeIn place < streamCount
+place-in-small place =
+    split (ltb place streamCount) (λ x. cond x place 0 < streamCount) (λ e. ltb-true place streamCount e) (λ e. omega arith)

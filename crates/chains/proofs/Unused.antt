@@ -1,10 +1,5 @@
 -- What Reaction never changes stays 0: a change has the marks as they are, or none.
-use Prim.Native.Nat.{ℕ, _+_, _*_, _%_}
-use mathlib.Core.Path.{_≡_, refl}
-use mathlib.Core.Bool.{cond}
-use mathlib.Core.List.{List}
-use lib.ListN.{getD}
-use lib.Dec.{eqb}
+use Rattle.constraint.proofs.Library.{ℕ, _+_, _*_, _%_, _≡_, refl, cond, List, getD, eqb}
 use Rattle.constraint.specs.Limits.{noLimit}
 use Rattle.constraint.specs.Streams.{kindOf}
 use Rattle.constraint.proofs.Lists.{split}

@@ -1,12 +1,7 @@
 -- A monitor over no rows has no row to crowd, so its clock, count, first free times and mark of the close alone answer each call; and what reading
 -- gives from a place on, over the steps read before it, is what it gives from the start.
-use Prim.Native.Nat.{ℕ, _+_, _≤_, _<_}
-use native.Mathlib.Omega.{arith}
-use mathlib.Core.Path.{_≡_, refl, sym, ap, subst, _∙_}
-use mathlib.Core.Bool.{false}
-use mathlib.Core.List.{List, [], _∷_, _++_, map}
-use lib.ListN.{length, getD, set, replicate}
-use borrow.Author.Tests.{lt-ltb}
+use Rattle.constraint.proofs.Library.{ℕ, _+_, _≤_, _<_, arith, _≡_, refl, sym, ap, subst, _∙_, false, List, [], _∷_, _++_, map, length, getD, set}
+use Rattle.constraint.proofs.Library.{replicate, lt-ltb}
 use Rattle.constraint.specs.Steps.{Step, at, clock}
 use Rattle.constraint.specs.Questions.{Judged}
 use Rattle.constraint.specs.Accepted.{rowsQuestions, Accepted}

@@ -1,9 +1,6 @@
 -- A refusal of a join is one of its recordings, 20 or 16: its number is from 1 to 127, and where both are read it is that of the first "no" of 20
 -- and 16.
-use Prim.Native.Nat.{ℕ}
-use native.Mathlib.Omega.{arith}
-use mathlib.Core.Path.{_≡_, subst}
-use mathlib.Core.List.{List}
+use Rattle.constraint.proofs.Library.{ℕ, arith, _≡_, subst, List}
 use Rattle.constraint.specs.Steps.{Step}
 use Rattle.constraint.specs.Questions.{Judged}
 use Rattle.constraint.specs.Recording.{ReadsInOrder, recording-of}

@@ -1,9 +1,6 @@
 -- §11.2: a host's calls on lent memory, one after the other, each known by its contract alone, are the machine's, so that they keep its promise;
 -- and each reader's contract speaks of every list of calls and withdrawals.
-use Prim.Native.Nat.{ℕ, _<_}
-use mathlib.Core.Path.{_≡_, refl, sym, ap₂, subst}
-use mathlib.Core.List.{List, _∷_, map}
-use native.Mathlib.Omega.{arith}
+use Rattle.constraint.proofs.Library.{ℕ, _<_, _≡_, refl, sym, ap₂, subst, List, _∷_, map, arith}
 use Rattle.constraint.specs.Accepted.{Accepted}
 use Rattle.constraint.specs.Steps.{Step}
 use Rattle.constraint.specs.Run.{Request, Left, asks, noneLeft, Run}

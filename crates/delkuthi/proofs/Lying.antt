@@ -1,9 +1,5 @@
 -- What is read of the words of a lent monitor is what the monitor that lies there says: each of its numbers has a place of its own.
-use Prim.Native.Nat.{ℕ, _-_, _<_, min}
-use mathlib.Core.Path.{_≡_, refl, sym, ap, subst, _∙_}
-use mathlib.Core.List.{List, []}
-use native.Mathlib.Omega.{arith}
-use lib.ListN.{length, getD}
+use Rattle.constraint.proofs.Library.{ℕ, _-_, _<_, min, _≡_, refl, sym, ap, subst, _∙_, List, [], arith, length, getD}
 use Rattle.constraint.specs.Limits.{rowLimit}
 use Rattle.machine.specs.Words.{rowWords, numberWords}
 use Rattle.row.specs.Stored as Stored

@@ -1,16 +1,7 @@
 -- The numbers that the readers of a lent monitor answer with say what the machine reads: no verdict has the word 15, and a row that is broken has a
 -- step that is not 0.
-use Prim.Native.Nat.{ℕ, _<_, _≤_}
-use native.Mathlib.Decide.{decLt}
-use native.Mathlib.Omega.{arith}
-use mathlib.Core.Path.{_≡_, refl, sym, ap, subst, _∙_}
-use mathlib.Core.Bool.{Bool, true, false, cond, _&&_}
-use mathlib.Core.List.{List}
-use mathlib.Core.Logic.{inl, inr, by-cases}
-use mathlib.Core.Option.{Option, none, some}
-use lib.ListN.{length, getD}
-use lib.Dec.{ltb}
-use borrow.Author.Tests.{ltb-true}
+use Rattle.constraint.proofs.Library.{ℕ, _<_, _≤_, decLt, arith, _≡_, refl, sym, ap, subst, _∙_, Bool, true, false, cond, _&&_, List, inl, inr}
+use Rattle.constraint.proofs.Library.{by-cases, Option, none, some, length, getD, ltb, ltb-true}
 use Rattle.constraint.specs.Limits.{rowLimit}
 use Rattle.constraint.specs.Steps.{Step}
 use Rattle.constraint.specs.Promise.{ReadsRow, row, no-row}

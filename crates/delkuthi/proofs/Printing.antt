@@ -1,13 +1,5 @@
 -- The page that is written says what the rows read: it is made of the summary, which says the type of each of the table's rows and its verdict.
-use Prim.Native.Nat.{ℕ, _≤_, _<_}
-use native.Mathlib.Decide.{decLt}
-use native.Mathlib.Omega.{arith}
-use mathlib.Core.Path.{_≡_, sym, ap, _∙_, subst}
-use mathlib.Core.List.{List, map}
-use mathlib.Core.Logic.{by-cases}
-use mathlib.Core.Option.{some}
-use lib.ListN.{length}
-use borrow.Author.Tests.{lt-ltb}
+use Rattle.constraint.proofs.Library.{ℕ, _≤_, _<_, decLt, arith, _≡_, sym, ap, _∙_, subst, List, map, by-cases, some, length, lt-ltb}
 use Rattle.constraint.specs.Limits.{rowLimit}
 use Rattle.constraint.specs.Steps.{Step, at}
 use Rattle.constraint.specs.Types.{typeOf}

@@ -1,10 +1,6 @@
 -- Records are taken one after the other: what reading gives from a place on, over the steps taken before it, is what it gives from the start.
-use Prim.Native.Nat.{ℕ, zero, suc, _*_, _≤_, _<_}
-use mathlib.Core.Path.{_≡_, refl, sym, ap, subst, _∙_}
-use mathlib.Core.Bool.{false}
-use mathlib.Core.List.{List, [], _∷_, _++_}
-use native.Mathlib.Omega.{arith}
-use lib.ListN.{length, length-append}
+use Rattle.constraint.proofs.Library.{ℕ, zero, suc, _*_, _≤_, _<_, _≡_, refl, sym, ap, subst, _∙_, false, List, [], _∷_, _++_, arith, length}
+use Rattle.constraint.proofs.Library.{length-append}
 use Rattle.constraint.specs.Limits.{lastCount}
 use Rattle.constraint.specs.Steps.{Step, at, closed}
 use Rattle.constraint.specs.Questions.{Judged}

@@ -1,12 +1,5 @@
 -- Each question of a table, of a record and of its step has a number from 1 to 127, as a test over the list computes, and so has each refusal.
-use Prim.Native.Nat.{ℕ, _+_, _<_}
-use native.Mathlib.Omega.{arith}
-use mathlib.Core.Path.{_≡_, refl}
-use mathlib.Core.Bool.{Bool, true, false, _&&_}
-use mathlib.Core.List.{List, [], _∷_}
-use mathlib.Core.Logic.{inl, inr}
-use lib.Dec.{ltb}
-use borrow.Author.Tests.{ltb-true}
+use Rattle.constraint.proofs.Library.{ℕ, _+_, _<_, arith, _≡_, refl, Bool, true, false, _&&_, List, [], _∷_, inl, inr, ltb, ltb-true}
 use Rattle.constraint.specs.Steps.{Step}
 use Rattle.constraint.specs.Accepted.{rowsQuestions}
 use Rattle.constraint.specs.Questions.{Question, Judged}

@@ -1,9 +1,5 @@
 -- A refusal of the table writer has a number above 0, as each of its questions has; and a table that is written is short.
-use Prim.Native.Nat.{ℕ, _+_, _*_, _≤_, _<_}
-use mathlib.Core.Path.{_≡_, refl, subst}
-use mathlib.Core.List.{List, [], _∷_}
-use native.Mathlib.Omega.{arith}
-use lib.ListN.{length, length-append}
+use Rattle.constraint.proofs.Library.{ℕ, _+_, _*_, _≤_, _<_, _≡_, refl, subst, List, [], _∷_, arith, length, length-append}
 use Rattle.constraint.specs.Questions.{Question, Judged}
 use Rattle.constraint.specs.Accepted.{rowsQuestions}
 use Rattle.constraint.specs.Table.{rowBytes, rowsBytes, tableBytes, writerQuestions}

@@ -1,12 +1,6 @@
 -- §4.9 and §4.10 of the exported writer: a number that is a length answers a table that was written, and reading it gives the rows that the raw
 -- bytes stand for; and raw bytes that stand for the rows of an accepted table are written as that table.
-use Prim.Native.Nat.{ℕ, _+_, _*_, _≤_, _<_}
-use mathlib.Core.Path.{_≡_, refl, sym, ap, subst, _∙_}
-use mathlib.Core.Bool.{cond}
-use mathlib.Core.List.{List, _++_}
-use native.Mathlib.Omega.{arith}
-use lib.Dec.{eqb}
-use lib.ListN.{length, take, drop}
+use Rattle.constraint.proofs.Library.{ℕ, _+_, _*_, _≤_, _<_, _≡_, refl, sym, ap, subst, _∙_, cond, List, _++_, arith, eqb, length, take, drop}
 use Rattle.constraint.specs.Bytes.{Bytes}
 use Rattle.constraint.specs.Table.{ReadsTable, table-of}
 use Rattle.constraint.specs.declared.Constraint.{Constraint}

@@ -1,9 +1,5 @@
 -- Where no stamp is late the number that answers for late stamps is that of the closed monitor's word: both read one list of steps.
-use Prim.Native.Nat.{ℕ, _*_}
-use native.Mathlib.Omega.{arith}
-use mathlib.Core.Path.{_≡_, sym, ap, subst, _∙_}
-use mathlib.Core.List.{List, [], _∷_, _++_, map}
-use mathlib.Core.Option.{Option, some}
+use Rattle.constraint.proofs.Library.{ℕ, _*_, arith, _≡_, sym, ap, subst, _∙_, List, [], _∷_, _++_, map, Option, some}
 use Rattle.constraint.specs.Steps.{Step, close}
 use Rattle.constraint.specs.Continuation.{Reads, reads-open}
 use Rattle.constraint.specs.Run.{asks, Left}

@@ -1,11 +1,7 @@
 -- The summary that is gathered row after row is the monitor's, and where the monitor follows some steps it says what each row reads after them.
-use Prim.Native.Nat.{ℕ, zero, suc, _+_, _-_, _≤_, _<_}
-use native.Mathlib.Numerals.{add-one}
-use native.Mathlib.Omega.{arith}
-use mathlib.Core.Path.{_≡_, refl, sym, subst, _∙_}
-use mathlib.Core.List.{List, [], _∷_, _++_, map, append-nil}
-use lib.ListN.{length, getD, set, take, replicate, length-map, length-take, List·getD-map}
-use lib.Seq.{length-take-le, take-all, take-suc, set-at, append-snoc}
+use Rattle.constraint.proofs.Library.{ℕ, zero, suc, _+_, _-_, _≤_, _<_, add-one, arith, _≡_, refl, sym, subst, _∙_, List, [], _∷_, _++_, map}
+use Rattle.constraint.proofs.Library.{append-nil, length, getD, set, take, replicate, length-map, length-take, List·getD-map, length-take-le}
+use Rattle.constraint.proofs.Library.{take-all, take-suc, set-at, append-snoc}
 use Rattle.constraint.specs.Limits.{rowLimit}
 use Rattle.constraint.specs.Steps.{Step, at}
 use Rattle.constraint.specs.Types.{typeOf}

@@ -1,7 +1,6 @@
 -- A monitor to which some steps are left answers the next as its questions say over those steps, and where it takes it has taken one more: a list of
 -- requests has one outcome.
-use mathlib.Core.Path.{_≡_, sym, _∙_, subst}
-use mathlib.Core.List.{List, [], _∷_, _++_, map}
+use Rattle.constraint.proofs.Library.{_≡_, sym, _∙_, subst, List, [], _∷_, _++_, map}
 use Rattle.constraint.specs.Steps.{Step}
 use Rattle.constraint.specs.Questions.{Judged}
 use Rattle.constraint.specs.Run.{stepFor, questions, asks, Left}

@@ -1,13 +1,6 @@
 -- The report's text goes by what reading the table and the recording gave, and there is room for all of it.
-use Prim.Native.Nat.{ℕ, suc, _+_, _*_, _/_, _%_, _≤_, _<_}
-use mathlib.Core.Path.{_≡_, refl, sym, ap, ap₂, subst, _∙_}
-use mathlib.Core.Bool.{false}
-use mathlib.Core.List.{List, _∷_, [], _++_, map}
-use native.Mathlib.Numerals.{add-one}
-use native.Mathlib.Omega.{arith}
-use lib.ListN.{length, drop}
-use lib.Seq.{drop-cons}
-use borrow.Author.Tests.{lt-ltb, le-ltb}
+use Rattle.constraint.proofs.Library.{ℕ, suc, _+_, _*_, _/_, _%_, _≤_, _<_, _≡_, refl, sym, ap, ap₂, subst, _∙_, false, List, _∷_, [], _++_, map}
+use Rattle.constraint.proofs.Library.{add-one, arith, length, drop, drop-cons, lt-ltb, le-ltb}
 use Rattle.constraint.specs.Steps.{Step, at, close, closed}
 use Rattle.constraint.specs.Run.{done}
 use Rattle.constraint.specs.Table.{ReadsTable, table-of}

@@ -1,11 +1,6 @@
 -- The contract's examples read as it says: the machine computes the answers and each verdict, and §3.6 makes them the definition's.
-use Prim.Native.Nat.{ℕ}
-use mathlib.Core.Path.{_≡_, refl, sym, ap, ap₂, subst}
-use mathlib.Core.Bool.{Bool, true, false, _&&_}
-use mathlib.Core.List.{List, [], _∷_, _++_, map}
-use mathlib.Core.Option.{Option, none, some}
-use lib.Dec.{eqb}
-use borrow.Author.Tests.{eqb-true}
+use Rattle.constraint.proofs.Library.{ℕ, _≡_, refl, sym, ap, ap₂, subst, Bool, true, false, _&&_, List, [], _∷_, _++_, map, Option, none, some, eqb}
+use Rattle.constraint.proofs.Library.{eqb-true}
 use Rattle.constraint.specs.Limits.{noLimit}
 use Rattle.constraint.specs.Steps.{Step}
 use Rattle.constraint.specs.Continuation.{Reads}

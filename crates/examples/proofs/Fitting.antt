@@ -1,12 +1,6 @@
 -- A row whose numbers are written out is accepted by computation: a test goes through its fields as questions 5, 18, 6 and 7 do.
-use Prim.Native.Nat.{ℕ, _≤_}
-use native.Mathlib.Omega.{arith}
-use mathlib.Core.Path.{_≡_, refl, sym}
-use mathlib.Core.Bool.{Bool, true, false, not, _&&_, _||_}
-use mathlib.Core.List.{List, [], _∷_, _++_}
-use mathlib.Core.Logic.{_⊎_, inl, inr}
-use lib.Dec.{leb, ltb, eqb}
-use borrow.Author.Tests.{leb-true, ltb-true, eqb-true, eqb-false, not-true}
+use Rattle.constraint.proofs.Library.{ℕ, _≤_, arith, _≡_, refl, sym, Bool, true, false, not, _&&_, _||_, List, [], _∷_, _++_, _⊎_, inl, inr, leb, ltb}
+use Rattle.constraint.proofs.Library.{eqb, leb-true, ltb-true, eqb-true, eqb-false, not-true}
 use Rattle.constraint.specs.Limits.{lastKind, firstColoured, lastTime, noLimit}
 use Rattle.constraint.specs.Questions.{Question, Judged}
 use Rattle.constraint.specs.Types.{kind, coloured, count, span, plain, lower, upper, upper-or-none, Field, byte, time, fieldsOf}

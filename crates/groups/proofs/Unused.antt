@@ -1,10 +1,5 @@
 -- What StrongSynchronization never changes stays 0: a change has other counts alone.
-use Prim.Native.Nat.{ℕ}
-use mathlib.Core.Path.{_≡_, ap}
-use mathlib.Core.Bool.{Bool, true, false, cond}
-use mathlib.Core.List.{List}
-use lib.ListN.{length}
-use lib.Dec.{ltb}
+use Rattle.constraint.proofs.Library.{ℕ, _≡_, ap, Bool, true, false, cond, List, length, ltb}
 use Rattle.queue.specs.declared.Edit.the-variants.{Drop, Push}
 use Rattle.machine.specs.Parts.{noMarks, waits}
 use Rattle.machine.specs.Words.{countsKept}

@@ -1,11 +1,5 @@
 -- The answer is put together in the order of the questions: the first recording's, the second's, 20 and 16.
-use Prim.Native.Nat.{ℕ, _<_}
-use native.Mathlib.Omega.{arith}
-use mathlib.Core.Path.{_≡_, sym, subst, _∙_}
-use mathlib.Core.Bool.{true, false}
-use mathlib.Core.List.{List}
-use mathlib.Core.Logic.{⊎-elim}
-use lib.ListN.{length, replicate}
+use Rattle.constraint.proofs.Library.{ℕ, _<_, arith, _≡_, sym, subst, _∙_, true, false, List, ⊎-elim, length, replicate}
 use Rattle.constraint.specs.Steps.{Step}
 use Rattle.constraint.specs.Recording.{ReadsInOrder, recording-of}
 use Rattle.constraint.proofs.Lists.{split, both}

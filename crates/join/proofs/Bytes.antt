@@ -1,13 +1,7 @@
 -- The bytes of a record read as its step, wherever they stand; so the bytes of steps each of which could be taken read as these steps.
-use Prim.Native.Nat.{ℕ, suc, _+_, _-_, _%_, _≤_, _<_}
-use native.Mathlib.Omega.{arith}
-use mathlib.Core.Path.{_≡_, refl, sym, ap, subst, _∙_}
-use mathlib.Core.Bool.{cond}
-use mathlib.Core.List.{List, [], _∷_, _++_, append-nil, append-assoc}
-use lib.ListN.{length, drop, length-append, length-drop}
-use lib.Seq.{append-snoc, drop-at, drop-drop}
-use lib.Dec.{ltb}
-use borrow.Author.Tests.{ltb-true, ltb-false, ne-eqb}
+use Rattle.constraint.proofs.Library.{ℕ, suc, _+_, _-_, _%_, _≤_, _<_, arith, _≡_, refl, sym, ap, subst, _∙_, cond, List, [], _∷_, _++_, append-nil}
+use Rattle.constraint.proofs.Library.{append-assoc, length, drop, length-append, length-drop, append-snoc, drop-at, drop-drop, ltb, ltb-true}
+use Rattle.constraint.proofs.Library.{ltb-false, ne-eqb}
 use Rattle.constraint.specs.Limits.{firstColoured, lastTime}
 use Rattle.constraint.specs.Streams.{kindOf, stream}
 use Rattle.constraint.specs.Steps.{Step, event, tick, close, at}

@@ -1,13 +1,7 @@
 -- A tick of the first is later than all that stands before it, and so never falls away; one of the second falls away just where a record of the
 -- first stands at its time.
-use Prim.Native.Nat.{ℕ, _≤_, _<_}
-use native.Mathlib.Omega.{arith}
-use mathlib.Core.Path.{_≡_, refl, sym, subst}
-use mathlib.Core.Bool.{Bool, true, false, cond, _||_}
-use mathlib.Core.List.{List, [], _∷_}
-use mathlib.Core.Logic.{_⊎_, inl, inr, ⊎-elim}
-use lib.Dec.{leb, eqb}
-use borrow.Author.Tests.{leb-true, leb-false, lt-leb, eq-eqb, eqb-true}
+use Rattle.constraint.proofs.Library.{ℕ, _≤_, _<_, arith, _≡_, refl, sym, subst, Bool, true, false, cond, _||_, List, [], _∷_, _⊎_, inl, inr, ⊎-elim}
+use Rattle.constraint.proofs.Library.{leb, eqb, leb-true, leb-false, lt-leb, eq-eqb, eqb-true}
 use Rattle.constraint.specs.Steps.{Step, event, tick, close, among}
 use Rattle.constraint.proofs.Lists.{split, both, or-true}
 use Rattle.constraint.specs.Joined.{timeOf, merged, undropped, joined}

@@ -1,15 +1,8 @@
 -- Two lists of steps whose times never fall merge into one, a stream's events all come from one of them, and a tick that is left is later than the
 -- clock: so what is
 -- left is a list of steps each of which was accepted after those before it.
-use Prim.Native.Nat.{ℕ, _≤_, _<_}
-use native.Mathlib.Omega.{arith}
-use mathlib.Core.Path.{_≡_, refl, sym, ap, subst, _∙_}
-use mathlib.Core.Bool.{false, cond}
-use mathlib.Core.List.{List, [], _∷_, _++_, append-nil}
-use lib.ListN.{length, length-append}
-use lib.Seq.{append-snoc}
-use lib.Dec.{leb, eqb}
-use borrow.Author.Tests.{leb-true, leb-false, eq-eqb, eqb-true}
+use Rattle.constraint.proofs.Library.{ℕ, _≤_, _<_, arith, _≡_, refl, sym, ap, subst, _∙_, false, cond, List, [], _∷_, _++_, append-nil, length}
+use Rattle.constraint.proofs.Library.{length-append, append-snoc, leb, eqb, leb-true, leb-false, eq-eqb, eqb-true}
 use Rattle.constraint.specs.Limits.{firstColoured, streamCount, lastTime, lastCount}
 use Rattle.constraint.specs.Streams.{kindOf}
 use Rattle.constraint.specs.Steps.{Step, event, tick, close, among, times, clockFrom, clock, closed}

@@ -1,14 +1,8 @@
 -- A record that is taken adds its kind to those marked, and the first one of a kind to avoid is kept.
-use Prim.Native.Nat.{ℕ, _+_, _≤_, _<_}
-use native.Mathlib.Omega.{arith}
-use mathlib.Core.Path.{_≡_, refl, sym, ap, subst, _∙_}
+use Rattle.constraint.proofs.Library.{ℕ, _+_, _≤_, _<_, arith, _≡_, refl, sym, ap, subst, _∙_, List, [], _∷_, _++_, append-nil, _⊎_, inl, inr, length}
+use Rattle.constraint.proofs.Library.{set, replicate, length-set, length-replicate, getD-replicate, List·getD-eq-default, set-out, getD-set-same}
+use Rattle.constraint.proofs.Library.{getD-set-other, eqb, lt-ltb, eq-eqb, ne-eqb, eqb-true, eqb-false}
 use mathlib.Core.Bool.{Bool, true, false, cond, _||_, or-true as either-true}
-use mathlib.Core.List.{List, [], _∷_, _++_, append-nil}
-use mathlib.Core.Logic.{_⊎_, inl, inr}
-use lib.ListN.{length, set, replicate, length-set, length-replicate, getD-replicate, List·getD-eq-default}
-use lib.Seq.{set-out, getD-set-same, getD-set-other}
-use lib.Dec.{eqb}
-use borrow.Author.Tests.{lt-ltb, eq-eqb, ne-eqb, eqb-true, eqb-false}
 use Rattle.constraint.specs.Limits.{lastKind}
 use Rattle.constraint.specs.Streams.{stream, kindOf}
 use Rattle.constraint.specs.Steps.{Step, event, tick, close, at, among}

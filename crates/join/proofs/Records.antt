@@ -1,13 +1,6 @@
 -- A recording that is read gives its records one after the other, and each is a step that could be taken after those before it.
-use Prim.Native.Nat.{ℕ, _+_, _-_, _/_, _%_, _≤_, _<_}
-use native.Mathlib.Omega.{arith}
-use mathlib.Core.Path.{_≡_, refl, sym, subst, _∙_}
-use mathlib.Core.Bool.{Bool, true, false, cond}
-use mathlib.Core.List.{List, [], _∷_, _++_, append-nil}
-use lib.ListN.{length}
-use lib.Seq.{append-snoc}
-use lib.Dec.{eqb}
-use borrow.Author.Tests.{eq-eqb, lt-ltb, le-ltb}
+use Rattle.constraint.proofs.Library.{ℕ, _+_, _-_, _/_, _%_, _≤_, _<_, arith, _≡_, refl, sym, subst, _∙_, Bool, true, false, cond, List, [], _∷_}
+use Rattle.constraint.proofs.Library.{_++_, append-nil, length, append-snoc, eqb, eq-eqb, lt-ltb, le-ltb}
 use Rattle.constraint.specs.Limits.{firstColoured, lastColour}
 use Rattle.constraint.specs.Streams.{stream}
 use Rattle.constraint.specs.Steps.{Step, event, tick, close, at, clockFrom, clock}

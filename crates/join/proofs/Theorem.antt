@@ -1,9 +1,5 @@
 -- What the joined recording is: valid, of the higher version, and with the records of both.
-use Prim.Native.Nat.{ℕ, _<_, _^_, max}
-use native.Mathlib.Omega.{arith}
-use mathlib.Core.Path.{_≡_, refl}
-use mathlib.Core.List.{List}
-use lib.ListN.{length}
+use Rattle.constraint.proofs.Library.{ℕ, _<_, _^_, max, arith, _≡_, refl, List, length}
 use Rattle.constraint.specs.Steps.{Step, at}
 use Rattle.constraint.specs.Recording.{ReadsInOrder, recording-of}
 use Rattle.constraint.specs.Joined.{joined, joinedBytes, NoneInCommon}

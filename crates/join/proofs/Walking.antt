@@ -1,13 +1,6 @@
 -- Each turn of the walk takes the record that stands next in the merged list; what is left of it is stored behind what is left of those before it.
-use Prim.Native.Nat.{ℕ, _+_, _-_, _<_}
-use native.Mathlib.Omega.{arith}
-use mathlib.Core.Path.{_≡_, refl, sym, ap, subst, _∙_}
-use mathlib.Core.Bool.{Bool, true, false, cond, not, _&&_, _||_}
-use mathlib.Core.List.{List, [], _∷_, _++_, append-nil, append-assoc}
-use lib.ListN.{length, length-append}
-use lib.Seq.{sets}
-use lib.Dec.{eqb, leb}
-use borrow.Author.Tests.{eqb-true, eqb-false}
+use Rattle.constraint.proofs.Library.{ℕ, _+_, _-_, _<_, arith, _≡_, refl, sym, ap, subst, _∙_, Bool, true, false, cond, not, _&&_, _||_, List, []}
+use Rattle.constraint.proofs.Library.{_∷_, _++_, append-nil, append-assoc, length, length-append, sets, eqb, leb, eqb-true, eqb-false}
 use Rattle.constraint.specs.Steps.{Step}
 use Rattle.constraint.specs.Run.{stepFor}
 use Rattle.constraint.specs.declared.Call.{Call}

@@ -1,10 +1,5 @@
 -- The questions 8 and 24 come first: where one is answered "no" that is the number, and else the call's own questions give it.
-use Prim.Native.Nat.{ℕ, _<_, _≤_}
-use native.Mathlib.Omega.{arith}
-use mathlib.Core.Path.{_≡_, refl, sym, ap, _∙_}
-use mathlib.Core.Bool.{Bool, true, false, cond}
-use lib.Dec.{ltb, leb}
-use borrow.Author.Tests.{lt-ltb, le-ltb, ltb-false}
+use Rattle.constraint.proofs.Library.{ℕ, _<_, _≤_, arith, _≡_, refl, sym, ap, _∙_, Bool, true, false, cond, ltb, leb, lt-ltb, le-ltb, ltb-false}
 use Rattle.constraint.specs.Limits.{lastCount}
 use Rattle.constraint.specs.Run.{asks}
 use Rattle.constraint.specs.declared.Call.{Call}

@@ -1,10 +1,6 @@
 -- The blocks of a lent monitor, read and written one at a time: those below 32 are the rows', and the last three stand behind them.
-use Prim.Native.Nat.{ℕ, zero, suc, _+_, _<_}
-use native.Mathlib.Omega.{arith}
-use native.Mathlib.Nat.{suc-add, zero-add}
-use mathlib.Core.Path.{_≡_, refl, ap, ap₂, _∙_}
-use mathlib.Core.List.{List, [], _∷_, _++_}
-use lib.ListN.{length, getD, set}
+use Rattle.constraint.proofs.Library.{ℕ, zero, suc, _+_, _<_, arith, suc-add, zero-add, _≡_, refl, ap, ap₂, _∙_, List, [], _∷_, _++_, length, getD}
+use Rattle.constraint.proofs.Library.{set}
 use Rattle.row.specs.Undo.{noBefore}
 use Rattle.row.specs.Stored as Stored
 use Rattle.row.specs.declared.Before.{Before}

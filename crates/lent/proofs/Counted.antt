@@ -1,10 +1,6 @@
 -- The numbers of a call that is taken are stored before its rows take the step: the words say the same of the rows then, and with the rows after
 -- the step they are the monitor after the call.
-use Prim.Native.Nat.{ℕ, _≤_}
-use native.Mathlib.Omega.{arith}
-use mathlib.Core.Path.{_≡_, refl, _∙_, ap₂}
-use mathlib.Core.List.{List}
-use lib.ListN.{length, getD}
+use Rattle.constraint.proofs.Library.{ℕ, _≤_, arith, _≡_, refl, _∙_, ap₂, List, length, getD}
 use Rattle.constraint.specs.Limits.{streamCount}
 use Rattle.constraint.specs.declared.Call.{Call}
 use Rattle.row.specs.declared.Before.{Before}

@@ -1,15 +1,7 @@
 -- One row after the other of a list of rows takes a step. Where the others would be left as they are by it, that is the step of all rows.
-use Prim.Native.Nat.{ℕ, zero, suc, _+_, _<_, _≤_, min}
-use native.Mathlib.Nat.{not-suc-le-zero, le-of-suc-le-suc}
-use native.Mathlib.Numerals.{add-one}
-use native.Mathlib.Omega.{arith}
-use mathlib.Core.Path.{_≡_, refl, sym, _∙_, ap, ap₂, subst}
-use mathlib.Core.Bool.{Bool, true, false, cond, _||_}
-use mathlib.Core.List.{List, [], _∷_, _++_, append-nil}
-use lib.ListN.{length, getD, set, length-set}
-use lib.Seq.{getD-set-same, getD-set-other, set-getD}
-use lib.Dec.{ltb}
-use borrow.Author.Tests.{ltb-true, ltb-false}
+use Rattle.constraint.proofs.Library.{ℕ, zero, suc, _+_, _<_, _≤_, min, not-suc-le-zero, le-of-suc-le-suc, add-one, arith, _≡_, refl, sym, _∙_, ap}
+use Rattle.constraint.proofs.Library.{ap₂, subst, Bool, true, false, cond, _||_, List, [], _∷_, _++_, append-nil, length, getD, set, length-set}
+use Rattle.constraint.proofs.Library.{getD-set-same, getD-set-other, set-getD, ltb, ltb-true, ltb-false}
 use Rattle.constraint.proofs.Lists.{split, both, or-false}
 use Rattle.row.specs.Undo.{noBefore}
 use Rattle.row.specs.declared.Before.{Before}

@@ -1,15 +1,9 @@
 -- The fresh monitor over an accepted table has its rows in its first places, and its words say what is so of it: the lists of all kinds stand one
 -- after the other among the entries, where there is room for them, and nothing waits in a row but the words that a Reaction has from the start.
-use Prim.Native.Nat.{ℕ, zero, suc, _+_, _-_, _%_, _<_, _≤_}
-use native.Mathlib.Nat.{mod-eq-of-lt}
-use native.Mathlib.Omega.{arith}
-use mathlib.Core.Path.{_≡_, refl, sym, ap, ap₂, subst, subst₂, _∙_}
-use mathlib.Core.Bool.{Bool, true, false, cond}
-use mathlib.Core.List.{List, [], _∷_, _++_, map}
-use lib.ListN.{length, getD, set, take, replicate, length-append, length-replicate, length-map, List·getD-append}
-use lib.Seq.{take-at, take-suc, take-length, getD-append-add, getD-at}
-use lib.Dec.{eqb, ltb}
-use borrow.Author.Tests.{ltb-true, ltb-false}
+use Rattle.constraint.proofs.Library.{ℕ, zero, suc, _+_, _-_, _%_, _<_, _≤_, mod-eq-of-lt, arith, _≡_, refl, sym, ap, ap₂, subst, subst₂, _∙_, Bool}
+use Rattle.constraint.proofs.Library.{true, false, cond, List, [], _∷_, _++_, map, length, getD, set, take, replicate, length-append}
+use Rattle.constraint.proofs.Library.{length-replicate, length-map, List·getD-append, take-at, take-suc, take-length, getD-append-add, getD-at, eqb}
+use Rattle.constraint.proofs.Library.{ltb, ltb-true, ltb-false}
 use Rattle.constraint.specs.Limits.{rowLimit, waitingLimit}
 use Rattle.constraint.specs.Accepted.{Accepted}
 use Rattle.constraint.specs.Promise.{play}

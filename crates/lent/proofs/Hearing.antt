@@ -1,12 +1,7 @@
 -- A step of a row is what the clock and the close do to it, and then what an event does that concerns it: a row that is not concerned is changed
 -- by the first part alone, and one that is hears the event, as it has room and is broken or in time.
-use Prim.Native.Nat.{ℕ, _<_}
-use native.Mathlib.Omega.{arith}
-use mathlib.Core.Path.{_≡_, refl, sym, _∙_, ap, subst}
-use mathlib.Core.Bool.{Bool, true, false, cond}
-use mathlib.Core.Logic.{_⊎_, inl, inr, ⊎-elim}
-use lib.Dec.{ltb, eqb}
-use borrow.Author.Tests.{lt-ltb, ltb-true, ltb-false, eq-eqb, ne-eqb}
+use Rattle.constraint.proofs.Library.{ℕ, _<_, arith, _≡_, refl, sym, _∙_, ap, subst, Bool, true, false, cond, _⊎_, inl, inr, ⊎-elim, ltb, eqb, lt-ltb}
+use Rattle.constraint.proofs.Library.{ltb-true, ltb-false, eq-eqb, ne-eqb}
 use Rattle.constraint.proofs.Lists.{split, both}
 use Rattle.machine.specs.declared.Rule.{Rule}
 use Rattle.row.specs.Machine.{concerns, rowFrom, brokenState, brokenRow, rowStep}

@@ -1,14 +1,7 @@
 -- What a call and a withdrawal leave of the words of a monitor is what the monitor's step makes of it, and of that the words say what is so: by
 -- the kind of the call, where no question refuses it.
-use Prim.Native.Nat.{ℕ, zero, suc, _<_}
-use native.Mathlib.Omega.{arith}
-use mathlib.Core.Path.{_≡_, refl, sym, ap, ap₂, subst}
-use mathlib.Core.Bool.{Bool, true, false, cond}
-use mathlib.Core.List.{List}
-use lib.ListN.{set}
-use lib.Seq.{set-getD}
-use lib.Dec.{ltb, leb}
-use borrow.Author.Tests.{lt-ltb, ltb-false, leb-false}
+use Rattle.constraint.proofs.Library.{ℕ, zero, suc, _<_, arith, _≡_, refl, sym, ap, ap₂, subst, Bool, true, false, cond, List, set, set-getD, ltb}
+use Rattle.constraint.proofs.Library.{leb, lt-ltb, ltb-false, leb-false}
 use Rattle.constraint.specs.Limits.{lastKind, firstColoured, lastColour, streamCount, lastCount}
 use Rattle.constraint.specs.Run.{Request, asks, withdraws}
 use Rattle.constraint.specs.Streams.{stream}

@@ -1,13 +1,7 @@
 -- A call goes to the rows of its kind, after the clock and the close have done their part. Where the lists are the monitor's that is the step of
 -- all rows: a row that is not listed is not concerned, so that it is changed by that part alone; one that is hears the event, as it has room.
-use Prim.Native.Nat.{ℕ, zero, suc, _+_, _-_, _%_, _<_, _≤_, min}
-use native.Mathlib.Omega.{arith}
-use mathlib.Core.Path.{_≡_, refl, sym, _∙_, ap, ap₂, subst}
-use mathlib.Core.Bool.{Bool, true, false, cond}
-use mathlib.Core.List.{List, [], _∷_, _++_}
-use lib.ListN.{length, getD}
-use lib.Dec.{ltb}
-use borrow.Author.Tests.{le-ltb, ltb-true, ltb-false}
+use Rattle.constraint.proofs.Library.{ℕ, zero, suc, _+_, _-_, _%_, _<_, _≤_, min, arith, _≡_, refl, sym, _∙_, ap, ap₂, subst, Bool, true, false, cond}
+use Rattle.constraint.proofs.Library.{List, [], _∷_, _++_, length, getD, ltb, le-ltb, ltb-true, ltb-false}
 use Rattle.constraint.specs.Limits.{waitingLimit}
 use Rattle.constraint.proofs.Lists.{split}
 use Rattle.machine.specs.declared.Rule.{Rule}

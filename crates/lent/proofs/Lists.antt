@@ -1,10 +1,6 @@
 -- The lists of a lent monitor where they lie: a store in one is a store in one part of the record. Words whose blocks are all known are a monitor's.
-use Prim.Native.Nat.{ℕ, suc, _<_, _≤_, _/_, _%_}
-use native.Mathlib.Omega.{arith}
-use mathlib.Core.Path.{_≡_, refl, sym, ap, ap₂, subst, _∙_}
-use mathlib.Core.List.{List, [], _∷_, _++_}
-use lib.ListN.{length, getD, set, drop}
-use lib.Seq.{drop-cons, drop-length}
+use Rattle.constraint.proofs.Library.{ℕ, suc, _<_, _≤_, _/_, _%_, arith, _≡_, refl, sym, ap, ap₂, subst, _∙_, List, [], _∷_, _++_, length, getD, set}
+use Rattle.constraint.proofs.Library.{drop, drop-cons, drop-length}
 use Rattle.row.specs.Undo.{noBefore}
 use Rattle.row.specs.Stored as Stored
 use Rattle.row.specs.declared.Before.{Before}

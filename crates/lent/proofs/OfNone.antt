@@ -1,9 +1,6 @@
 -- A tick and the close concern no row, so that they crowd none, and what the clock or the close does to each row is the whole step.
-use Prim.Native.Nat.{ℕ, zero, suc, _+_, _<_, _≤_}
-use native.Mathlib.Omega.{arith}
-use mathlib.Core.Path.{subst, _≡_, refl, sym, _∙_, ap}
-use mathlib.Core.Bool.{Bool, false, cond}
-use mathlib.Core.List.{[], _∷_, _++_, append-nil}
+use Rattle.constraint.proofs.Library.{ℕ, zero, suc, _+_, _<_, _≤_, arith, subst, _≡_, refl, sym, _∙_, ap, Bool, false, cond, [], _∷_, _++_}
+use Rattle.constraint.proofs.Library.{append-nil}
 use Rattle.constraint.specs.declared.Call.{Call}
 use Rattle.row.specs.Machine.{noEvent, rowStep}
 use Rattle.row.specs.declared.Occurrence.{Occurrence}

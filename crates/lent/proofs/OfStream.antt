@@ -1,10 +1,6 @@
 -- An event of a stream: the rows of its kind take the step, after those to which the clock goes, and that is the step of all rows; the question
 -- for 64 is answered as all rows would answer it.
-use Prim.Native.Nat.{ℕ, _+_, _<_, _≤_}
-use native.Mathlib.Omega.{arith}
-use mathlib.Core.Path.{_≡_, refl, sym, _∙_, ap}
-use mathlib.Core.Bool.{Bool, false, cond}
-use lib.ListN.{set, length-set}
+use Rattle.constraint.proofs.Library.{ℕ, _+_, _<_, _≤_, arith, _≡_, refl, sym, _∙_, ap, Bool, false, cond, set, length-set}
 use Rattle.constraint.specs.Streams.{stream, kindOf}
 use Rattle.constraint.specs.declared.Call.{Call}
 use Rattle.constraint.proofs.Lists.{split}

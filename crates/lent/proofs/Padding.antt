@@ -1,13 +1,8 @@
 -- A list that is padded with zeros: a store just behind it makes it one longer, and where it has no room for one more nothing changes.
-use Prim.Native.Nat.{ℕ, zero, suc, _+_, _<_, _≤_}
-use native.Mathlib.Omega.{arith}
-use mathlib.Core.Path.{_≡_, refl, sym, ap, _∙_}
-use native.Mathlib.Numerals.{add-one}
-use mathlib.Core.List.{List, [], _∷_, _++_, append-assoc}
-use lib.ListN.{length, getD, set, take, replicate, length-set, length-append, length-replicate, List·getD-append, replicate-append-replicate}
-use lib.Seq.{length-take-le, take-all, take-length, take-append-le, take-set-le, take-set-lt, append-snoc, set-at, getD-take}
-use lib.Dec.{ltb}
-use borrow.Author.Tests.{ltb-true, ltb-false}
+use Rattle.constraint.proofs.Library.{ℕ, zero, suc, _+_, _<_, _≤_, arith, _≡_, refl, sym, ap, _∙_, add-one, List, [], _∷_, _++_, append-assoc, length}
+use Rattle.constraint.proofs.Library.{getD, set, take, replicate, length-set, length-append, length-replicate, List·getD-append}
+use Rattle.constraint.proofs.Library.{replicate-append-replicate, length-take-le, take-all, take-length, take-append-le, take-set-le, take-set-lt}
+use Rattle.constraint.proofs.Library.{append-snoc, set-at, getD-take, ltb, ltb-true, ltb-false}
 use Rattle.constraint.proofs.Lists.{split}
 use Rattle.lent.specs.Fresh.{padded}
 

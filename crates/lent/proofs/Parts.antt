@@ -1,17 +1,9 @@
 -- The words beside the rows, read and written: each stands at a place of the last three blocks, and a store there is a store in one part of the
 -- record.
-use Prim.Native.Nat.{ℕ, zero, suc, _+_, _-_, _<_, _/_, _%_, min}
-use native.Mathlib.Omega.{arith}
-use native.Mathlib.Nat.{suc-add, zero-add}
-use native.Mathlib.Decide.{ℕ-discrete}
-use mathlib.Core.Path.{_≡_, refl, sym, ap, ap₂, subst, subst₂, _∙_}
-use mathlib.Core.Logic.{by-cases}
-use mathlib.Core.Bool.{Bool, true, false, cond, _||_}
-use mathlib.Core.List.{List, [], _∷_, _++_}
-use lib.ListN.{length, getD, set, take, drop, length-set}
-use lib.Seq.{getD-set-same, getD-set-other, getD-take, getD-drop, getD-append-add, take-set-lt, take-set-le, drop-set-lt, drop-set-add}
-use lib.Dec.{ltb}
-use borrow.Author.Tests.{ltb-true, ltb-false}
+use Rattle.constraint.proofs.Library.{ℕ, zero, suc, _+_, _-_, _<_, _/_, _%_, min, arith, suc-add, zero-add, ℕ-discrete, _≡_, refl, sym, ap, ap₂}
+use Rattle.constraint.proofs.Library.{subst, subst₂, _∙_, by-cases, Bool, true, false, cond, _||_, List, [], _∷_, _++_, length, getD, set, take, drop}
+use Rattle.constraint.proofs.Library.{length-set, getD-set-same, getD-set-other, getD-take, getD-drop, getD-append-add, take-set-lt, take-set-le}
+use Rattle.constraint.proofs.Library.{drop-set-lt, drop-set-add, ltb, ltb-true, ltb-false}
 use Rattle.constraint.proofs.Lists.{split}
 use Rattle.row.specs.Apart.{endsBy, endedState}
 use Rattle.row.specs.Machine.{eventAt, tickAt}

@@ -1,14 +1,7 @@
 -- Whether an event crowds a row of its kind is whether it crowds any row; and where each row has room for the events that may come, it crowds
 -- none, so that the question need not be asked.
-use Prim.Native.Nat.{ℕ, zero, suc, _+_, _-_, _%_, _<_, _≤_, min}
-use native.Mathlib.Nat.{le-trans}
-use native.Mathlib.Omega.{arith}
-use mathlib.Core.Path.{_≡_, refl, sym, _∙_, ap, subst}
-use mathlib.Core.Bool.{Bool, true, false, cond, _||_}
-use mathlib.Core.List.{List, [], _∷_}
-use lib.ListN.{length}
-use lib.Dec.{ltb, eqb}
-use borrow.Author.Tests.{ltb-true, ltb-false}
+use Rattle.constraint.proofs.Library.{ℕ, zero, suc, _+_, _-_, _%_, _<_, _≤_, min, le-trans, arith, _≡_, refl, sym, _∙_, ap, subst, Bool, true, false}
+use Rattle.constraint.proofs.Library.{cond, _||_, List, [], _∷_, length, ltb, eqb, ltb-true, ltb-false}
 use Rattle.constraint.proofs.Lists.{split}
 use Rattle.row.specs.Machine.{rowStep, eventAt}
 use Rattle.row.specs.Stored.{larger, filledIn}

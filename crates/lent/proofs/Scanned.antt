@@ -1,12 +1,7 @@
 -- A table's rows are read again one by one, each is stored in its block, and behind the last of them nothing whole stands: the filler is read there.
-use Prim.Native.Nat.{ℕ, zero, suc, _+_, _<_, _≤_}
-use native.Mathlib.Omega.{arith}
-use mathlib.Core.Path.{_≡_, refl, sym, ap, subst, _∙_}
-use mathlib.Core.List.{List, [], _∷_}
-use lib.ListN.{length, getD, set, drop, length-set, drop-of-length-le}
-use lib.Seq.{getD-set-same, getD-set-other}
-use lib.Dec.{ltb, eqb}
-use borrow.Author.Tests.{ltb-true, ltb-false, eqb-true, eqb-false}
+use Rattle.constraint.proofs.Library.{ℕ, zero, suc, _+_, _<_, _≤_, arith, _≡_, refl, sym, ap, subst, _∙_, List, [], _∷_, length, getD, set, drop}
+use Rattle.constraint.proofs.Library.{length-set, drop-of-length-le, getD-set-same, getD-set-other, ltb, eqb, ltb-true, ltb-false, eqb-true}
+use Rattle.constraint.proofs.Library.{eqb-false}
 use Rattle.constraint.specs.Records.{filler}
 use Rattle.constraint.specs.Table.{TableRead, table-of, table-refused, ReadsRows, no-more, row-refused, row-taken}
 use Rattle.constraint.specs.declared.Constraint.{Constraint}

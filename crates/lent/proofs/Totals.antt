@@ -1,12 +1,6 @@
 -- The lists of all kinds together have at most four entries for each row: a row has four numbers for its kinds, and each of them is one kind at most.
-use Prim.Native.Nat.{ℕ, zero, suc, _+_, _*_, _≤_}
-use native.Mathlib.Omega.{arith}
-use mathlib.Core.Path.{_≡_, refl, ap, _∙_}
-use mathlib.Core.Bool.{Bool, true, false, cond, _||_}
-use mathlib.Core.List.{List, [], _∷_}
-use lib.ListN.{length, length-append}
-use lib.Dec.{eqb}
-use borrow.Author.Tests.{eqb-true}
+use Rattle.constraint.proofs.Library.{ℕ, zero, suc, _+_, _*_, _≤_, arith, _≡_, refl, ap, _∙_, Bool, true, false, cond, _||_, List, [], _∷_, length}
+use Rattle.constraint.proofs.Library.{length-append, eqb, eqb-true}
 use Rattle.constraint.specs.Steps.{among}
 use Rattle.constraint.proofs.Lists.{split}
 use Rattle.machine.specs.declared.Rule.{Rule}

@@ -1,13 +1,7 @@
 -- A withdrawal puts each row back, and the numbers beside them. The rows keep their rules, so that the lists are theirs; what waits in one now
 -- waited in it before, or nothing is kept of it; and no row is due before time 0.
-use Prim.Native.Nat.{ℕ, zero, suc, _+_, _<_, _≤_}
-use native.Mathlib.Numerals.{add-one}
-use native.Mathlib.Omega.{arith}
-use mathlib.Core.Path.{_≡_, refl, sym, _∙_, ap, subst}
-use mathlib.Core.Bool.{Bool, true, false, cond}
-use mathlib.Core.List.{List, [], _∷_}
-use lib.ListN.{length, getD, set, length-set}
-use lib.Dec.{eqb}
+use Rattle.constraint.proofs.Library.{ℕ, zero, suc, _+_, _<_, _≤_, add-one, arith, _≡_, refl, sym, _∙_, ap, subst, Bool, true, false, cond, List, []}
+use Rattle.constraint.proofs.Library.{_∷_, length, getD, set, length-set, eqb}
 use Rattle.constraint.specs.Limits.{rowLimit}
 use Rattle.machine.specs.declared.Rule.{Rule}
 use Rattle.machine.specs.declared.State.{State}

@@ -1,9 +1,5 @@
 -- What each row type proves of its machine, so that whoever steps rows never looks inside a type.
-use Prim.Native.Nat.{ℕ, _≤_, _<_}
-use mathlib.Core.Path.{_≡_}
-use mathlib.Core.Bool.{Bool, true, false, cond}
-use mathlib.Core.List.{List, [], _∷_, _++_}
-use lib.ListN.{length}
+use Rattle.constraint.proofs.Library.{ℕ, _≤_, _<_, _≡_, Bool, true, false, cond, List, [], _∷_, _++_, length}
 use Rattle.constraint.specs.Limits.{lastTime, noLimit, waitingLimit}
 use Rattle.constraint.specs.Steps.{Step, event, tick, at, own, clock, closed}
 use Rattle.constraint.specs.Meets.{Meets}

@@ -1,15 +1,7 @@
 -- A constraint's numbers are read off its fields one by one, so what is true of them is shown field by field: the type is the constraint's, and the
 -- kinds are its kinds in their order.
-use Prim.Native.Nat.{ℕ, _+_, _<_}
-use native.Mathlib.Omega.{arith}
-use mathlib.Core.Path.{_≡_, refl, sym, ap, _∙_}
-use mathlib.Core.Bool.{true, false, cond}
-use mathlib.Core.List.{List, [], _∷_, _++_}
-use mathlib.Core.Logic.{_≢_, ⊎-elim}
-use borrow.Author.Tests.{eqb-true, ne-eqb}
-use lib.Dec.{eqb}
-use lib.ListN.{length, take, drop, replicate}
-use lib.Seq.{take-take}
+use Rattle.constraint.proofs.Library.{ℕ, _+_, _<_, arith, _≡_, refl, sym, ap, _∙_, true, false, cond, List, [], _∷_, _++_, _≢_, ⊎-elim, eqb-true}
+use Rattle.constraint.proofs.Library.{ne-eqb, eqb, length, take, drop, replicate, take-take}
 use Rattle.constraint.specs.Steps.{at}
 use Rattle.constraint.specs.Types.{kind, coloured, count, span, lower, upper, upper-or-none, plain, jitter, minimum, len, tolerance}
 use Rattle.constraint.specs.Types.{Field, byte, time, typeOf, fieldsOf}

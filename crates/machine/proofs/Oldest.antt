@@ -1,12 +1,6 @@
 -- The oldest of the times that a row keeps, and the due time that it gives: by cases on the list.
-use Prim.Native.Nat.{ℕ, zero, suc, _+_, _≤_, _<_}
-use native.Mathlib.Omega.{arith}
-use mathlib.Core.Path.{_≡_, refl, sym, _∙_}
-use mathlib.Core.Bool.{false}
-use mathlib.Core.List.{List, [], _∷_, _++_}
-use lib.Dec.{leb, eqb}
-use lib.ListN.{length, drop}
-use borrow.Author.Tests.{le-leb, lt-leb, eq-eqb, ne-eqb}
+use Rattle.constraint.proofs.Library.{ℕ, zero, suc, _+_, _≤_, _<_, arith, _≡_, refl, sym, _∙_, false, List, [], _∷_, _++_, leb, eqb, length, drop}
+use Rattle.constraint.proofs.Library.{le-leb, lt-leb, eq-eqb, ne-eqb}
 use Rattle.constraint.specs.Limits.{lastTime}
 use Rattle.constraint.specs.Steps.{at}
 use Rattle.constraint.proofs.Lists.{Each, each-none, each-cons, Rising}

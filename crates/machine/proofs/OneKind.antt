@@ -1,12 +1,7 @@
 -- A row of one kind that is open exactly while the recorded events meet it at the present clock: what it says of some events at a clock it
 -- says of the first of them at every clock before the others, so the empty continuation is the best, and the close does not break it.
-use Prim.Native.Nat.{ℕ, zero, suc, _≤_, _<_}
-use native.Mathlib.Omega.{arith}
-use mathlib.Core.Path.{_≡_, refl, sym, subst}
-use mathlib.Core.Bool.{Bool, true, false, true≢false}
-use mathlib.Core.List.{List, [], _∷_, _++_, append-nil}
-use mathlib.Core.Logic.{_↔_}
-use lib.ListN.{length}
+use Rattle.constraint.proofs.Library.{ℕ, zero, suc, _≤_, _<_, arith, _≡_, refl, sym, subst, Bool, true, false, true≢false, List, [], _∷_, _++_}
+use Rattle.constraint.proofs.Library.{append-nil, _↔_, length}
 use Rattle.constraint.specs.Limits.{lastTime, noLimit, waitingLimit}
 use Rattle.constraint.specs.Steps.{Step, event, tick, at, times, own, clock}
 use Rattle.constraint.specs.Meets.{Meets}

@@ -1,11 +1,5 @@
 -- Rows of several kinds: the kinds are small and differ, and what holds of the kind at each place holds of each of them.
-use Prim.Native.Nat.{ℕ, _≤_, _<_}
-use native.Mathlib.Omega.{arith}
-use native.Mathlib.Decide.{decLt}
-use mathlib.Core.Path.{_≡_, sym, ap, _∙_, subst}
-use mathlib.Core.List.{List}
-use mathlib.Core.Logic.{by-cases}
-use lib.ListN.{length}
+use Rattle.constraint.proofs.Library.{ℕ, _≤_, _<_, arith, decLt, _≡_, sym, ap, _∙_, subst, List, by-cases, length}
 use Rattle.constraint.specs.Limits.{lastKind, streamCount}
 use Rattle.constraint.specs.Steps.{at}
 use Rattle.constraint.specs.Accepted.{KindsFit}

@@ -1,14 +1,6 @@
 -- Events that are so far apart: what one more event adds is its distance from the one span places before it.
-use Prim.Native.Nat.{ℕ, suc, _+_, _-_, _≤_}
-use native.Mathlib.Omega.{arith}
-use native.Mathlib.Decide.{decLt}
-use mathlib.Core.Path.{_≡_, refl}
-use mathlib.Core.Bool.{true, false}
-use mathlib.Core.List.{List, [], _∷_, _++_}
-use mathlib.Core.Logic.{inl, by-cases}
-use lib.ListN.{length, length-append}
-use lib.Dec.{leb, eqb}
-use borrow.Author.Tests.{eqb-true, eqb-false}
+use Rattle.constraint.proofs.Library.{ℕ, suc, _+_, _-_, _≤_, arith, decLt, _≡_, refl, true, false, List, [], _∷_, _++_, inl, by-cases, length}
+use Rattle.constraint.proofs.Library.{length-append, leb, eqb, eqb-true, eqb-false}
 use Rattle.constraint.specs.Limits.{noLimit}
 use Rattle.constraint.specs.Steps.{at}
 use Rattle.constraint.specs.Meets.{Apart, SpansApart, AtLeastApart}

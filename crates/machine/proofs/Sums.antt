@@ -1,9 +1,7 @@
 -- Sums that form deadlines are exact: the largest is a point at the last time with an upper and a jitter, three times the last time, which is below
 -- the
 -- mark (§1.1). So a sum saturates only where the mark itself is added.
-use Prim.Native.Nat.{ℕ, _+_, _*_, _≤_, _<_}
-use native.Mathlib.Omega.{arith}
-use mathlib.Core.Path.{_≡_}
+use Rattle.constraint.proofs.Library.{ℕ, _+_, _*_, _≤_, _<_, arith, _≡_}
 use Rattle.constraint.specs.Limits.{lastTime, noLimit}
 use Rattle.machine.specs.Parts.{plus}
 

@@ -1,10 +1,5 @@
 -- Tests that tell whether something holds.
-use Prim.Native.Nat.{ℕ, _≤_}
-use native.Mathlib.Omega.{arith}
-use mathlib.Core.Path.{_≡_, refl}
-use mathlib.Core.Bool.{Bool, true, false, _&&_, _||_}
-use lib.Dec.{leb}
-use borrow.Author.Tests.{leb-true, leb-false}
+use Rattle.constraint.proofs.Library.{ℕ, _≤_, arith, _≡_, refl, Bool, true, false, _&&_, _||_, leb, leb-true, leb-false}
 use Rattle.constraint.proofs.Lists.{split}
 
 pub data Tells (P : Type 0) : Bool → Type 0 where

@@ -1,11 +1,6 @@
 -- Rows of a source kind and a target kind: what is proved over their lists of times holds of the steps that recorded them.
-use Prim.Native.Nat.{ℕ, zero, suc, _≤_, _<_}
-use native.Mathlib.Omega.{arith}
-use mathlib.Core.Path.{_≡_, sym, subst, subst₂, transport}
-use mathlib.Core.Bool.{Bool, true, false}
-use mathlib.Core.List.{List, [], _∷_, _++_, append-nil}
-use mathlib.Core.Logic.{_⊎_, inl, inr}
-use lib.ListN.{length}
+use Rattle.constraint.proofs.Library.{ℕ, zero, suc, _≤_, _<_, arith, _≡_, sym, subst, subst₂, transport, Bool, true, false, List, [], _∷_, _++_}
+use Rattle.constraint.proofs.Library.{append-nil, _⊎_, inl, inr, length}
 use Rattle.constraint.specs.Limits.{lastTime}
 use Rattle.constraint.specs.Steps.{Step, event, tick, at, times, own, clock, closed}
 use Rattle.constraint.specs.Meets.{Meets}

@@ -1,8 +1,5 @@
 -- A call's answer goes by the number of its first "no" but 12: refused by it, or crowded, or taken.
-use Prim.Native.Nat.{ℕ, _≤_, _<_}
-use mathlib.Core.Path.{_≡_}
-use mathlib.Core.Bool.{true, false}
-use borrow.Author.Tests.{lt-ltb, le-ltb}
+use Rattle.constraint.proofs.Library.{ℕ, _≤_, _<_, _≡_, true, false, lt-ltb, le-ltb}
 use Rattle.constraint.specs.declared.Call.{Call}
 use Rattle.monitor.specs.Machine.{refuses, takes, crowds, takenCall, steppedBy}
 use Rattle.monitor.specs.declared.Monitor.{Monitor}

@@ -1,12 +1,7 @@
 -- Why a row reads the same after two lists of steps that stand beside each other: step by step both make the same record of
 -- it, and what it reads is read off its record. The other rows of a table have no part in this but to have taken the steps.
-use Prim.Native.Nat.{ℕ, zero, suc, _+_}
-use native.Mathlib.Omega.{arith}
-use mathlib.Core.Path.{_≡_, refl, sym, ap, ap₂, _∙_, subst, subst₂}
-use mathlib.Core.Bool.{false}
-use mathlib.Core.List.{List, [], _∷_, _++_, map, append-nil, append-assoc}
-use mathlib.Core.Option.{some}
-use lib.ListN.{length, take, getElem?, length-append}
+use Rattle.constraint.proofs.Library.{ℕ, zero, suc, _+_, arith, _≡_, refl, sym, ap, ap₂, _∙_, subst, subst₂, false, List, [], _∷_, _++_, map}
+use Rattle.constraint.proofs.Library.{append-nil, append-assoc, some, length, take, getElem?, length-append}
 use Rattle.constraint.specs.Steps.{Step, event, tick, close, clock, closed}
 use Rattle.constraint.specs.Continuation.{Reads}
 use Rattle.constraint.specs.Questions.{Judged}

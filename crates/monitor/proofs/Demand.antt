@@ -1,17 +1,9 @@
 -- §3.6: a refusal leaves the monitor as it was, a fresh monitor follows the empty list of steps, and the rows of one that follows some steps read
 -- what the
 -- definitions say.
-use Prim.Native.Nat.{ℕ, zero, suc, _+_, _-_, _≤_, _<_}
-use native.Mathlib.Decide.{decLt}
-use native.Mathlib.Omega.{arith}
-use mathlib.Core.Path.{_≡_, refl, ap, subst}
-use mathlib.Core.Bool.{Bool, true, false, cond}
-use mathlib.Core.List.{List, [], _∷_}
-use mathlib.Core.Logic.{_⊎_, inl, inr, ⊎-elim, by-cases}
-use mathlib.Core.Option.{Option, none, some}
-use lib.ListN.{length, getD, replicate, getElem?, getD-replicate, length-replicate}
-use lib.Dec.{ltb}
-use borrow.Author.Tests.{lt-ltb, le-ltb}
+use Rattle.constraint.proofs.Library.{ℕ, zero, suc, _+_, _-_, _≤_, _<_, decLt, arith, _≡_, refl, ap, subst, Bool, true, false, cond, List, [], _∷_}
+use Rattle.constraint.proofs.Library.{_⊎_, inl, inr, ⊎-elim, by-cases, Option, none, some, length, getD, replicate, getElem?, getD-replicate}
+use Rattle.constraint.proofs.Library.{length-replicate, ltb, lt-ltb, le-ltb}
 use Rattle.constraint.specs.Limits.{rowLimit}
 use Rattle.constraint.specs.Steps.{Step, times, clockFrom, closed}
 use Rattle.constraint.specs.Continuation.{BrokenAt, Reads, reads-broken}

@@ -1,11 +1,6 @@
 -- A list of n places is filled from the front with what f makes of the items of another list, one after the other.
-use Prim.Native.Nat.{ℕ, suc, _+_, _-_, _<_}
-use native.Mathlib.Numerals.{add-one}
-use native.Mathlib.Omega.{arith}
-use mathlib.Core.Path.{_≡_, sym, ap, _∙_}
-use mathlib.Core.List.{List, [], _∷_, _++_, map, map-append}
-use lib.ListN.{length, getD, set, take, replicate, length-map}
-use lib.Seq.{length-take-le, take-suc, append-snoc, set-at}
+use Rattle.constraint.proofs.Library.{ℕ, suc, _+_, _-_, _<_, add-one, arith, _≡_, sym, ap, _∙_, List, [], _∷_, _++_, map, map-append, length, getD}
+use Rattle.constraint.proofs.Library.{set, take, replicate, length-map, length-take-le, take-suc, append-snoc, set-at}
 
 module _ {A B : Type 0} (f : A → B) (empty : B) (items : List A) (n : ℕ) where
   -- the first i items, and room behind them

@@ -1,11 +1,6 @@
 -- What is done to the first rows of a list is done to one after the other, and to no more of them than there are.
-use Prim.Native.Nat.{ℕ, zero, suc, _+_, _<_, min}
-use native.Mathlib.Numerals.{add-one}
-use native.Mathlib.Omega.{arith}
-use mathlib.Core.Path.{_≡_, refl, sym, ap, ap₂, _∙_}
-use mathlib.Core.Bool.{Bool, true, false, _||_}
-use mathlib.Core.List.{List, [], _∷_}
-use lib.ListN.{length, getD, set}
+use Rattle.constraint.proofs.Library.{ℕ, zero, suc, _+_, _<_, min, add-one, arith, _≡_, refl, sym, ap, ap₂, _∙_, Bool, true, false, _||_, List, []}
+use Rattle.constraint.proofs.Library.{_∷_, length, getD, set}
 use Rattle.constraint.proofs.Lists.{both, or-false}
 use Rattle.constraint.specs.Limits.{rowLimit}
 use Rattle.row.specs.Machine.{rowStep}

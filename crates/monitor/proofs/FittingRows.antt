@@ -1,12 +1,6 @@
 -- The monitor's rows fit the steps one by one: what a step makes of a row it makes of each of them.
-use Prim.Native.Nat.{ℕ, zero, suc, _+_, _≤_, _<_}
-use native.Mathlib.Omega.{arith}
-use mathlib.Core.Path.{_≡_, refl, sym, subst}
-use mathlib.Core.Bool.{true, false}
-use mathlib.Core.List.{List, [], _∷_, _++_, map}
-use mathlib.Core.Logic.{⊎-elim}
-use mathlib.Core.Option.{some}
-use lib.ListN.{length, getD, getElem?}
+use Rattle.constraint.proofs.Library.{ℕ, zero, suc, _+_, _≤_, _<_, arith, _≡_, refl, sym, subst, true, false, List, [], _∷_, _++_, map, ⊎-elim, some}
+use Rattle.constraint.proofs.Library.{length, getD, getElem?}
 use Rattle.constraint.specs.Limits.{waitingLimit}
 use Rattle.constraint.specs.Steps.{Step, clock, closed}
 use Rattle.constraint.specs.Continuation.{Open, Reads}

@@ -1,16 +1,8 @@
 -- The monitor follows the accepted steps: its clock, count, free times and rows are read off them after every call, and each call is answered as its
 -- questions say. By cases on the machine's tests, each of which is one question's.
-use Prim.Native.Nat.{ℕ, _+_, _≤_, _<_}
-use native.Mathlib.Decide.{ℕ-discrete, decLt}
-use native.Mathlib.Omega.{arith}
-use mathlib.Core.Path.{_≡_, refl, sym, ap, _∙_, subst}
-use mathlib.Core.Bool.{Bool, true, false, cond}
-use mathlib.Core.List.{List, [], _∷_, _++_}
-use mathlib.Core.Logic.{inl, inr, by-cases}
-use lib.ListN.{length, getD, set, length-append, length-set}
-use lib.Seq.{getD-set-same, getD-set-other, set-out}
-use lib.Dec.{leb, ltb}
-use borrow.Author.Tests.{ltb-true, ltb-false, leb-true, leb-false}
+use Rattle.constraint.proofs.Library.{ℕ, _+_, _≤_, _<_, ℕ-discrete, decLt, arith, _≡_, refl, sym, ap, _∙_, subst, Bool, true, false, cond, List, []}
+use Rattle.constraint.proofs.Library.{_∷_, _++_, inl, inr, by-cases, length, getD, set, length-append, length-set, getD-set-same, getD-set-other}
+use Rattle.constraint.proofs.Library.{set-out, leb, ltb, ltb-true, ltb-false, leb-true, leb-false}
 use Rattle.constraint.specs.Limits.{lastKind, firstColoured, lastColour, streamCount, lastTime, lastCount, rowLimit}
 use Rattle.constraint.specs.Streams.{stream}
 use Rattle.constraint.specs.Steps.{Step, event, tick, close, times, clock, closed}

@@ -1,12 +1,6 @@
 -- Rows that are independent of each other (§3.10, §3.11), in the buyers' words: what a row reads depends on the events of its own
 -- kinds, the clock and the close alone, so two tables that share a row may differ in all others.
-use Prim.Native.Nat.{ℕ, zero, suc}
-use native.Mathlib.Omega.{arith}
-use mathlib.Core.Path.{_≡_, refl, sym, ap, ap₂, _∙_, subst}
-use mathlib.Core.List.{List, [], _∷_, map}
-use mathlib.Core.Logic.{_↔_}
-use mathlib.Core.Option.{some}
-use lib.ListN.{take, getElem?}
+use Rattle.constraint.proofs.Library.{ℕ, zero, suc, arith, _≡_, refl, sym, ap, ap₂, _∙_, subst, List, [], _∷_, map, _↔_, some, take, getElem?}
 use Rattle.constraint.specs.Steps.{Step, event, tick, close}
 use Rattle.constraint.specs.Continuation.{Reads}
 use Rattle.constraint.specs.Accepted.{Accepted}

@@ -1,12 +1,5 @@
 -- The verdict that is read off a row's numbers is the machine's.
-use Prim.Native.Nat.{ℕ, _<_}
-use native.Mathlib.Omega.{arith}
-use mathlib.Core.Path.{_≡_, refl, sym, ap, _∙_}
-use mathlib.Core.Bool.{Bool, true, false, cond, _&&_}
-use mathlib.Core.Option.{none, some}
-use lib.ListN.{length, getD}
-use lib.Dec.{ltb}
-use borrow.Author.Tests.{ltb-true}
+use Rattle.constraint.proofs.Library.{ℕ, _<_, arith, _≡_, refl, sym, ap, _∙_, Bool, true, false, cond, _&&_, none, some, length, getD, ltb, ltb-true}
 use Rattle.constraint.specs.Limits.{rowLimit}
 use Rattle.constraint.specs.declared.Verdict.{Verdict}
 use Rattle.constraint.proofs.Lists.{split, getD-within}

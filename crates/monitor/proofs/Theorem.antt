@@ -1,11 +1,6 @@
 -- §3.6 to §3.8 and §3.13 to §3.15 for every row type: the promise over the machine, with the engine of every type put in.
-use Prim.Native.Nat.{ℕ, _+_, _≤_, _<_}
-use mathlib.Core.Path.{_≡_, refl, sym, subst}
-use mathlib.Core.Bool.{true, false}
-use mathlib.Core.List.{List, _++_, map}
-use mathlib.Core.Logic.{_↔_, Iff·trans}
-use mathlib.Core.Option.{Option, some}
-use lib.ListN.{length, getElem?}
+use Rattle.constraint.proofs.Library.{ℕ, _+_, _≤_, _<_, _≡_, refl, sym, subst, true, false, List, _++_, map, _↔_, Iff·trans, Option, some, length}
+use Rattle.constraint.proofs.Library.{getElem?}
 use Rattle.constraint.specs.Limits.{noLimit}
 use Rattle.constraint.specs.Steps.{at, times, clock, closed}
 use Rattle.constraint.specs.Meets.{Meets}

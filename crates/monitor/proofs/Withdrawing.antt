@@ -1,16 +1,7 @@
 -- §3.13 to §3.15: a call's answer and what it does to a monitor go by all but what may be withdrawn, and a withdrawal gives back the monitor that
 -- the last step found, but for that. So after any requests the monitor is the one after the steps that are left.
-use Prim.Native.Nat.{ℕ, zero, suc, _+_, _≤_, _<_}
-use native.Mathlib.Omega.{arith}
-use mathlib.Core.Path.{_≡_, refl, sym, ap, ap₂, _∙_, subst}
-use mathlib.Core.Bool.{Bool, true, false, cond}
-use mathlib.Core.List.{List, [], _∷_, _++_, map, append-nil}
-use mathlib.Core.Logic.{_⊎_, inl, inr}
-use mathlib.Core.Option.{some}
-use lib.ListN.{length, getD, set, replicate}
-use lib.Seq.{set-set}
-use lib.Dec.{ltb, eqb}
-use borrow.Author.Tests.{lt-ltb, eqb-false}
+use Rattle.constraint.proofs.Library.{ℕ, zero, suc, _+_, _≤_, _<_, arith, _≡_, refl, sym, ap, ap₂, _∙_, subst, Bool, true, false, cond, List, [], _∷_}
+use Rattle.constraint.proofs.Library.{_++_, map, append-nil, _⊎_, inl, inr, some, length, getD, set, replicate, set-set, ltb, eqb, lt-ltb, eqb-false}
 use Rattle.constraint.specs.Limits.{streamCount, rowLimit, lastCount}
 use Rattle.constraint.specs.Steps.{Step}
 use Rattle.constraint.specs.Questions.{Judged}

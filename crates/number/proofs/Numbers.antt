@@ -1,14 +1,8 @@
 -- A number and its n bytes say the same: each byte is the number's digit to base 256, so either gives back the other.
-use Prim.Native.Nat.{ℕ, zero, suc, _+_, _*_, _/_, _%_, _-_, _^_, _≤_, _<_}
-use mathlib.Core.Path.{_≡_, refl, ap, ap₂, _∙_}
-use mathlib.Core.List.{List, [], _∷_}
-use native.Mathlib.Nat.{pow-succ', pow-le-pow-right, one-le-pow, one-mul, mod-eq-of-lt, mul-assoc, mul-le-mul-left, mul-le-mul-right, add-mul}
-use native.Mathlib.Nat.{zero-add, le-trans}
-use native.Mathlib.Numerals.{add-one}
-use native.Mathlib.Omega.{arith}
+use Rattle.constraint.proofs.Library.{ℕ, zero, suc, _+_, _*_, _/_, _%_, _-_, _^_, _≤_, _<_, _≡_, refl, ap, ap₂, _∙_, List, [], _∷_, pow-succ'}
+use Rattle.constraint.proofs.Library.{pow-le-pow-right, one-le-pow, one-mul, mod-eq-of-lt, mul-assoc, mul-le-mul-left, mul-le-mul-right, add-mul}
+use Rattle.constraint.proofs.Library.{zero-add, le-trans, add-one, arith, length, drop-of-length-le, drop-cons, take-nil}
 use lib.Arith.{digits-lt, digits-div, mod-mul}
-use lib.ListN.{length, drop-of-length-le}
-use lib.Seq.{drop-cons, take-nil}
 use Rattle.constraint.specs.Bytes.{Bytes, numberBehind, number, bytesOf, bytesAt}
 use Rattle.constraint.specs.Steps.{at}
 

@@ -1,14 +1,8 @@
 -- A shift by eight bits for each of n bytes divides by 256 ^ n, so it cuts a number where the definition cuts it.
-use Prim.Native.Nat.{ℕ, zero, suc, _+_, _*_, _/_, _%_, _-_, _^_, _≤_, _<_}
-use mathlib.Core.Path.{_≡_, refl, ap}
-use mathlib.Core.List.{List, [], _∷_}
-use native.Mathlib.Nat.{div-one, mod-eq-of-lt, mul-suc, pow-suc}
-use native.Mathlib.Numerals.{add-one}
-use native.Mathlib.Omega.{arith}
+use Rattle.constraint.proofs.Library.{ℕ, zero, suc, _+_, _*_, _/_, _%_, _-_, _^_, _≤_, _<_, _≡_, refl, ap, List, [], _∷_, div-one, mod-eq-of-lt}
+use Rattle.constraint.proofs.Library.{mul-suc, pow-suc, add-one, arith, getD, set, sets}
 use lib.Bits.{bitOr, or-shifted}
-use lib.ListN.{getD, set}
 use lib.Pow.{pow-add}
-use lib.Seq.{sets}
 use Rattle.constraint.specs.Bytes.{bytesOf}
 
 power-of-bytes : (n : ℕ) → 2 ^ (8 * n) ≡ 256 ^ n

@@ -1,12 +1,6 @@
 -- Stores one after the other: a list of bytes is stored as its parts are, and nothing is stored past the end.
-use Prim.Native.Nat.{ℕ, suc, _+_, _≤_, _<_}
-use mathlib.Core.Path.{_≡_, refl, _∙_}
-use mathlib.Core.List.{List, [], _∷_, _++_}
-use native.Mathlib.Nat.{add-zero, add-suc, suc-add, zero-add}
-use native.Mathlib.Numerals.{add-one}
-use native.Mathlib.Omega.{arith}
-use lib.ListN.{length, getD, set, drop}
-use lib.Seq.{sets, sets-eq, set-out, drop-cons}
+use Rattle.constraint.proofs.Library.{ℕ, suc, _+_, _≤_, _<_, _≡_, refl, _∙_, List, [], _∷_, _++_, add-zero, add-suc, suc-add, zero-add, add-one}
+use Rattle.constraint.proofs.Library.{arith, length, getD, set, drop, sets, sets-eq, set-out, drop-cons}
 
 pub stores-past : (l : List ℕ) (i : ℕ) (vs : List ℕ) → length l ≤ i → sets l i vs ≡ l
 stores-past l i [] h = refl

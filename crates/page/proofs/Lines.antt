@@ -1,14 +1,8 @@
 -- A line of the page, column by column: each text fits its columns, whatever the type, the verdict and the step, and none has a blank or a line end
 -- in it.
-use Prim.Native.Nat.{ℕ, zero, suc, _+_, _-_, _≤_, _<_}
-use native.Mathlib.Omega.{arith}
-use mathlib.Core.Path.{_≡_, refl, ap, _∙_}
-use mathlib.Core.Bool.{Bool, true, false, _&&_}
-use mathlib.Core.List.{List, [], _∷_, _++_, append-assoc}
-use lib.ListN.{length, getD, drop, replicate, length-append, length-replicate, getD-replicate, replicate-append-replicate}
-use lib.Seq.{sets, drop-at}
-use lib.Dec.{leb, ltb}
-use borrow.Author.Tests.{leb-true, ltb-true}
+use Rattle.constraint.proofs.Library.{ℕ, zero, suc, _+_, _-_, _≤_, _<_, arith, _≡_, refl, ap, _∙_, Bool, true, false, _&&_, List, [], _∷_, _++_}
+use Rattle.constraint.proofs.Library.{append-assoc, length, getD, drop, replicate, length-append, length-replicate, getD-replicate}
+use Rattle.constraint.proofs.Library.{replicate-append-replicate, sets, drop-at, leb, ltb, leb-true, ltb-true}
 use Rattle.constraint.specs.Report.{decimal, blank, lineEnd}
 use Rattle.constraint.specs.Types.{unknownName, typeNames}
 use Rattle.constraint.specs.Page.{leftIn, rightIn, nameOf, verdictWord, stepText, lineText, pageWidth, pageLine}

@@ -1,18 +1,8 @@
 -- The page line after line: row i's line stands behind i lines and a heading for each 16 of them, so its place and the page's length follow from the
 -- number of rows alone; and each line has 72 bytes, none of them a line end.
-use Prim.Native.Nat.{ℕ, zero, suc, _+_, _-_, _*_, _/_, _%_, _≤_, _<_, min}
-use native.Mathlib.Decide.{decLt}
-use native.Mathlib.Nat.{suc-add, zero-add}
-use native.Mathlib.Numerals.{add-one}
-use native.Mathlib.Omega.{arith}
-use mathlib.Core.Path.{_≡_, refl, subst, _∙_, ap}
-use mathlib.Core.Bool.{cond}
-use mathlib.Core.List.{List, [], _∷_, _++_, append-assoc, append-nil}
-use mathlib.Core.Logic.{by-cases}
-use lib.ListN.{length, replicate, length-append, getD-replicate}
-use lib.Seq.{sets}
-use lib.Dec.{eqb}
-use borrow.Author.Tests.{eqb-true, eqb-false}
+use Rattle.constraint.proofs.Library.{ℕ, zero, suc, _+_, _-_, _*_, _/_, _%_, _≤_, _<_, min, decLt, suc-add, zero-add, add-one, arith, _≡_, refl}
+use Rattle.constraint.proofs.Library.{subst, _∙_, ap, cond, List, [], _∷_, _++_, append-assoc, append-nil, by-cases, length, replicate, length-append}
+use Rattle.constraint.proofs.Library.{getD-replicate, sets, eqb, eqb-true, eqb-false}
 use Rattle.constraint.specs.Limits.{rowLimit}
 use Rattle.constraint.specs.Steps.{at}
 use Rattle.constraint.specs.Report.{lineEnd}

@@ -1,13 +1,7 @@
 -- What is read off a page is what was put there: a row's line stands where the reader looks, each column holds its text between blanks, and neither a
 -- word nor a number has a blank in it. So two pages with the same bytes say the same verdicts.
-use Prim.Native.Nat.{ℕ, zero, suc, _-_, _^_, _≤_, _<_}
-use native.Mathlib.Omega.{arith}
-use mathlib.Core.Path.{_≡_, refl, sym, ap, _∙_}
-use mathlib.Core.List.{List, [], _∷_, _++_, append-assoc}
-use mathlib.Core.Option.{some}
-use lib.ListN.{length, replicate}
-use lib.Seq.{take-at, drop-at, drop-append-add}
-use borrow.Author.Tests.{ne-eqb}
+use Rattle.constraint.proofs.Library.{ℕ, zero, suc, _-_, _^_, _≤_, _<_, arith, _≡_, refl, sym, ap, _∙_, List, [], _∷_, _++_, append-assoc, some}
+use Rattle.constraint.proofs.Library.{length, replicate, take-at, drop-at, drop-append-add, ne-eqb}
 use Rattle.constraint.specs.Report.{decimal, blank}
 use Rattle.constraint.specs.Page.{leftIn, rightIn, nameOf, verdictWord, stepText, pageText}
 use Rattle.text.specs.Content.{numberFrom}

@@ -1,8 +1,5 @@
 -- What a type never changes stays 0: a change has the marks as they are, none, or others only where the type keeps them.
-use Prim.Native.Nat.{ℕ, _+_, _-_}
-use mathlib.Core.Path.{_≡_, refl, ap}
-use mathlib.Core.List.{List}
-use lib.Dec.{eqb, leb}
+use Rattle.constraint.proofs.Library.{ℕ, _+_, _-_, _≡_, refl, ap, List, eqb, leb}
 use Rattle.constraint.proofs.Lists.{split}
 use Rattle.machine.specs.Parts.{plus, noMarks, marksOf, earlyOf, withLast, front, none-left}
 use Rattle.machine.specs.Words.{lastKept, firstThreeKept}

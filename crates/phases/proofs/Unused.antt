@@ -1,9 +1,5 @@
 -- What ExecutionTime never changes stays 0: a change has none of the marks, or others at the first three places alone.
-use Prim.Native.Nat.{ℕ}
-use mathlib.Core.Path.{_≡_, refl, ap}
-use mathlib.Core.Bool.{Bool, true, false, cond, _&&_}
-use mathlib.Core.List.{List}
-use lib.Dec.{leb, ltb, eqb}
+use Rattle.constraint.proofs.Library.{ℕ, _≡_, refl, ap, Bool, true, false, cond, _&&_, List, leb, ltb, eqb}
 use Rattle.queue.specs.declared.Edit.the-variants.{Drop}
 use Rattle.machine.specs.Parts.{noMarks, plus, marksOf, continuesWith, breaking}
 use Rattle.machine.specs.Words.{firstThreeKept}

@@ -1,9 +1,5 @@
 -- What Sporadic never changes stays 0: a change has none of the marks, or others at the first three places alone.
-use Prim.Native.Nat.{ℕ, _-_}
-use mathlib.Core.Path.{_≡_, refl, ap}
-use mathlib.Core.Bool.{Bool, true, false, cond, _&&_}
-use mathlib.Core.List.{List}
-use lib.Dec.{leb, eqb}
+use Rattle.constraint.proofs.Library.{ℕ, _-_, _≡_, refl, ap, Bool, true, false, cond, _&&_, List, leb, eqb}
 use Rattle.machine.specs.Parts.{noMarks, farEnough, marksOf, breaking}
 use Rattle.machine.specs.Words.{firstThreeKept}
 use Rattle.machine.specs.declared.Rule.{Rule}

@@ -1,10 +1,5 @@
 -- A place is a stream that was tested to be one, or 0.
-use Prim.Native.Nat.{ℕ, _<_}
-use native.Mathlib.Omega.{arith}
-use mathlib.Core.Path.{_≡_}
-use mathlib.Core.Bool.{cond}
-use lib.Dec.{ltb}
-use borrow.Author.Tests.{ltb-true, lt-ltb}
+use Rattle.constraint.proofs.Library.{ℕ, _<_, arith, _≡_, cond, ltb, ltb-true, lt-ltb}
 use Rattle.constraint.specs.Limits.{streamCount}
 use Rattle.constraint.specs.declared.Call.{Call}
 use Rattle.constraint.proofs.Lists.{split}

@@ -1,12 +1,6 @@
 -- A record's call, read from its own stretch, is that of the record in the whole recording; and what that says of its questions.
-use Prim.Native.Nat.{ℕ, _+_, _-_, _≤_}
-use mathlib.Core.Path.{_≡_, refl, sym, subst, _∙_}
-use mathlib.Core.Bool.{Bool, true, false, cond}
-use mathlib.Core.List.{List, [], _∷_, _++_}
-use native.Mathlib.Omega.{arith}
-use lib.ListN.{length, take, drop, length-drop}
-use lib.Seq.{length-take-le, take-all, drop-drop}
-use lib.Dec.{eqb}
+use Rattle.constraint.proofs.Library.{ℕ, _+_, _-_, _≤_, _≡_, refl, sym, subst, _∙_, Bool, true, false, cond, List, [], _∷_, _++_, arith, length, take}
+use Rattle.constraint.proofs.Library.{drop, length-drop, length-take-le, take-all, drop-drop, eqb}
 use Rattle.constraint.specs.Steps.{Step, at, closed}
 use Rattle.constraint.specs.Streams.{stream}
 use Rattle.constraint.specs.Questions.{Judged}

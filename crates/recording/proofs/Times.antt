@@ -1,11 +1,5 @@
 -- Eight bytes, each counted by its place, add up to their number.
-use Prim.Native.Nat.{ℕ, suc, _+_, _*_, _≤_, _<_}
-use mathlib.Core.Path.{_≡_, _∙_}
-use mathlib.Core.List.{List}
-use native.Mathlib.Nat.{mul-le-mul-right}
-use native.Mathlib.Omega.{arith}
-use lib.ListN.{length}
-use lib.Seq.{drop-cons}
+use Rattle.constraint.proofs.Library.{ℕ, suc, _+_, _*_, _≤_, _<_, _≡_, _∙_, List, mul-le-mul-right, arith, length, drop-cons}
 use Rattle.constraint.specs.Steps.{at}
 use Rattle.constraint.specs.Bytes.{numberBehind, bytesAt, numberAt}
 

@@ -1,9 +1,5 @@
 -- What Repetition never changes stays 0: a change has the marks as they are, or none.
-use Prim.Native.Nat.{ℕ}
-use mathlib.Core.Path.{_≡_, refl}
-use mathlib.Core.Bool.{Bool, true, false, cond}
-use mathlib.Core.List.{List}
-use lib.Dec.{ltb}
+use Rattle.constraint.proofs.Library.{ℕ, _≡_, refl, Bool, true, false, cond, List, ltb}
 use Rattle.constraint.specs.Limits.{noLimit}
 use Rattle.queue.specs.declared.Edit.the-variants.{PushTwo}
 use Rattle.machine.specs.Parts.{noMarks, continuesWith, breaking}

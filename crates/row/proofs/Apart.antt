@@ -1,12 +1,6 @@
 -- The step of a row is what its parts make of it: an open row that is overdue, or that the close finds, is ended; one that an event concerns
 -- hears it; and no step leaves more than 64 waiting, nor does a withdrawal.
-use Prim.Native.Nat.{ℕ, _+_, _≤_}
-use native.Mathlib.Omega.{arith}
-use mathlib.Core.Path.{_≡_, refl, sym, _∙_, ap}
-use mathlib.Core.Bool.{Bool, true, false, cond, _&&_}
-use lib.Dec.{ltb, eqb}
-use lib.ListN.{length, set}
-use borrow.Author.Tests.{ltb-true}
+use Rattle.constraint.proofs.Library.{ℕ, _+_, _≤_, arith, _≡_, refl, sym, _∙_, ap, Bool, true, false, cond, _&&_, ltb, eqb, length, set, ltb-true}
 use Rattle.constraint.specs.Limits.{waitingLimit}
 use Rattle.constraint.proofs.Lists.{split, both}
 use Rattle.queue.specs.Ring.{Ring, ringOf, ringPlace, pushRing, putRing, dropRing, changed, edited, editPlace}

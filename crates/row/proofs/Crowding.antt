@@ -1,14 +1,9 @@
 -- Whether what occurs crowds a row does not hang on the number of the step, nor on its times: a row with room for two more words is crowded by
 -- nothing, as a
 -- change lets in two at most; and with 63 or 64 waiting, its type, its marks and how many wait say whether more are let in.
-use Prim.Native.Nat.{ℕ, _+_, _-_, _*_, _/_, _%_, _<_, _≤_}
-use native.Mathlib.Omega.{arith}
-use mathlib.Core.Path.{_≡_, refl, sym, _∙_, ap}
-use mathlib.Core.Bool.{Bool, true, false, cond, _&&_, _||_}
-use mathlib.Core.List.{List, [], _∷_, _++_}
-use lib.Dec.{ltb, leb, eqb}
-use lib.ListN.{length, getD, set, drop, length-append, length-drop, length-set}
-use borrow.Author.Tests.{lt-ltb, le-ltb, ltb-true, ltb-false}
+use Rattle.constraint.proofs.Library.{ℕ, _+_, _-_, _*_, _/_, _%_, _<_, _≤_, arith, _≡_, refl, sym, _∙_, ap, Bool, true, false, cond, _&&_, _||_, List}
+use Rattle.constraint.proofs.Library.{[], _∷_, _++_, ltb, leb, eqb, length, getD, set, drop, length-append, length-drop, length-set, lt-ltb, le-ltb}
+use Rattle.constraint.proofs.Library.{ltb-true, ltb-false}
 use Rattle.constraint.specs.Limits.{waitingLimit, noLimit}
 use Rattle.constraint.specs.Streams.{kindOf}
 use Rattle.constraint.proofs.Lists.{split}

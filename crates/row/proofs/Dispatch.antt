@@ -1,10 +1,5 @@
 -- The types by their number, as the code picks them and as `decide` does.
-use Prim.Native.Nat.{ℕ}
-use mathlib.Core.Path.{_≡_}
-use mathlib.Core.Bool.{Bool, true, false, cond, _||_}
-use mathlib.Core.Logic.{_⊎_, inl, inr, ⊎-elim}
-use borrow.Author.Tests.{ne-eqb}
-use lib.Dec.{eqb}
+use Rattle.constraint.proofs.Library.{ℕ, _≡_, Bool, true, false, cond, _||_, _⊎_, inl, inr, ⊎-elim, ne-eqb, eqb}
 
 -- the number is none of those that the code names
 abbrev pub NoneOf : ℕ → Type 0

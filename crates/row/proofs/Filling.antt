@@ -1,11 +1,7 @@
 -- How full a row is says when an event can crowd it: a row in which a place is free is crowded by nothing, and what does not concern a row takes
 -- none.
-use Prim.Native.Nat.{ℕ, _+_, _-_, _/_, _<_, _≤_, min}
-use native.Mathlib.Omega.{arith}
-use mathlib.Core.Path.{_≡_, refl, sym, ap, subst}
-use mathlib.Core.Bool.{Bool, true, false, cond, _&&_}
-use lib.Dec.{ltb, eqb}
-use borrow.Author.Tests.{lt-ltb, le-ltb, ltb-true, ltb-false, eqb-true}
+use Rattle.constraint.proofs.Library.{ℕ, _+_, _-_, _/_, _<_, _≤_, min, arith, _≡_, refl, sym, ap, subst, Bool, true, false, cond, _&&_, ltb, eqb}
+use Rattle.constraint.proofs.Library.{lt-ltb, le-ltb, ltb-true, ltb-false, eqb-true}
 use Rattle.constraint.specs.Limits.{waitingLimit}
 use Rattle.constraint.proofs.Lists.{split}
 use Rattle.machine.specs.Parts.{farEnough}

@@ -1,9 +1,6 @@
 -- What does not concern a row: its machine looks at an event's kind only to ask whether it is one of the row's, so an event of no
 -- kind of the row's does to it what a tick to that time does.
-use Prim.Native.Nat.{ℕ, _<_}
-use mathlib.Core.Path.{_≡_, refl, ap, _∙_}
-use mathlib.Core.Bool.{false}
-use lib.ListN.{length}
+use Rattle.constraint.proofs.Library.{ℕ, _<_, _≡_, refl, ap, _∙_, false, length}
 use Rattle.constraint.specs.Limits.{streamCount}
 use Rattle.constraint.specs.Streams.{kindOf}
 use Rattle.constraint.specs.Steps.{at, among}

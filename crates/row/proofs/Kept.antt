@@ -1,12 +1,6 @@
 -- What a row's words keep by an event is all that the row was, where what its type never stores is 0; and that stays so: a type changes only marks
 -- that it keeps, and a row that breaks or begins has none.
-use Prim.Native.Nat.{ℕ}
-use native.Mathlib.Omega.{arith}
-use mathlib.Core.Path.{_≡_, refl, sym, ap, _∙_}
-use mathlib.Core.Bool.{true, false, cond}
-use mathlib.Core.List.{List}
-use lib.Dec.{ltb, eqb}
-use borrow.Author.Tests.{ltb-false, eqb-true}
+use Rattle.constraint.proofs.Library.{ℕ, arith, _≡_, refl, sym, ap, _∙_, true, false, cond, List, ltb, eqb, ltb-false, eqb-true}
 use Rattle.constraint.specs.declared.Constraint.{Constraint}
 use Rattle.constraint.proofs.Lists.{split, both}
 use Rattle.queue.specs.Ring.{timeAt, secondAt}

@@ -1,12 +1,7 @@
 -- A row's words with a change are those of the row with the change, as either way of the change computes; and what occurs makes of a row what the
 -- clock or the close alone make of it, or what the event does.
-use Prim.Native.Nat.{ℕ}
-use native.Mathlib.Omega.{arith}
-use mathlib.Core.Path.{_≡_, refl, ap, _∙_}
-use mathlib.Core.Bool.{Bool, true, false, cond, _&&_}
-use mathlib.Core.List.{List}
-use lib.Dec.{ltb, eqb}
-use borrow.Author.Tests.{ltb-true, ltb-false, eq-eqb, ne-eqb}
+use Rattle.constraint.proofs.Library.{ℕ, arith, _≡_, refl, ap, _∙_, Bool, true, false, cond, _&&_, List, ltb, eqb, ltb-true, ltb-false, eq-eqb}
+use Rattle.constraint.proofs.Library.{ne-eqb}
 use Rattle.constraint.proofs.Lists.{split, both}
 use Rattle.queue.specs.Ring.{ringOf, edited, editPlace}
 use Rattle.machine.specs.declared.Change.{Change}

@@ -1,13 +1,7 @@
 -- The row's test of an event's kind is right: its four numbers are the constraint's kinds and, for those that it lacks, 64, which is no kind; and
 -- an event is of one of the row's streams just where it is of one of its kinds.
-use Prim.Native.Nat.{ℕ, zero, suc, _≤_, _<_}
-use native.Mathlib.Omega.{arith}
-use mathlib.Core.Path.{_≡_, refl, ap, _∙_}
-use mathlib.Core.Bool.{true, false, _||_}
-use mathlib.Core.List.{List, [], _∷_, _++_}
-use lib.ListN.{length, take, replicate}
-use lib.Dec.{eqb}
-use borrow.Author.Tests.{ne-eqb}
+use Rattle.constraint.proofs.Library.{ℕ, zero, suc, _≤_, _<_, arith, _≡_, refl, ap, _∙_, true, false, _||_, List, [], _∷_, _++_, length, take}
+use Rattle.constraint.proofs.Library.{replicate, eqb, ne-eqb}
 use Rattle.constraint.specs.Limits.{streamCount}
 use Rattle.constraint.specs.Streams.{kindOf}
 use Rattle.constraint.specs.Steps.{among}

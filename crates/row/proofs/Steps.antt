@@ -1,14 +1,7 @@
 -- A row of any type keeps what it has to: going on, it is open and holds what waits; broken, it has the first step after which no
 -- continuation was left. By cases on what the machine does at a step, from what each type proves.
-use Prim.Native.Nat.{ℕ, _+_, _≤_, _<_}
-use native.Mathlib.Omega.{arith}
-use mathlib.Core.Path.{_≡_, refl, sym, ap, _∙_, subst}
-use mathlib.Core.Bool.{Bool, true, false, cond, _&&_}
-use mathlib.Core.List.{List, [], _∷_, _++_, append-nil}
-use mathlib.Core.Logic.{_⊎_, inl, inr, ⊎-elim}
-use lib.ListN.{length}
-use lib.Dec.{ltb, eqb}
-use borrow.Author.Tests.{ltb-true, ltb-false, lt-ltb, le-ltb, eqb-true, eqb-false}
+use Rattle.constraint.proofs.Library.{ℕ, _+_, _≤_, _<_, arith, _≡_, refl, sym, ap, _∙_, subst, Bool, true, false, cond, _&&_, List, [], _∷_, _++_}
+use Rattle.constraint.proofs.Library.{append-nil, _⊎_, inl, inr, ⊎-elim, length, ltb, eqb, ltb-true, ltb-false, lt-ltb, le-ltb, eqb-true, eqb-false}
 use Rattle.constraint.specs.Limits.{streamCount, lastTime, waitingLimit}
 use Rattle.constraint.specs.Steps.{Step, event, tick, close, among, own, clockFrom, clock, closed}
 use Rattle.constraint.specs.Meets.{Meets}

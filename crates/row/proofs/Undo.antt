@@ -1,12 +1,6 @@
 -- A row that a step may change is put back word for word: an edit writes at its own place, or there and at the next, and a break writes no word. A
 -- row that it may not change stays as it is.
-use Prim.Native.Nat.{ℕ}
-use mathlib.Core.Path.{_≡_, refl, ap}
-use mathlib.Core.Bool.{Bool, true, false, cond, _&&_}
-use mathlib.Core.List.{List}
-use lib.ListN.{length}
-use lib.Dec.{ltb, eqb}
-use borrow.Author.Tests.{eq-eqb, ne-eqb}
+use Rattle.constraint.proofs.Library.{ℕ, _≡_, refl, ap, Bool, true, false, cond, _&&_, List, length, ltb, eqb, eq-eqb, ne-eqb}
 use Rattle.constraint.specs.Limits.{waitingLimit}
 use Rattle.constraint.proofs.Lists.{split, both}
 use Rattle.queue.specs.Ring.{ringOf, timeAt, secondAt, changed, editPlace, putBack}

@@ -1,8 +1,5 @@
 -- What Repeat and Burst never change stays 0: a change has none of the marks, or another last time alone.
-use Prim.Native.Nat.{ℕ}
-use mathlib.Core.Path.{_≡_, refl, ap}
-use mathlib.Core.Bool.{_&&_}
-use mathlib.Core.List.{List}
+use Rattle.constraint.proofs.Library.{ℕ, _≡_, refl, ap, _&&_, List}
 use Rattle.constraint.proofs.Lists.{split}
 use Rattle.machine.specs.Parts.{plus, farEnough, noMarks, withLast}
 use Rattle.machine.specs.Words.{lastKept}

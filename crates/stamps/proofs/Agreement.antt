@@ -1,10 +1,6 @@
 -- With stamps that are never late there is one choice, the stamps themselves; so the word is what the monitor reads at the close, where that takes
 -- every record.
-use Prim.Native.Nat.{ℕ, _+_}
-use native.Mathlib.Omega.{arith}
-use mathlib.Core.Path.{_≡_, refl, sym, ap, subst, _∙_}
-use mathlib.Core.List.{List, [], _∷_, _++_}
-use lib.Seq.{ext-getD}
+use Rattle.constraint.proofs.Library.{ℕ, _+_, arith, _≡_, refl, sym, ap, subst, _∙_, List, [], _∷_, _++_, ext-getD}
 use Rattle.constraint.specs.Steps.{Step, event, tick, close, times, clock}
 use Rattle.constraint.specs.Meets.{Meets, MeetsRepeat}
 use Rattle.constraint.specs.Continuation.{Reads, reads-open}

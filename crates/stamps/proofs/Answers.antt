@@ -1,10 +1,5 @@
 -- The answer is put together in the order of the questions: the table's, the recording's, the row's and that of the range.
-use Prim.Native.Nat.{ℕ, zero, suc, _≤_, _<_}
-use native.Mathlib.Omega.{arith}
-use mathlib.Core.Path.{_≡_}
-use mathlib.Core.List.{List, [], _∷_}
-use mathlib.Core.Option.{some}
-use lib.ListN.{length, getElem?}
+use Rattle.constraint.proofs.Library.{ℕ, zero, suc, _≤_, _<_, arith, _≡_, List, [], _∷_, some, length, getElem?}
 use Rattle.constraint.specs.Limits.{firstColoured, lastTime}
 use Rattle.constraint.specs.Accepted.{KindsSuit, InRange}
 use Rattle.constraint.specs.Records.{tableOf}

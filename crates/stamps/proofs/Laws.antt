@@ -1,16 +1,8 @@
 -- The last true time of a choice can be at each place from the earliest to the stamp, and a choice goes on with any later place of the next stamp; so each two
 -- neighbours can take the ends of their ranges, and the tests on these ends tell what each choice and what some choice does.
-use Prim.Native.Nat.{ℕ, _+_, _-_, _≤_, _<_, min, max}
-use native.Mathlib.Omega.{arith}
-use native.Mathlib.Decide.{decLt}
-use mathlib.Core.Path.{_≡_, refl, sym, ap, subst, _∙_}
-use mathlib.Core.Bool.{Bool, true, false, cond, _&&_}
-use mathlib.Core.List.{List, [], _∷_, _++_}
-use mathlib.Core.Logic.{inl, inr, ⊎-elim, by-cases}
-use lib.ListN.{length, take, length-append, length-take}
-use lib.Seq.{getD-take}
-use lib.Dec.{eqb}
-use borrow.Author.Tests.{eqb-true, eqb-false}
+use Rattle.constraint.proofs.Library.{ℕ, _+_, _-_, _≤_, _<_, min, max, arith, decLt, _≡_, refl, sym, ap, subst, _∙_, Bool, true, false, cond, _&&_}
+use Rattle.constraint.proofs.Library.{List, [], _∷_, _++_, inl, inr, ⊎-elim, by-cases, length, take, length-append, length-take, getD-take, eqb}
+use Rattle.constraint.proofs.Library.{eqb-true, eqb-false}
 use Rattle.constraint.specs.Limits.{firstColoured, lastTime, noLimit}
 use Rattle.constraint.specs.Streams.{stream}
 use Rattle.constraint.specs.Steps.{Step, event, at, times}

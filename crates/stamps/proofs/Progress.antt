@@ -1,8 +1,5 @@
 -- What is kept of the stamps goes on from record to record, and at the end it says what the row reads.
-use Prim.Native.Nat.{ℕ, _≤_, _<_}
-use mathlib.Core.Path.{_≡_, sym, subst}
-use mathlib.Core.List.{List, [], _∷_, _++_}
-use lib.ListN.{length}
+use Rattle.constraint.proofs.Library.{ℕ, _≤_, _<_, _≡_, sym, subst, List, [], _∷_, _++_, length}
 use Rattle.constraint.specs.Limits.{firstColoured, lastTime}
 use Rattle.constraint.specs.Steps.{Step, times, clock}
 use Rattle.constraint.specs.Questions.{Judged}

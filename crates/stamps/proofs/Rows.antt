@@ -1,11 +1,5 @@
 -- A row's numbers are those of its fields, so the type's number and the span tell a Repeat of span 1.
-use Prim.Native.Nat.{ℕ, _≤_, _<_}
-use native.Mathlib.Omega.{arith}
-use mathlib.Core.Path.{_≡_, sym, ap, subst, _∙_}
-use mathlib.Core.List.{List, [], _∷_}
-use mathlib.Core.Option.{some}
-use lib.ListN.{length, getD, getElem?, take}
-use lib.Seq.{getD-take}
+use Rattle.constraint.proofs.Library.{ℕ, _≤_, _<_, arith, _≡_, sym, ap, subst, _∙_, List, [], _∷_, some, length, getD, getElem?, take, getD-take}
 use Rattle.constraint.specs.Steps.{at}
 use Rattle.constraint.specs.Types.{rowRead}
 use Rattle.constraint.specs.Records.{tableOf, HoldsRow}

@@ -1,11 +1,5 @@
 -- An event of a coloured kind crowds no row: nothing waits in a Reaction, and to a row of any other type it is no event of its own.
-use Prim.Native.Nat.{ℕ, _≤_, _<_}
-use native.Mathlib.Omega.{arith}
-use mathlib.Core.Path.{_≡_, refl}
-use mathlib.Core.Bool.{false}
-use mathlib.Core.List.{List, [], _∷_, _++_}
-use lib.Dec.{eqb}
-use borrow.Author.Tests.{ne-eqb}
+use Rattle.constraint.proofs.Library.{ℕ, _≤_, _<_, arith, _≡_, refl, false, List, [], _∷_, _++_, eqb, ne-eqb}
 use Rattle.constraint.specs.Limits.{firstColoured}
 use Rattle.constraint.specs.Streams.{stream}
 use Rattle.constraint.specs.Steps.{Step, event, among}

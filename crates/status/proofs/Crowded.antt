@@ -1,14 +1,6 @@
 -- The first row that the machine finds crowded is the first that the call would leave open with more than 64 waiting: so it is row by row.
-use Prim.Native.Nat.{ℕ, zero, suc, _+_, _<_}
-use native.Mathlib.Omega.{arith}
-use mathlib.Core.Path.{_≡_, refl, sym, _∙_, subst}
-use mathlib.Core.Bool.{Bool, true, false, cond, _||_}
-use mathlib.Core.List.{List, [], _∷_, _++_}
-use mathlib.Core.Logic.{inl, inr}
-use mathlib.Core.Option.{some}
-use lib.ListN.{length, getElem?}
-use lib.Dec.{leb, ltb, eqb}
-use borrow.Author.Tests.{eq-eqb}
+use Rattle.constraint.proofs.Library.{ℕ, zero, suc, _+_, _<_, arith, _≡_, refl, sym, _∙_, subst, Bool, true, false, cond, _||_, List, [], _∷_, _++_}
+use Rattle.constraint.proofs.Library.{inl, inr, some, length, getElem?, leb, ltb, eqb, eq-eqb}
 use Rattle.constraint.specs.Limits.{lastKind, firstColoured, lastColour, lastTime, lastCount, rowLimit}
 use Rattle.constraint.specs.Steps.{Step}
 use Rattle.constraint.specs.Questions.{Question, Judged}

@@ -1,9 +1,5 @@
 -- The words of a lent monitor at their places are the numbers of the monitor that lies there.
-use Prim.Native.Nat.{ℕ, _-_, _≤_, _<_}
-use native.Mathlib.Omega.{arith}
-use mathlib.Core.Path.{_≡_, ap, subst}
-use mathlib.Core.List.{List, []}
-use lib.ListN.{length, getD}
+use Rattle.constraint.proofs.Library.{ℕ, _-_, _≤_, _<_, arith, _≡_, ap, subst, List, [], length, getD}
 use Rattle.constraint.specs.Limits.{rowLimit, waitingLimit}
 use Rattle.constraint.specs.declared.Call.{Call}
 use Rattle.machine.specs.Words.{rowWords, numberWords}

@@ -1,16 +1,7 @@
 -- What a row that fits the steps says of them. Until its due time a tick leaves it as it is, so that it is open, and a tick past it leaves no
 -- continuation; of the times that it keeps all wait or none; and it is broken where no continuation is left.
-use Prim.Native.Nat.{ℕ, _+_, _≤_, _<_}
-use native.Mathlib.Decide.{decLt}
-use native.Mathlib.Omega.{arith}
-use mathlib.Core.Path.{_≡_, refl, sym, ap, _∙_, subst}
-use mathlib.Core.Bool.{Bool, true, false, cond}
-use mathlib.Core.List.{List, [], _∷_, _++_}
-use mathlib.Core.Logic.{_⊎_, inl, inr, ⊎-elim, by-cases}
-use mathlib.Core.Option.{some}
-use lib.ListN.{getElem?}
-use lib.Dec.{ltb}
-use borrow.Author.Tests.{ltb-true, ltb-false, lt-ltb, le-ltb}
+use Rattle.constraint.proofs.Library.{ℕ, _+_, _≤_, _<_, decLt, arith, _≡_, refl, sym, ap, _∙_, subst, Bool, true, false, cond, List, [], _∷_, _++_}
+use Rattle.constraint.proofs.Library.{_⊎_, inl, inr, ⊎-elim, by-cases, some, getElem?, ltb, ltb-true, ltb-false, lt-ltb, le-ltb}
 use Rattle.constraint.specs.Limits.{lastTime, noLimit}
 use Rattle.constraint.specs.Steps.{Step, tick, own, clock, closed}
 use Rattle.constraint.specs.Continuation.{Open}

@@ -1,15 +1,6 @@
 -- After any list of requests over an accepted table each number is what the definitions say of the steps that are left: a monitor follows them.
-use Prim.Native.Nat.{ℕ, zero, suc, _≤_, _<_, min}
-use native.Mathlib.Decide.{decLt}
-use native.Mathlib.Omega.{arith}
-use mathlib.Core.Path.{_≡_, refl, sym, ap, _∙_, subst}
-use mathlib.Core.Bool.{Bool, true, false, cond, _&&_}
-use mathlib.Core.List.{List, [], _∷_}
-use mathlib.Core.Logic.{by-cases}
-use mathlib.Core.Option.{none, some}
-use lib.ListN.{length, getD, getElem?}
-use lib.Dec.{ltb}
-use borrow.Author.Tests.{lt-ltb, le-ltb}
+use Rattle.constraint.proofs.Library.{ℕ, zero, suc, _≤_, _<_, min, decLt, arith, _≡_, refl, sym, ap, _∙_, subst, Bool, true, false, cond, _&&_, List}
+use Rattle.constraint.proofs.Library.{[], _∷_, by-cases, none, some, length, getD, getElem?, ltb, lt-ltb, le-ltb}
 use Rattle.constraint.specs.Limits.{noLimit, rowLimit}
 use Rattle.constraint.specs.Steps.{Step, closed}
 use Rattle.constraint.specs.Continuation.{Open}

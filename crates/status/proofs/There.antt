@@ -1,15 +1,6 @@
 -- A row that is there has the numbers that its words say, and the rows behind the last add nothing: so what is found row after row is what is asked.
-use Prim.Native.Nat.{ℕ, zero, suc, _+_, _*_, _/_, _%_, _-_, _^_, _≤_, _<_, min}
-use native.Mathlib.Decide.{decLt}
-use native.Mathlib.Numerals.{add-one}
-use native.Mathlib.Omega.{arith}
-use mathlib.Core.Path.{_≡_, refl, sym, ap, ap₂, _∙_}
-use mathlib.Core.Bool.{Bool, true, false, cond, _&&_}
-use mathlib.Core.List.{List, [], _∷_}
-use mathlib.Core.Logic.{by-cases}
-use lib.ListN.{length, getD, drop}
-use lib.Dec.{ltb}
-use borrow.Author.Tests.{lt-ltb, le-ltb}
+use Rattle.constraint.proofs.Library.{ℕ, zero, suc, _+_, _*_, _/_, _%_, _-_, _^_, _≤_, _<_, min, decLt, add-one, arith, _≡_, refl, sym, ap, ap₂, _∙_}
+use Rattle.constraint.proofs.Library.{Bool, true, false, cond, _&&_, List, [], _∷_, by-cases, length, getD, drop, ltb, lt-ltb, le-ltb}
 use Rattle.constraint.specs.Limits.{noLimit, rowLimit, waitingLimit}
 use Rattle.constraint.specs.declared.Call.{Call}
 use Rattle.row.specs.Apart.{crowdedBy}

@@ -1,9 +1,5 @@
 -- In memory of zeros lies a monitor without rows whose word for "open" is 0: so it reads as closed, and takes nothing.
-use Prim.Native.Nat.{ℕ, _-_, _<_, min}
-use native.Mathlib.Omega.{arith}
-use mathlib.Core.Path.{_≡_, refl, sym, ap, subst₂}
-use mathlib.Core.List.{[]}
-use lib.ListN.{replicate, getD-replicate}
+use Rattle.constraint.proofs.Library.{ℕ, _-_, _<_, min, arith, _≡_, refl, sym, ap, subst₂, [], replicate, getD-replicate}
 use Rattle.constraint.specs.Run.{asks, withdraws}
 use Rattle.constraint.specs.declared.Call.{Call}
 use Rattle.machine.specs.Words.{rowWords, numberWords}

@@ -1,15 +1,7 @@
 -- The numbers of the starts say which stretches break the row, so the first that is as long as its start needs is the first that breaks it;
 -- and the answer is put together in the order of the questions.
-use Prim.Native.Nat.{ℕ, _≤_, _<_, min}
-use native.Mathlib.Omega.{arith}
-use mathlib.Core.Path.{_≡_, refl, sym, ap, subst}
-use mathlib.Core.Bool.{Bool, true, false}
-use mathlib.Core.List.{List, [], _∷_}
-use mathlib.Core.Logic.{inl}
-use mathlib.Core.Option.{some}
-use lib.ListN.{length, getD, getElem?, length-drop}
-use lib.Dec.{leb}
-use borrow.Author.Tests.{le-leb, lt-leb, leb-true, leb-false}
+use Rattle.constraint.proofs.Library.{ℕ, _≤_, _<_, min, arith, _≡_, refl, sym, ap, subst, Bool, true, false, List, [], _∷_, inl, some, length, getD}
+use Rattle.constraint.proofs.Library.{getElem?, length-drop, leb, le-leb, lt-leb, leb-true, leb-false}
 use Rattle.constraint.specs.Steps.{Step, at}
 use Rattle.constraint.specs.Questions.{Judged}
 use Rattle.constraint.specs.Records.{Decides, tableOf}

@@ -1,15 +1,6 @@
 -- A recording's records go to the arrays one by one, as long as there is room, and a record's stream and time say what it is.
-use Prim.Native.Nat.{ℕ, _≤_, _<_, min}
-use native.Mathlib.Decide.{ℕ-discrete, decLt}
-use native.Mathlib.Omega.{arith}
-use mathlib.Core.Path.{_≡_, refl, sym, ap, subst, _∙_}
-use mathlib.Core.Bool.{cond}
-use mathlib.Core.List.{List, [], _∷_, _++_}
-use mathlib.Core.Logic.{by-cases}
-use lib.ListN.{length, set, length-append, length-set, List·getD-append}
-use lib.Seq.{getD-at, getD-set-same, getD-set-other}
-use lib.Dec.{eqb}
-use borrow.Author.Tests.{ne-eqb}
+use Rattle.constraint.proofs.Library.{ℕ, _≤_, _<_, min, ℕ-discrete, decLt, arith, _≡_, refl, sym, ap, subst, _∙_, cond, List, [], _∷_, _++_, by-cases}
+use Rattle.constraint.proofs.Library.{length, set, length-append, length-set, List·getD-append, getD-at, getD-set-same, getD-set-other, eqb, ne-eqb}
 use Rattle.constraint.specs.Limits.{streamCount}
 use Rattle.constraint.specs.Streams.{stream}
 use Rattle.constraint.specs.Steps.{Step, close, at}

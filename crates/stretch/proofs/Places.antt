@@ -1,12 +1,6 @@
 -- The search goes through the list of stretches one by one: what it has tried and what is left are the list, so its counter is the place.
-use Prim.Native.Nat.{ℕ, zero, suc, _+_, _-_, _*_, _≤_, _<_}
-use native.Mathlib.Nat.{zero-mul, one-mul, mul-one, mul-add, add-mul}
-use native.Mathlib.Omega.{arith}
-use mathlib.Core.Path.{_≡_, refl, sym, ap, subst, _∙_}
-use mathlib.Core.List.{List, [], _∷_, _++_, append-nil}
-use mathlib.Core.Logic.{_⊎_, inl, inr, ⊎-elim}
-use lib.ListN.{length, length-append}
-use lib.Seq.{append-snoc}
+use Rattle.constraint.proofs.Library.{ℕ, zero, suc, _+_, _-_, _*_, _≤_, _<_, zero-mul, one-mul, mul-one, mul-add, add-mul, arith, _≡_, refl, sym, ap}
+use Rattle.constraint.proofs.Library.{subst, _∙_, List, [], _∷_, _++_, append-nil, _⊎_, inl, inr, ⊎-elim, length, length-append, append-snoc}
 use Rattle.constraint.specs.Steps.{at}
 use Rattle.constraint.specs.Stretches.{Stretch, stretchOf, starts, sizes, stretches, Some, FirstAt}
 use Rattle.stretch.specs.Machine.{Enough}

@@ -1,14 +1,6 @@
 -- What the loop over the records from a start on keeps: its row is that of a run, whichever constraint has the row's rule.
-use Prim.Native.Nat.{ℕ, suc, _+_, _≤_, _<_}
-use native.Mathlib.Omega.{arith}
-use mathlib.Core.Path.{_≡_, refl, sym, ap, subst, _∙_}
-use mathlib.Core.Bool.{Bool, true, false, cond, _&&_}
-use mathlib.Core.List.{List, [], _∷_}
-use mathlib.Core.Logic.{by-cases, ⊎-elim}
-use native.Mathlib.Decide.{ℕ-discrete}
-use lib.ListN.{getD, length, set, replicate, length-set}
-use lib.Dec.{ltb, eqb}
-use lib.Seq.{getD-set-same, getD-set-other}
+use Rattle.constraint.proofs.Library.{ℕ, suc, _+_, _≤_, _<_, arith, _≡_, refl, sym, ap, subst, _∙_, Bool, true, false, cond, _&&_, List, [], _∷_}
+use Rattle.constraint.proofs.Library.{by-cases, ⊎-elim, ℕ-discrete, getD, length, set, replicate, length-set, ltb, eqb, getD-set-same, getD-set-other}
 use Rattle.constraint.specs.Steps.{Step, at}
 use Rattle.constraint.specs.Accepted.{Accepted}
 use Rattle.constraint.specs.declared.Constraint.{Constraint}

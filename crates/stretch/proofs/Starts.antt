@@ -1,16 +1,8 @@
 -- A run over one row, from a start on, goes on while the row is open. Where it breaks the row, every longer stretch from there breaks it,
 -- as nothing more is refused; where it meets 12 or the end, none does.
-use Prim.Native.Nat.{ℕ, zero, suc, _+_, _-_, _≤_, _<_}
-use native.Mathlib.Decide.{decLt}
-use native.Mathlib.Omega.{arith}
-use mathlib.Core.Path.{_≡_, refl, sym, ap, subst, _∙_}
-use mathlib.Core.Bool.{true, false, cond}
-use mathlib.Core.List.{List, [], _∷_, _++_}
-use mathlib.Core.Logic.{⊎-elim, by-cases}
-use lib.ListN.{length, take, drop, getD, length-take, length-drop}
-use lib.Seq.{take-take, length-take-le, getD-take, getD-drop}
-use lib.Dec.{eqb}
-use borrow.Author.Tests.{le-leb, lt-leb}
+use Rattle.constraint.proofs.Library.{ℕ, zero, suc, _+_, _-_, _≤_, _<_, decLt, arith, _≡_, refl, sym, ap, subst, _∙_, true, false, cond, List, []}
+use Rattle.constraint.proofs.Library.{_∷_, _++_, ⊎-elim, by-cases, length, take, drop, getD, length-take, length-drop, take-take, length-take-le}
+use Rattle.constraint.proofs.Library.{getD-take, getD-drop, eqb, le-leb, lt-leb}
 use Rattle.constraint.specs.Limits.{streamCount, waitingLimit}
 use Rattle.constraint.specs.Steps.{Step, event, tick, close, at, closed}
 use Rattle.constraint.specs.Continuation.{Open, Reads, reads-open, reads-kept, reads-broken}

@@ -1,14 +1,8 @@
 -- A later start has an earlier clock and fewer times, so a record that was taken in its place is in order behind a later start too: only
 -- 12 can refuse it there.
-use Prim.Native.Nat.{ℕ, suc, _+_, _≤_, _<_}
-use native.Mathlib.Decide.{decLt}
-use native.Mathlib.Omega.{arith}
-use mathlib.Core.Path.{_≡_, sym, ap, subst, _∙_}
-use mathlib.Core.Bool.{false}
-use mathlib.Core.List.{List, [], _∷_, _++_}
-use mathlib.Core.Logic.{by-cases}
-use lib.ListN.{length, take, drop, getD, length-append, length-drop, List·getD-append}
-use lib.Seq.{take-append-le, take-at, getD-at, take-suc, take-add, getD-drop}
+use Rattle.constraint.proofs.Library.{ℕ, suc, _+_, _≤_, _<_, decLt, arith, _≡_, sym, ap, subst, _∙_, false, List, [], _∷_, _++_, by-cases, length}
+use Rattle.constraint.proofs.Library.{take, drop, getD, length-append, length-drop, List·getD-append, take-append-le, take-at, getD-at, take-suc}
+use Rattle.constraint.proofs.Library.{take-add, getD-drop}
 use Rattle.constraint.specs.Limits.{lastCount}
 use Rattle.constraint.specs.Steps.{Step, event, tick, close, times, clockFrom, clock, closed}
 use Rattle.constraint.specs.Continuation.{EventInOrder}

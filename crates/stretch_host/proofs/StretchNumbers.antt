@@ -1,7 +1,5 @@
 -- Each question about a stretch has a number above 0, and so has each refusal.
-use Prim.Native.Nat.{ℕ, _<_}
-use native.Mathlib.Omega.{arith}
-use mathlib.Core.List.{List}
+use Rattle.constraint.proofs.Library.{ℕ, _<_, arith, List}
 use Rattle.constraint.specs.Stretches.{stretchQuestions, no-stretch, AnswersStretch, no-table, no-recording, answers}
 use Rattle.constraint.specs.declared.StretchAnswer.{StretchAnswer}
 use Rattle.lent.proofs.Refusals.{AllAbove, number-above, refused-small}

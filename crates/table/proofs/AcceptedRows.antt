@@ -1,6 +1,5 @@
 -- A table that was read is accepted: the questions that a fresh monitor puts to its rows were put when they were read.
-use Prim.Native.Nat.{ℕ, _+_, _<_}
-use mathlib.Core.List.{List, []}
+use Rattle.constraint.proofs.Library.{ℕ, _+_, _<_, List, []}
 use Rattle.constraint.specs.Limits.{rowLimit}
 use Rattle.constraint.specs.Questions.{Judged}
 use Rattle.constraint.specs.Accepted.{rowQuestions, rowsQuestions, Accepted}

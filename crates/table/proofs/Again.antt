@@ -1,11 +1,7 @@
 -- §4.9 and §4.10 of the functions: what `read` accepted `write` writes back to the same bytes, and what `write` has written `read` reads back
 -- to the same rows.
-use Prim.Native.Nat.{ℕ, _+_, _*_, _≤_, _<_}
-use mathlib.Core.Path.{_≡_, refl, sym, ap, subst, _∙_}
-use mathlib.Core.List.{List, [], _∷_, _++_}
-use native.Mathlib.Omega.{arith}
-use lib.ListN.{length, take, drop}
-use lib.Seq.{take-append-seam}
+use Rattle.constraint.proofs.Library.{ℕ, _+_, _*_, _≤_, _<_, _≡_, refl, sym, ap, subst, _∙_, List, [], _∷_, _++_, arith, length, take, drop}
+use Rattle.constraint.proofs.Library.{take-append-seam}
 use Rattle.constraint.specs.Bytes.{Bytes}
 use Rattle.constraint.specs.Questions.{Question, Judged}
 use Rattle.constraint.specs.Accepted.{rowsQuestions, Accepted}

@@ -1,7 +1,5 @@
 -- The reader's promise, read by its answer.
-use Prim.Native.Nat.{ℕ}
-use mathlib.Core.Path.{_≡_, ap, subst}
-use mathlib.Core.List.{List}
+use Rattle.constraint.proofs.Library.{ℕ, _≡_, ap, subst, List}
 use Rattle.constraint.specs.Table.{ReadsTable}
 use Rattle.table.specs.Reading.{readAs, ReadsInto}
 use Rattle.table.specs.declared.ReadAnswer.{ReadAnswer}

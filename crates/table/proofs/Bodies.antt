@@ -1,11 +1,6 @@
 -- Fields and their bytes say the same: each field stands in a body behind those before it, in one byte or in eight.
-use Prim.Native.Nat.{ℕ, _+_, _^_, _≤_, _<_}
-use mathlib.Core.Path.{_≡_, sym, ap, subst⁻¹, _∙_}
-use mathlib.Core.List.{List, [], _∷_}
-use mathlib.Core.Logic.{⊎-elim}
-use native.Mathlib.Omega.{arith}
-use lib.ListN.{length, drop, length-append, length-take, length-drop}
-use lib.Seq.{length-take-le, getD-take, getD-drop}
+use Rattle.constraint.proofs.Library.{ℕ, _+_, _^_, _≤_, _<_, _≡_, sym, ap, subst⁻¹, _∙_, List, [], _∷_, ⊎-elim, arith, length, drop, length-append}
+use Rattle.constraint.proofs.Library.{length-take, length-drop, length-take-le, getD-take, getD-drop}
 use Rattle.constraint.specs.Bytes.{Bytes, bytesOf, bytesAt, numberAt}
 use Rattle.constraint.specs.Types.{kind, coloured, count, span, plain, lower, upper, upper-or-none, Field, byte, time}
 use Rattle.constraint.specs.Accepted.{FieldsInRange}

@@ -1,8 +1,5 @@
 -- Bytes have one reading, since each question has one answer and a body stands for one row.
-use Prim.Native.Nat.{ℕ}
-use mathlib.Core.Path.{_≡_, refl, ap₂}
-use mathlib.Core.List.{List}
-use native.Mathlib.Omega.{arith}
+use Rattle.constraint.proofs.Library.{ℕ, _≡_, refl, ap₂, List, arith}
 use Rattle.constraint.specs.Table.{TableRead, rowThen, ReadsRows, no-more, row-refused, row-taken, ReadsTable, version-refused, version-taken, bodyAt}
 use Rattle.constraint.specs.declared.Answer.the-variants.{Taken, Refused}
 use Rattle.constraint.proofs.Judged.{never}

@@ -1,11 +1,5 @@
 -- The questions of the row at a place are put in their order, so each "no" needs the earlier ones answered "yes".
-use Prim.Native.Nat.{ℕ, _+_, _-_, _≤_, _<_}
-use mathlib.Core.Path.{_≡_, ap}
-use mathlib.Core.List.{List, [], _∷_}
-use native.Mathlib.Nat.{add-sub-cancel-left}
-use native.Mathlib.Omega.{arith}
-use lib.Dec.{leb}
-use lib.ListN.{length, take, drop}
+use Rattle.constraint.proofs.Library.{ℕ, _+_, _-_, _≤_, _<_, _≡_, ap, List, [], _∷_, add-sub-cancel-left, arith, leb, length, take, drop}
 use Rattle.constraint.specs.Limits.{rowLimit}
 use Rattle.constraint.specs.Steps.{at}
 use Rattle.constraint.specs.Bytes.{Bytes}

@@ -1,9 +1,5 @@
 -- Rows are read one after the other: what reading gives from a place on, behind the rows read before it, is what it gives from the start.
-use Prim.Native.Nat.{ℕ, _≤_, _<_}
-use mathlib.Core.Path.{_≡_, refl, sym, ap, subst, subst₂, _∙_}
-use mathlib.Core.List.{List, [], _∷_, _++_}
-use native.Mathlib.Omega.{arith}
-use lib.ListN.{length, length-append}
+use Rattle.constraint.proofs.Library.{ℕ, _≤_, _<_, _≡_, refl, sym, ap, subst, subst₂, _∙_, List, [], _∷_, _++_, arith, length, length-append}
 use Rattle.constraint.specs.Records.{rowsOf, tableOf, withOneMore}
 use Rattle.constraint.specs.Table.{TableRead, table-of, table-refused, rowThen, ReadsRows, no-more, row-refused, row-taken}
 use Rattle.constraint.specs.declared.Constraint.{Constraint}

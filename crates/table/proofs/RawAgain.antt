@@ -1,14 +1,8 @@
 -- Rows as raw bytes are the rows that their bodies stand for, and a body stands for one row: so an accepted table whose rows are given as raw
 -- bytes is written as the table that it was.
-use Prim.Native.Nat.{ℕ, _+_, _*_, _≤_, _<_}
-use mathlib.Core.Path.{_≡_, sym, ap, subst, _∙_}
-use mathlib.Core.List.{List, [], _∷_, _++_}
-use native.Mathlib.Nat.{add-zero}
-use native.Mathlib.Omega.{arith}
-use borrow.Author.Tests.{eqb-true, eqb-false}
-use lib.Dec.{eqb}
-use lib.ListN.{length, getD, take, drop, length-take, take-append-drop}
-use lib.Seq.{ext-getD, getD-take, getD-drop, length-take-le, take-all}
+use Rattle.constraint.proofs.Library.{ℕ, _+_, _*_, _≤_, _<_, _≡_, sym, ap, subst, _∙_, List, [], _∷_, _++_, add-zero, arith, eqb-true, eqb-false, eqb}
+use Rattle.constraint.proofs.Library.{length, getD, take, drop, length-take, take-append-drop, ext-getD, getD-take, getD-drop, length-take-le}
+use Rattle.constraint.proofs.Library.{take-all}
 use Rattle.constraint.specs.Limits.{rowLimit}
 use Rattle.constraint.specs.Steps.{at}
 use Rattle.constraint.specs.Bytes.{Bytes}

@@ -1,15 +1,8 @@
 -- A row's first bytes, as many as its type has, are a body of fitting shape, so they stand for the row that is read from them; and where the
 -- next row is a 33rd or of no known type, 3 and 4 are asked after the rows before it.
-use Prim.Native.Nat.{ℕ, zero, suc, _+_, _-_, _*_, _≤_, _<_}
-use mathlib.Core.Path.{_≡_, refl, sym, ap, ap₂, subst, _∙_}
-use mathlib.Core.Bool.{Bool}
-use mathlib.Core.List.{List, [], _∷_, _++_}
-use native.Mathlib.Nat.{add-zero, add-sub-cancel-left}
-use native.Mathlib.Omega.{arith}
-use borrow.Author.Tests.{eqb-true, eqb-false, ltb-true, ltb-false, eq-eqb}
-use lib.Dec.{eqb, ltb}
-use lib.ListN.{length, getD, take, drop, length-append, length-drop, List·getD-append}
-use lib.Seq.{length-take-le, getD-take, getD-drop, getD-append-add}
+use Rattle.constraint.proofs.Library.{ℕ, zero, suc, _+_, _-_, _*_, _≤_, _<_, _≡_, refl, sym, ap, ap₂, subst, _∙_, Bool, List, [], _∷_, _++_, add-zero}
+use Rattle.constraint.proofs.Library.{add-sub-cancel-left, arith, eqb-true, eqb-false, ltb-true, ltb-false, eq-eqb, eqb, ltb, length, getD, take}
+use Rattle.constraint.proofs.Library.{drop, length-append, length-drop, List·getD-append, length-take-le, getD-take, getD-drop, getD-append-add}
 use Rattle.constraint.specs.Limits.{rowLimit}
 use Rattle.constraint.specs.Steps.{at}
 use Rattle.constraint.specs.Bytes.{Bytes}

@@ -1,10 +1,7 @@
 -- What is read from bytes is written back to those bytes, and what is written is read back, since a row and its body say the same.
-use Prim.Native.Nat.{ℕ, _+_, _<_}
-use mathlib.Core.Path.{_≡_, refl, sym, ap, ap₂, subst₂, _∙_}
-use mathlib.Core.List.{List, [], _∷_, _++_, append-assoc}
-use native.Mathlib.Omega.{arith}
-use lib.ListN.{length, drop, length-append, length-drop, take-append-drop, drop-of-length-le}
-use lib.Seq.{take-at, drop-at, take-append-seam, drop-append-seam, length-take-le, drop-drop, drop-cons}
+use Rattle.constraint.proofs.Library.{ℕ, _+_, _<_, _≡_, refl, sym, ap, ap₂, subst₂, _∙_, List, [], _∷_, _++_, append-assoc, arith, length, drop}
+use Rattle.constraint.proofs.Library.{length-append, length-drop, take-append-drop, drop-of-length-le, take-at, drop-at, take-append-seam}
+use Rattle.constraint.proofs.Library.{drop-append-seam, length-take-le, drop-drop, drop-cons}
 use Rattle.constraint.specs.Limits.{rowLimit}
 use Rattle.constraint.specs.Bytes.{Bytes, bytesOf, bytesAt}
 use Rattle.constraint.specs.Questions.{Judged}

@@ -1,7 +1,5 @@
 -- Rows of the same type and fields are equal, since a row can be made again from its type and its fields.
-use Prim.Native.Nat.{ℕ}
-use mathlib.Core.Path.{_≡_, sym, ap₂, _∙_}
-use mathlib.Core.List.{List, [], _++_}
+use Rattle.constraint.proofs.Library.{ℕ, _≡_, sym, ap₂, _∙_, List, [], _++_}
 use Rattle.constraint.specs.Types.{Field}
 use Rattle.constraint.specs.Table.{Same}
 use Rattle.constraint.specs.Records.{bytesIn, timesIn}

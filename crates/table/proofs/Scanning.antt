@@ -1,11 +1,6 @@
 -- A table is read again row by row: a body stands for one row only, so the row at each place is the one that was read there.
-use Prim.Native.Nat.{ℕ, _+_, _≤_, _<_}
-use mathlib.Core.Path.{_≡_, refl, sym, subst, subst₂, _∙_}
-use mathlib.Core.List.{List, [], _∷_, _++_}
-use native.Mathlib.Numerals.{add-one}
-use native.Mathlib.Omega.{arith}
-use lib.ListN.{length, length-append, drop, getD}
-use lib.Seq.{drop-cons}
+use Rattle.constraint.proofs.Library.{ℕ, _+_, _≤_, _<_, _≡_, refl, sym, subst, subst₂, _∙_, List, [], _∷_, _++_, add-one, arith, length}
+use Rattle.constraint.proofs.Library.{length-append, drop, getD, drop-cons}
 use Rattle.constraint.specs.Limits.{rowLimit}
 use Rattle.constraint.specs.Table.{TableRead, table-of, table-refused, ReadsRows, no-more, row-refused, row-taken}
 use Rattle.constraint.specs.Table.{VersionOne, ReadsTable, version-taken, bodyAt}

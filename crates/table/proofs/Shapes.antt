@@ -1,11 +1,5 @@
 -- A body's shape fits where its length is the one that the list has for its type, to which a StrongSynchronization's n is added.
-use Prim.Native.Nat.{ℕ, _≤_, _<_}
-use mathlib.Core.Path.{_≡_, sym, ap₂, _∙_}
-use mathlib.Core.List.{List}
-use native.Mathlib.Omega.{arith}
-use borrow.Author.Tests.{ltb-true, ltb-false, eqb-true, eqb-false}
-use lib.Dec.{ltb, eqb}
-use lib.ListN.{length}
+use Rattle.constraint.proofs.Library.{ℕ, _≤_, _<_, _≡_, sym, ap₂, _∙_, List, arith, ltb-true, ltb-false, eqb-true, eqb-false, ltb, eqb, length}
 use Rattle.constraint.specs.Steps.{at}
 use Rattle.constraint.specs.Records.{Decides}
 use Rattle.constraint.specs.Types.{lengths, lengthOf}

@@ -1,12 +1,7 @@
 -- A body stands for one row: its type byte says which bytes and times to read, and the row is made of them again.
-use Prim.Native.Nat.{ℕ, zero, suc, _+_, _*_, _/_, _%_, _^_, _≤_, _<_}
-use mathlib.Core.Path.{_≡_, refl, sym, ap, ap₂, _∙_}
-use mathlib.Core.List.{List, [], _∷_, _++_}
-use native.Mathlib.Nat.{add-zero}
-use native.Mathlib.Numerals.{one-add}
-use native.Mathlib.Omega.{arith}
-use lib.ListN.{length, take, drop, length-append, length-take, length-drop, take-append-drop, List·getD-append}
-use lib.Seq.{take-all, take-add, take-at, drop-at, drop-append-add, drop-cons, drop-drop, getD-take, ext-getD}
+use Rattle.constraint.proofs.Library.{ℕ, zero, suc, _+_, _*_, _/_, _%_, _^_, _≤_, _<_, _≡_, refl, sym, ap, ap₂, _∙_, List, [], _∷_, _++_, add-zero}
+use Rattle.constraint.proofs.Library.{one-add, arith, length, take, drop, length-append, length-take, length-drop, take-append-drop, List·getD-append}
+use Rattle.constraint.proofs.Library.{take-all, take-add, take-at, drop-at, drop-append-add, drop-cons, drop-drop, getD-take, ext-getD}
 use Rattle.constraint.specs.Steps.{at}
 use Rattle.constraint.specs.Bytes.{Bytes, bytesOf, bytesAt, numberAt}
 use Rattle.constraint.specs.Types.{Field, byte, time, typeOf, fieldsOf, rowRead, lengthOf}

@@ -1,11 +1,6 @@
 -- A row's bytes are its length field, its type byte, the other bytes and its times, so storing these one after the other stores the row.
-use Prim.Native.Nat.{ℕ, suc, _+_, _≤_, _<_}
-use mathlib.Core.Path.{_≡_, sym, ap, ap₂, _∙_}
-use mathlib.Core.List.{List, [], _∷_, _++_}
-use native.Mathlib.Numerals.{add-one}
-use native.Mathlib.Omega.{arith}
-use lib.ListN.{length, getD, drop, length-append, length-take, List·getD-append}
-use lib.Seq.{sets, drop-cons, getD-take}
+use Rattle.constraint.proofs.Library.{ℕ, suc, _+_, _≤_, _<_, _≡_, sym, ap, ap₂, _∙_, List, [], _∷_, _++_, add-one, arith, length, getD, drop}
+use Rattle.constraint.proofs.Library.{length-append, length-take, List·getD-append, sets, drop-cons, getD-take}
 use Rattle.constraint.specs.Bytes.{bytesOf}
 use Rattle.constraint.specs.Steps.{at}
 use Rattle.constraint.specs.Types.{typeOf, fieldsOf, lengthOf}

@@ -1,10 +1,5 @@
 -- The writer's questions are the rows' and then the room's, and storing a table at the front of a buffer leaves what stands behind it.
-use Prim.Native.Nat.{ℕ, _≤_, _<_}
-use mathlib.Core.Path.{_≡_, refl, _∙_}
-use mathlib.Core.List.{List, [], _∷_}
-use native.Mathlib.Omega.{arith}
-use lib.ListN.{length}
-use lib.Seq.{sets}
+use Rattle.constraint.proofs.Library.{ℕ, _≤_, _<_, _≡_, refl, _∙_, List, [], _∷_, arith, length, sets}
 use Rattle.constraint.specs.Questions.{Judged}
 use Rattle.constraint.specs.Accepted.{rowsQuestions}
 use Rattle.constraint.specs.Table.{rowsBytes, tableBytes}

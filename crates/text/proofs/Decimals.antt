@@ -1,16 +1,8 @@
 -- Decimal digits: how the code takes them off one by one, how many there are, and what they stand for.
-use Prim.Native.Nat.{ℕ, zero, suc, _+_, _-_, _*_, _/_, _%_, _^_, _≤_, _<_}
-use mathlib.Core.Path.{_≡_, sym, ap, _∙_}
-use mathlib.Core.List.{List, [], _∷_, _++_, append-assoc}
-use mathlib.Core.Bool.{cond}
-use native.Mathlib.Nat.{pow-succ'}
-use native.Mathlib.Omega.{arith}
-use native.Mathlib.Decide.{decLt}
-use borrow.Author.Tests.{lt-ltb, le-ltb, ne-eqb}
-use lib.Dec.{ltb, eqb}
-use lib.ListN.{length, set, take, drop, replicate, length-append, length-set, length-drop, length-replicate, getD-replicate, take-append-drop}
-use lib.ListN.{List·getD-append}
-use lib.Seq.{length-take-le, drop-cons, getD-set-same, drop-set-lt, getD-take, ext-getD}
+use Rattle.constraint.proofs.Library.{ℕ, zero, suc, _+_, _-_, _*_, _/_, _%_, _^_, _≤_, _<_, _≡_, sym, ap, _∙_, List, [], _∷_, _++_, append-assoc}
+use Rattle.constraint.proofs.Library.{cond, pow-succ', arith, decLt, lt-ltb, le-ltb, ne-eqb, ltb, eqb, length, set, take, drop, replicate}
+use Rattle.constraint.proofs.Library.{length-append, length-set, length-drop, length-replicate, getD-replicate, take-append-drop, List·getD-append}
+use Rattle.constraint.proofs.Library.{length-take-le, drop-cons, getD-set-same, drop-set-lt, getD-take, ext-getD}
 use Rattle.constraint.specs.Steps.{at}
 use Rattle.constraint.specs.Report.{digits, decimal, blank}
 use Rattle.constraint.specs.Page.{rightIn}

@@ -1,11 +1,6 @@
 -- A report's text line by line, its length, and what copying it out says of the report.
-use Prim.Native.Nat.{ℕ, suc, _+_, _*_, _≤_, _<_}
-use mathlib.Core.Path.{_≡_, ap}
-use mathlib.Core.List.{List, [], _∷_, _++_, append-assoc}
-use native.Mathlib.Decide.{decLt}
-use native.Mathlib.Nat.{add-zero}
-use native.Mathlib.Omega.{arith}
-use lib.ListN.{length, length-append}
+use Rattle.constraint.proofs.Library.{ℕ, suc, _+_, _*_, _≤_, _<_, _≡_, ap, List, [], _∷_, _++_, append-assoc, decLt, add-zero, arith, length}
+use Rattle.constraint.proofs.Library.{length-append}
 use Rattle.constraint.specs.Limits.{rowLimit}
 use Rattle.constraint.specs.Report.{verdictText, rowLines, closedText, refusedText, ReportOf, Reports, written, too-short}
 use Rattle.constraint.specs.declared.Verdict.{Verdict}

@@ -1,12 +1,7 @@
 -- Bytes put behind a text, one after the other: what it holds then is what it held and those bytes, as long as there is room.
-use Prim.Native.Nat.{ℕ, zero, suc, _+_, _≤_, _<_}
-use mathlib.Core.Path.{_≡_, refl, ap, _∙_}
-use mathlib.Core.List.{List, [], _∷_, _++_, append-assoc, append-nil}
-use native.Mathlib.Numerals.{add-one}
-use native.Mathlib.Omega.{arith}
-use borrow.Author.Tests.{lt-ltb, le-ltb}
-use lib.ListN.{length, getD, set, drop, replicate, length-append, length-set, length-replicate}
-use lib.Seq.{length-take-le, drop-cons, take-suc-set, sets, getD-set-other}
+use Rattle.constraint.proofs.Library.{ℕ, zero, suc, _+_, _≤_, _<_, _≡_, refl, ap, _∙_, List, [], _∷_, _++_, append-assoc, append-nil, add-one, arith}
+use Rattle.constraint.proofs.Library.{lt-ltb, le-ltb, length, getD, set, drop, replicate, length-append, length-set, length-replicate, length-take-le}
+use Rattle.constraint.proofs.Library.{drop-cons, take-suc-set, sets, getD-set-other}
 use Rattle.text.specs.Content.{textLimit, emptyText, withByte, extended, Holds, Copied}
 use Rattle.number.proofs.Stores.{stores-front}
 use Rattle.text.specs.declared.Text.{Text}

@@ -1,13 +1,7 @@
 -- One colour of a Reaction: its words say where the first response may still come, which is from minimum after the newest stimulus to maximum
 -- after the oldest, or when it came. A response to come can be at any time from the clock on, as its stream is empty.
-use Prim.Native.Nat.{ℕ, _+_, _≤_, _<_}
-use native.Mathlib.Omega.{arith}
-use mathlib.Core.Path.{_≡_, refl, sym, ap, _∙_}
-use mathlib.Core.Bool.{cond}
-use mathlib.Core.List.{List, [], _∷_, _++_}
-use lib.ListN.{length, length-append}
-use lib.Dec.{ltb}
-use borrow.Author.Tests.{ltb-true, ltb-false, ne-eqb}
+use Rattle.constraint.proofs.Library.{ℕ, _+_, _≤_, _<_, arith, _≡_, refl, sym, ap, _∙_, cond, List, [], _∷_, _++_, length, length-append, ltb}
+use Rattle.constraint.proofs.Library.{ltb-true, ltb-false, ne-eqb}
 use Rattle.constraint.specs.Limits.{lastTime, noLimit}
 use Rattle.constraint.specs.Steps.{at}
 use Rattle.constraint.specs.Meets.{Between, MeetsReaction}

@@ -1,15 +1,8 @@
 -- A Reaction is exact: the colours do not disturb each other, and where each that waits still has a time left, the one with the first last
 -- moment can be answered then, which leaves one fewer that waits.
-use Prim.Native.Nat.{ℕ, zero, suc, _+_, _-_, _*_, _%_, _≤_, _<_}
-use native.Mathlib.Decide.{decLt, ℕ-discrete}
-use native.Mathlib.Omega.{arith}
-use mathlib.Core.Path.{_≡_, refl, sym, ap, _∙_, subst, subst₂}
-use mathlib.Core.Bool.{Bool, true, false, cond}
-use mathlib.Core.List.{List, [], _∷_, _++_, append-assoc}
-use mathlib.Core.Logic.{by-cases}
-use lib.ListN.{length, replicate}
-use lib.Dec.{eqb}
-use borrow.Author.Tests.{eqb-true, eqb-false, eq-eqb, ne-eqb}
+use Rattle.constraint.proofs.Library.{ℕ, zero, suc, _+_, _-_, _*_, _%_, _≤_, _<_, decLt, ℕ-discrete, arith, _≡_, refl, sym, ap, _∙_, subst, subst₂}
+use Rattle.constraint.proofs.Library.{Bool, true, false, cond, List, [], _∷_, _++_, append-assoc, by-cases, length, replicate, eqb, eqb-true}
+use Rattle.constraint.proofs.Library.{eqb-false, eq-eqb, ne-eqb}
 use Rattle.constraint.specs.Limits.{lastKind, firstColoured, lastColour, lastTime, noLimit}
 use Rattle.constraint.specs.Streams.{stream}
 use Rattle.constraint.proofs.Streams.{colours, streams}

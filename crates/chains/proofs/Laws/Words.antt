@@ -1,15 +1,6 @@
 -- The words of each colour: new words of one leave the others, and the due time is the first of the colours' last moments.
-use Prim.Native.Nat.{ℕ, zero, suc, _+_, _-_, _*_, _≤_, _<_, min}
-use native.Mathlib.Decide.{decLt, ℕ-discrete}
-use native.Mathlib.Omega.{arith}
-use mathlib.Core.Path.{_≡_, refl, sym, ap, ap₂, _∙_, subst}
-use mathlib.Core.Bool.{cond}
-use mathlib.Core.List.{List}
-use mathlib.Core.Logic.{by-cases}
-use lib.ListN.{length, getD, set, length-set}
-use lib.Seq.{getD-set-same, getD-set-other}
-use lib.Dec.{eqb}
-use borrow.Author.Tests.{eq-eqb, ne-eqb}
+use Rattle.constraint.proofs.Library.{ℕ, zero, suc, _+_, _-_, _*_, _≤_, _<_, min, decLt, ℕ-discrete, arith, _≡_, refl, sym, ap, ap₂, _∙_, subst, cond}
+use Rattle.constraint.proofs.Library.{List, by-cases, length, getD, set, length-set, getD-set-same, getD-set-other, eqb, eq-eqb, ne-eqb}
 use Rattle.constraint.specs.Limits.{noLimit}
 use Rattle.constraint.proofs.Lists.{split}
 use Rattle.chains.specs.Reaction.{latest, highBut, dueBut}

@@ -1,7 +1,5 @@
 -- A record that is whole is asked its call; any other is refused by 14, and the clock is as it was.
-use native.Mathlib.Omega.{arith}
-use mathlib.Core.Path.{ap}
-use denote.Ref.{now}
+use Rattle.constraint.proofs.Library.{arith, ap, now}
 use Rattle.queue.proofs.Shared.{free}
 use Rattle.recording.specs.declared.CallRead.{CallRead}
 use Rattle.clock.proofs.Laws.{read-none, read-call}

@@ -1,8 +1,5 @@
 -- The two sizes are asked for first, and then the report.
-use native.Mathlib.Omega.{arith}
-use borrow.Author.Needs.{needs}
-use borrow.Author.Tests.{ltb-true, ltb-false}
-use mathlib.Core.Logic.{⊎-elim}
+use Rattle.constraint.proofs.Library.{arith, needs, ltb-true, ltb-false, ⊎-elim}
 use Rattle.delkuthi.specs.Program.{too-large, fits}
 use Rattle.delkuthi.proofs.Telling.{holds-refusal, report-told}
 use Rattle.delkuthi.proofs.program_text.Statement.{statement}

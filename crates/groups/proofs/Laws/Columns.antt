@@ -1,13 +1,7 @@
 -- The recorded events of a row's kinds as groups: some continuation completes each group at its last moment, as long as the oldest group's
 -- last moment has not passed; once it has, none does.
-use Prim.Native.Nat.{ℕ, zero, suc, _+_, _-_, _≤_, _<_}
-use native.Mathlib.Omega.{arith}
-use native.Mathlib.Decide.{decLt, ℕ-discrete}
-use mathlib.Core.Path.{_≡_, sym, _∙_, subst}
-use mathlib.Core.Bool.{false}
-use mathlib.Core.List.{List, [], _∷_, _++_, map, append-nil, append-assoc}
-use mathlib.Core.Logic.{by-cases}
-use lib.ListN.{length, length-append}
+use Rattle.constraint.proofs.Library.{ℕ, zero, suc, _+_, _-_, _≤_, _<_, arith, decLt, ℕ-discrete, _≡_, sym, _∙_, subst, false, List, [], _∷_, _++_}
+use Rattle.constraint.proofs.Library.{map, append-nil, append-assoc, by-cases, length, length-append}
 use Rattle.constraint.specs.Limits.{streamCount}
 use Rattle.constraint.specs.Steps.{Step, event, tick, at, times, clock, closed}
 use Rattle.constraint.specs.Meets.{MeetsStrongSynchronization}

@@ -1,15 +1,8 @@
 -- The marks of a StrongSynchronization as one count for each kind: the kinds are different, so the machine's four places are those of the
 -- list of kinds, and a place without a kind never matters.
-use Prim.Native.Nat.{ℕ, zero, suc, _+_, _-_, _≤_, _<_}
-use native.Mathlib.Omega.{arith}
-use native.Mathlib.Decide.{decLt}
-use mathlib.Core.Path.{_≡_, refl, sym, ap, _∙_, subst}
-use mathlib.Core.Bool.{Bool, true, false, _&&_, _||_, false≢true, and-eq-true-iff}
-use mathlib.Core.List.{List, [], _∷_, _++_}
-use mathlib.Core.Logic.{_⊎_, inl, inr, ⊎-elim, by-cases}
-use lib.ListN.{length, replicate, length-append, length-replicate, getD-replicate}
-use lib.Dec.{ltb, eqb}
-use borrow.Author.Tests.{ltb-true, ltb-false, eqb-false, eq-eqb, ne-eqb}
+use Rattle.constraint.proofs.Library.{ℕ, zero, suc, _+_, _-_, _≤_, _<_, arith, decLt, _≡_, refl, sym, ap, _∙_, subst, Bool, true, false, _&&_, _||_}
+use Rattle.constraint.proofs.Library.{false≢true, and-eq-true-iff, List, [], _∷_, _++_, _⊎_, inl, inr, ⊎-elim, by-cases, length, replicate}
+use Rattle.constraint.proofs.Library.{length-append, length-replicate, getD-replicate, ltb, eqb, ltb-true, ltb-false, eqb-false, eq-eqb, ne-eqb}
 use Rattle.constraint.specs.Limits.{lastKind, noLimit}
 use Rattle.constraint.specs.Steps.{at}
 use Rattle.constraint.specs.Accepted.{KindsFit}

@@ -1,13 +1,7 @@
 -- Groups of times by place: the i-th group has the i-th time of each column. One more time goes to the first group that its column lacks, and
 -- the oldest group leaves when no column lacks it, so first times are enough to say which times still fit.
-use Prim.Native.Nat.{ℕ, zero, suc, _+_, _-_, _≤_, _<_}
-use native.Mathlib.Omega.{arith}
-use native.Mathlib.Decide.{decLt, ℕ-discrete}
-use mathlib.Core.Path.{_≡_, refl, sym, ap, _∙_}
-use mathlib.Core.List.{List, [], _∷_, _++_}
-use mathlib.Core.Logic.{_⊎_, inl, inr, ⊎-elim, by-cases}
-use lib.ListN.{length, drop, length-append, length-drop}
-use lib.Seq.{getD-drop}
+use Rattle.constraint.proofs.Library.{ℕ, zero, suc, _+_, _-_, _≤_, _<_, arith, decLt, ℕ-discrete, _≡_, refl, sym, ap, _∙_, List, [], _∷_, _++_, _⊎_}
+use Rattle.constraint.proofs.Library.{inl, inr, ⊎-elim, by-cases, length, drop, length-append, length-drop, getD-drop}
 use Rattle.constraint.specs.Steps.{at}
 use Rattle.constraint.proofs.Lists.{at-left, at-next, Each, Rising, rising-at}
 

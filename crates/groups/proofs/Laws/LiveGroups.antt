@@ -1,16 +1,7 @@
 -- What a StrongSynchronization keeps, and that each event keeps it so: the event goes to the first group that lacks its kind, and the oldest
 -- group leaves once it lacks none.
-use Prim.Native.Nat.{ℕ, suc, _+_, _-_, _≤_, _<_}
-use native.Mathlib.Omega.{arith}
-use native.Mathlib.Decide.{decLt, ℕ-discrete}
-use mathlib.Core.Path.{_≡_, refl, ap, _∙_}
-use mathlib.Core.Bool.{Bool, true, false, cond}
-use mathlib.Core.List.{List, [], _∷_, _++_}
-use mathlib.Core.Logic.{by-cases}
-use lib.ListN.{length, drop, length-drop}
-use lib.Seq.{getD-drop}
-use lib.Dec.{ltb}
-use borrow.Author.Tests.{ltb-true, ltb-false}
+use Rattle.constraint.proofs.Library.{ℕ, suc, _+_, _-_, _≤_, _<_, arith, decLt, ℕ-discrete, _≡_, refl, ap, _∙_, Bool, true, false, cond, List, []}
+use Rattle.constraint.proofs.Library.{_∷_, _++_, by-cases, length, drop, length-drop, getD-drop, ltb, ltb-true, ltb-false}
 use Rattle.constraint.specs.Limits.{noLimit}
 use Rattle.constraint.specs.Steps.{Step, event, at, times, clock}
 use Rattle.constraint.proofs.Lists.{at-left, at-next, Each, Rising, rising-by}

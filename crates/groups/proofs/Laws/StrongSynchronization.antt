@@ -1,10 +1,6 @@
 -- StrongSynchronization: the first times of the groups begun and not complete, and each kind's count of them, are enough, since an event goes
 -- to the first group that lacks its kind and the oldest group is due first.
-use Prim.Native.Nat.{ℕ, _≤_, _<_}
-use native.Mathlib.Omega.{arith}
-use mathlib.Core.Path.{_≡_, refl, sym, _∙_}
-use mathlib.Core.Bool.{true, false, false≢true}
-use mathlib.Core.List.{List, [], _∷_, _++_}
+use Rattle.constraint.proofs.Library.{ℕ, _≤_, _<_, arith, _≡_, refl, sym, _∙_, true, false, false≢true, List, [], _∷_, _++_}
 use Rattle.constraint.specs.Limits.{lastTime}
 use Rattle.constraint.specs.Steps.{Step, event, tick, at, own, clock, closed}
 use Rattle.constraint.specs.Meets.{Meets, MeetsStrongSynchronization}

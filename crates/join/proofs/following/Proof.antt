@@ -1,8 +1,5 @@
 -- The first recording's record comes next where it is there and the other is not, or is no earlier; else the second's does.
-use mathlib.Core.Path.{_≡_, sym, _∙_}
-use mathlib.Core.Bool.{not, _&&_, _||_}
-use lib.Dec.{leb}
-use denote.Ref.{now}
+use Rattle.constraint.proofs.Library.{_≡_, sym, _∙_, not, _&&_, _||_, leb, now}
 use Rattle.constraint.specs.Run.{stepFor}
 use Rattle.queue.proofs.Shared.{free}
 use Rattle.constraint.specs.Joined.{timeOf}

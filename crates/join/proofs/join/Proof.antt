@@ -1,8 +1,5 @@
 -- Each answer is that of the first "no"; where there is none the joined recording is measured and then written.
-use native.Mathlib.Omega.{arith}
-use borrow.Author.Needs.{needs}
-use borrow.Author.Tests.{not-true, not-false}
-use denote.Ref.{now}
+use Rattle.constraint.proofs.Library.{arith, needs, not-true, not-false, now}
 use Rattle.queue.proofs.Shared.{free}
 use Rattle.join.proofs.Answers.{answer-first, answer-second, answer-common, answer-short, answer-written}
 use Rattle.join.proofs.join.Statement.{statement}

@@ -1,8 +1,5 @@
 -- Past the last kind there is no mark.
-use native.Mathlib.Omega.{arith}
-use borrow.Author.Needs.{needs}
-use mathlib.Core.Path.{sym}
-use lib.Seq.{set-out}
+use Rattle.constraint.proofs.Library.{arith, needs, sym, set-out}
 use Rattle.join.proofs.mark.Statement.{statement}
 use Rattle.join.proofs.mark.Tie as tie
 

@@ -1,7 +1,5 @@
 -- Past the last kind there is no mark.
-use native.Mathlib.Omega.{arith}
-use borrow.Author.Needs.{needs}
-use lib.ListN.{List·getD-eq-default}
+use Rattle.constraint.proofs.Library.{arith, needs, List·getD-eq-default}
 use Rattle.join.proofs.marked.Statement.{statement}
 use Rattle.join.proofs.marked.Tie as tie
 

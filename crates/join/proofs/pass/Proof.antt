@@ -1,8 +1,5 @@
 -- The loop reads record after record: the kinds of those read are marked, and the first one to avoid is kept.
-use native.Mathlib.Omega.{arith}
-use Prim.Native.Nat.{_-_}
-use lib.ListN.{length}
-use denote.Ref.{now}
+use Rattle.constraint.proofs.Library.{arith, _-_, length, now}
 use Rattle.constraint.specs.Recording.{version-refused}
 use Rattle.constraint.proofs.Judged.{passed, failed}
 use Rattle.queue.proofs.Shared.{free}

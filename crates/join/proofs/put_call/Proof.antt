@@ -1,9 +1,5 @@
 -- Length field, kind and colour are stored first, and the time behind them.
-use native.Mathlib.Omega.{arith}
-use borrow.Author.Needs.{needs}
-use mathlib.Core.Path.{refl}
-use mathlib.Core.List.{[], _∷_}
-use denote.Ref.{now}
+use Rattle.constraint.proofs.Library.{arith, needs, refl, [], _∷_, now}
 use Rattle.constraint.specs.Bytes.{bytesOf}
 use Rattle.queue.proofs.Shared.{free}
 use Rattle.join.proofs.Walking.{stored-behind}

@@ -1,6 +1,5 @@
 -- A record that is dropped is not stored.
-use borrow.Author.Needs.{needs}
-use mathlib.Core.Path.{sym, _∙_}
+use Rattle.constraint.proofs.Library.{needs, sym, _∙_}
 use Rattle.queue.proofs.Shared.{free}
 use Rattle.join.proofs.put_left.Statement.{statement}
 use Rattle.join.proofs.put_left.Tie as tie

@@ -1,12 +1,6 @@
 -- The version is stored, and then, turn by turn, what is left of the record that comes next.
-use Prim.Native.Nat.{ℕ, _+_, _-_, _≤_}
-use native.Mathlib.Omega.{arith}
-use mathlib.Core.Path.{_≡_, refl, sym, ap, _∙_}
-use mathlib.Core.List.{List, [], _∷_}
-use lib.ListN.{length}
-use lib.Seq.{sets, length-sets}
-use borrow.Author.Tests.{not-false, not-true}
-use denote.Ref.{now}
+use Rattle.constraint.proofs.Library.{ℕ, _+_, _-_, _≤_, arith, _≡_, refl, sym, ap, _∙_, List, [], _∷_, length, sets, length-sets, not-false, not-true}
+use Rattle.constraint.proofs.Library.{now}
 use Rattle.constraint.specs.Steps.{Step}
 use Rattle.constraint.proofs.Lists.{both}
 use Rattle.queue.proofs.Shared.{free}

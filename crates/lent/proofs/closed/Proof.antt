@@ -1,9 +1,6 @@
 -- The word for "open" stands at its place.
-use mathlib.Core.Path.{ap, _∙_}
-use Prim.Native.Nat.{ℕ, _-_}
-use denote.Ref.{now}
+use Rattle.constraint.proofs.Library.{ap, _∙_, ℕ, _-_, now, needs}
 use Rattle.lent.proofs.Parts.{number-at}
-use borrow.Author.Needs.{needs}
 use Rattle.lent.proofs.closed.Statement.{statement}
 use Rattle.lent.proofs.closed.Tie as tie
 

@@ -1,11 +1,6 @@
 -- The number of rows stands at its place, and is cut at 32.
-use Prim.Native.Nat.{ℕ}
-use mathlib.Core.Path.{ap, _∙_}
-use mathlib.Core.List.{List, []}
-use lib.ListN.{getD}
-use native.Mathlib.Omega.{arith}
+use Rattle.constraint.proofs.Library.{ℕ, ap, _∙_, List, [], getD, arith, needs}
 use Rattle.lent.proofs.Parts.{numbers-read}
-use borrow.Author.Needs.{needs}
 use Rattle.lent.proofs.held.Statement.{statement}
 use Rattle.lent.proofs.held.Tie as tie
 

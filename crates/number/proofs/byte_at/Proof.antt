@@ -1,8 +1,5 @@
 -- Past the end the byte is 0, as the definition says.
-use borrow.Author.Needs.{needs}
-use lib.ListN.{List·getD-eq-default}
-use mathlib.Core.Path.{sym}
-use denote.Ref.{now}
+use Rattle.constraint.proofs.Library.{needs, List·getD-eq-default, sym, now}
 use Rattle.number.proofs.byte_at.Statement.{statement}
 use Rattle.number.proofs.byte_at.Tie as tie
 

@@ -1,10 +1,6 @@
 -- A mask of eight bits keeps the remainder by 256, which is the one byte that the definition names: it divides by 1.
-use Prim.Native.Nat.{ℕ}
-use mathlib.Core.Path.{ap, _∙_}
-use mathlib.Core.List.{[], _∷_}
+use Rattle.constraint.proofs.Library.{ℕ, ap, _∙_, [], _∷_, div-one, lt-of-le-of-lt, arith}
 use lib.Bits.{and-mask, and-le-r}
-use native.Mathlib.Nat.{div-one, lt-of-le-of-lt}
-use native.Mathlib.Omega.{arith}
 use Rattle.constraint.specs.Bytes.{bytesOf}
 use Rattle.number.proofs.low_byte.Statement.{statement}
 use Rattle.number.proofs.low_byte.Tie as tie

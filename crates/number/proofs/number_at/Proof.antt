@@ -1,7 +1,5 @@
 -- The loop reads byte after byte: the number read, behind which the bytes left stand, is the whole.
-use native.Mathlib.Omega.{arith}
-use Prim.Native.Nat.{ℕ, _+_, _-_, _≤_, _<_}
-use mathlib.Core.Path.{_≡_, refl, sym, ap, subst, _∙_}
+use Rattle.constraint.proofs.Library.{arith, ℕ, _+_, _-_, _≤_, _<_, _≡_, refl, sym, ap, subst, _∙_}
 use Rattle.number.proofs.Numbers.{Room, room-first, room-now, room-next, number-more, number-end}
 use Rattle.number.proofs.Shifts.{shifted-up}
 use Rattle.constraint.specs.Bytes.{numberBehind, numberAt, bytesAt}

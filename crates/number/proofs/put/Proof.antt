@@ -1,10 +1,5 @@
 -- The loop stores byte after byte: storing those left in what there is now gives the whole.
-use native.Mathlib.Omega.{arith}
-use Prim.Native.Nat.{ℕ, _-_, _≤_}
-use mathlib.Core.Path.{_≡_, refl, sym, ap, _∙_}
-use mathlib.Core.List.{List}
-use lib.ListN.{length, getD, drop, length-set, drop-of-length-le}
-use lib.Seq.{sets}
+use Rattle.constraint.proofs.Library.{arith, ℕ, _-_, _≤_, _≡_, refl, sym, ap, _∙_, List, length, getD, drop, length-set, drop-of-length-le, sets}
 use Rattle.number.proofs.Stores.{stores-past, stores-more}
 use Rattle.number.proofs.put.Statement.{statement}
 use Rattle.number.proofs.put.Tie as tie

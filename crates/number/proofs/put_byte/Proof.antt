@@ -1,8 +1,5 @@
 -- Past the end nothing is stored.
-use borrow.Author.Needs.{needs}
-use mathlib.Core.Path.{sym}
-use lib.Seq.{set-out}
-use denote.Ref.{now}
+use Rattle.constraint.proofs.Library.{needs, sym, set-out, now}
 use Rattle.number.proofs.put_byte.Statement.{statement}
 use Rattle.number.proofs.put_byte.Tie as tie
 

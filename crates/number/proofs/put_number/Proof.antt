@@ -1,9 +1,5 @@
 -- The loop stores byte after byte, each cut out by a shift: storing those left in what there is now gives the whole.
-use native.Mathlib.Omega.{arith}
-use Prim.Native.Nat.{ℕ, _≤_}
-use mathlib.Core.Path.{_≡_, refl, sym, ap, _∙_}
-use lib.ListN.{length, length-set}
-use lib.Seq.{sets}
+use Rattle.constraint.proofs.Library.{arith, ℕ, _≤_, _≡_, refl, sym, ap, _∙_, length, length-set, sets}
 use Rattle.constraint.specs.Bytes.{bytesOf}
 use Rattle.number.proofs.Stores.{stores-past}
 use Rattle.number.proofs.Shifts.{stores-shifted}

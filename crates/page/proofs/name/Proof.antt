@@ -1,12 +1,8 @@
 -- The names stand in the order of the types, each filled up to 24, so the one at the place of the type is its column.
-use Prim.Native.Nat.{ℕ, _<_}
-use mathlib.Core.Path.{_≡_, _∙_}
-use mathlib.Core.List.{List, map}
-use lib.ListN.{getD, List·getD-map, List·getD-eq-default}
+use Rattle.constraint.proofs.Library.{ℕ, _<_, _≡_, _∙_, List, map, getD, List·getD-map, List·getD-eq-default, needs}
 use Rattle.constraint.proofs.Lists.{getD-within}
 use Rattle.constraint.specs.Types.{unknownName, typeNames}
 use Rattle.constraint.specs.Page.{leftIn, nameOf}
-use borrow.Author.Needs.{needs}
 use Rattle.page.proofs.name.Statement.{statement}
 use Rattle.page.proofs.name.Tie as tie
 

@@ -1,12 +1,6 @@
 -- A heading is put before each sixteenth row and nowhere else.
-use Prim.Native.Nat.{_%_}
-use native.Mathlib.Nat.{add-zero}
-use mathlib.Core.Path.{_≡_}
-use mathlib.Core.Bool.{true, false}
-use lib.Dec.{eqb}
-use borrow.Author.Tests.{eq-eqb, ne-eqb}
+use Rattle.constraint.proofs.Library.{_%_, add-zero, _≡_, true, false, eqb, eq-eqb, ne-eqb, needs}
 use Rattle.constraint.specs.Page.{hyphens}
-use borrow.Author.Needs.{needs}
 use Rattle.page.proofs.put_heading.Statement.{statement}
 use Rattle.page.proofs.put_heading.Tie as tie
 

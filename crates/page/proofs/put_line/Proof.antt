@@ -1,12 +1,5 @@
 -- The columns are stored one behind the other.
-use Prim.Native.Nat.{ℕ, _<_}
-use native.Mathlib.Omega.{arith}
-use borrow.Author.Needs.{needs}
-use mathlib.Core.Path.{_≡_, ap, _∙_}
-use mathlib.Core.List.{List, _++_}
-use lib.ListN.{take, drop}
-use lib.Seq.{take-all}
-use denote.Ref.{now}
+use Rattle.constraint.proofs.Library.{ℕ, _<_, arith, needs, _≡_, ap, _∙_, List, _++_, take, drop, take-all, now}
 use Rattle.constraint.proofs.Judged.{free}
 use Rattle.page.proofs.Lines.{number, gap, name, word, step, end, at-gap, at-name, at-word, at-step, at-rest, last-columns, line-is, stored}
 use Rattle.page.proofs.put_line.Statement.{statement}

@@ -1,11 +1,5 @@
 -- After each turn the lines of the rows so far are stored, and the place is behind them.
-use borrow.Author.Needs.{needs}
-use Prim.Native.Nat.{ℕ, _+_, _-_, _*_, _/_, _≤_}
-use native.Mathlib.Omega.{arith}
-use mathlib.Core.Path.{_≡_, refl, ap, subst, _∙_}
-use lib.ListN.{length}
-use lib.Seq.{sets, length-sets}
-use denote.Ref.{now}
+use Rattle.constraint.proofs.Library.{needs, ℕ, _+_, _-_, _*_, _/_, _≤_, arith, _≡_, refl, ap, subst, _∙_, length, sets, length-sets, now}
 use Rattle.constraint.specs.Steps.{at}
 use Rattle.constraint.specs.Page.{pageLines}
 use Rattle.page.specs.Sheet.{verdictsOf}

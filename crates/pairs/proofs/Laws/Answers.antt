@@ -1,9 +1,5 @@
 -- Targets that answer waiting sources: each comes as early as it may, and is in time since the sources rise as fast as the targets have to.
-use Prim.Native.Nat.{ℕ, zero, suc, _+_, _≤_, _<_, max}
-use native.Mathlib.Omega.{arith}
-use mathlib.Core.Path.{_≡_, refl, ap}
-use mathlib.Core.List.{List, [], _∷_, _++_}
-use lib.ListN.{length}
+use Rattle.constraint.proofs.Library.{ℕ, zero, suc, _+_, _≤_, _<_, max, arith, _≡_, refl, ap, List, [], _∷_, _++_, length}
 use Rattle.constraint.specs.Steps.{at}
 use Rattle.constraint.specs.Meets.{Between}
 use Rattle.constraint.proofs.Lists.{Each, each-none, each-cons, Rising, rising-append}

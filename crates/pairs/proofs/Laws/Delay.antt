@@ -1,14 +1,8 @@
 -- Delay is exact: the times that it keeps are just the sources with no target in their interval; a target answers the oldest of them, and
 -- the oldest is the first that can no longer be answered.
-use Prim.Native.Nat.{ℕ, suc, _+_, _≤_, _<_}
-use native.Mathlib.Omega.{arith}
-use mathlib.Core.Path.{_≡_, refl, sym, ap, _∙_}
-use mathlib.Core.Bool.{Bool, true, false, cond, _&&_, _||_, or-true, true≢false, false≢true}
-use mathlib.Core.List.{List, [], _∷_, _++_, append-nil}
-use mathlib.Core.Logic.{inr, ⊎-elim}
-use lib.ListN.{length, drop}
-use lib.Dec.{leb, eqb}
-use borrow.Author.Tests.{leb-true, leb-false, le-leb, lt-leb, eqb-true, eq-eqb, ne-eqb}
+use Rattle.constraint.proofs.Library.{ℕ, suc, _+_, _≤_, _<_, arith, _≡_, refl, sym, ap, _∙_, Bool, true, false, cond, _&&_, _||_, or-true, true≢false}
+use Rattle.constraint.proofs.Library.{false≢true, List, [], _∷_, _++_, append-nil, inr, ⊎-elim, length, drop, leb, eqb, leb-true, leb-false, le-leb}
+use Rattle.constraint.proofs.Library.{lt-leb, eqb-true, eq-eqb, ne-eqb}
 use Rattle.constraint.specs.Limits.{lastTime, noLimit}
 use Rattle.constraint.specs.Steps.{Step, tick, at, times, clock, closed}
 use Rattle.constraint.specs.Meets.{Meets, MeetsDelay}

@@ -1,14 +1,7 @@
 -- Order is exact: as many sources as it counts are beyond the number of targets and may get theirs at any later time, and a target beyond the
 -- number of sources is the partner of a source at its own time only.
-use Prim.Native.Nat.{ℕ, _+_, _-_, _≤_, _<_}
-use native.Mathlib.Omega.{arith}
-use mathlib.Core.Path.{_≡_, refl, sym, ap, _∙_, subst}
-use mathlib.Core.Bool.{Bool, true, false, cond, _&&_, false≢true}
-use mathlib.Core.List.{List, [], _∷_, _++_}
-use mathlib.Core.Logic.{_⊎_, inl, inr}
-use lib.ListN.{length, length-append}
-use lib.Dec.{eqb}
-use borrow.Author.Tests.{eqb-true, eq-eqb, ne-eqb}
+use Rattle.constraint.proofs.Library.{ℕ, _+_, _-_, _≤_, _<_, arith, _≡_, refl, sym, ap, _∙_, subst, Bool, true, false, cond, _&&_, false≢true, List}
+use Rattle.constraint.proofs.Library.{[], _∷_, _++_, _⊎_, inl, inr, length, length-append, eqb, eqb-true, eq-eqb, ne-eqb}
 use Rattle.constraint.specs.Limits.{lastTime, noLimit}
 use Rattle.constraint.specs.Meets.{Meets, MeetsOrder}
 use Rattle.constraint.specs.Waiting.{waiting}

@@ -1,14 +1,7 @@
 -- Sources and targets paired by their places: while every pair fits, sources beyond the number of targets may still get theirs, and one
 -- target beyond the number of sources only at its own time.
-use Prim.Native.Nat.{ℕ, zero, suc, _+_, _-_, _≤_, _<_}
-use native.Mathlib.Omega.{arith}
-use mathlib.Core.Path.{_≡_, refl, sym, ap, _∙_, subst}
-use mathlib.Core.List.{List, [], _∷_, _++_, append-nil, append-assoc}
-use mathlib.Core.Logic.{_⊎_, inl, inr}
-use mathlib.Core.Bool.{cond}
-use lib.ListN.{length, length-append}
-use lib.Dec.{eqb}
-use borrow.Author.Tests.{ne-eqb}
+use Rattle.constraint.proofs.Library.{ℕ, zero, suc, _+_, _-_, _≤_, _<_, arith, _≡_, refl, sym, ap, _∙_, subst, List, [], _∷_, _++_, append-nil}
+use Rattle.constraint.proofs.Library.{append-assoc, _⊎_, inl, inr, cond, length, length-append, eqb, ne-eqb}
 use Rattle.constraint.specs.Steps.{at}
 use Rattle.constraint.specs.Meets.{Between}
 use Rattle.constraint.proofs.Lists.{at-next, Each, each-none, each-cons, each-right, Rising, rising-right, rising-across, rising-snoc}

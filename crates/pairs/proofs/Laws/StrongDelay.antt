@@ -1,14 +1,7 @@
 -- StrongDelay is exact: the times that it keeps are just the sources beyond the number of targets, each pair is tested when its second event
 -- comes, and the oldest source that waits is the first that can no longer get its target.
-use Prim.Native.Nat.{ℕ, _+_, _-_, _≤_, _<_}
-use native.Mathlib.Omega.{arith}
-use mathlib.Core.Path.{_≡_, refl, subst}
-use mathlib.Core.Bool.{Bool, true, false, cond, _&&_, false≢true}
-use mathlib.Core.List.{List, [], _∷_, _++_}
-use mathlib.Core.Logic.{_⊎_, inl, inr}
-use lib.ListN.{length}
-use lib.Dec.{leb, eqb}
-use borrow.Author.Tests.{leb-true, leb-false, eqb-true, eqb-false, eq-eqb, ne-eqb}
+use Rattle.constraint.proofs.Library.{ℕ, _+_, _-_, _≤_, _<_, arith, _≡_, refl, subst, Bool, true, false, cond, _&&_, false≢true, List, [], _∷_, _++_}
+use Rattle.constraint.proofs.Library.{_⊎_, inl, inr, length, leb, eqb, leb-true, leb-false, eqb-true, eqb-false, eq-eqb, ne-eqb}
 use Rattle.constraint.specs.Limits.{lastTime}
 use Rattle.constraint.specs.Steps.{at}
 use Rattle.constraint.specs.Meets.{Between, Meets, MeetsStrongDelay}

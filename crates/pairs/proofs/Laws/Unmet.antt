@@ -1,14 +1,7 @@
 -- The sources with no target in their interval, as a list: it is filtered source by source and target by target, and Delay is met just where
 -- it is empty.
-use Prim.Native.Nat.{ℕ, zero, suc, _+_, _≤_, _<_}
-use native.Mathlib.Omega.{arith}
-use mathlib.Core.Path.{_≡_, refl, sym, ap, _∙_}
-use mathlib.Core.Bool.{Bool, true, false, cond, _&&_, _||_, true≢false, false≢true}
-use mathlib.Core.List.{List, [], _∷_, _++_}
-use mathlib.Core.Logic.{_⊎_, inl, inr, ⊎-elim}
-use lib.ListN.{length}
-use lib.Dec.{leb, eqb}
-use borrow.Author.Tests.{leb-true, le-leb, eqb-true, eq-eqb}
+use Rattle.constraint.proofs.Library.{ℕ, zero, suc, _+_, _≤_, _<_, arith, _≡_, refl, sym, ap, _∙_, Bool, true, false, cond, _&&_, _||_, true≢false}
+use Rattle.constraint.proofs.Library.{false≢true, List, [], _∷_, _++_, _⊎_, inl, inr, ⊎-elim, length, leb, eqb, leb-true, le-leb, eqb-true, eq-eqb}
 use Rattle.constraint.specs.Limits.{noLimit}
 use Rattle.constraint.specs.Steps.{at}
 use Rattle.constraint.specs.Meets.{Apart, MeetsDelay}

@@ -1,11 +1,6 @@
 -- Continuations seen by the row's own events in order: further events of its kinds, at strictly rising times from the clock on, can all be taken,
 -- and the first one of every continuation is not before the clock.
-use Prim.Native.Nat.{ℕ, _+_, _≤_, _<_}
-use native.Mathlib.Omega.{arith}
-use mathlib.Core.Path.{_≡_, refl, ap, _∙_}
-use mathlib.Core.Bool.{true, false, cond}
-use mathlib.Core.List.{List, [], _∷_, _++_, append-assoc}
-use lib.Dec.{eqb}
+use Rattle.constraint.proofs.Library.{ℕ, _+_, _≤_, _<_, arith, _≡_, refl, ap, _∙_, true, false, cond, List, [], _∷_, _++_, append-assoc, eqb}
 use Rattle.constraint.specs.Limits.{streamCount}
 use Rattle.constraint.specs.Steps.{Step, event, among, own, clock, closed}
 use Rattle.constraint.specs.Continuation.{Continues, stop, more}

@@ -1,14 +1,7 @@
 -- ExecutionTime: the row keeps just what decides which further events end all right, the phase, how long the execution begun has run and the last
 -- time, and while some time is left to run the shortest way out is a stop, after a resume where it is preempted.
-use Prim.Native.Nat.{ℕ, _+_, _-_, _≤_, _<_, max}
-use native.Mathlib.Omega.{arith}
-use mathlib.Core.Path.{_≡_, refl, sym, ap, _∙_, subst}
-use mathlib.Core.Bool.{Bool, true, false, cond}
-use mathlib.Core.List.{List, [], _∷_, _++_, append-nil, append-assoc}
-use mathlib.Core.Logic.{_↔_, inl, inr}
-use lib.ListN.{length}
-use lib.Dec.{ltb, eqb}
-use borrow.Author.Tests.{eqb-true, eqb-false, ne-eqb, ltb-true, ltb-false}
+use Rattle.constraint.proofs.Library.{ℕ, _+_, _-_, _≤_, _<_, max, arith, _≡_, refl, sym, ap, _∙_, subst, Bool, true, false, cond, List, [], _∷_, _++_}
+use Rattle.constraint.proofs.Library.{append-nil, append-assoc, _↔_, inl, inr, length, ltb, eqb, eqb-true, eqb-false, ne-eqb, ltb-true, ltb-false}
 use Rattle.constraint.specs.Limits.{streamCount, lastTime, noLimit}
 use Rattle.constraint.specs.Steps.{Step, event, at, among, own, clock, closed}
 use Rattle.constraint.specs.Meets.{Meets}

@@ -1,11 +1,6 @@
 -- Executions seen event by event: which events may still come depends only on the phase, on how long the execution begun has run, and on the
 -- last time, so events are those of executions exactly when each is one that may come and none is missing at the end.
-use Prim.Native.Nat.{ℕ, _+_, _-_, _≤_}
-use native.Mathlib.Omega.{arith}
-use mathlib.Core.Path.{_≡_, refl, sym, ap, subst}
-use mathlib.Core.List.{List, [], _∷_}
-use mathlib.Core.Logic.{_⊎_, inl, inr}
-use mathlib.Core.Option.{Option, none, some}
+use Rattle.constraint.proofs.Library.{ℕ, _+_, _-_, _≤_, arith, _≡_, refl, sym, ap, subst, List, [], _∷_, _⊎_, inl, inr, Option, none, some}
 use Rattle.constraint.specs.Meets.{Executes, no-event, started, paused, stopped, MeetsExecutionTime}
 
 -- ---- times that rise strictly

@@ -1,12 +1,6 @@
 -- Hidden points: what one more event adds is its own point, behind the last.
-use Prim.Native.Nat.{ℕ, _+_, _<_}
-use native.Mathlib.Omega.{arith}
-use native.Mathlib.Decide.{decLt}
-use mathlib.Core.Path.{_≡_, refl, sym, subst, _∙_}
-use mathlib.Core.List.{List, [], _∷_, _++_}
-use mathlib.Core.Logic.{by-cases}
-use lib.ListN.{length, take, length-append, length-take}
-use lib.Seq.{getD-take}
+use Rattle.constraint.proofs.Library.{ℕ, _+_, _<_, arith, decLt, _≡_, refl, sym, subst, _∙_, List, [], _∷_, _++_, by-cases, length, take}
+use Rattle.constraint.proofs.Library.{length-append, length-take, getD-take}
 use Rattle.constraint.specs.Steps.{at}
 use Rattle.constraint.specs.Meets.{Between, Apart, HiddenPoints}
 use Rattle.constraint.proofs.Lists.{at-left, at-next}

@@ -1,16 +1,8 @@
 -- Sporadic: the places where the last hidden point can be are the numbers from low to high, since each place of the next point has a place of
 -- the last one before it, so the machine's test tells whether an event has a point; and the latest place allows the latest clock.
-use Prim.Native.Nat.{ℕ, _+_, _-_, _≤_, _<_, min}
-use native.Mathlib.Omega.{arith}
-use native.Mathlib.Decide.{decLt}
-use mathlib.Core.Path.{_≡_, refl, sym, ap, subst, _∙_}
-use mathlib.Core.Bool.{Bool, cond}
-use mathlib.Core.List.{List, [], _∷_, _++_}
-use mathlib.Core.Logic.{_⊎_, inl, inr, _↔_, ⊎-elim, by-cases}
-use lib.ListN.{length, take, length-append, length-take}
-use lib.Seq.{getD-take}
-use lib.Dec.{eqb}
-use borrow.Author.Tests.{eqb-true, eqb-false, ne-eqb}
+use Rattle.constraint.proofs.Library.{ℕ, _+_, _-_, _≤_, _<_, min, arith, decLt, _≡_, refl, sym, ap, subst, _∙_, Bool, cond, List, [], _∷_, _++_, _⊎_}
+use Rattle.constraint.proofs.Library.{inl, inr, _↔_, ⊎-elim, by-cases, length, take, length-append, length-take, getD-take, eqb, eqb-true, eqb-false}
+use Rattle.constraint.proofs.Library.{ne-eqb}
 use Rattle.constraint.specs.Limits.{lastTime, noLimit}
 use Rattle.constraint.specs.Steps.{Step, at, times, clock}
 use Rattle.constraint.specs.Meets.{Meets, Between, SpansApart, HiddenPoints, LastNotLater, MeetsSporadic, AtLeastApart}

@@ -1,6 +1,5 @@
 -- The tests are those of `ownRefusal`, in its order.
-use borrow.Author.Needs.{needs}
-use borrow.Author.Tests.{lt-ltb, le-ltb}
+use Rattle.constraint.proofs.Library.{needs, lt-ltb, le-ltb}
 use Rattle.questions.proofs.coloured_refusal.Statement.{statement}
 use Rattle.questions.proofs.coloured_refusal.Tie as tie
 

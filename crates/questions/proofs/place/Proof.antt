@@ -1,6 +1,5 @@
 -- A stream is its own place.
-use borrow.Author.Needs.{needs}
-use borrow.Author.Tests.{lt-ltb, le-ltb}
+use Rattle.constraint.proofs.Library.{needs, lt-ltb, le-ltb}
 use Rattle.questions.proofs.place.Statement.{statement}
 use Rattle.questions.proofs.place.Tie as tie
 

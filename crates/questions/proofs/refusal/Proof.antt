@@ -1,6 +1,5 @@
 -- The close and the count are asked for first, then what is the call's own.
-use borrow.Author.Needs.{needs}
-use borrow.Author.Tests.{lt-ltb, le-ltb, le-leb, lt-leb}
+use Rattle.constraint.proofs.Library.{needs, lt-ltb, le-ltb, le-leb, lt-leb}
 use Rattle.questions.proofs.refusal.Statement.{statement}
 use Rattle.questions.proofs.refusal.Tie as tie
 

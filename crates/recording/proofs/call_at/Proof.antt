@@ -1,9 +1,5 @@
 -- What is read from the part that starts at the length field is the record of the whole at that place.
-use native.Mathlib.Omega.{arith}
-use borrow.Author.Needs.{needs}
-use Prim.Native.Nat.{_+_, _≤_}
-use lib.ListN.{length}
-use denote.Ref.{now}
+use Rattle.constraint.proofs.Library.{arith, needs, _+_, _≤_, length, now}
 use Rattle.recording.specs.Record.{ReadsCall}
 use Rattle.recording.proofs.Records.{reads-none, reads-refused, reads-whole}
 use Rattle.recording.proofs.call_at.Statement.{statement}

@@ -1,9 +1,5 @@
 -- The length decides which call it is, and the time stands in the last eight bytes whatever it is.
-use native.Mathlib.Omega.{arith}
-use borrow.Author.Needs.{needs}
-use mathlib.Core.Path.{_≡_, refl}
-use lib.ListN.{length}
-use denote.Ref.{now}
+use Rattle.constraint.proofs.Library.{arith, needs, _≡_, refl, length, now}
 use Rattle.recording.proofs.call_of.Statement.{statement}
 use Rattle.recording.proofs.call_of.Tie as tie
 

@@ -1,8 +1,5 @@
 -- A byte is at most 255, so that what it counts for fits wherever one counts for 256 ^ 7 at most.
-use native.Mathlib.Omega.{arith}
-use borrow.Author.Needs.{needs}
-use mathlib.Core.Path.{refl}
-use denote.Ref.{now}
+use Rattle.constraint.proofs.Library.{arith, needs, refl, now}
 use Rattle.constraint.specs.Steps.{at}
 use Rattle.recording.proofs.Times.{digit-most}
 use Rattle.recording.proofs.digit.Statement.{statement}

@@ -1,9 +1,5 @@
 -- The bytes behind the length field are the record's body, whose call is the record's.
-use native.Mathlib.Omega.{arith}
-use borrow.Author.Needs.{needs}
-use Prim.Native.Nat.{_+_}
-use mathlib.Core.Path.{_≡_}
-use denote.Ref.{now}
+use Rattle.constraint.proofs.Library.{arith, needs, _+_, _≡_, now}
 use Rattle.constraint.specs.Table.{lengthAt}
 use Rattle.constraint.specs.Recording.{RecordAt}
 use Rattle.recording.proofs.Records.{record-none, record-whole, body-length}

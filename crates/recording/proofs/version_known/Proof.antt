@@ -1,13 +1,5 @@
 -- The byte read past the end is 0, so a first byte of 1 or 2 is there.
-use borrow.Author.Needs.{needs}
-use native.Mathlib.Omega.{arith}
-use Prim.Native.Nat.{ℕ, _≤_}
-use mathlib.Core.Path.{_≡_, _∙_, refl}
-use mathlib.Core.Bool.{Bool, true, false}
-use mathlib.Core.List.{List, [], _∷_}
-use lib.Dec.{eqb}
-use borrow.Author.Tests.{eqb-true, eqb-false, eq-eqb}
-use denote.Ref.{now}
+use Rattle.constraint.proofs.Library.{needs, arith, ℕ, _≤_, _≡_, _∙_, refl, Bool, true, false, List, [], _∷_, eqb, eqb-true, eqb-false, eq-eqb, now}
 use Rattle.constraint.specs.Steps.{at}
 use Rattle.constraint.specs.Records.{Decides}
 use Rattle.constraint.specs.Recording.{VersionKnown}

@@ -1,13 +1,7 @@
 -- Repetition with a span: the places of each chain taken singly tell whether there are points, once the highs of the first span are drawn in.
 -- Every list of points of more than span events lies in these places; and where each event has one, the greatest points of the chains rise.
-use Prim.Native.Nat.{ℕ, zero, suc, _+_, _-_, _≤_, _<_, min, max}
-use native.Mathlib.Nat.{add-zero}
-use native.Mathlib.Omega.{arith}
-use native.Mathlib.Decide.{decLt}
-use mathlib.Core.Path.{_≡_, refl, ap, subst, _∙_}
-use mathlib.Core.List.{List, [], _∷_, _++_}
-use mathlib.Core.Logic.{inr, ⊎-elim, by-cases}
-use lib.ListN.{length, length-append}
+use Rattle.constraint.proofs.Library.{ℕ, zero, suc, _+_, _-_, _≤_, _<_, min, max, add-zero, arith, decLt, _≡_, refl, ap, subst, _∙_, List, [], _∷_}
+use Rattle.constraint.proofs.Library.{_++_, inr, ⊎-elim, by-cases, length, length-append}
 use Rattle.constraint.specs.Limits.{lastTime}
 use Rattle.constraint.specs.Steps.{at}
 use Rattle.constraint.specs.Meets.{Between, Apart, HiddenPoints}

@@ -1,16 +1,8 @@
 -- Repetition as a row keeps it: of the places of all points it has those of the last span, the low and the high of each in turn. An event asks
 -- for those of the point span places before it, which are the oldest, so the two numbers that it puts in are its own places.
-use Prim.Native.Nat.{ℕ, _+_, _-_, _≤_, _<_, min, max}
-use native.Mathlib.Omega.{arith}
-use native.Mathlib.Decide.{decLt}
-use mathlib.Core.Path.{_≡_, refl, sym, ap, _∙_}
-use mathlib.Core.Bool.{Bool, true, false, cond}
-use mathlib.Core.List.{List, [], _∷_, _++_}
-use mathlib.Core.Logic.{by-cases}
-use lib.ListN.{length, drop, length-append, length-drop}
-use lib.Seq.{drop-nil, getD-drop, drop-drop, drop-append-le}
-use lib.Dec.{ltb}
-use borrow.Author.Tests.{ltb-true, ltb-false}
+use Rattle.constraint.proofs.Library.{ℕ, _+_, _-_, _≤_, _<_, min, max, arith, decLt, _≡_, refl, sym, ap, _∙_, Bool, true, false, cond, List, [], _∷_}
+use Rattle.constraint.proofs.Library.{_++_, by-cases, length, drop, length-append, length-drop, drop-nil, getD-drop, drop-drop, drop-append-le, ltb}
+use Rattle.constraint.proofs.Library.{ltb-true, ltb-false}
 use Rattle.constraint.specs.Limits.{lastTime}
 use Rattle.constraint.specs.Steps.{at}
 use Rattle.constraint.proofs.Lists.{split, at-left, at-next, Rising, rising-at}

@@ -1,14 +1,7 @@
 -- Repetition: what the row keeps tells the places of the next point, and where each event has one there are points. So the machine's test tells
 -- whether the events still have points, for every span by one argument.
-use Prim.Native.Nat.{ℕ, _≤_}
-use native.Mathlib.Omega.{arith}
-use mathlib.Core.Path.{_≡_, refl, ap}
-use mathlib.Core.Bool.{Bool, true, false, cond}
-use mathlib.Core.List.{List, [], _∷_, _++_}
-use mathlib.Core.Logic.{_↔_}
-use lib.ListN.{length, take}
-use lib.Dec.{ltb}
-use borrow.Author.Tests.{ltb-true, ltb-false}
+use Rattle.constraint.proofs.Library.{ℕ, _≤_, arith, _≡_, refl, ap, Bool, true, false, cond, List, [], _∷_, _++_, _↔_, length, take, ltb, ltb-true}
+use Rattle.constraint.proofs.Library.{ltb-false}
 use Rattle.constraint.specs.Limits.{lastTime, noLimit}
 use Rattle.constraint.specs.Meets.{Meets, MeetsRepetition}
 use Rattle.constraint.specs.Waiting.{waiting}

@@ -1,12 +1,6 @@
 -- Points within intervals: where the ends of the intervals rise, the greatest points of each chain taken singly rise too, since each is the
 -- smaller of its interval's end and the point span places later less lower.
-use Prim.Native.Nat.{ℕ, zero, suc, _+_, _-_, _≤_, _<_, min}
-use native.Mathlib.Omega.{arith}
-use native.Mathlib.Decide.{decLt}
-use mathlib.Core.Path.{_≡_, refl, ap}
-use mathlib.Core.List.{List, [], _∷_}
-use mathlib.Core.Logic.{by-cases}
-use lib.ListN.{length}
+use Rattle.constraint.proofs.Library.{ℕ, zero, suc, _+_, _-_, _≤_, _<_, min, arith, decLt, _≡_, refl, ap, List, [], _∷_, by-cases, length}
 use Rattle.constraint.specs.Steps.{at}
 use Rattle.constraint.specs.Meets.{Between}
 

@@ -1,10 +1,5 @@
 -- Half the length of the ring is the number of its points; the three cases are those of `placed`.
-use Prim.Native.Nat.{ℕ, _/_}
-use mathlib.Core.Path.{_≡_, refl, ap, _∙_}
-use mathlib.Core.List.{List, []}
-use mathlib.Core.Logic.{⊎-elim}
-use lib.ListN.{getD}
-use borrow.Author.Tests.{lt-ltb, le-ltb, le-leb, lt-leb}
+use Rattle.constraint.proofs.Library.{ℕ, _/_, _≡_, refl, ap, _∙_, List, [], ⊎-elim, getD, lt-ltb, le-ltb, le-leb, lt-leb, needs}
 use Rattle.queue.specs.Ring.{ring}
 use Rattle.queue.proofs.Laws.{ring-length}
 use Rattle.machine.specs.Parts.{front}
@@ -12,7 +7,6 @@ use Rattle.machine.specs.Words.{rowWords, numberWords, changedWords}
 use Rattle.machine.specs.declared.Rule.{Rule}
 use Rattle.machine.specs.declared.Marks.{Marks}
 use Rattle.repetition.specs.Repetition.{points, firstHigh, lowestPoint, highestPoint, placed, decideRepetition}
-use borrow.Author.Needs.{needs}
 use Rattle.repetition.proofs.apply.Statement.{statement}
 use Rattle.repetition.proofs.apply.Tie as tie
 

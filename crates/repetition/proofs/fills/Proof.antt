@@ -1,7 +1,6 @@
 -- The test is that of `fillsRepetition`.
-use mathlib.Core.Path.{refl}
+use Rattle.constraint.proofs.Library.{refl, needs}
 use Rattle.repetition.specs.Repetition.{fillsRepetition}
-use borrow.Author.Needs.{needs}
 use Rattle.repetition.proofs.fills.Statement.{statement}
 use Rattle.repetition.proofs.fills.Tie as tie
 

@@ -1,6 +1,5 @@
 -- The high of the oldest point is the second of the numbers, where there are two.
-use mathlib.Core.Path.{_∙_}
-use borrow.Author.Tests.{lt-ltb, le-ltb}
+use Rattle.constraint.proofs.Library.{_∙_, lt-ltb, le-ltb}
 use Rattle.queue.proofs.Laws.{ring-length, ring-read}
 use Rattle.queue.proofs.Shared.{free}
 use Rattle.repetition.proofs.first_high.Statement.{statement}

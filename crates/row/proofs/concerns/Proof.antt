@@ -1,7 +1,5 @@
 -- The tests are those of `concerns`, in its order.
-use mathlib.Core.Path.{_≡_, refl}
-use mathlib.Core.Bool.{Bool, true, false, _||_}
-use borrow.Author.Tests.{eq-eqb, ne-eqb}
+use Rattle.constraint.proofs.Library.{_≡_, refl, Bool, true, false, _||_, eq-eqb, ne-eqb}
 use Rattle.row.proofs.concerns.Statement.{statement}
 use Rattle.row.proofs.concerns.Tie as tie
 

@@ -1,7 +1,6 @@
 -- The tests are those of the definition, in their order.
-use borrow.Author.Tests.{lt-ltb, le-ltb}
+use Rattle.constraint.proofs.Library.{lt-ltb, le-ltb, needs}
 use Rattle.row.specs.Undo.{movesBy}
-use borrow.Author.Needs.{needs}
 use Rattle.row.proofs.moves.Statement.{statement}
 use Rattle.row.proofs.moves.Tie as tie
 

@@ -1,9 +1,5 @@
 -- Burst: the machine is that of a Repeat with no upper, and so are the laws; without an upper no clock is past its due time.
-use Prim.Native.Nat.{ℕ, _≤_}
-use native.Mathlib.Omega.{arith}
-use mathlib.Core.Path.{_≡_, refl}
-use mathlib.Core.List.{List}
-use mathlib.Core.Logic.{_↔_}
+use Rattle.constraint.proofs.Library.{ℕ, _≤_, arith, _≡_, refl, List, _↔_}
 use Rattle.constraint.specs.Limits.{lastTime, noLimit}
 use Rattle.constraint.specs.Meets.{Meets, MeetsBurst}
 use Rattle.constraint.specs.Waiting.{waiting}

@@ -1,17 +1,9 @@
 -- Repeat and Burst: an event adds one pair span places apart and one pair of neighbours, and the machine still has the earlier time of each,
 -- so its test tells whether the events still meet the row; the events without one span places after them are those whose times it has, and
 -- the oldest of them is the first that the clock leaves too far behind.
-use Prim.Native.Nat.{ℕ, _+_, _-_, _≤_, _<_}
-use native.Mathlib.Omega.{arith}
-use native.Mathlib.Decide.{decLt}
-use mathlib.Core.Path.{_≡_, refl, sym, ap, subst, _∙_}
-use mathlib.Core.Bool.{Bool, true, cond}
-use mathlib.Core.List.{List, [], _∷_, _++_}
-use mathlib.Core.Logic.{_↔_, inr, ⊎-elim, by-cases}
-use lib.ListN.{length, take, drop, length-append, length-drop, take-append-drop}
-use lib.Seq.{drop-nil, getD-drop, drop-drop, drop-append-le}
-use lib.Dec.{leb, ltb}
-use borrow.Author.Tests.{ltb-true, ltb-false}
+use Rattle.constraint.proofs.Library.{ℕ, _+_, _-_, _≤_, _<_, arith, decLt, _≡_, refl, sym, ap, subst, _∙_, Bool, true, cond, List, [], _∷_, _++_, _↔_}
+use Rattle.constraint.proofs.Library.{inr, ⊎-elim, by-cases, length, take, drop, length-append, length-drop, take-append-drop, drop-nil, getD-drop}
+use Rattle.constraint.proofs.Library.{drop-drop, drop-append-le, leb, ltb, ltb-true, ltb-false}
 use Rattle.constraint.specs.Limits.{lastTime, noLimit, spanLimit, waitingLimit}
 use Rattle.constraint.specs.Steps.{Step, at, times, clock}
 use Rattle.constraint.specs.Meets.{Meets, SpansApart, MeetsRepeat, AtLeastApart}

@@ -1,8 +1,5 @@
 -- The loop reads record after record: what is kept of the stamps is that of the steps read so far.
-use native.Mathlib.Omega.{arith}
-use Prim.Native.Nat.{_-_}
-use lib.ListN.{length}
-use denote.Ref.{now}
+use Rattle.constraint.proofs.Library.{arith, _-_, length, now}
 use Rattle.constraint.specs.Recording.{version-refused}
 use Rattle.constraint.proofs.Judged.{passed, failed}
 use Rattle.queue.proofs.Shared.{free}

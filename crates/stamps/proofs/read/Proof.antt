@@ -1,8 +1,5 @@
 -- Each answer is that of the first "no"; where there is none the pass has read what the row reads.
-use native.Mathlib.Omega.{arith}
-use borrow.Author.Needs.{needs}
-use mathlib.Core.Path.{_≡_}
-use denote.Ref.{now}
+use Rattle.constraint.proofs.Library.{arith, needs, _≡_, now}
 use Rattle.constraint.specs.Records.{rowsOf, tableOf}
 use Rattle.constraint.specs.Table.{ReadsTable, table-of, table-refused}
 use Rattle.constraint.specs.Stamps.{no-table}

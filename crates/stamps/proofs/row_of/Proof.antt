@@ -1,6 +1,5 @@
 -- The tests are on the row's numbers, which are those of its fields.
-use native.Mathlib.Omega.{arith}
-use borrow.Author.Needs.{needs}
+use Rattle.constraint.proofs.Library.{arith, needs}
 use Rattle.constraint.proofs.Records.{record-count}
 use Rattle.queue.proofs.Shared.{free}
 use Rattle.stamps.proofs.Rows.{finds-none, finds-other, finds-it}

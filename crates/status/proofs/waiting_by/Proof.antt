@@ -1,6 +1,5 @@
 -- The tests are those of `waitingBy`.
-use borrow.Author.Needs.{needs}
-use borrow.Author.Tests.{lt-ltb, le-ltb}
+use Rattle.constraint.proofs.Library.{needs, lt-ltb, le-ltb}
 use Rattle.status.proofs.waiting_by.Statement.{statement}
 use Rattle.status.proofs.waiting_by.Tie as tie
 

@@ -1,7 +1,5 @@
 -- A row that is there is tried, and any other number gives 15.
-use native.Mathlib.Omega.{arith}
-use denote.Ref.{now}
-use borrow.Author.Needs.{needs}
+use Rattle.constraint.proofs.Library.{arith, now, needs}
 use Rattle.constraint.proofs.Records.{record-count}
 use Rattle.monitor.proofs.Demand.{accepted-few}
 use Rattle.stretch.proofs.Answers.{asks-none, asks-row}

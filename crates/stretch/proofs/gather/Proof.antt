@@ -1,8 +1,5 @@
 -- The loop reads record after record and keeps what each is, as long as there is room.
-use native.Mathlib.Omega.{arith}
-use Prim.Native.Nat.{_-_}
-use lib.ListN.{length}
-use denote.Ref.{now}
+use Rattle.constraint.proofs.Library.{arith, _-_, length, now}
 use Rattle.queue.proofs.Shared.{free}
 use Rattle.stretch.proofs.Gathering.{GatheredTo, gather-start, gather-more, gather-refused, gather-end}
 use Rattle.constraint.specs.Recording.{version-refused}

@@ -1,7 +1,5 @@
 -- Two stores where there is room, none where there is not.
-use native.Mathlib.Omega.{arith}
-use mathlib.Core.Path.{refl}
-use borrow.Author.Needs.{needs}
+use Rattle.constraint.proofs.Library.{arith, refl, needs}
 use Rattle.stretch.proofs.keep.Statement.{statement}
 use Rattle.stretch.proofs.keep.Tie as tie
 

@@ -1,11 +1,6 @@
 -- The loop steps one row where it lies, from record to record: it ends where the row breaks, where a step crowds it, or behind the last record.
-use native.Mathlib.Omega.{arith}
-use Prim.Native.Nat.{ℕ, _-_, _≤_, _<_, _+_}
-use mathlib.Core.Path.{_≡_, sym, ap, subst, _∙_}
-use mathlib.Core.List.{List, []}
-use lib.ListN.{getD}
+use Rattle.constraint.proofs.Library.{arith, ℕ, _-_, _≤_, _<_, _+_, _≡_, sym, ap, subst, _∙_, List, [], getD, needs}
 use Rattle.queue.proofs.Shared.{free}
-use borrow.Author.Needs.{needs}
 use Rattle.machine.specs.Words.{rowWords, numberWords}
 use Rattle.row.specs.declared.Row.{Row}
 use Rattle.row.specs.Apart.{crowdedBy, steppedRow}

@@ -1,7 +1,5 @@
 -- Each start's number goes to its place.
-use native.Mathlib.Omega.{arith}
-use Prim.Native.Nat.{_-_}
-use mathlib.Core.Path.{refl}
+use Rattle.constraint.proofs.Library.{arith, _-_, refl}
 use Rattle.stretch.proofs.Runs.{NeedsTo, needs-start, needs-more}
 use Rattle.stretch.proofs.needs.Statement.{statement}
 use Rattle.stretch.proofs.needs.Tie as tie

@@ -1,8 +1,5 @@
 -- The loop goes through the stretches one by one and counts them, so its counter is the place.
-use native.Mathlib.Omega.{arith}
-use Prim.Native.Nat.{_+_, _-_, _*_, _<_}
-use denote.Ref.{now}
-use borrow.Author.Needs.{needs}
+use Rattle.constraint.proofs.Library.{arith, _+_, _-_, _*_, _<_, now, needs}
 use Rattle.stretch.proofs.Places.{Searching, search-start, search-found, search-on, search-longer, search-end}
 use Rattle.stretch.proofs.search.Statement.{statement}
 use Rattle.stretch.proofs.search.Tie as tie

@@ -1,8 +1,5 @@
 -- Each answer is that of the first "no": the table's, the recording's, 22, and then the row's.
-use native.Mathlib.Omega.{arith}
-use borrow.Author.Needs.{needs}
-use mathlib.Core.Path.{_≡_, refl}
-use denote.Ref.{now}
+use Rattle.constraint.proofs.Library.{arith, needs, _≡_, refl, now}
 use Rattle.constraint.specs.Records.{rowsOf, tableOf}
 use Rattle.constraint.specs.Table.{ReadsTable, table-of, table-refused}
 use Rattle.queue.proofs.Shared.{free}

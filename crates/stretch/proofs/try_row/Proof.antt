@@ -1,8 +1,5 @@
 -- The first stretch that is as long as its start needs is the first that breaks the row.
-use native.Mathlib.Omega.{arith}
-use mathlib.Core.Path.{refl}
-use denote.Ref.{now}
-use borrow.Author.Needs.{needs}
+use Rattle.constraint.proofs.Library.{arith, refl, now, needs}
 use Rattle.stretch.proofs.Answers.{tries-first, tries-none}
 use Rattle.stretch.proofs.try_row.Statement.{statement}
 use Rattle.stretch.proofs.try_row.Tie as tie

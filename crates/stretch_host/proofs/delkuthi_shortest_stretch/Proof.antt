@@ -1,9 +1,5 @@
 -- The number is that of the stretch, or that of the refusal, which is above 0, and its place.
-use native.Mathlib.Omega.{arith}
-use borrow.Author.Needs.{needs}
-use Prim.Native.Nat.{ℕ, _<_}
-use mathlib.Core.Path.{_≡_, refl}
-use denote.Ref.{now}
+use Rattle.constraint.proofs.Library.{arith, needs, ℕ, _<_, _≡_, refl, now}
 use Rattle.constraint.proofs.Judged.{never}
 use Rattle.queue.proofs.Shared.{free}
 use Rattle.constraint.specs.Stretches.{AnswersStretch}

@@ -1,7 +1,5 @@
 -- The version byte is asked for first, and then the rows.
-use borrow.Author.Needs.{needs}
-use mathlib.Core.Path.{sym, _∙_}
-use denote.Ref.{now}
+use Rattle.constraint.proofs.Library.{needs, sym, _∙_, now}
 use Rattle.constraint.specs.Table.{VersionOne, version-refused, version-taken}
 use Rattle.table.proofs.Places.{version-one}
 use Rattle.table.proofs.read.Statement.{statement}

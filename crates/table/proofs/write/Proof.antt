@@ -1,9 +1,5 @@
 -- The rows' questions are put first, then the room's; then the version byte and the rows are stored.
-use native.Mathlib.Omega.{arith}
-use borrow.Author.Needs.{needs}
-use Prim.Native.Nat.{_≤_}
-use mathlib.Core.List.{[]}
-use denote.Ref.{now}
+use Rattle.constraint.proofs.Library.{arith, needs, _≤_, [], now}
 use Rattle.constraint.specs.Limits.{rowLimit}
 use Rattle.constraint.specs.Questions.{Judged}
 use Rattle.constraint.specs.Accepted.{rowsQuestions}

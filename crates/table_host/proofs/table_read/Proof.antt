@@ -1,7 +1,5 @@
 -- The code is that of the reader's answer.
-use borrow.Author.Needs.{needs}
-use mathlib.Core.Path.{sym}
-use denote.Ref.{now}
+use Rattle.constraint.proofs.Library.{needs, sym, now}
 use Rattle.constraint.proofs.Rows.{rows-length}
 use Rattle.table.proofs.Answers.{reads-as}
 use Rattle.table_host.proofs.table_read.Statement.{statement}

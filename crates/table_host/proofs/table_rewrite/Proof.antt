@@ -1,6 +1,5 @@
 -- The rows that are written are those that were read.
-use borrow.Author.Needs.{needs}
-use denote.Ref.{now}
+use Rattle.constraint.proofs.Library.{needs, now}
 use Rattle.table.proofs.Answers.{reads-as}
 use Rattle.table_host.specs.Codes.{not-read, rewritten}
 use Rattle.table_host.proofs.table_rewrite.Statement.{statement}

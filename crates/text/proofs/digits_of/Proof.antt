@@ -1,10 +1,6 @@
 -- The loop takes off the last digit: those of what is left, and those stored, are those of the number. What is not yet stored is blank.
-use native.Mathlib.Omega.{arith}
-use Prim.Native.Nat.{ℕ, _+_, _-_, _%_, _^_, _≤_, _<_}
-use mathlib.Core.List.{_++_, append-nil}
-use mathlib.Core.Path.{_≡_, refl, sym, _∙_}
-use lib.ListN.{length, set, drop, length-set, getD-replicate}
-use lib.Seq.{getD-set-other}
+use Rattle.constraint.proofs.Library.{arith, ℕ, _+_, _-_, _%_, _^_, _≤_, _<_, _++_, append-nil, _≡_, refl, sym, _∙_, length, set, drop, length-set}
+use Rattle.constraint.proofs.Library.{getD-replicate, getD-set-other}
 use Rattle.constraint.specs.Steps.{at}
 use Rattle.constraint.specs.Report.{digits, decimal, blank}
 use Rattle.text.proofs.Decimals.{digits-more, digits-one, digits-room, drop-stored, aligned-right}

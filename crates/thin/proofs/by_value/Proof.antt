@@ -1,9 +1,5 @@
 -- The step by value keeps its contract, and its number says its answer: no refusal has the number 0.
-use Prim.Native.Nat.{ℕ, zero, suc}
-use native.Mathlib.Omega.{arith}
-use mathlib.Core.Path.{_≡_, refl, sym, _∙_, ap, subst}
-use mathlib.Core.Bool.{Bool, true, false, cond}
-use borrow.Author.Needs.{needs}
+use Rattle.constraint.proofs.Library.{ℕ, zero, suc, arith, _≡_, refl, sym, _∙_, ap, subst, Bool, true, false, cond, needs}
 use Rattle.constraint.specs.Run.{asks}
 use Rattle.constraint.specs.declared.Answer.{Answer}
 use Rattle.constraint.specs.declared.Answer.the-variants.{Taken, Refused}

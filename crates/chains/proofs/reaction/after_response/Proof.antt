@@ -1,6 +1,5 @@
 -- The tests are those of `afterResponse`, in its order.
-use borrow.Author.Needs.{needs}
-use borrow.Author.Tests.{eq-eqb, ne-eqb, lt-ltb, le-ltb}
+use Rattle.constraint.proofs.Library.{needs, eq-eqb, ne-eqb, lt-ltb, le-ltb}
 use Rattle.chains.proofs.reaction.after_response.Statement.{statement}
 use Rattle.chains.proofs.reaction.after_response.Tie as tie
 

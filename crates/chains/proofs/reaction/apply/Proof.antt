@@ -1,16 +1,10 @@
 -- The words of the event's colour are those of the definition, and so is what the event makes of them.
-use Prim.Native.Nat.{_+_, _*_, _%_}
-use mathlib.Core.Path.{_≡_, refl, ap, _∙_}
-use mathlib.Core.Bool.{cond}
-use lib.Dec.{eqb}
-use lib.ListN.{getD}
-use borrow.Author.Tests.{eq-eqb, ne-eqb}
+use Rattle.constraint.proofs.Library.{_+_, _*_, _%_, _≡_, refl, ap, _∙_, cond, eqb, getD, eq-eqb, ne-eqb, needs}
 use Rattle.constraint.specs.Streams.{kindOf}
 use Rattle.queue.specs.Ring.{ring}
 use Rattle.machine.specs.Words.{rowWords, numberWords, changedWords, noneKept}
 use Rattle.chains.specs.Reaction.{afterStimulus, afterResponse, paired, decideReaction}
 use Rattle.chains.specs.declared.reaction.Pair.{Pair}
-use borrow.Author.Needs.{needs}
 use Rattle.chains.proofs.reaction.apply.Statement.{statement}
 use Rattle.chains.proofs.reaction.apply.Tie as tie
 

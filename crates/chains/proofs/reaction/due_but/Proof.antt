@@ -1,8 +1,5 @@
 -- The loop goes from colour to colour: the due time so far is that of those passed.
-use native.Mathlib.Omega.{arith}
-use Prim.Native.Nat.{_-_, _≤_}
-use native.Mathlib.Numerals.{add-one}
-use mathlib.Core.Path.{_≡_, refl}
+use Rattle.constraint.proofs.Library.{arith, _-_, _≤_, add-one, _≡_, refl}
 use Rattle.queue.specs.Ring.{ring}
 use Rattle.chains.specs.Reaction.{dueBut}
 use Rattle.chains.proofs.reaction.due_but.Statement.{statement}

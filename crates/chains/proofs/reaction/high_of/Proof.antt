@@ -1,6 +1,5 @@
 -- The test is that of `highBut`.
-use borrow.Author.Needs.{needs}
-use borrow.Author.Tests.{eq-eqb, ne-eqb}
+use Rattle.constraint.proofs.Library.{needs, eq-eqb, ne-eqb}
 use Rattle.chains.proofs.reaction.high_of.Statement.{statement}
 use Rattle.chains.proofs.reaction.high_of.Tie as tie
 

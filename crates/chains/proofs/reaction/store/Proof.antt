@@ -1,9 +1,6 @@
 -- A pair that breaks the row, or one that is stored with the due time that it leaves.
-use mathlib.Core.Path.{refl, ap}
-use mathlib.Core.List.{[]}
-use lib.ListN.{getD}
+use Rattle.constraint.proofs.Library.{refl, ap, [], getD, needs}
 use Rattle.machine.specs.Words.{rowWords, numberWords, changedWords}
-use borrow.Author.Needs.{needs}
 use Rattle.chains.proofs.reaction.store.Statement.{statement}
 use Rattle.chains.proofs.reaction.store.Tie as tie
 

@@ -1,11 +1,5 @@
 -- A place within the row is that of the ring, and past its end there is none.
-use borrow.Author.Needs.{needs}
-use native.Mathlib.Omega.{arith}
-use mathlib.Core.Path.{_≡_, refl, sym, _∙_}
-use Prim.Native.Nat.{ℕ, zero, suc, _≤_}
-use mathlib.Core.List.{List, [], _∷_}
-use lib.ListN.{length, getD}
-use denote.Ref.{now}
+use Rattle.constraint.proofs.Library.{needs, arith, _≡_, refl, sym, _∙_, ℕ, zero, suc, _≤_, List, [], _∷_, length, getD, now}
 use Rattle.queue.specs.Ring.{ring}
 use Rattle.queue.proofs.Laws.{ring-length, ring-read}
 use Rattle.chains.proofs.reaction.word.Statement.{statement}

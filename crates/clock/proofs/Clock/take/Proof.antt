@@ -1,7 +1,5 @@
 -- The number is that of the first "no"; where there is none the clock, the count, the first free time and the mark are those after the call.
-use native.Mathlib.Omega.{arith}
-use borrow.Author.Needs.{needs}
-use mathlib.Core.Path.{_≡_}
+use Rattle.constraint.proofs.Library.{arith, needs, _≡_}
 use Rattle.questions.proofs.Places.{place-small}
 use Rattle.clock.proofs.Laws.{refusalOf, takes-refused, takes-taken}
 use Rattle.clock.proofs.Clock.take.Statement.{statement}

@@ -1,6 +1,5 @@
 -- No monitor has more than 32 rows, at which their number is cut.
-use borrow.Author.Needs.{needs}
-use denote.Ref.{now}
+use Rattle.constraint.proofs.Library.{needs, now}
 use Rattle.delkuthi.proofs.Lying.{len-read}
 use Rattle.delkuthi.proofs.Numbers.{rows-kept}
 use Rattle.delkuthi.proofs.host.delkuthi_rows.Statement.{statement}

@@ -1,8 +1,5 @@
 -- The verdict is made of numbers that are read off their places.
-use borrow.Author.Needs.{needs}
-use mathlib.Core.Path.{_∙_}
-use native.Mathlib.Omega.{arith}
-use denote.Ref.{now}
+use Rattle.constraint.proofs.Library.{needs, _∙_, arith, now}
 use Rattle.monitor.specs.Machine.{noRow}
 use Rattle.monitor.proofs.RowVerdicts.{verdict-kept}
 use Rattle.delkuthi.proofs.Lying.{rows-there, placed, verdict-read}

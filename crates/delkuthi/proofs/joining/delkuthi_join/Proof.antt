@@ -1,8 +1,5 @@
 -- The number is that of the length, or that of the refusal, which is from 1 to 127, and its place.
-use native.Mathlib.Omega.{arith}
-use borrow.Author.Needs.{needs}
-use mathlib.Core.Path.{_≡_, refl}
-use denote.Ref.{now}
+use Rattle.constraint.proofs.Library.{arith, needs, _≡_, refl, now}
 use Rattle.constraint.specs.Joined.{AnswersJoin}
 use Rattle.constraint.specs.declared.JoinAnswer.{JoinAnswer}
 use Rattle.queue.proofs.Shared.{free}

@@ -1,6 +1,5 @@
 -- What is written is the page of the monitor's summary.
-use borrow.Author.Needs.{needs}
-use denote.Ref.{now}
+use Rattle.constraint.proofs.Library.{needs, now}
 use Rattle.delkuthi.proofs.Lying.{rows-there}
 use Rattle.delkuthi.proofs.Printing.{page-kept}
 use Rattle.delkuthi.proofs.printed.delkuthi_page.Statement.{statement}

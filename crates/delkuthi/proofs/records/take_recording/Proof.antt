@@ -1,10 +1,5 @@
 -- What holds of the monitor before a record holds of the monitor after it one record further, and behind the last comes the close.
-use native.Mathlib.Omega.{arith}
-use borrow.Author.Needs.{needs}
-use Prim.Native.Nat.{_-_}
-use mathlib.Core.Path.{ap}
-use lib.ListN.{length}
-use denote.Ref.{now}
+use Rattle.constraint.proofs.Library.{arith, needs, _-_, ap, length, now}
 use Rattle.constraint.proofs.Judged.{passed, failed}
 use Rattle.monitor.specs.declared.Monitor.{Monitor}
 use Rattle.recording.specs.declared.CallRead.{CallRead}

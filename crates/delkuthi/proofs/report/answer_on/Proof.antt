@@ -1,10 +1,7 @@
 -- A table that is accepted has begun the monitor, and the recording is put to it; one that is refused has left all as it was.
-use mathlib.Core.List.{[]}
-use native.Mathlib.Omega.{arith}
-use denote.Ref.{now}
+use Rattle.constraint.proofs.Library.{[], arith, now, needs}
 use Rattle.monitor.specs.Contract.{after}
 use Rattle.delkuthi.proofs.Telling.{begun-over, left-used, left-unused}
-use borrow.Author.Needs.{needs}
 use Rattle.delkuthi.proofs.report.answer_on.Statement.{statement}
 use Rattle.delkuthi.proofs.report.answer_on.Tie as tie
 

@@ -1,7 +1,6 @@
 -- A mask of eight bits keeps the remainder by 256, and a shift by eight divides by 256: that is how the number was made.
 use lib.Bits.{and-mask, and-le-r}
-use native.Mathlib.Nat.{lt-of-le-of-lt}
-use native.Mathlib.Omega.{arith}
+use Rattle.constraint.proofs.Library.{lt-of-le-of-lt, arith}
 use Rattle.delkuthi.proofs.report.refusal_of.Statement.{statement}
 use Rattle.delkuthi.proofs.report.refusal_of.Tie as tie
 

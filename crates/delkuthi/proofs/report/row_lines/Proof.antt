@@ -1,12 +1,6 @@
 -- Line after line: putting the lines of the rows that are left behind what there is now gives the whole.
-use native.Mathlib.Omega.{arith}
-use borrow.Author.Needs.{needs}
-use Prim.Native.Nat.{_-_, _≤_, _<_}
-use mathlib.Core.Path.{_≡_, refl, _∙_}
-use mathlib.Core.List.{map}
-use lib.ListN.{length, take, drop, length-take, drop-of-length-le}
-use lib.Seq.{getD-take}
-use denote.Ref.{now}
+use Rattle.constraint.proofs.Library.{arith, needs, _-_, _≤_, _<_, _≡_, refl, _∙_, map, length, take, drop, length-take, drop-of-length-le, getD-take}
+use Rattle.constraint.proofs.Library.{now}
 use Rattle.constraint.specs.Report.{rowLines}
 use Rattle.text.specs.Content.{extended}
 use Rattle.page.specs.Sheet.{verdictFor}

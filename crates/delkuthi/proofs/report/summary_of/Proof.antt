@@ -1,14 +1,9 @@
 -- Row after row: before the turn of number i the types and steps are those of the first i rows of the monitor that lies there.
-use Prim.Native.Nat.{_-_, _≤_, _<_}
-use mathlib.Core.Path.{_≡_, refl}
-use mathlib.Core.List.{map}
-use native.Mathlib.Omega.{arith}
-use denote.Ref.{now}
+use Rattle.constraint.proofs.Library.{_-_, _≤_, _<_, _≡_, refl, map, arith, now, needs}
 use Rattle.monitor.specs.declared.Monitor.{Monitor}
 use Rattle.lent.specs.Contract.{Holds}
 use Rattle.delkuthi.proofs.Lying.{rows-there, len-read, closed-read, count-read, form-read, broken-read}
 use Rattle.delkuthi.proofs.Summaries.{front, front-next, front-all}
-use borrow.Author.Needs.{needs}
 use Rattle.delkuthi.proofs.report.summary_of.Statement.{statement}
 use Rattle.delkuthi.proofs.report.summary_of.Tie as tie
 

@@ -1,9 +1,5 @@
 -- The number is that of the word, or that of the refusal, which is above 0, and its place.
-use native.Mathlib.Omega.{arith}
-use borrow.Author.Needs.{needs}
-use Prim.Native.Nat.{ℕ, _<_}
-use mathlib.Core.Path.{_≡_}
-use denote.Ref.{now}
+use Rattle.constraint.proofs.Library.{arith, needs, ℕ, _<_, _≡_, now}
 use Rattle.constraint.specs.Stamps.{AnswersStamps}
 use Rattle.constraint.specs.declared.StampedAnswer.{StampedAnswer}
 use Rattle.constraint.proofs.Judged.{never}

@@ -1,7 +1,5 @@
 -- A table that is written is so short that 256 times its length is a number of 64 bits; the number of a refusal says its row.
-use native.Mathlib.Omega.{arith}
-use borrow.Author.Needs.{needs}
-use denote.Ref.{now}
+use Rattle.constraint.proofs.Library.{arith, needs, now}
 use Rattle.delkuthi.proofs.Refusals.{raw-short, makes-written, makes-refused}
 use Rattle.delkuthi.proofs.tables.delkuthi_table.Statement.{statement}
 use Rattle.delkuthi.proofs.tables.delkuthi_table.Tie as tie

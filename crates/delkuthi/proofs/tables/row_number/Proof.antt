@@ -1,6 +1,5 @@
 -- The test is that of `tableNumber`.
-use borrow.Author.Needs.{needs}
-use borrow.Author.Tests.{eq-eqb, ne-eqb}
+use Rattle.constraint.proofs.Library.{needs, eq-eqb, ne-eqb}
 use Rattle.delkuthi.proofs.tables.row_number.Statement.{statement}
 use Rattle.delkuthi.proofs.tables.row_number.Tie as tie
 

@@ -1,13 +1,8 @@
 -- The length is the number of groups begun, and the tests are those of the machine; what is counted goes beside what waits.
-use mathlib.Core.Path.{refl, ap, _∙_}
-use mathlib.Core.List.{[]}
-use lib.Dec.{ltb}
-use lib.ListN.{getD, set}
-use borrow.Author.Tests.{not-true, not-false}
+use Rattle.constraint.proofs.Library.{refl, ap, _∙_, [], ltb, getD, set, not-true, not-false, needs}
 use Rattle.queue.proofs.Laws.{ring-length}
 use Rattle.machine.specs.Words.{rowWords, numberWords, changedWords, pastWith, countsKept}
 use Rattle.groups.specs.StrongSynchronization.{decideStrongSynchronization}
-use borrow.Author.Needs.{needs}
 use Rattle.groups.proofs.strong_synchronization.apply.Statement.{statement}
 use Rattle.groups.proofs.strong_synchronization.apply.Tie as tie
 

@@ -1,6 +1,5 @@
 -- The tests are those of `complete`, in its order, of the counts with one more.
-use mathlib.Core.Path.{refl}
-use borrow.Author.Needs.{needs}
+use Rattle.constraint.proofs.Library.{refl, needs}
 use Rattle.groups.proofs.strong_synchronization.completes.Statement.{statement}
 use Rattle.groups.proofs.strong_synchronization.completes.Tie as tie
 

@@ -1,16 +1,10 @@
 -- Each count is counted by itself, and stored at its place where it changes.
-use Prim.Native.Nat.{ℕ}
-use mathlib.Core.Path.{_≡_, refl, _∙_}
-use mathlib.Core.List.{List}
-use mathlib.Core.Logic.{⊎-elim}
-use denote.Ref.{now}
-use borrow.Author.Tests.{eq-eqb, ne-eqb}
+use Rattle.constraint.proofs.Library.{ℕ, _≡_, refl, _∙_, List, ⊎-elim, now, eq-eqb, ne-eqb, needs}
 use Rattle.machine.specs.Words.{Past, numberWords, withMarks}
 use Rattle.machine.specs.declared.Rule.{Rule}
 use Rattle.machine.specs.declared.State.{State}
 use Rattle.machine.proofs.parts.plus.Reads as plus
 use Rattle.groups.specs.StrongSynchronization.{withCounts, oneMore}
-use borrow.Author.Needs.{needs}
 use Rattle.groups.proofs.strong_synchronization.count.Statement.{statement}
 use Rattle.groups.proofs.strong_synchronization.count.Reads as reads
 use Rattle.groups.proofs.strong_synchronization.count.Lts as lts

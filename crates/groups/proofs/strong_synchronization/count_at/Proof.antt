@@ -1,6 +1,5 @@
 -- The tests are those of `countOf`, in its order.
-use borrow.Author.Tests.{eq-eqb, ne-eqb}
-use borrow.Author.Needs.{needs}
+use Rattle.constraint.proofs.Library.{eq-eqb, ne-eqb, needs}
 use Rattle.groups.proofs.strong_synchronization.count_at.Statement.{statement}
 use Rattle.groups.proofs.strong_synchronization.count_at.Tie as tie
 

@@ -1,7 +1,6 @@
 -- The tests are those of `fillsStrongSynchronization`, in its order.
-use borrow.Author.Tests.{lt-ltb, le-ltb}
+use Rattle.constraint.proofs.Library.{lt-ltb, le-ltb, needs}
 use Rattle.groups.specs.StrongSynchronization.{fillsStrongSynchronization}
-use borrow.Author.Needs.{needs}
 use Rattle.groups.proofs.strong_synchronization.fills.Statement.{statement}
 use Rattle.groups.proofs.strong_synchronization.fills.Tie as tie
 

@@ -1,7 +1,6 @@
 -- Each count is one less, and is stored at its place.
-use mathlib.Core.Path.{refl}
+use Rattle.constraint.proofs.Library.{refl, needs}
 use Rattle.machine.specs.Words.{numberWords}
-use borrow.Author.Needs.{needs}
 use Rattle.groups.proofs.strong_synchronization.forget.Statement.{statement}
 use Rattle.groups.proofs.strong_synchronization.forget.Tie as tie
 

@@ -1,6 +1,5 @@
 -- It is asked of the count with one more.
-use mathlib.Core.Path.{refl}
-use borrow.Author.Needs.{needs}
+use Rattle.constraint.proofs.Library.{refl, needs}
 use Rattle.groups.proofs.strong_synchronization.gets.Statement.{statement}
 use Rattle.groups.proofs.strong_synchronization.gets.Tie as tie
 

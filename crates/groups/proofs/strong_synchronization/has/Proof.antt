@@ -1,6 +1,5 @@
 -- The two tests are those of `has`.
-use borrow.Author.Needs.{needs}
-use borrow.Author.Tests.{eq-eqb, ne-eqb}
+use Rattle.constraint.proofs.Library.{needs, eq-eqb, ne-eqb}
 use Rattle.groups.proofs.strong_synchronization.has.Statement.{statement}
 use Rattle.groups.proofs.strong_synchronization.has.Tie as tie
 

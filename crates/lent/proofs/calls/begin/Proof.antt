@@ -1,12 +1,6 @@
 -- The soonest due time that is stored says whether a row may be overdue.
-use Prim.Native.Nat.{ℕ}
-use mathlib.Core.Path.{_≡_, sym, ap, _∙_}
-use mathlib.Core.Bool.{true, false}
-use lib.Dec.{ltb}
-use denote.Ref.{now}
-use borrow.Author.Tests.{lt-ltb, le-ltb}
+use Rattle.constraint.proofs.Library.{ℕ, _≡_, sym, ap, _∙_, true, false, ltb, now, lt-ltb, le-ltb, needs}
 use Rattle.lent.proofs.Parts.{number-at}
-use borrow.Author.Needs.{needs}
 use Rattle.lent.proofs.calls.begin.Statement.{statement}
 use Rattle.lent.proofs.calls.begin.Tie as tie
 

@@ -1,15 +1,11 @@
 -- The questions are put first; then the numbers are counted on, and the close goes to every row.
-use Prim.Native.Nat.{ℕ}
-use mathlib.Core.Path.{refl, ap, _∙_}
-use native.Mathlib.Omega.{arith}
-use denote.Ref.{now}
+use Rattle.constraint.proofs.Library.{ℕ, refl, ap, _∙_, arith, now, needs}
 use Rattle.constraint.specs.declared.Call.{Call}
 use Rattle.row.specs.Machine.{closeAt}
 use Rattle.lent.specs.Layout.{wordsOf, heldRows}
 use Rattle.lent.specs.Steps.{countedTo, ended, nextNumber}
 use Rattle.lent.proofs.Parts.{number-at, shaped-to, shaped-ended}
 use Rattle.lent.proofs.Asked.{first-number, own-number, refused-stores, taken-stores}
-use borrow.Author.Needs.{needs}
 use Rattle.lent.proofs.calls.close.Statement.{statement}
 use Rattle.lent.proofs.calls.close.Tie as tie
 

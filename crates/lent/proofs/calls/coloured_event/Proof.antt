@@ -1,12 +1,8 @@
 -- The questions are put first; the stream of one that is answered is its kind’s and colour’s.
-use Prim.Native.Nat.{ℕ}
-use mathlib.Core.Path.{subst}
-use native.Mathlib.Omega.{arith}
-use denote.Ref.{now}
+use Rattle.constraint.proofs.Library.{ℕ, subst, arith, now, needs}
 use Rattle.constraint.specs.declared.Call.{Call}
 use Rattle.lent.specs.Steps.{OnStream}
 use Rattle.lent.proofs.Asked.{refused-stores, taken-stores}
-use borrow.Author.Needs.{needs}
 use Rattle.lent.proofs.calls.coloured_event.Statement.{statement}
 use Rattle.lent.proofs.calls.coloured_event.Tie as tie
 

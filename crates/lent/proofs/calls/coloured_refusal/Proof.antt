@@ -1,17 +1,11 @@
 -- The questions are put in their order, and the first "no" gives the number.
-use Prim.Native.Nat.{ℕ}
-use mathlib.Core.Path.{refl, ap, ap₂, _∙_}
-use native.Mathlib.Omega.{arith}
-use denote.Ref.{now}
-use borrow.Author.Tests.{lt-ltb, le-ltb}
-use lib.ListN.{getD}
+use Rattle.constraint.proofs.Library.{ℕ, refl, ap, ap₂, _∙_, arith, now, lt-ltb, le-ltb, getD, needs}
 use Rattle.constraint.specs.Limits.{lastKind, firstColoured, lastColour, streamCount}
 use Rattle.questions.specs.Questions.{timeRefusal}
 use Rattle.constraint.specs.declared.Call.{Call}
 use Rattle.lent.proofs.Parts.{number-at}
 use Rattle.lent.proofs.Asked.{first-number, own-number}
 use Rattle.constraint.specs.Streams.{stream}
-use borrow.Author.Needs.{needs}
 use Rattle.lent.proofs.calls.coloured_refusal.Statement.{statement}
 use Rattle.lent.proofs.calls.coloured_refusal.Tie as tie
 

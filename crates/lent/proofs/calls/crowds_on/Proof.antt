@@ -1,15 +1,9 @@
 -- While there is room nothing is looked at; else the rows are asked, and where none is crowded the mark for room is set.
-use Prim.Native.Nat.{ℕ}
-use mathlib.Core.Path.{_≡_, refl, sym, ap, _∙_}
-use mathlib.Core.Bool.{true, false}
-use lib.Dec.{ltb}
-use denote.Ref.{now}
-use borrow.Author.Tests.{lt-ltb, le-ltb}
+use Rattle.constraint.proofs.Library.{ℕ, _≡_, refl, sym, ap, _∙_, true, false, ltb, now, lt-ltb, le-ltb, needs}
 use Rattle.constraint.proofs.Lists.{both}
 use Rattle.lent.specs.Layout.{Lent, wordsOf, Shaped}
 use Rattle.lent.specs.Steps.{withRoom}
 use Rattle.lent.proofs.Parts.{number-at}
-use borrow.Author.Needs.{needs}
 use Rattle.lent.proofs.calls.crowds_on.Statement.{statement}
 use Rattle.lent.proofs.calls.crowds_on.Tie as tie
 

@@ -1,9 +1,7 @@
 -- The questions are put first; the kind of one that is answered has rows of its own.
-use native.Mathlib.Omega.{arith}
-use denote.Ref.{now}
+use Rattle.constraint.proofs.Library.{arith, now, needs}
 use Rattle.constraint.specs.declared.Call.{Call}
 use Rattle.lent.proofs.Asked.{refused-stores, taken-stores}
-use borrow.Author.Needs.{needs}
 use Rattle.lent.proofs.calls.event.Statement.{statement}
 use Rattle.lent.proofs.calls.event.Tie as tie
 

@@ -1,15 +1,9 @@
 -- Where the soonest due time is past, the rows that are overdue end; else it is stored.
-use Prim.Native.Nat.{ℕ}
-use mathlib.Core.Path.{_≡_, sym, ap, ap₂, _∙_}
-use mathlib.Core.Bool.{true, false}
-use lib.Dec.{ltb}
-use denote.Ref.{now}
-use borrow.Author.Tests.{lt-ltb, le-ltb}
+use Rattle.constraint.proofs.Library.{ℕ, _≡_, sym, ap, ap₂, _∙_, true, false, ltb, now, lt-ltb, le-ltb, needs}
 use Rattle.row.specs.Machine.{tickAt}
 use Rattle.lent.specs.Layout.{wordsOf, heldRows}
 use Rattle.lent.specs.Steps.{withSoonest, ended, soonestAll, soonestOf}
 use Rattle.lent.proofs.Parts.{number-at, shaped-ended}
-use borrow.Author.Needs.{needs}
 use Rattle.lent.proofs.calls.pass.Statement.{statement}
 use Rattle.lent.proofs.calls.pass.Tie as tie
 

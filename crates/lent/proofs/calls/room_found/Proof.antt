@@ -1,14 +1,8 @@
 -- At every 32nd step it is what the fullest row leaves.
-use Prim.Native.Nat.{ℕ, _-_, _%_, min}
-use mathlib.Core.Path.{_≡_, refl, sym, ap, _∙_}
-use mathlib.Core.Bool.{true, false}
-use lib.Dec.{eqb}
-use denote.Ref.{now}
-use borrow.Author.Tests.{eq-eqb, ne-eqb}
+use Rattle.constraint.proofs.Library.{ℕ, _-_, _%_, min, _≡_, refl, sym, ap, _∙_, true, false, eqb, now, eq-eqb, ne-eqb, needs}
 use Rattle.constraint.specs.Limits.{waitingLimit}
 use Rattle.lent.specs.Steps.{fullest}
 use Rattle.lent.proofs.Parts.{number-at}
-use borrow.Author.Needs.{needs}
 use Rattle.lent.proofs.calls.room_found.Statement.{statement}
 use Rattle.lent.proofs.calls.room_found.Tie as tie
 

@@ -1,12 +1,9 @@
 -- The questions are put first; then the numbers are counted on, and the clock goes to the rows.
-use mathlib.Core.Path.{refl}
-use native.Mathlib.Omega.{arith}
-use denote.Ref.{now}
+use Rattle.constraint.proofs.Library.{refl, arith, now, needs}
 use Rattle.constraint.specs.declared.Call.{Call}
 use Rattle.lent.specs.Steps.{countedTo}
 use Rattle.lent.proofs.Parts.{shaped-to}
 use Rattle.lent.proofs.Asked.{refused-stores, taken-stores}
-use borrow.Author.Needs.{needs}
 use Rattle.lent.proofs.calls.tick.Statement.{statement}
 use Rattle.lent.proofs.calls.tick.Tie as tie
 

@@ -1,14 +1,9 @@
 -- The questions are put in their order, and the first "no" gives the number.
-use Prim.Native.Nat.{_<_, _≤_}
-use mathlib.Core.Path.{refl}
-use native.Mathlib.Omega.{arith}
-use denote.Ref.{now}
-use borrow.Author.Tests.{lt-ltb, le-ltb, le-leb, lt-leb}
+use Rattle.constraint.proofs.Library.{_<_, _≤_, refl, arith, now, lt-ltb, le-ltb, le-leb, lt-leb, needs}
 use Rattle.constraint.specs.Limits.{lastTime}
 use Rattle.constraint.specs.declared.Call.{Call}
 use Rattle.lent.proofs.Parts.{number-at}
 use Rattle.lent.proofs.Asked.{first-number, own-number}
-use borrow.Author.Needs.{needs}
 use Rattle.lent.proofs.calls.tick_refusal.Statement.{statement}
 use Rattle.lent.proofs.calls.tick_refusal.Tie as tie
 

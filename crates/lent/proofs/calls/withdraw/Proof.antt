@@ -1,20 +1,12 @@
 -- Where a step may be withdrawn, each row and then each number is put back.
-use Prim.Native.Nat.{ℕ, zero, suc, _<_}
-use mathlib.Core.Path.{_≡_, refl, sym, ap, ap₂, _∙_}
-use native.Mathlib.Omega.{arith}
-use mathlib.Core.List.{List, []}
-use mathlib.Core.Bool.{cond}
-use lib.ListN.{getD, set, take}
-use lib.Dec.{ltb}
-use denote.Ref.{now}
-use borrow.Author.Tests.{lt-ltb, le-ltb, ltb-true}
+use Rattle.constraint.proofs.Library.{ℕ, zero, suc, _<_, _≡_, refl, sym, ap, ap₂, _∙_, arith, List, [], cond, getD, set, take, ltb, now, lt-ltb}
+use Rattle.constraint.proofs.Library.{le-ltb, ltb-true, needs}
 use Rattle.constraint.specs.Limits.{streamCount}
 use Rattle.constraint.proofs.Lists.{split}
 use Rattle.questions.specs.Questions.{placeIn}
 use Rattle.lent.specs.Layout.{Words, wordsOf, heldRows}
 use Rattle.lent.specs.Steps.{withMonitor, withSoonest, withNext, backed, backRows, uncountedMonitor}
 use Rattle.lent.proofs.Parts.{numbers-read, number-at, block-written, shaped-backed, shaped-next}
-use borrow.Author.Needs.{needs}
 use Rattle.lent.proofs.calls.withdraw.Statement.{statement}
 use Rattle.lent.proofs.calls.withdraw.Tie as tie
 

@@ -1,13 +1,9 @@
 -- The words are cleared, the two numbers are stored that are not 0, and then the rows.
-use Prim.Native.Nat.{ℕ}
-use mathlib.Core.Path.{_≡_, refl, ap, subst, _∙_}
-use mathlib.Core.List.{[]}
-use lib.ListN.{length, replicate}
+use Rattle.constraint.proofs.Library.{ℕ, _≡_, refl, ap, subst, _∙_, [], length, replicate, needs}
 use Rattle.monitor.specs.Contract.{after}
 use Rattle.lent.specs.Layout.{Words}
 use Rattle.lent.specs.Fresh.{noWords, RowsPut}
 use Rattle.lent.proofs.Freshness.{numbered, begun-words}
-use borrow.Author.Needs.{needs}
 use Rattle.lent.proofs.fresh.begin.Statement.{statement}
 use Rattle.lent.proofs.fresh.begin.Tie as tie
 

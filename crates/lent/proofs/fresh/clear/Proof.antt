@@ -1,11 +1,6 @@
 -- Block after block: before the turn of number i the first i are cleared.
-use Prim.Native.Nat.{ℕ, _-_, _≤_}
-use native.Mathlib.Omega.{arith}
-use native.Mathlib.Numerals.{add-one}
-use mathlib.Core.Path.{_≡_, refl, sym, ap, _∙_}
-use mathlib.Core.List.{[], _∷_, _++_}
-use lib.ListN.{length, set, take, replicate, length-set, replicate-append-replicate}
-use lib.Seq.{take-all, take-suc-set}
+use Rattle.constraint.proofs.Library.{ℕ, _-_, _≤_, arith, add-one, _≡_, refl, sym, ap, _∙_, [], _∷_, _++_, length, set, take, replicate, length-set}
+use Rattle.constraint.proofs.Library.{replicate-append-replicate, take-all, take-suc-set}
 use Rattle.lent.specs.Layout.{Words}
 use Rattle.lent.specs.Fresh.{noWords}
 use Rattle.lent.proofs.fresh.clear.Statement.{statement}

@@ -1,9 +1,5 @@
 -- Kind after kind: before the turn of a kind the rows of those before it are entered, and their ends are stored.
-use Prim.Native.Nat.{ℕ, suc, _-_, _*_, _≤_}
-use native.Mathlib.Omega.{arith}
-use native.Mathlib.Numerals.{add-one}
-use mathlib.Core.Path.{_≡_, sym, ap, subst, _∙_}
-use mathlib.Core.List.{List, []}
+use Rattle.constraint.proofs.Library.{ℕ, suc, _-_, _*_, _≤_, arith, add-one, _≡_, sym, ap, subst, _∙_, List, []}
 use Rattle.lent.specs.Layout.{Lent, wordsOf, Shaped}
 use Rattle.lent.specs.Fresh.{listedTo, endsTo, padded, withLists, ListsLie}
 use Rattle.lent.proofs.Lists.{shaped-lists}

@@ -1,10 +1,5 @@
 -- Row after row: before the turn of number i those of the first i are entered that the kind concerns.
-use Prim.Native.Nat.{ℕ, _+_, _-_, _≤_}
-use native.Mathlib.Omega.{arith}
-use native.Mathlib.Numerals.{add-one}
-use mathlib.Core.Path.{_≡_, sym, ap, subst, _∙_}
-use mathlib.Core.Bool.{cond}
-use mathlib.Core.List.{List, [], _∷_, _++_, append-nil, append-assoc}
+use Rattle.constraint.proofs.Library.{ℕ, _+_, _-_, _≤_, arith, add-one, _≡_, sym, ap, subst, _∙_, cond, List, [], _∷_, _++_, append-nil, append-assoc}
 use Rattle.lent.specs.Layout.{Lent, Shaped}
 use Rattle.lent.specs.Contract.{numbers, isOf}
 use Rattle.lent.specs.Fresh.{ListsLie}

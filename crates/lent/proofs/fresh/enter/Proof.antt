@@ -1,15 +1,9 @@
 -- An entry at the place behind the others makes the entries one longer.
-use Prim.Native.Nat.{ℕ, _+_}
-use native.Mathlib.Omega.{arith}
-use mathlib.Core.Path.{sym, ap, subst, _∙_}
-use mathlib.Core.Bool.{Bool, cond}
-use mathlib.Core.List.{List, [], _∷_, _++_, append-nil}
-use lib.ListN.{set, length-append}
+use Rattle.constraint.proofs.Library.{ℕ, _+_, arith, sym, ap, subst, _∙_, Bool, cond, List, [], _∷_, _++_, append-nil, set, length-append, needs}
 use Rattle.lent.specs.Layout.{wordsOf}
 use Rattle.lent.specs.Fresh.{padded, withLists, ListsLie}
 use Rattle.lent.proofs.Padding.{padded-next}
 use Rattle.lent.proofs.Lists.{shaped-lists}
-use borrow.Author.Needs.{needs}
 use Rattle.lent.proofs.fresh.enter.Statement.{statement}
 use Rattle.lent.proofs.fresh.enter.Tie as tie
 

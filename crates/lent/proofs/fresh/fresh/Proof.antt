@@ -1,15 +1,10 @@
 -- The bytes are judged before anything is stored; where they are accepted, every word is stored, those of the lists last.
-use Prim.Native.Nat.{ℕ}
-use native.Mathlib.Omega.{arith}
-use mathlib.Core.Path.{_≡_, sym, ap, subst, subst₂, _∙_}
-use mathlib.Core.List.{List, []}
-use denote.Ref.{now}
+use Rattle.constraint.proofs.Library.{ℕ, arith, _≡_, sym, ap, subst, subst₂, _∙_, List, [], now, needs}
 use Rattle.constraint.specs.declared.Constraint.{Constraint}
 use Rattle.monitor.specs.Contract.{after}
 use Rattle.lent.specs.Layout.{Words, wordsOf}
 use Rattle.lent.specs.Fresh.{listedTo, endsTo, padded, withLists, freshLent, Begins, begun, refused}
 use Rattle.lent.proofs.Freshness.{fresh-shaped, fresh-indexes}
-use borrow.Author.Needs.{needs}
 use Rattle.lent.proofs.fresh.fresh.Statement.{statement}
 use Rattle.lent.proofs.fresh.fresh.Tie as tie
 

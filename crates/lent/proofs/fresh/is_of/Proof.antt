@@ -1,9 +1,5 @@
 -- The row's numbers are read off its words, and asked.
-use Prim.Native.Nat.{ℕ}
-use mathlib.Core.Path.{_≡_, refl, ap, _∙_}
-use mathlib.Core.List.{List, []}
-use lib.ListN.{getD}
-use denote.Ref.{now}
+use Rattle.constraint.proofs.Library.{ℕ, _≡_, refl, ap, _∙_, List, [], getD, now, needs}
 use Rattle.machine.specs.Words.{rowWords, numberWords, ruleAt}
 use Rattle.machine.specs.declared.Rule.{Rule}
 use Rattle.row.specs.Machine.{concerns}
@@ -12,7 +8,6 @@ use Rattle.row.specs.declared.Before.{Before}
 use Rattle.row.specs.declared.Row.{Row}
 use Rattle.lent.specs.Layout.{rowAt, keptAt}
 use Rattle.lent.proofs.Blocks.{row-lies}
-use borrow.Author.Needs.{needs}
 use Rattle.lent.proofs.fresh.is_of.Statement.{statement}
 use Rattle.lent.proofs.fresh.is_of.Tie as tie
 

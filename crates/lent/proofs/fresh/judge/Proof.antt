@@ -1,9 +1,5 @@
 -- The answer is numbered; a refusal's place is small enough for the number to hold it.
-use native.Mathlib.Omega.{arith}
-use borrow.Author.Needs.{needs}
-use Prim.Native.Nat.{_≤_, _<_}
-use mathlib.Core.Path.{refl}
-use denote.Ref.{now}
+use Rattle.constraint.proofs.Library.{arith, needs, _≤_, _<_, refl, now}
 use Rattle.constraint.specs.Table.{ReadsTable, table-refused}
 use Rattle.lent.proofs.Refusals.{refused-small}
 use Rattle.lent.proofs.fresh.judge.Statement.{statement}

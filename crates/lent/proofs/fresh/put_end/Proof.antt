@@ -1,9 +1,6 @@
 -- The end is stored at the kind's place.
-use mathlib.Core.Path.{ap, _∙_}
-use mathlib.Core.List.{[]}
-use lib.ListN.{getD, set}
+use Rattle.constraint.proofs.Library.{ap, _∙_, [], getD, set, needs}
 use Rattle.lent.proofs.Lists.{end-written}
-use borrow.Author.Needs.{needs}
 use Rattle.lent.proofs.fresh.put_end.Statement.{statement}
 use Rattle.lent.proofs.fresh.put_end.Tie as tie
 

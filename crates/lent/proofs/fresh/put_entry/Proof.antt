@@ -1,14 +1,9 @@
 -- The entry is stored at its place, in the one half or the other; there is no place 128.
-use Prim.Native.Nat.{ℕ, _/_, _%_}
-use native.Mathlib.Omega.{arith}
-use mathlib.Core.Path.{sym, ap, _∙_}
-use mathlib.Core.List.{List, []}
-use lib.ListN.{getD, set}
+use Rattle.constraint.proofs.Library.{ℕ, _/_, _%_, arith, sym, ap, _∙_, List, [], getD, set, needs}
 use Rattle.lent.specs.Layout.{wordsOf}
 use Rattle.lent.specs.Fresh.{withLists}
 use Rattle.lent.proofs.Padding.{set-past}
 use Rattle.lent.proofs.Lists.{entry-written}
-use borrow.Author.Needs.{needs}
 use Rattle.lent.proofs.fresh.put_entry.Statement.{statement}
 use Rattle.lent.proofs.fresh.put_entry.Tie as tie
 

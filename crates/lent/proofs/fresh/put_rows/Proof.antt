@@ -1,9 +1,5 @@
 -- Row after row: before the turn of number i the first i are stored, and the others are read from the place on that the turn has.
-use Prim.Native.Nat.{ℕ, _-_, _≤_}
-use native.Mathlib.Omega.{arith}
-use mathlib.Core.Path.{_≡_, sym, ap, ap₂, subst, _∙_}
-use mathlib.Core.List.{List, []}
-use lib.ListN.{length, drop}
+use Rattle.constraint.proofs.Library.{ℕ, _-_, _≤_, arith, _≡_, sym, ap, ap₂, subst, _∙_, List, [], length, drop}
 use Rattle.constraint.specs.Table.{ReadsRows, ReadsTable, table-of}
 use Rattle.constraint.specs.declared.Constraint.{Constraint}
 use Rattle.table.proofs.Scanning.{scan-start}

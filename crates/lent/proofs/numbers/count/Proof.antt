@@ -1,6 +1,5 @@
 -- Each number is stored at its place; the first free times behind them stay.
-use mathlib.Core.Path.{refl}
-use borrow.Author.Needs.{needs}
+use Rattle.constraint.proofs.Library.{refl, needs}
 use Rattle.lent.proofs.numbers.count.Statement.{statement}
 use Rattle.lent.proofs.numbers.count.Tie as tie
 

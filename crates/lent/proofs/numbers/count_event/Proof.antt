@@ -1,13 +1,9 @@
 -- The first free time of the stream is stored, and then the numbers are counted on.
-use Prim.Native.Nat.{ℕ}
-use mathlib.Core.Path.{refl, sym, ap, ap₂, _∙_}
-use mathlib.Core.List.{List, [], _∷_}
-use lib.ListN.{getD, set, take}
+use Rattle.constraint.proofs.Library.{ℕ, refl, sym, ap, ap₂, _∙_, List, [], _∷_, getD, set, take, needs}
 use Rattle.machine.specs.Parts.{plus}
 use Rattle.lent.specs.Layout.{Words, wordsOf, numberArray}
 use Rattle.lent.specs.Steps.{withMonitor, withNext, countedMonitor}
 use Rattle.lent.proofs.Parts.{numbers-read, block-written, shaped-next}
-use borrow.Author.Needs.{needs}
 use Rattle.lent.proofs.numbers.count_event.Statement.{statement}
 use Rattle.lent.proofs.numbers.count_event.Tie as tie
 

@@ -1,12 +1,8 @@
 -- The numbers are counted on, with the first free time of stream 0 as it is.
-use Prim.Native.Nat.{ℕ}
-use mathlib.Core.Path.{refl, ap, ap₂, _∙_}
-use mathlib.Core.List.{List, [], _∷_}
-use lib.ListN.{getD, set, take}
+use Rattle.constraint.proofs.Library.{ℕ, refl, ap, ap₂, _∙_, List, [], _∷_, getD, set, take, needs}
 use Rattle.lent.specs.Layout.{Words, wordsOf, numberArray}
 use Rattle.lent.specs.Steps.{countedMonitor, countedTo}
 use Rattle.lent.proofs.Parts.{numbers-read, block-written}
-use borrow.Author.Needs.{needs}
 use Rattle.lent.proofs.numbers.count_tick.Statement.{statement}
 use Rattle.lent.proofs.numbers.count_tick.Tie as tie
 

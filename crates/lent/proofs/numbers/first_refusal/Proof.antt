@@ -1,13 +1,8 @@
 -- A word of 0 says closed, and the count stands beside it.
-use Prim.Native.Nat.{ℕ, zero, suc, _-_, _≤_, _<_}
-use mathlib.Core.Path.{_≡_, refl, sym, ap, _∙_}
-use native.Mathlib.Omega.{arith}
-use mathlib.Core.List.{List, []}
-use lib.ListN.{getD}
+use Rattle.constraint.proofs.Library.{ℕ, zero, suc, _-_, _≤_, _<_, _≡_, refl, sym, ap, _∙_, arith, List, [], getD, lt-ltb, le-ltb, le-leb, lt-leb}
+use Rattle.constraint.proofs.Library.{needs}
 use Rattle.constraint.specs.Limits.{lastCount}
-use borrow.Author.Tests.{lt-ltb, le-ltb, le-leb, lt-leb}
 use Rattle.lent.proofs.Parts.{numbers-read}
-use borrow.Author.Needs.{needs}
 use Rattle.lent.proofs.numbers.first_refusal.Statement.{statement}
 use Rattle.lent.proofs.numbers.first_refusal.Tie as tie
 

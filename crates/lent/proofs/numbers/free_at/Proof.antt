@@ -1,11 +1,6 @@
 -- The first 48 streams stand behind the numbers, the others in a block of their own.
-use Prim.Native.Nat.{ℕ, _+_, _-_, _<_, _/_, _%_}
-use mathlib.Core.Path.{_≡_, ap, _∙_}
-use native.Mathlib.Omega.{arith}
-use mathlib.Core.List.{[]}
-use lib.ListN.{getD}
+use Rattle.constraint.proofs.Library.{ℕ, _+_, _-_, _<_, _/_, _%_, _≡_, ap, _∙_, arith, [], getD, needs}
 use Rattle.lent.proofs.Parts.{plain-free, coloured-free}
-use borrow.Author.Needs.{needs}
 use Rattle.lent.proofs.numbers.free_at.Statement.{statement}
 use Rattle.lent.proofs.numbers.free_at.Tie as tie
 

@@ -1,13 +1,8 @@
 -- A store at the stream’s place is a store in the list of first free times.
-use Prim.Native.Nat.{ℕ, _+_, _-_, _<_, _/_, _%_}
-use mathlib.Core.Path.{_≡_, ap, _∙_}
-use native.Mathlib.Omega.{arith}
-use mathlib.Core.List.{[]}
-use lib.ListN.{getD, set}
+use Rattle.constraint.proofs.Library.{ℕ, _+_, _-_, _<_, _/_, _%_, _≡_, ap, _∙_, arith, [], getD, set, needs}
 use Rattle.lent.specs.Layout.{wordsOf}
 use Rattle.lent.specs.Steps.{withNext}
 use Rattle.lent.proofs.Parts.{plain-written, coloured-written}
-use borrow.Author.Needs.{needs}
 use Rattle.lent.proofs.numbers.put_free.Statement.{statement}
 use Rattle.lent.proofs.numbers.put_free.Tie as tie
 

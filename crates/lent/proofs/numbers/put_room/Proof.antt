@@ -1,9 +1,6 @@
 -- The number is stored at its place.
-use mathlib.Core.Path.{ap, _∙_}
-use mathlib.Core.List.{[]}
-use lib.ListN.{getD, set}
+use Rattle.constraint.proofs.Library.{ap, _∙_, [], getD, set, needs}
 use Rattle.lent.proofs.Parts.{room-written}
-use borrow.Author.Needs.{needs}
 use Rattle.lent.proofs.numbers.put_room.Statement.{statement}
 use Rattle.lent.proofs.numbers.put_room.Tie as tie
 

@@ -1,12 +1,8 @@
 -- The word for "open" is stored as 0.
-use Prim.Native.Nat.{ℕ}
-use mathlib.Core.Path.{refl, ap, _∙_}
-use mathlib.Core.List.{List, []}
-use lib.ListN.{getD, set}
+use Rattle.constraint.proofs.Library.{ℕ, refl, ap, _∙_, List, [], getD, set, needs}
 use Rattle.lent.specs.Layout.{Words, wordsOf}
 use Rattle.lent.specs.Steps.{withClosed}
 use Rattle.lent.proofs.Parts.{numbers-read, block-written}
-use borrow.Author.Needs.{needs}
 use Rattle.lent.proofs.numbers.shut.Statement.{statement}
 use Rattle.lent.proofs.numbers.shut.Tie as tie
 

@@ -1,6 +1,5 @@
 -- Each number is read before the first is stored, and stands again where it stood.
-use mathlib.Core.Path.{refl}
-use borrow.Author.Needs.{needs}
+use Rattle.constraint.proofs.Library.{refl, needs}
 use Rattle.lent.proofs.numbers.uncount.Statement.{statement}
 use Rattle.lent.proofs.numbers.uncount.Tie as tie
 

@@ -1,8 +1,5 @@
 -- Row after row: before the turn of number i the first i are without the step.
-use Prim.Native.Nat.{ℕ, _-_, _≤_, _<_}
-use mathlib.Core.Path.{_≡_, sym, ap, _∙_}
-use native.Mathlib.Omega.{arith}
-use native.Mathlib.Numerals.{add-one}
+use Rattle.constraint.proofs.Library.{ℕ, _-_, _≤_, _<_, _≡_, sym, ap, _∙_, arith, add-one}
 use Rattle.row.specs.Undo.{rowWithout, keptWithout}
 use Rattle.lent.specs.Layout.{Lent, wordsOf, Shaped, rowAt, keptAt}
 use Rattle.lent.specs.Steps.{backed}

@@ -1,14 +1,9 @@
 -- Entry after entry: before the turn of a place none of the rows of the entries before it is crowded, and the first that is ends the search.
-use Prim.Native.Nat.{ℕ, suc, _+_, _-_, _≤_}
-use mathlib.Core.Path.{_≡_, sym, ap, ap₂, _∙_}
-use native.Mathlib.Omega.{arith}
-use mathlib.Core.Bool.{Bool, false, _||_}
-use denote.Ref.{now}
+use Rattle.constraint.proofs.Library.{ℕ, suc, _+_, _-_, _≤_, _≡_, sym, ap, ap₂, _∙_, arith, Bool, false, _||_, now, needs}
 use Rattle.lent.specs.Layout.{Lent, wordsOf, Shaped, rowNamed, rowAt, keptAt}
 use Rattle.lent.specs.Steps.{crowdedAt, crowded}
 use Rattle.lent.proofs.Blocks.{row-lies}
 use Rattle.lent.proofs.Parts.{crowded-there}
-use borrow.Author.Needs.{needs}
 use Rattle.lent.proofs.rows.crowds.Statement.{statement}
 use Rattle.lent.proofs.rows.crowds.Tie as tie
 

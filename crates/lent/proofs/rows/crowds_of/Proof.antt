@@ -1,8 +1,6 @@
 -- The rows of a kind are those that its entries name.
-use Prim.Native.Nat.{_-_}
-use mathlib.Core.Path.{_∙_}
+use Rattle.constraint.proofs.Library.{_-_, _∙_, needs}
 use Rattle.lent.specs.Steps.{crowded}
-use borrow.Author.Needs.{needs}
 use Rattle.lent.proofs.rows.crowds_of.Statement.{statement}
 use Rattle.lent.proofs.rows.crowds_of.Tie as tie
 

@@ -1,9 +1,5 @@
 -- Row after row: before the turn of number i it is the number of the fullest of the first i.
-use Prim.Native.Nat.{_-_, _≤_, _<_}
-use mathlib.Core.Path.{_≡_, refl, sym, ap, ap₂, _∙_}
-use native.Mathlib.Omega.{arith}
-use native.Mathlib.Numerals.{add-one}
-use denote.Ref.{now}
+use Rattle.constraint.proofs.Library.{_-_, _≤_, _<_, _≡_, refl, sym, ap, ap₂, _∙_, arith, add-one, now}
 use Rattle.row.specs.Stored.{larger}
 use Rattle.lent.specs.Layout.{Lent, wordsOf, Shaped, rowAt, keptAt}
 use Rattle.lent.specs.Steps.{fullest}

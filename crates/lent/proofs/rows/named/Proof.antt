@@ -1,12 +1,6 @@
 -- An entry stands in one of two arrays.
-use Prim.Native.Nat.{ℕ, _+_, _-_, _%_}
-use mathlib.Core.Path.{_≡_, ap, _∙_}
-use mathlib.Core.List.{List, []}
-use lib.ListN.{getD}
-use lib.Seq.{getD-take, getD-drop}
-use native.Mathlib.Omega.{arith}
+use Rattle.constraint.proofs.Library.{ℕ, _+_, _-_, _%_, _≡_, ap, _∙_, List, [], getD, getD-take, getD-drop, arith, needs}
 use Rattle.lent.proofs.Parts.{entries-read}
-use borrow.Author.Needs.{needs}
 use Rattle.lent.proofs.rows.named.Statement.{statement}
 use Rattle.lent.proofs.rows.named.Tie as tie
 

@@ -1,19 +1,10 @@
 -- Row after row: before the turn of number i it is the soonest due time of the first i.
-use Prim.Native.Nat.{ℕ, _-_, _≤_, _<_}
-use mathlib.Core.Path.{_≡_, refl, sym, ap, _∙_}
-use native.Mathlib.Omega.{arith}
-use native.Mathlib.Numerals.{add-one}
-use mathlib.Core.Path.{ap₂}
-use Prim.Native.Nat.{min}
-use mathlib.Core.List.{List, []}
-use lib.ListN.{getD}
-use denote.Ref.{now}
+use Rattle.constraint.proofs.Library.{ℕ, _-_, _≤_, _<_, _≡_, refl, sym, ap, _∙_, arith, add-one, ap₂, min, List, [], getD, now, needs}
 use Rattle.machine.specs.Words.{rowWords, numberWords}
 use Rattle.row.specs.Stored as Stored
 use Rattle.lent.specs.Layout.{Lent, wordsOf, Shaped}
 use Rattle.lent.specs.Steps.{soonestOf}
 use Rattle.lent.proofs.Blocks.{row-lies}
-use borrow.Author.Needs.{needs}
 use Rattle.lent.proofs.rows.soonest.Statement.{statement}
 use Rattle.lent.proofs.rows.soonest.Tie as tie
 

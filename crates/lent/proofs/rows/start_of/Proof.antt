@@ -1,9 +1,6 @@
 -- The rows of kind 0 begin at the first entry, those of another where the kind before ends.
-use Prim.Native.Nat.{ℕ, zero, suc, _-_}
-use mathlib.Core.Path.{_≡_, refl, sym, ap, _∙_}
-use native.Mathlib.Omega.{arith}
+use Rattle.constraint.proofs.Library.{ℕ, zero, suc, _-_, _≡_, refl, sym, ap, _∙_, arith, needs}
 use Rattle.lent.specs.Layout.{Lent, startOf, endOf}
-use borrow.Author.Needs.{needs}
 use Rattle.lent.proofs.rows.start_of.Statement.{statement}
 use Rattle.lent.proofs.rows.start_of.Tie as tie
 

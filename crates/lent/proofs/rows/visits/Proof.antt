@@ -1,11 +1,6 @@
 -- Entry after entry: before the turn of a place the rows of the entries before it have taken the event; the soonest time is kept beside, and stored
 -- at the end.
-use Prim.Native.Nat.{ℕ, suc, _+_, _-_, _≤_, _<_, min}
-use mathlib.Core.Path.{_≡_, ap, ap₂, _∙_}
-use native.Mathlib.Omega.{arith}
-use mathlib.Core.List.{List, []}
-use lib.ListN.{getD, set}
-use denote.Ref.{now}
+use Rattle.constraint.proofs.Library.{ℕ, suc, _+_, _-_, _≤_, _<_, min, _≡_, ap, ap₂, _∙_, arith, List, [], getD, set, now, needs}
 use Rattle.machine.specs.Words.{rowWords, numberWords}
 use Rattle.row.specs.Machine.{eventAt}
 use Rattle.row.specs.Stored as Stored
@@ -14,7 +9,6 @@ use Rattle.lent.specs.Layout.{Lent, Words, wordsOf, Shaped, rowNamed, ro
 use Rattle.lent.specs.Steps.{withSoonest, visitAt, visited, roomAfter, heardOn}
 use Rattle.lent.proofs.Blocks.{row-lies, row-stored}
 use Rattle.lent.proofs.Parts.{shaped-visited, shaped-soonest, shaped-row, visited-named, number-at, soonest-written, room-written}
-use borrow.Author.Needs.{needs}
 use Rattle.lent.proofs.rows.visits.Statement.{statement}
 use Rattle.lent.proofs.rows.visits.Tie as tie
 

@@ -1,12 +1,9 @@
 -- The rows of a kind are those that its entries name, and the number of the step stands at its place.
-use Prim.Native.Nat.{_-_}
-use mathlib.Core.Path.{_∙_}
-use denote.Ref.{now}
+use Rattle.constraint.proofs.Library.{_-_, _∙_, now, needs}
 use Rattle.row.specs.Machine.{eventAt}
 use Rattle.lent.specs.Layout.{wordsOf}
 use Rattle.lent.specs.Steps.{heardOn}
 use Rattle.lent.proofs.Parts.{number-at}
-use borrow.Author.Needs.{needs}
 use Rattle.lent.proofs.rows.visits_of.Statement.{statement}
 use Rattle.lent.proofs.rows.visits_of.Tie as tie
 

@@ -1,8 +1,5 @@
 -- From the last field to the first, the numbers are those of the fields from a place on.
-use Prim.Native.Nat.{ℕ, _-_, _≤_}
-use native.Mathlib.Omega.{arith}
-use mathlib.Core.Path.{_≡_, sym, ap, _∙_}
-use mathlib.Core.List.{List}
+use Rattle.constraint.proofs.Library.{ℕ, _-_, _≤_, arith, _≡_, sym, ap, _∙_, List}
 use Rattle.queue.proofs.Shared.{free}
 use Rattle.constraint.specs.Records.{timeField, timesFrom}
 use Rattle.constraint.specs.Types.{Field}

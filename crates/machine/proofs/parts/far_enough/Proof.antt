@@ -1,8 +1,5 @@
 -- The last event was at last - 1, where last is not 0.
-use Prim.Native.Nat.{_+_, _-_}
-use native.Mathlib.Omega.{arith}
-use borrow.Author.Needs.{needs}
-use borrow.Author.Tests.{eq-eqb, ne-eqb}
+use Rattle.constraint.proofs.Library.{_+_, _-_, arith, needs, eq-eqb, ne-eqb}
 use Rattle.queue.proofs.Shared.{free, leb-same}
 use Rattle.machine.proofs.parts.far_enough.Statement.{statement}
 use Rattle.machine.proofs.parts.far_enough.Tie as tie

@@ -1,7 +1,5 @@
 -- The oldest of the times, where there is one, is the one at the head.
-use mathlib.Core.Path.{_∙_, sym}
-use native.Mathlib.Omega.{arith}
-use borrow.Author.Needs.{needs}
+use Rattle.constraint.proofs.Library.{_∙_, sym, arith, needs}
 use Rattle.queue.specs.Ring.{ring}
 use Rattle.queue.proofs.Shared.{free}
 use Rattle.machine.proofs.Oldest.{front-ring}

@@ -1,6 +1,5 @@
 -- The test is that of `kindOf`.
-use borrow.Author.Needs.{needs}
-use borrow.Author.Tests.{lt-ltb, le-ltb}
+use Rattle.constraint.proofs.Library.{needs, lt-ltb, le-ltb}
 use Rattle.machine.proofs.parts.kind_of.Statement.{statement}
 use Rattle.machine.proofs.parts.kind_of.Tie as tie
 

@@ -1,7 +1,5 @@
 -- What is at most t - by is, with by more, at most t; and by alone may be more than t.
-use Prim.Native.Nat.{_+_, _-_}
-use native.Mathlib.Omega.{arith}
-use borrow.Author.Tests.{lt-leb}
+use Rattle.constraint.proofs.Library.{_+_, _-_, arith, lt-leb}
 use Rattle.queue.proofs.Shared.{leb-same}
 use Rattle.machine.proofs.parts.reaches.Statement.{statement}
 use Rattle.machine.proofs.parts.reaches.Tie as tie

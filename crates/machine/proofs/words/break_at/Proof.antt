@@ -1,10 +1,6 @@
 -- What the row is becomes its past, and its state that of a broken row.
-use Prim.Native.Nat.{ℕ}
-use mathlib.Core.Path.{refl, ap, _∙_}
-use mathlib.Core.List.{List, []}
-use lib.ListN.{getD, set}
+use Rattle.constraint.proofs.Library.{ℕ, refl, ap, _∙_, List, [], getD, set, needs}
 use Rattle.machine.specs.Words.{rowWords, pastOf}
-use borrow.Author.Needs.{needs}
 use Rattle.machine.proofs.words.break_at.Statement.{statement}
 use Rattle.machine.proofs.words.break_at.Tie as tie
 

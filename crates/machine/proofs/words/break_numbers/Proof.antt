@@ -1,7 +1,6 @@
 -- Each number of the state is stored as the definition of a broken row has it.
-use mathlib.Core.Path.{refl}
+use Rattle.constraint.proofs.Library.{refl, needs}
 use Rattle.machine.specs.Words.{numberWords}
-use borrow.Author.Needs.{needs}
 use Rattle.machine.proofs.words.break_numbers.Statement.{statement}
 use Rattle.machine.proofs.words.break_numbers.Tie as tie
 

@@ -1,10 +1,6 @@
 -- What the row is becomes its past; its ring begins further on and holds fewer times, or stays where none leaves.
-use Prim.Native.Nat.{_-_}
-use mathlib.Core.Path.{_≡_, refl}
-use native.Mathlib.Omega.{arith}
-use borrow.Author.Tests.{ne-eqb}
+use Rattle.constraint.proofs.Library.{_-_, _≡_, refl, arith, ne-eqb, needs}
 use Rattle.machine.specs.Words.{rowWords, numberWords}
-use borrow.Author.Needs.{needs}
 use Rattle.machine.proofs.words.drop_oldest.Statement.{statement}
 use Rattle.machine.proofs.words.drop_oldest.Tie as tie
 

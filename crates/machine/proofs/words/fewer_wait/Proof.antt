@@ -1,9 +1,8 @@
 -- The oldest that is left gives the due time, and the length says whether one is.
-use mathlib.Core.Path.{refl}
+use Rattle.constraint.proofs.Library.{refl, needs}
 use Rattle.queue.proofs.Laws.{ring-length}
 use Rattle.machine.specs.Words.{rowWords, numberWords, changedWords}
 use Rattle.machine.proofs.Oldest.{none-left-dropped}
-use borrow.Author.Needs.{needs}
 use Rattle.machine.proofs.words.fewer_wait.Statement.{statement}
 use Rattle.machine.proofs.words.fewer_wait.Tie as tie
 

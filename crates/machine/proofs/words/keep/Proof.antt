@@ -1,9 +1,6 @@
 -- The state but for its marks becomes the past, and so do the words of the ring; the ring stays.
-use mathlib.Core.Path.{refl, ap}
-use mathlib.Core.List.{[]}
-use lib.ListN.{getD}
+use Rattle.constraint.proofs.Library.{refl, ap, [], getD, needs}
 use Rattle.machine.specs.Words.{rowWords, numberWords}
-use borrow.Author.Needs.{needs}
 use Rattle.machine.proofs.words.keep.Statement.{statement}
 use Rattle.machine.proofs.words.keep.Tie as tie
 

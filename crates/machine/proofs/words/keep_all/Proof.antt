@@ -1,7 +1,6 @@
 -- The marks and the step that broke the row become the past beside the rest.
-use mathlib.Core.Path.{refl}
+use Rattle.constraint.proofs.Library.{refl, needs}
 use Rattle.machine.specs.Words.{Past, rowWords, numberWords}
-use borrow.Author.Needs.{needs}
 use Rattle.machine.proofs.words.keep_all.Statement.{statement}
 use Rattle.machine.proofs.words.keep_all.Tie as tie
 

@@ -1,7 +1,6 @@
 -- The four numbers are read before the first is stored, so each stands ten places on.
-use mathlib.Core.Path.{refl}
+use Rattle.constraint.proofs.Library.{refl, needs}
 use Rattle.machine.specs.Words.{rowWords, numberWords}
-use borrow.Author.Needs.{needs}
 use Rattle.machine.proofs.words.keep_counts.Statement.{statement}
 use Rattle.machine.proofs.words.keep_counts.Tie as tie
 

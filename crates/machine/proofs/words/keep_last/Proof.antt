@@ -1,7 +1,6 @@
 -- The number stands ten places on.
-use mathlib.Core.Path.{refl}
+use Rattle.constraint.proofs.Library.{refl, needs}
 use Rattle.machine.specs.Words.{rowWords, numberWords}
-use borrow.Author.Needs.{needs}
 use Rattle.machine.proofs.words.keep_last.Statement.{statement}
 use Rattle.machine.proofs.words.keep_last.Tie as tie
 

@@ -1,7 +1,6 @@
 -- Four numbers are read before the first is stored, so each stands ten places on; place and stamp are stored as they are given.
-use mathlib.Core.Path.{refl}
+use Rattle.constraint.proofs.Library.{refl, needs}
 use Rattle.machine.specs.Words.{numberWords}
-use borrow.Author.Needs.{needs}
 use Rattle.machine.proofs.words.keep_numbers.Statement.{statement}
 use Rattle.machine.proofs.words.keep_numbers.Tie as tie
 

@@ -1,10 +1,8 @@
 -- The oldest that is left gives the due time, and t where none is.
-use mathlib.Core.Path.{refl}
-use lib.ListN.{drop}
+use Rattle.constraint.proofs.Library.{refl, drop, needs}
 use Rattle.queue.specs.Ring.{ring}
 use Rattle.machine.specs.Words.{rowWords, numberWords, changedWords}
 use Rattle.machine.proofs.Oldest.{none-left-pushed, due-or-pushed}
-use borrow.Author.Needs.{needs}
 use Rattle.machine.proofs.words.one_more_waits.Statement.{statement}
 use Rattle.machine.proofs.words.one_more_waits.Tie as tie
 

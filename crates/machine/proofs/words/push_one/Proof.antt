@@ -1,9 +1,7 @@
 -- What the row is becomes its past, the place being that of the push; the ring is the one that is pushed to.
-use mathlib.Core.Path.{_≡_, refl, _∙_}
-use native.Mathlib.Omega.{arith}
+use Rattle.constraint.proofs.Library.{_≡_, refl, _∙_, arith, needs}
 use Rattle.queue.specs.Ring.{ringOf, pushRing, dropRing}
 use Rattle.machine.specs.Words.{rowWords, numberWords}
-use borrow.Author.Needs.{needs}
 use Rattle.machine.proofs.words.push_one.Statement.{statement}
 use Rattle.machine.proofs.words.push_one.Tie as tie
 

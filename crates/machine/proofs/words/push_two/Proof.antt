@@ -1,8 +1,7 @@
 -- What the row is becomes its past, the place being that of the first push; the ring is the one that is pushed to twice.
-use mathlib.Core.Path.{_≡_, refl, _∙_}
+use Rattle.constraint.proofs.Library.{_≡_, refl, _∙_, needs}
 use Rattle.queue.specs.Ring.{ringOf, pushRing, dropRing}
 use Rattle.machine.specs.Words.{rowWords, numberWords}
-use borrow.Author.Needs.{needs}
 use Rattle.machine.proofs.words.push_two.Statement.{statement}
 use Rattle.machine.proofs.words.push_two.Tie as tie
 

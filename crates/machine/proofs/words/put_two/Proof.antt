@@ -1,9 +1,7 @@
 -- What the row is becomes its past, the place being that of the first word; the ring is the one that both words are put into.
-use Prim.Native.Nat.{_+_}
-use mathlib.Core.Path.{_≡_, refl}
+use Rattle.constraint.proofs.Library.{_+_, _≡_, refl, needs}
 use Rattle.queue.specs.Ring.{ringOf, putRing}
 use Rattle.machine.specs.Words.{rowWords, numberWords}
-use borrow.Author.Needs.{needs}
 use Rattle.machine.proofs.words.put_two.Statement.{statement}
 use Rattle.machine.proofs.words.put_two.Tie as tie
 

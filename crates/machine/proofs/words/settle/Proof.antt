@@ -1,7 +1,6 @@
 -- The two numbers are stored at their places, and nothing else.
-use mathlib.Core.Path.{refl}
+use Rattle.constraint.proofs.Library.{refl, needs}
 use Rattle.machine.specs.Words.{numberWords}
-use borrow.Author.Needs.{needs}
 use Rattle.machine.proofs.words.settle.Statement.{statement}
 use Rattle.machine.proofs.words.settle.Tie as tie
 

@@ -1,9 +1,6 @@
 -- What the row is becomes its past; its ring stays.
-use Prim.Native.Nat.{_-_}
-use mathlib.Core.Path.{_≡_, refl}
-use native.Mathlib.Omega.{arith}
+use Rattle.constraint.proofs.Library.{_-_, _≡_, refl, arith, needs}
 use Rattle.machine.specs.Words.{rowWords, numberWords}
-use borrow.Author.Needs.{needs}
 use Rattle.machine.proofs.words.stay.Statement.{statement}
 use Rattle.machine.proofs.words.stay.Tie as tie
 

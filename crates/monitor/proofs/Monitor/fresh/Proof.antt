@@ -1,8 +1,5 @@
 -- The table's answer is that of its questions; over an accepted table all its rows are taken, and otherwise none.
-use native.Mathlib.Omega.{arith}
-use borrow.Author.Needs.{needs}
-use mathlib.Core.Path.{ap, _∙_}
-use lib.Seq.{take-all}
+use Rattle.constraint.proofs.Library.{arith, needs, ap, _∙_, take-all}
 use Rattle.constraint.specs.Accepted.{Accepted}
 use Rattle.constraint.specs.Promise.{play}
 use Rattle.constraint.specs.Records.{rowsOf}

@@ -1,9 +1,6 @@
 -- The number of the first "no" is that of `refusalBy`; past it the rows take the call, which is the next step, and where it crowds one of them the
 -- monitor is handed back as it was.
-use native.Mathlib.Omega.{arith}
-use borrow.Author.Needs.{needs}
-use mathlib.Core.Path.{_≡_, sym, ap, _∙_}
-use mathlib.Core.Bool.{false}
+use Rattle.constraint.proofs.Library.{arith, needs, _≡_, sym, ap, _∙_, false}
 use Rattle.constraint.specs.Run.{asks}
 use Rattle.monitor.specs.Machine.{crowds, takenCall, steppedBy, stepOf}
 use Rattle.questions.proofs.Places.{place-small}

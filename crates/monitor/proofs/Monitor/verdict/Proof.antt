@@ -1,8 +1,5 @@
 -- The row at the place of that number is the row of that number where there is one, and the verdict is read off its numbers.
-use native.Mathlib.Omega.{arith}
-use borrow.Author.Needs.{needs}
-use mathlib.Core.Path.{_≡_, sym, _∙_}
-use lib.ListN.{length, length-map}
+use Rattle.constraint.proofs.Library.{arith, needs, _≡_, sym, _∙_, length, length-map}
 use Rattle.monitor.proofs.RowVerdicts.{place-small, verdict-kept}
 use Rattle.monitor.proofs.Monitor.verdict.Statement.{statement}
 use Rattle.monitor.proofs.Monitor.verdict.Tie as tie

@@ -1,9 +1,5 @@
 -- The test is that of `withdrawOf`; past it each row and each number is put back.
-use native.Mathlib.Omega.{arith}
-use borrow.Author.Needs.{needs}
-use mathlib.Core.Path.{sym, _∙_}
-use lib.Dec.{ltb}
-use borrow.Author.Tests.{lt-ltb, le-ltb}
+use Rattle.constraint.proofs.Library.{arith, needs, sym, _∙_, ltb, lt-ltb, le-ltb}
 use Rattle.constraint.specs.Run.{withdraws}
 use Rattle.queue.proofs.Shared.{cond-true, cond-false}
 use Rattle.monitor.specs.Machine.{takes, refuses, withdrawn, withdrawOf}

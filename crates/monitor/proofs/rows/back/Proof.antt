@@ -1,9 +1,5 @@
 -- The loop takes the step from one row after the other, as many as the monitor holds.
-use Prim.Native.Nat.{_≤_, _-_}
-use native.Mathlib.Omega.{arith}
-use borrow.Author.Needs.{needs}
-use mathlib.Core.Path.{_≡_, sym, _∙_}
-use lib.ListN.{length, length-map}
+use Rattle.constraint.proofs.Library.{_≤_, _-_, arith, needs, _≡_, sym, _∙_, length, length-map}
 use Rattle.monitor.specs.Parts.{rowsWithout}
 use Rattle.monitor.proofs.First.{without-none, without-next, without-all}
 use Rattle.monitor.proofs.rows.back.Statement.{statement}

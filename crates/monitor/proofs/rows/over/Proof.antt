@@ -1,10 +1,5 @@
 -- The loop puts the row of one constraint after the other into an array of rows of the filler.
-use Prim.Native.Nat.{ℕ, _≤_, _<_, _-_}
-use native.Mathlib.Omega.{arith}
-use borrow.Author.Needs.{needs}
-use mathlib.Core.Path.{_≡_, sym, _∙_}
-use lib.ListN.{length, getD, length-map}
-use lib.Seq.{length-take-le, drop-cons}
+use Rattle.constraint.proofs.Library.{ℕ, _≤_, _<_, _-_, arith, needs, _≡_, sym, _∙_, length, getD, length-map, length-take-le, drop-cons}
 use Rattle.constraint.specs.Records.{filler, rowsOf}
 use Rattle.constraint.specs.declared.Entry.{Entry}
 use Rattle.constraint.specs.declared.Table.{Table}

@@ -1,9 +1,5 @@
 -- The loop gives the step to one row after the other, as many as the monitor holds, and stops at the first that it crowds.
-use Prim.Native.Nat.{_≤_, _-_}
-use native.Mathlib.Omega.{arith}
-use borrow.Author.Needs.{needs}
-use mathlib.Core.Path.{_≡_, sym, _∙_}
-use lib.ListN.{length, length-map}
+use Rattle.constraint.proofs.Library.{_≤_, _-_, arith, needs, _≡_, sym, _∙_, length, length-map}
 use Rattle.monitor.proofs.First.{Moved, moved-none, moved-full, moved-next, moved-all}
 use Rattle.monitor.proofs.rows.step.Statement.{statement}
 use Rattle.monitor.proofs.rows.step.Tie as tie

@@ -1,11 +1,5 @@
 -- The length is known from the number of rows alone: the buffer is tested against it first, and then the lines are put one after the other.
-use Prim.Native.Nat.{ℕ, min}
-use native.Mathlib.Omega.{arith}
-use mathlib.Core.Path.{_≡_, sym, ap, _∙_}
-use mathlib.Core.List.{List}
-use lib.Seq.{sets}
-use borrow.Author.Needs.{needs}
-use denote.Ref.{now}
+use Rattle.constraint.proofs.Library.{ℕ, min, arith, _≡_, sym, ap, _∙_, List, sets, needs, now}
 use Rattle.constraint.specs.Limits.{rowLimit}
 use Rattle.constraint.specs.Steps.{at}
 use Rattle.constraint.specs.Page.{hyphens, pageLines}

@@ -1,14 +1,6 @@
 -- The target answers every source that the loop has passed; once it has passed 64 it has passed every time of the ring, which repeats itself.
-use Prim.Native.Nat.{ℕ, zero, suc, _+_, _-_, _%_, _<_, _≤_}
-use mathlib.Core.Path.{_≡_, refl, sym, ap, _∙_}
-use mathlib.Core.Bool.{Bool, true, false}
-use mathlib.Core.List.{List, [], _∷_}
-use mathlib.Core.Logic.{_⊎_, inl, inr, by-cases}
-use native.Mathlib.Decide.{ℕ-discrete}
-use native.Mathlib.Omega.{arith}
-use borrow.Author.Tests.{not-true, not-false, ltb-true, ltb-false}
-use lib.Dec.{leb}
-use lib.ListN.{length, getD}
+use Rattle.constraint.proofs.Library.{ℕ, zero, suc, _+_, _-_, _%_, _<_, _≤_, _≡_, refl, sym, ap, _∙_, Bool, true, false, List, [], _∷_, _⊎_, inl, inr}
+use Rattle.constraint.proofs.Library.{by-cases, ℕ-discrete, arith, not-true, not-false, ltb-true, ltb-false, leb, length, getD}
 use Rattle.queue.specs.Ring.{ring, timeAt}
 use Rattle.queue.proofs.Laws.{ring-length, ring-read, ring-round}
 use Rattle.pairs.specs.Delay.{answeredBy}

@@ -1,9 +1,7 @@
 -- A source joins the times unless the last target answers it; a target leaves with those that it answers.
-use mathlib.Core.Path.{refl}
-use borrow.Author.Tests.{eq-eqb, ne-eqb}
+use Rattle.constraint.proofs.Library.{refl, eq-eqb, ne-eqb, needs}
 use Rattle.machine.specs.Words.{rowWords, numberWords, changedWords, pastWith, lastKept}
 use Rattle.pairs.specs.Delay.{decideDelay}
-use borrow.Author.Needs.{needs}
 use Rattle.pairs.proofs.delay.apply.Statement.{statement}
 use Rattle.pairs.proofs.delay.apply.Tie as tie
 

@@ -1,11 +1,5 @@
 -- Each event is the partner of one beyond of the other kind, or one more beyond itself; what is beyond is stored.
-use Prim.Native.Nat.{ℕ, _-_}
-use mathlib.Core.Path.{_≡_, refl, ap}
-use mathlib.Core.Bool.{Bool, true, false, cond}
-use mathlib.Core.List.{List, []}
-use lib.Dec.{eqb}
-use lib.ListN.{getD}
-use borrow.Author.Tests.{eq-eqb, ne-eqb}
+use Rattle.constraint.proofs.Library.{ℕ, _-_, _≡_, refl, ap, Bool, true, false, cond, List, [], eqb, getD, eq-eqb, ne-eqb, needs}
 use Rattle.constraint.specs.Limits.{noLimit}
 use Rattle.queue.specs.Ring.{ringOf, dropRing}
 use Rattle.queue.specs.declared.Edit.the-variants.{Drop}
@@ -15,7 +9,6 @@ use Rattle.machine.specs.declared.Rule.{Rule}
 use Rattle.machine.specs.declared.Marks.{Marks}
 use Rattle.machine.specs.declared.State.{State}
 use Rattle.pairs.specs.Order.{aheadOf, changesTo, decideOrder}
-use borrow.Author.Needs.{needs}
 use Rattle.pairs.proofs.order.apply.Statement.{statement}
 use Rattle.pairs.proofs.order.apply.Tie as tie
 

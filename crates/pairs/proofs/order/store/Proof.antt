@@ -1,10 +1,8 @@
 -- The tests are those of `changesTo`; each number is stored at its place.
-use mathlib.Core.Path.{refl, _∙_}
-use borrow.Author.Tests.{eq-eqb, ne-eqb}
+use Rattle.constraint.proofs.Library.{refl, _∙_, eq-eqb, ne-eqb, needs}
 use Rattle.machine.specs.Parts.{withLast}
 use Rattle.machine.specs.Words.{numberWords, withMarks}
 use Rattle.pairs.specs.Order.{withAhead, changesTo}
-use borrow.Author.Needs.{needs}
 use Rattle.pairs.proofs.order.store.Statement.{statement}
 use Rattle.pairs.proofs.order.store.Tie as tie
 

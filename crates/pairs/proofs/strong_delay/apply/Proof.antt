@@ -1,12 +1,8 @@
 -- A source waits unless there is a target beyond; a target takes the oldest source that waits, if that is long enough before it, or is one beyond.
-use mathlib.Core.Path.{refl, ap}
-use mathlib.Core.List.{[]}
-use lib.ListN.{getD, set}
-use borrow.Author.Tests.{eq-eqb, ne-eqb}
+use Rattle.constraint.proofs.Library.{refl, ap, [], getD, set, eq-eqb, ne-eqb, needs}
 use Rattle.machine.specs.Words.{rowWords, numberWords, changedWords, pastWith, lastKept}
 use Rattle.machine.proofs.Oldest.{none-left-ring}
 use Rattle.pairs.specs.StrongDelay.{sourceStrongDelay, targetStrongDelay, decideStrongDelay}
-use borrow.Author.Needs.{needs}
 use Rattle.pairs.proofs.strong_delay.apply.Statement.{statement}
 use Rattle.pairs.proofs.strong_delay.apply.Tie as tie
 

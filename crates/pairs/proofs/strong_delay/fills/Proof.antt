@@ -1,7 +1,6 @@
 -- The tests are those of `fillsStrongDelay`, in its order.
-use borrow.Author.Tests.{lt-ltb, le-ltb, eq-eqb, ne-eqb}
+use Rattle.constraint.proofs.Library.{lt-ltb, le-ltb, eq-eqb, ne-eqb, needs}
 use Rattle.pairs.specs.StrongDelay.{fillsStrongDelay}
-use borrow.Author.Needs.{needs}
 use Rattle.pairs.proofs.strong_delay.fills.Statement.{statement}
 use Rattle.pairs.proofs.strong_delay.fills.Tie as tie
 

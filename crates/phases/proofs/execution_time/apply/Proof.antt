@@ -1,9 +1,7 @@
 -- Two events never share a time; each phase has its own changes.
-use mathlib.Core.Path.{refl}
-use borrow.Author.Tests.{lt-ltb, le-ltb, eq-eqb, ne-eqb}
+use Rattle.constraint.proofs.Library.{refl, lt-ltb, le-ltb, eq-eqb, ne-eqb, needs}
 use Rattle.machine.specs.Words.{rowWords, numberWords, changedWords}
 use Rattle.phases.specs.ExecutionTime.{whilePreempted, decideExecutionTime}
-use borrow.Author.Needs.{needs}
 use Rattle.phases.proofs.execution_time.apply.Statement.{statement}
 use Rattle.phases.proofs.execution_time.apply.Tie as tie
 

@@ -1,10 +1,7 @@
 -- The two tests are those of `whileIdle`.
-use mathlib.Core.Path.{refl}
-use mathlib.Core.Logic.{⊎-elim}
-use borrow.Author.Tests.{eq-eqb, ne-eqb}
+use Rattle.constraint.proofs.Library.{refl, ⊎-elim, eq-eqb, ne-eqb, needs}
 use Rattle.machine.specs.Words.{rowWords, numberWords, changedWords}
 use Rattle.phases.specs.ExecutionTime.{whileIdle}
-use borrow.Author.Needs.{needs}
 use Rattle.phases.proofs.execution_time.apply_idle.Statement.{statement}
 use Rattle.phases.proofs.execution_time.apply_idle.Tie as tie
 

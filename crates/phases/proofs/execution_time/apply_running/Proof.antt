@@ -1,10 +1,7 @@
 -- The tests are those of `whileRunning`, in its order.
-use mathlib.Core.Path.{_≡_, refl, _∙_}
-use mathlib.Core.Logic.{⊎-elim}
-use borrow.Author.Tests.{eq-eqb, ne-eqb}
+use Rattle.constraint.proofs.Library.{_≡_, refl, _∙_, ⊎-elim, eq-eqb, ne-eqb, needs}
 use Rattle.machine.specs.Words.{rowWords, numberWords, changedWords}
 use Rattle.phases.specs.ExecutionTime.{ranTo, whileRunning}
-use borrow.Author.Needs.{needs}
 use Rattle.phases.proofs.execution_time.apply_running.Statement.{statement}
 use Rattle.phases.proofs.execution_time.apply_running.Tie as tie
 

@@ -1,7 +1,6 @@
 -- The due time is the one that `runningFrom` says.
-use mathlib.Core.Path.{refl}
+use Rattle.constraint.proofs.Library.{refl, needs}
 use Rattle.machine.specs.Words.{rowWords, numberWords}
-use borrow.Author.Needs.{needs}
 use Rattle.phases.proofs.execution_time.run.Statement.{statement}
 use Rattle.phases.proofs.execution_time.run.Tie as tie
 

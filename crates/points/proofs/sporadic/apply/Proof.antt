@@ -1,10 +1,7 @@
 -- The first event may have its point anywhere within its jitter; a later one goes on where the three tests hold.
-use mathlib.Core.Path.{_≡_, refl, _∙_}
-use mathlib.Core.Logic.{⊎-elim}
-use borrow.Author.Tests.{eq-eqb, ne-eqb}
+use Rattle.constraint.proofs.Library.{_≡_, refl, _∙_, ⊎-elim, eq-eqb, ne-eqb, needs}
 use Rattle.machine.specs.Words.{rowWords, numberWords, changedWords}
 use Rattle.points.specs.Sporadic.{stride, lowest, highest, laterSporadic, decideSporadic}
-use borrow.Author.Needs.{needs}
 use Rattle.points.proofs.sporadic.apply.Statement.{statement}
 use Rattle.points.proofs.sporadic.apply.Tie as tie
 

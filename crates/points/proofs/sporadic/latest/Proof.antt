@@ -1,6 +1,5 @@
 -- The two cases are those of the definition.
-use borrow.Author.Tests.{eq-eqb, ne-eqb}
-use borrow.Author.Needs.{needs}
+use Rattle.constraint.proofs.Library.{eq-eqb, ne-eqb, needs}
 use Rattle.points.proofs.sporadic.latest.Statement.{statement}
 use Rattle.points.proofs.sporadic.latest.Tie as tie
 

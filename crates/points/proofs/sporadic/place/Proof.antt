@@ -1,10 +1,6 @@
 -- The past is kept, and each number stored is the one that `pointAt` says.
-use Prim.Native.Nat.{ℕ}
-use mathlib.Core.Path.{refl, ap}
-use mathlib.Core.List.{List, []}
-use lib.ListN.{getD, set}
+use Rattle.constraint.proofs.Library.{ℕ, refl, ap, List, [], getD, set, needs}
 use Rattle.machine.specs.Words.{rowWords, numberWords, changedWords, pastWith, firstThreeKept}
-use borrow.Author.Needs.{needs}
 use Rattle.points.proofs.sporadic.place.Statement.{statement}
 use Rattle.points.proofs.sporadic.place.Tie as tie
 

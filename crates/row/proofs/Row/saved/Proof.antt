@@ -1,8 +1,5 @@
 -- A row that may move takes the step where it lies, its own state being its past before, and what is kept of it is read off there.
-use Prim.Native.Nat.{ℕ}
-use mathlib.Core.Path.{_≡_, refl, sym, ap, _∙_}
-use mathlib.Core.Bool.{true}
-use borrow.Author.Tests.{not-true, not-false}
+use Rattle.constraint.proofs.Library.{ℕ, _≡_, refl, sym, ap, _∙_, true, not-true, not-false, needs}
 use Rattle.row.specs.Stored.{wordsOf}
 use Rattle.row.specs.declared.Before.{Before}
 use Rattle.row.specs.declared.Occurrence.{Occurrence}
@@ -10,7 +7,6 @@ use Rattle.row.specs.declared.Row.{Row}
 use Rattle.row.specs.Undo.{movesBy, savedBy, beforeOf}
 use Rattle.row.proofs.Laid.{step-keeps-all}
 use Rattle.row.proofs.Kept.{keeps-own}
-use borrow.Author.Needs.{needs}
 use Rattle.row.proofs.Row.saved.Statement.{statement}
 use Rattle.row.proofs.Row.saved.Tie as tie
 

@@ -1,9 +1,7 @@
 -- A row that is crowded stays as it was, and any other takes the step where it lies.
-use mathlib.Core.Path.{sym, ap, _∙_}
-use mathlib.Core.Bool.{true, false}
+use Rattle.constraint.proofs.Library.{sym, ap, _∙_, true, false, needs}
 use Rattle.row.specs.Machine.{stays}
 use Rattle.row.proofs.Crowding.{step-by}
-use borrow.Author.Needs.{needs}
 use Rattle.row.proofs.Row.step.Statement.{statement}
 use Rattle.row.proofs.Row.step.Tie as tie
 

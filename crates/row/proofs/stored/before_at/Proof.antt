@@ -1,10 +1,7 @@
 -- Each part is read off its place.
-use mathlib.Core.Path.{refl, ap}
-use mathlib.Core.List.{[]}
-use lib.ListN.{getD}
+use Rattle.constraint.proofs.Library.{refl, ap, [], getD, needs}
 use Rattle.machine.specs.Words.{rowWords, numberWords}
 use Rattle.row.specs.Stored.{pastOf, wordsOf}
-use borrow.Author.Needs.{needs}
 use Rattle.row.proofs.stored.before_at.Statement.{statement}
 use Rattle.row.proofs.stored.before_at.Tie as tie
 

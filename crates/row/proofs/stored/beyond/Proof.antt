@@ -1,6 +1,5 @@
 -- The test is that of `beyond`.
-use borrow.Author.Tests.{lt-ltb, le-ltb}
-use native.Mathlib.Omega.{arith}
+use Rattle.constraint.proofs.Library.{lt-ltb, le-ltb, arith}
 use Rattle.row.proofs.stored.beyond.Statement.{statement}
 use Rattle.row.proofs.stored.beyond.Tie as tie
 

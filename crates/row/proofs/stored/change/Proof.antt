@@ -1,16 +1,11 @@
 -- The code picks the type by its number, as `decide` does, and the type's function makes the change.
-use Prim.Native.Nat.{ℕ}
-use mathlib.Core.Path.{_≡_, sym, ap, ap₂, subst, _∙_}
-use mathlib.Core.Logic.{_⊎_}
-use mathlib.Core.List.{List, []}
-use lib.ListN.{getD}
+use Rattle.constraint.proofs.Library.{ℕ, _≡_, sym, ap, ap₂, subst, _∙_, _⊎_, List, [], getD, now, needs}
 use Rattle.queue.specs.Ring.{ring}
 use Rattle.machine.specs.declared.Change.{Change}
 use Rattle.machine.specs.declared.Marks.{Marks}
 use Rattle.machine.specs.declared.Rule.{Rule}
 use Rattle.machine.specs.Words.{rowWords, numberWords, changedWords, noneKept, lastKept, firstThreeKept, countsKept, Applies}
 use Rattle.row.proofs.Dispatch.{NoneOf, form-1, form-2, form-3-5, form-4, form-6, form-7, form-8, form-9, form-10, form-none}
-use denote.Ref.{now}
 use Rattle.pairs.specs.Delay.{decideDelay}
 use Rattle.pairs.specs.StrongDelay.{decideStrongDelay}
 use Rattle.pairs.specs.Order.{decideOrder}
@@ -22,7 +17,6 @@ use Rattle.chains.specs.Reaction.{decideReaction}
 use Rattle.repetition.specs.Repetition.{decideRepetition}
 use Rattle.row.specs.Machine.{decide, decideNone}
 use Rattle.row.specs.Stored.{keptMarks, Changes}
-use borrow.Author.Needs.{needs}
 use Rattle.row.proofs.stored.change.Statement.{statement}
 use Rattle.row.proofs.stored.change.Tie as tie
 

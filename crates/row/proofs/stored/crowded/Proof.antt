@@ -1,16 +1,10 @@
 -- More than 64 times are crowded by each event that goes to the row; at most 64 by what the type says.
-use Prim.Native.Nat.{ℕ, _<_, _≤_}
-use mathlib.Core.Path.{_≡_, refl, sym, ap, subst, _∙_}
-use mathlib.Core.Bool.{Bool, true, false, cond}
-use mathlib.Core.List.{List, []}
-use lib.ListN.{getD}
-use borrow.Author.Tests.{lt-ltb}
+use Rattle.constraint.proofs.Library.{ℕ, _<_, _≤_, _≡_, refl, sym, ap, subst, _∙_, Bool, true, false, cond, List, [], getD, lt-ltb, needs}
 use Rattle.machine.specs.Words.{rowWords, numberWords}
 use Rattle.row.specs.Stored.{wordsOf}
 use Rattle.row.specs.declared.Before.{Before}
 use Rattle.row.specs.declared.Row.{Row}
 use Rattle.row.proofs.Crowding.{step-crowds, crowded-known}
-use borrow.Author.Needs.{needs}
 use Rattle.row.proofs.stored.crowded.Statement.{statement}
 use Rattle.row.proofs.stored.crowded.Tie as tie
 

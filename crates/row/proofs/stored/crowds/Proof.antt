@@ -1,11 +1,9 @@
 -- The rule is read off the words that the row is; an event of one of its kinds is asked for.
-use mathlib.Core.Path.{_≡_, refl, sym, _∙_}
-use mathlib.Core.Bool.{true, false}
+use Rattle.constraint.proofs.Library.{_≡_, refl, sym, _∙_, true, false, needs}
 use Rattle.machine.specs.Words.{rowWords, numberWords}
 use Rattle.row.specs.Apart.{crowdedBy}
 use Rattle.row.specs.Machine.{concerns}
 use Rattle.row.specs.Stored.{wordsOf}
-use borrow.Author.Needs.{needs}
 use Rattle.row.proofs.stored.crowds.Statement.{statement}
 use Rattle.row.proofs.stored.crowds.Tie as tie
 

@@ -1,15 +1,9 @@
 -- A broken row stays; an overdue one breaks; the close keeps the past of one that it does not concern, and breaks it where it is not kept.
-use Prim.Native.Nat.{ℕ}
-use mathlib.Core.Path.{sym, ap, _∙_}
-use mathlib.Core.List.{List, []}
-use lib.ListN.{getD}
-use lib.Dec.{ltb, eqb}
-use borrow.Author.Tests.{lt-ltb, le-ltb, eq-eqb, ne-eqb, not-true, not-false}
+use Rattle.constraint.proofs.Library.{ℕ, sym, ap, _∙_, List, [], getD, ltb, eqb, lt-ltb, le-ltb, eq-eqb, ne-eqb, not-true, not-false, needs}
 use Rattle.machine.specs.Words.{rowWords, numberWords, ruleAt}
 use Rattle.row.specs.Apart.{endsBy, endedState}
 use Rattle.row.specs.Machine.{concerns}
 use Rattle.row.specs.Stored.{pastOf, wordsOf}
-use borrow.Author.Needs.{needs}
 use Rattle.row.proofs.stored.end.Statement.{statement}
 use Rattle.row.proofs.stored.end.Tie as tie
 

@@ -1,14 +1,10 @@
 -- A row that is not broken takes what its type makes of the event; a broken one stays.
-use mathlib.Core.Path.{sym, ap, _∙_}
-use mathlib.Core.List.{[]}
-use lib.ListN.{getD}
-use borrow.Author.Tests.{eq-eqb, ne-eqb}
+use Rattle.constraint.proofs.Library.{sym, ap, _∙_, [], getD, eq-eqb, ne-eqb, needs}
 use Rattle.machine.specs.Words.{rowWords, numberWords}
 use Rattle.row.specs.Apart.{changeBy}
 use Rattle.row.specs.Machine.{eventAt}
 use Rattle.row.specs.Stored.{pastOf, wordsOf, heardKeeps}
 use Rattle.row.proofs.Laid.{changed-words}
-use borrow.Author.Needs.{needs}
 use Rattle.row.proofs.stored.event.Statement.{statement}
 use Rattle.row.proofs.stored.event.Tie as tie
 

@@ -1,8 +1,7 @@
 -- The numbers stand at their places among the row's words.
-use mathlib.Core.Path.{refl}
+use Rattle.constraint.proofs.Library.{refl, needs}
 use Rattle.machine.specs.Words.{rowWords, numberWords}
 use Rattle.row.specs.Stored.{wordsOf, larger}
-use borrow.Author.Needs.{needs}
 use Rattle.row.proofs.stored.filled.Statement.{statement}
 use Rattle.row.proofs.stored.filled.Tie as tie
 

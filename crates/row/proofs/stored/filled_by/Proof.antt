@@ -1,8 +1,6 @@
 -- The tests are those of `filledBy`, in its order.
-use mathlib.Core.Path.{_∙_, ap}
-use borrow.Author.Tests.{eq-eqb, ne-eqb}
+use Rattle.constraint.proofs.Library.{_∙_, ap, eq-eqb, ne-eqb, needs}
 use Rattle.row.specs.Stored.{beyond}
-use borrow.Author.Needs.{needs}
 use Rattle.row.proofs.stored.filled_by.Statement.{statement}
 use Rattle.row.proofs.stored.filled_by.Tie as tie
 

@@ -1,11 +1,7 @@
 -- The code picks the type by its number, as `fills` does.
-use mathlib.Core.Path.{_≡_, refl, sym, ap, _∙_}
-use Prim.Native.Nat.{ℕ}
-use mathlib.Core.Bool.{Bool}
-use lib.ListN.{getD}
+use Rattle.constraint.proofs.Library.{_≡_, refl, sym, ap, _∙_, ℕ, Bool, getD, needs}
 use Rattle.queue.proofs.Shared.{free}
 use Rattle.machine.specs.declared.Marks.{Marks}
-use borrow.Author.Needs.{needs}
 use Rattle.row.proofs.Dispatch.{form-1, form-2, form-3-5, form-4, form-6, form-7, form-8, form-9, form-10, form-none}
 use Rattle.row.proofs.stored.fills.Statement.{statement}
 use Rattle.row.proofs.stored.fills.Tie as tie

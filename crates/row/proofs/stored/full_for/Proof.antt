@@ -1,16 +1,10 @@
 -- The tests are those of `fullFor`, in its order, of the words that the row is.
-use Prim.Native.Nat.{ℕ}
-use mathlib.Core.Path.{_≡_, ap, _∙_}
-use mathlib.Core.Bool.{Bool, false}
-use mathlib.Core.List.{List, []}
-use lib.ListN.{getD}
-use borrow.Author.Tests.{lt-ltb, le-ltb}
+use Rattle.constraint.proofs.Library.{ℕ, _≡_, ap, _∙_, Bool, false, List, [], getD, lt-ltb, le-ltb, needs}
 use Rattle.machine.specs.Words.{rowWords, numberWords, ruleAt}
 use Rattle.row.specs.Apart.{fullFor}
 use Rattle.row.specs.Stored.{wordsOf, stateAt}
 use Rattle.row.specs.declared.Before.{Before}
 use Rattle.row.specs.declared.Row.{Row}
-use borrow.Author.Needs.{needs}
 use Rattle.row.proofs.stored.full_for.Statement.{statement}
 use Rattle.row.proofs.stored.full_for.Tie as tie
 

@@ -1,11 +1,8 @@
 -- The times are the first array; the numbers are put into the second, part after part.
-use mathlib.Core.Path.{refl, ap}
-use Prim.Native.Nat.{ℕ}
-use mathlib.Core.List.{List, [], _∷_}
+use Rattle.constraint.proofs.Library.{refl, ap, ℕ, List, [], _∷_, needs}
 use Rattle.machine.specs.Words.{rowWords}
 use Rattle.row.specs.Stored.{nothing, wordsOf}
 use Rattle.row.specs.Undo.{noState}
-use borrow.Author.Needs.{needs}
 use Rattle.row.proofs.stored.laid.Statement.{statement}
 use Rattle.row.proofs.stored.laid.Tie as tie
 

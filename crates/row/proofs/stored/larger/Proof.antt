@@ -1,6 +1,5 @@
 -- The test is that of `larger`.
-use borrow.Author.Tests.{lt-ltb, le-ltb}
-use native.Mathlib.Omega.{arith}
+use Rattle.constraint.proofs.Library.{lt-ltb, le-ltb, arith}
 use Rattle.row.proofs.stored.larger.Statement.{statement}
 use Rattle.row.proofs.stored.larger.Tie as tie
 

@@ -1,7 +1,6 @@
 -- The state is read off the places of the past.
-use mathlib.Core.Path.{refl}
+use Rattle.constraint.proofs.Library.{refl, needs}
 use Rattle.machine.specs.Words.{numberWords}
-use borrow.Author.Needs.{needs}
 use Rattle.row.proofs.stored.past_state.Statement.{statement}
 use Rattle.row.proofs.stored.past_state.Tie as tie
 

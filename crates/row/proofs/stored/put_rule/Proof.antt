@@ -1,7 +1,6 @@
 -- Each number of the constraint is stored in its place, and the rest are zeros.
-use mathlib.Core.Path.{refl}
+use Rattle.constraint.proofs.Library.{refl, needs}
 use Rattle.machine.specs.Words.{numberWords}
-use borrow.Author.Needs.{needs}
 use Rattle.row.proofs.stored.put_rule.Statement.{statement}
 use Rattle.row.proofs.stored.put_rule.Tie as tie
 

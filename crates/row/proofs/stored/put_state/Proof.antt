@@ -1,7 +1,6 @@
 -- Each number of the state is stored in its place.
-use mathlib.Core.Path.{refl}
+use Rattle.constraint.proofs.Library.{refl, needs}
 use Rattle.machine.specs.Words.{numberWords}
-use borrow.Author.Needs.{needs}
 use Rattle.row.proofs.stored.put_state.Statement.{statement}
 use Rattle.row.proofs.stored.put_state.Tie as tie
 

@@ -1,16 +1,7 @@
 -- The numbers stand at their places among the row's words.
-use Prim.Native.Nat.{ℕ, _-_, min}
-use mathlib.Core.Path.{_≡_, refl, sym, ap, _∙_}
-use mathlib.Core.List.{List, []}
-use mathlib.Core.Bool.{true, false}
-use lib.ListN.{getD}
-use lib.Dec.{ltb}
-use native.Mathlib.Omega.{arith}
-use borrow.Author.Tests.{lt-ltb, le-ltb}
-use denote.Ref.{now}
+use Rattle.constraint.proofs.Library.{ℕ, _-_, min, _≡_, refl, sym, ap, _∙_, List, [], true, false, getD, ltb, arith, lt-ltb, le-ltb, now, needs}
 use Rattle.machine.specs.Words.{rowWords, numberWords}
 use Rattle.row.specs.Stored.{wordsOf, filledBy}
-use borrow.Author.Needs.{needs}
 use Rattle.row.proofs.stored.room_in.Statement.{statement}
 use Rattle.row.proofs.stored.room_in.Tie as tie
 

@@ -1,8 +1,7 @@
 -- The rule and the state are read off the numbers, and the times are the first array.
-use mathlib.Core.Path.{refl}
+use Rattle.constraint.proofs.Library.{refl, needs}
 use Rattle.machine.specs.Words.{rowWords, numberWords}
 use Rattle.row.specs.Stored.{wordsOf}
-use borrow.Author.Needs.{needs}
 use Rattle.row.proofs.stored.row_at.Statement.{statement}
 use Rattle.row.proofs.stored.row_at.Tie as tie
 

@@ -1,6 +1,5 @@
 -- The state is read off its places, its marks by their own function.
-use mathlib.Core.Path.{refl}
-use borrow.Author.Needs.{needs}
+use Rattle.constraint.proofs.Library.{refl, needs}
 use Rattle.row.proofs.stored.state_at.Statement.{statement}
 use Rattle.row.proofs.stored.state_at.Tie as tie
 

@@ -1,17 +1,10 @@
 -- An overdue row and one that is not concerned are ended, and any other hears the event.
-use Prim.Native.Nat.{ℕ}
-use mathlib.Core.Path.{_≡_, refl, sym, ap, _∙_}
-use mathlib.Core.Bool.{Bool, true, false, cond}
-use mathlib.Core.List.{List, []}
-use lib.ListN.{getD}
-use lib.Dec.{ltb}
-use borrow.Author.Tests.{lt-ltb, le-ltb}
+use Rattle.constraint.proofs.Library.{ℕ, _≡_, refl, sym, ap, _∙_, Bool, true, false, cond, List, [], getD, ltb, lt-ltb, le-ltb, needs}
 use Rattle.machine.specs.Words.{rowWords, numberWords, ruleAt}
 use Rattle.row.specs.Machine.{concerns, eventAt}
 use Rattle.row.specs.Stored.{wordsOf, eventKeeps, endedSaves, stepKeeps}
 use Rattle.row.specs.declared.Row.{Row}
 use Rattle.row.proofs.Laid.{stepped-ended, stepped-heard}
-use borrow.Author.Needs.{needs}
 use Rattle.row.proofs.stored.step.Statement.{statement}
 use Rattle.row.proofs.stored.step.Tie as tie
 

@@ -1,14 +1,8 @@
 -- Where the past is of that step, its two words and its state are put back; else nothing is done.
-use mathlib.Core.Path.{refl, sym, ap, _∙_}
-use Prim.Native.Nat.{ℕ}
-use mathlib.Core.List.{List, []}
-use lib.ListN.{getD, set}
-use denote.Ref.{now}
-use borrow.Author.Tests.{eq-eqb, ne-eqb}
+use Rattle.constraint.proofs.Library.{refl, sym, ap, _∙_, ℕ, List, [], getD, set, now, eq-eqb, ne-eqb, needs}
 use Rattle.machine.specs.Words.{rowWords, numberWords}
 use Rattle.row.specs.Undo.{rowWithout, keptWithout, backRow}
 use Rattle.row.specs.Stored.{pastOf, wordsOf}
-use borrow.Author.Needs.{needs}
 use Rattle.row.proofs.stored.without.Statement.{statement}
 use Rattle.row.proofs.stored.without.Tie as tie
 

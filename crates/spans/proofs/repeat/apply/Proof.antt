@@ -1,11 +1,6 @@
 -- The row goes on where both tests hold; its oldest time leaves where it has span of them, and the oldest that is left gives the due time.
-use Prim.Native.Nat.{ℕ}
-use mathlib.Core.Path.{_≡_, refl, sym, ap, _∙_}
-use mathlib.Core.Bool.{true}
-use mathlib.Core.List.{List, [], _∷_, _++_}
-use mathlib.Core.Logic.{⊎-elim}
-use lib.ListN.{length, drop}
-use borrow.Author.Tests.{lt-ltb, le-ltb, not-true, not-false}
+use Rattle.constraint.proofs.Library.{ℕ, _≡_, refl, sym, ap, _∙_, true, List, [], _∷_, _++_, ⊎-elim, length, drop, lt-ltb, le-ltb, not-true}
+use Rattle.constraint.proofs.Library.{not-false, needs}
 use Rattle.queue.specs.Ring.{ring}
 use Rattle.queue.proofs.Laws.{ring-length}
 use Rattle.queue.specs.declared.Edit.the-variants.{Push}
@@ -16,7 +11,6 @@ use Rattle.machine.specs.declared.Marks.{Marks}
 use Rattle.machine.specs.declared.Change.{Change}
 use Rattle.machine.proofs.Oldest.{due-or-pushed}
 use Rattle.spans.specs.Repeat.{leaving, spanReached, decideRepeat}
-use borrow.Author.Needs.{needs}
 use Rattle.spans.proofs.repeat.apply.Statement.{statement}
 use Rattle.spans.proofs.repeat.apply.Tie as tie
 

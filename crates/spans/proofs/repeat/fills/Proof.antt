@@ -1,7 +1,6 @@
 -- The tests are those of `fillsRepeat`, in its order.
-use borrow.Author.Tests.{lt-ltb, le-ltb}
+use Rattle.constraint.proofs.Library.{lt-ltb, le-ltb, needs}
 use Rattle.spans.specs.Repeat.{fillsRepeat}
-use borrow.Author.Needs.{needs}
 use Rattle.spans.proofs.repeat.fills.Statement.{statement}
 use Rattle.spans.proofs.repeat.fills.Tie as tie
 

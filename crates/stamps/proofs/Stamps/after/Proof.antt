@@ -1,6 +1,5 @@
 -- An event of the row's kind is a stamp.
-use borrow.Author.Needs.{needs}
-use borrow.Author.Tests.{eq-eqb, ne-eqb}
+use Rattle.constraint.proofs.Library.{needs, eq-eqb, ne-eqb}
 use Rattle.queue.proofs.Shared.{free}
 use Rattle.stamps.proofs.Stamps.after.Statement.{statement}
 use Rattle.stamps.proofs.Stamps.after.Tie as tie

@@ -1,7 +1,5 @@
 -- The tests are those of `closeVerdict`, in its order.
-use mathlib.Core.Path.{_≡_, sym, _∙_}
-use mathlib.Core.Bool.{_&&_}
-use lib.Dec.{leb}
+use Rattle.constraint.proofs.Library.{_≡_, sym, _∙_, _&&_, leb}
 use Rattle.machine.specs.Parts.{plus}
 use Rattle.stamps.specs.Machine.{closeVerdict}
 use Rattle.queue.proofs.Shared.{free}

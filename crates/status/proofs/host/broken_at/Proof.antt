@@ -1,9 +1,5 @@
 -- The step that broke the row stands at its place.
-use borrow.Author.Needs.{needs}
-use native.Mathlib.Omega.{arith}
-use mathlib.Core.Path.{refl}
-use borrow.Author.Tests.{lt-ltb, le-ltb}
-use denote.Ref.{now}
+use Rattle.constraint.proofs.Library.{needs, arith, refl, lt-ltb, le-ltb, now}
 use Rattle.status.proofs.Places.{numbers-lie}
 use Rattle.status.proofs.host.broken_at.Statement.{statement}
 use Rattle.status.proofs.host.broken_at.Tie as tie

@@ -1,6 +1,5 @@
 -- The numbers of the row stand at their places.
-use borrow.Author.Needs.{needs}
-use denote.Ref.{now}
+use Rattle.constraint.proofs.Library.{needs, now}
 use Rattle.status.proofs.Places.{closed-lies, numbers-lie}
 use Rattle.status.proofs.host.deadline_at.Statement.{statement}
 use Rattle.status.proofs.host.deadline_at.Tie as tie

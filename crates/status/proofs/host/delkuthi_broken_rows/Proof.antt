@@ -1,10 +1,6 @@
 -- From the last row to the first, each adds its bit below those behind it.
-use borrow.Author.Needs.{needs}
-use native.Mathlib.Omega.{arith}
-use mathlib.Core.Path.{_≡_, sym}
-use Prim.Native.Nat.{_-_, _^_, _≤_, _<_}
+use Rattle.constraint.proofs.Library.{needs, arith, _≡_, sym, _-_, _^_, _≤_, _<_, now}
 use Rattle.constraint.specs.Limits.{rowLimit}
-use denote.Ref.{now}
 use Rattle.monitor.specs.declared.Monitor.{Monitor}
 use Rattle.lent.specs.Layout.{heldRows}
 use Rattle.lent.specs.Contract.{Holds}

@@ -1,8 +1,5 @@
 -- Of the mark of the close it is asked whether it is 0.
-use borrow.Author.Needs.{needs}
-use native.Mathlib.Omega.{arith}
-use mathlib.Core.Path.{refl}
-use borrow.Author.Tests.{lt-ltb, le-ltb}
+use Rattle.constraint.proofs.Library.{needs, arith, refl, lt-ltb, le-ltb}
 use Rattle.status.proofs.Places.{closed-lies}
 use Rattle.status.proofs.Theorem.{closed-asked}
 use Rattle.status.proofs.host.delkuthi_closed.Statement.{statement}

@@ -1,8 +1,5 @@
 -- Where another question is answered "no" the event is not refused with 12; else the first row is found that it crowds.
-use borrow.Author.Needs.{needs}
-use native.Mathlib.Omega.{arith}
-use borrow.Author.Tests.{lt-ltb, le-ltb}
-use denote.Ref.{now}
+use Rattle.constraint.proofs.Library.{needs, arith, lt-ltb, le-ltb, now}
 use Rattle.constraint.specs.declared.Call.{Call}
 use Rattle.status.proofs.Places.{held-lies, refusal-lies, few-wait, rows-there}
 use Rattle.status.proofs.Theorem.{crowded-row-asked}

@@ -1,9 +1,5 @@
 -- Row after row: before the turn of number i it is the least deadline of the first i.
-use borrow.Author.Needs.{needs}
-use native.Mathlib.Omega.{arith}
-use mathlib.Core.Path.{_≡_, sym, _∙_}
-use Prim.Native.Nat.{_-_, _≤_}
-use denote.Ref.{now}
+use Rattle.constraint.proofs.Library.{needs, arith, _≡_, sym, _∙_, _-_, _≤_, now}
 use Rattle.monitor.specs.declared.Monitor.{Monitor}
 use Rattle.lent.specs.Contract.{Holds}
 use Rattle.status.specs.Numbers.{leastOf}

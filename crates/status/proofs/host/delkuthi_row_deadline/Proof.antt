@@ -1,7 +1,5 @@
 -- A row that is there has the deadline of its numbers, and any other none.
-use borrow.Author.Needs.{needs}
-use native.Mathlib.Omega.{arith}
-use denote.Ref.{now}
+use Rattle.constraint.proofs.Library.{needs, arith, now}
 use Rattle.status.proofs.Places.{held-lies}
 use Rattle.status.proofs.Theorem.{row-deadline-asked}
 use Rattle.status.proofs.There.{is-there, not-there}

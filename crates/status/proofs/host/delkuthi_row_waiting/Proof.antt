@@ -1,7 +1,5 @@
 -- In a row that is there as many wait as its numbers say, and in any other none.
-use borrow.Author.Needs.{needs}
-use native.Mathlib.Omega.{arith}
-use denote.Ref.{now}
+use Rattle.constraint.proofs.Library.{needs, arith, now}
 use Rattle.status.proofs.Places.{held-lies, closed-lies, numbers-lie}
 use Rattle.status.proofs.Theorem.{waiting-asked}
 use Rattle.status.proofs.There.{is-there, not-there}

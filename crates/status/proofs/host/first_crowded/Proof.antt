@@ -1,11 +1,5 @@
 -- Row after row: before the turn of number i none of the first i has the mark.
-use borrow.Author.Needs.{needs}
-use native.Mathlib.Omega.{arith}
-use Prim.Native.Nat.{_+_, _-_, _≤_, _<_}
-use mathlib.Core.Path.{_≡_, sym, _∙_}
-use mathlib.Core.Bool.{Bool, cond}
-use lib.ListN.{drop}
-use denote.Ref.{now}
+use Rattle.constraint.proofs.Library.{needs, arith, _+_, _-_, _≤_, _<_, _≡_, sym, _∙_, Bool, cond, drop, now}
 use Rattle.row.specs.Apart.{crowdedBy}
 use Rattle.row.specs.declared.Occurrence.{Occurrence}
 use Rattle.row.specs.declared.Row.{Row}

@@ -1,8 +1,5 @@
 -- The n of a StrongSynchronization is asked for first, and then the length is compared with the list's, which is 0 for no type.
-use native.Mathlib.Omega.{arith}
-use borrow.Author.Needs.{needs}
-use mathlib.Core.Logic.{⊎-elim}
-use denote.Ref.{now}
+use Rattle.constraint.proofs.Library.{arith, needs, ⊎-elim, now}
 use Rattle.constraint.proofs.Judged.{free}
 use Rattle.table.proofs.Shapes.{shape-asked}
 use Rattle.table.proofs.body.shape_fits.Statement.{statement}

@@ -1,9 +1,5 @@
 -- The loop reads row after row from its body.
-use native.Mathlib.Omega.{arith}
-use Prim.Native.Nat.{ℕ, _+_, _*_, _-_, _≤_}
-use mathlib.Core.Path.{_≡_, subst, _∙_}
-use denote.Ref.{now}
-use lib.ListN.{length}
+use Rattle.constraint.proofs.Library.{arith, ℕ, _+_, _*_, _-_, _≤_, _≡_, subst, _∙_, now, length}
 use Rattle.constraint.specs.Bytes.{Bytes}
 use Rattle.constraint.proofs.Judged.{free}
 use Rattle.table.specs.Raw.{rawSize, RawTable}

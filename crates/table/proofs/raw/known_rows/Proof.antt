@@ -1,9 +1,5 @@
 -- The loop asks row after row for its bytes and its type, and stops at the first that lacks one.
-use native.Mathlib.Omega.{arith}
-use Prim.Native.Nat.{ℕ, _*_, _-_, _≤_, _<_}
-use mathlib.Core.Path.{_≡_}
-use denote.Ref.{now}
-use lib.ListN.{length}
+use Rattle.constraint.proofs.Library.{arith, ℕ, _*_, _-_, _≤_, _<_, _≡_, now, length}
 use Rattle.constraint.specs.Limits.{rowLimit}
 use Rattle.constraint.specs.Records.{Decides}
 use Rattle.constraint.proofs.Judged.{free, passed, failed}

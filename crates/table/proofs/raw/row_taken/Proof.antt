@@ -1,11 +1,5 @@
 -- The row's first two bytes say whether its type is known; where it is, the row that its body stands for is judged.
-use native.Mathlib.Omega.{arith}
-use borrow.Author.Needs.{needs}
-use Prim.Native.Nat.{ℕ, _+_, _*_, _≤_}
-use native.Mathlib.Nat.{add-sub-cancel-left}
-use mathlib.Core.Path.{_≡_, refl, _∙_, subst}
-use denote.Ref.{now}
-use lib.ListN.{length}
+use Rattle.constraint.proofs.Library.{arith, needs, ℕ, _+_, _*_, _≤_, add-sub-cancel-left, _≡_, refl, _∙_, subst, now, length}
 use Rattle.constraint.specs.Questions.{Judged}
 use Rattle.constraint.specs.Records.{Decides}
 use Rattle.constraint.specs.Accepted.{rowQuestions}

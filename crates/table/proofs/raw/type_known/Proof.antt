@@ -1,8 +1,5 @@
 -- A type that has a length is asked for first, and then the n of a StrongSynchronization.
-use Prim.Native.Nat.{ℕ, _+_, _≤_}
-use native.Mathlib.Omega.{arith}
-use mathlib.Core.Bool.{cond}
-use lib.Dec.{eqb}
+use Rattle.constraint.proofs.Library.{ℕ, _+_, _≤_, arith, cond, eqb}
 use Rattle.constraint.specs.Steps.{at}
 use Rattle.constraint.specs.Types.{lengths, lengthOf}
 use Rattle.constraint.proofs.Lists.{split}

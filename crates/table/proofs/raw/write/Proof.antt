@@ -1,7 +1,5 @@
 -- The rows up to the first that stops are read; where none stops all are written, and else those are judged before it.
-use native.Mathlib.Omega.{arith}
-use borrow.Author.Needs.{needs}
-use denote.Ref.{now}
+use Rattle.constraint.proofs.Library.{arith, needs, now}
 use Rattle.table.proofs.RawRows.{all-written, before-refused, unknown-refused, full-refused}
 use Rattle.table.proofs.raw.write.Statement.{statement}
 use Rattle.table.proofs.raw.write.Tie as tie

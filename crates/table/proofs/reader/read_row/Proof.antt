@@ -1,8 +1,5 @@
 -- The questions are put in their order, and the body is the part of the bytes that the definition names.
-use native.Mathlib.Omega.{arith}
-use borrow.Author.Needs.{needs}
-use mathlib.Core.Path.{_≡_, ap, subst, subst⁻¹, _∙_}
-use denote.Ref.{now}
+use Rattle.constraint.proofs.Library.{arith, needs, _≡_, ap, subst, subst⁻¹, _∙_, now}
 use Rattle.constraint.specs.Questions.{Judged}
 use Rattle.constraint.specs.Records.{Decides}
 use Rattle.constraint.specs.Bytes.{Bytes}

@@ -1,9 +1,5 @@
 -- The loop reads row after row: the record holds the rows read so far, and what is read from the place on, behind them, is the whole.
-use native.Mathlib.Omega.{arith}
-use borrow.Author.Needs.{needs}
-use Prim.Native.Nat.{_-_}
-use lib.ListN.{length}
-use denote.Ref.{now}
+use Rattle.constraint.proofs.Library.{arith, needs, _-_, length, now}
 use Rattle.table.specs.declared.reader.RowRead.{RowRead}
 use Rattle.table.proofs.Places.{place-taken}
 use Rattle.table.proofs.Progress.{ReadUpTo, up-to-start, up-to-more, up-to-refused, up-to-end}

@@ -1,7 +1,5 @@
 -- What is left behind the length field is compared with it, once it is known that the field is there.
-use native.Mathlib.Omega.{arith}
-use borrow.Author.Needs.{needs}
-use denote.Ref.{now}
+use Rattle.constraint.proofs.Library.{arith, needs, now}
 use Rattle.constraint.proofs.Judged.{free}
 use Rattle.table.proofs.Places.{whole-asked}
 use Rattle.table.proofs.reader.whole_at.Statement.{statement}

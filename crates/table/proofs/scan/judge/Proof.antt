@@ -1,7 +1,5 @@
 -- The version byte is asked for first, and then the rows.
-use borrow.Author.Needs.{needs}
-use mathlib.Core.Path.{refl, sym, _∙_}
-use denote.Ref.{now}
+use Rattle.constraint.proofs.Library.{needs, refl, sym, _∙_, now}
 use Rattle.constraint.specs.Table.{VersionOne, version-refused}
 use Rattle.table.proofs.Places.{version-one}
 use Rattle.table.proofs.Scanning.{counted-behind}

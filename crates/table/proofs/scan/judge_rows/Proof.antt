@@ -1,10 +1,5 @@
 -- The loop counts row after row: as many as were counted stand before the place, and what is read from there on, behind them, is the whole.
-use native.Mathlib.Omega.{arith}
-use borrow.Author.Needs.{needs}
-use Prim.Native.Nat.{_-_}
-use lib.ListN.{length}
-use mathlib.Core.Path.{refl}
-use denote.Ref.{now}
+use Rattle.constraint.proofs.Library.{arith, needs, _-_, length, refl, now}
 use Rattle.table.specs.declared.reader.RowRead.{RowRead}
 use Rattle.table.specs.Rows.{ReadsAt}
 use Rattle.table.proofs.Scanning.{CountedTo, counted-start, counted-more, counted-refused, counted-end}

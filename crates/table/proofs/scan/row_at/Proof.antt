@@ -1,8 +1,5 @@
 -- Where a row is whole, its body is the part behind the length field, and it is read as the row that it stands for.
-use native.Mathlib.Omega.{arith}
-use borrow.Author.Needs.{needs}
-use mathlib.Core.Path.{refl, ap, subst⁻¹, _∙_}
-use denote.Ref.{now}
+use Rattle.constraint.proofs.Library.{arith, needs, refl, ap, subst⁻¹, _∙_, now}
 use Rattle.constraint.specs.Bytes.{Bytes}
 use Rattle.constraint.specs.Table.{bodyAt, WholeAt, RowAt}
 use Rattle.constraint.proofs.Judged.{passed, failed, free}

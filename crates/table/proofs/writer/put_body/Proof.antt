@@ -1,11 +1,5 @@
 -- The type byte, the other bytes and the times are stored one behind the other, as many as the length says.
-use native.Mathlib.Omega.{arith}
-use borrow.Author.Needs.{needs}
-use Prim.Native.Nat.{ℕ, _+_, _-_, _≤_}
-use mathlib.Core.Path.{_≡_, sym, ap, _∙_}
-use lib.ListN.{length, take}
-use lib.Seq.{length-take-le}
-use denote.Ref.{now}
+use Rattle.constraint.proofs.Library.{arith, needs, ℕ, _+_, _-_, _≤_, _≡_, sym, ap, _∙_, length, take, length-take-le, now}
 use Rattle.constraint.specs.Types.{fieldsOf}
 use Rattle.constraint.specs.Records.{bytesIn, timesIn}
 use Rattle.constraint.proofs.Judged.{free}

@@ -1,7 +1,5 @@
 -- The length field and the body are stored one behind the other.
-use native.Mathlib.Omega.{arith}
-use borrow.Author.Needs.{needs}
-use denote.Ref.{now}
+use Rattle.constraint.proofs.Library.{arith, needs, now}
 use Rattle.constraint.proofs.Judged.{free}
 use Rattle.table.proofs.Bodies.{row-length}
 use Rattle.table.proofs.Stores.{row-stores}

@@ -1,10 +1,6 @@
 -- The loop stores row after row: storing those left in what there is now gives the whole.
-use native.Mathlib.Omega.{arith}
-use Prim.Native.Nat.{_+_, _-_, _^_, _≤_, _<_}
-use mathlib.Core.Path.{_≡_, refl, sym, ap, _∙_}
-use mathlib.Core.List.{List}
-use lib.ListN.{length, getD, drop, length-map, drop-of-length-le}
-use lib.Seq.{sets}
+use Rattle.constraint.proofs.Library.{arith, _+_, _-_, _^_, _≤_, _<_, _≡_, refl, sym, ap, _∙_, List, length, getD, drop, length-map}
+use Rattle.constraint.proofs.Library.{drop-of-length-le, sets}
 use Rattle.constraint.specs.Records.{rowsOf}
 use Rattle.constraint.specs.Table.{rowBody, rowsBytes, tableBytes}
 use Rattle.constraint.specs.declared.Constraint.{Constraint}

@@ -1,10 +1,6 @@
 -- The loop stores time after time: storing those left in what there is now gives the whole.
-use native.Mathlib.Omega.{arith}
-use Prim.Native.Nat.{ℕ, _+_, _*_, _-_, _≤_}
-use mathlib.Core.Path.{_≡_, refl, sym, ap, _∙_}
-use mathlib.Core.List.{List}
-use lib.ListN.{length, getD, take, drop, drop-of-length-le}
-use lib.Seq.{sets, length-take-le, getD-take}
+use Rattle.constraint.proofs.Library.{arith, ℕ, _+_, _*_, _-_, _≤_, _≡_, refl, sym, ap, _∙_, List, length, getD, take, drop, drop-of-length-le, sets}
+use Rattle.constraint.proofs.Library.{length-take-le, getD-take}
 use Rattle.table.proofs.Stores.{times-more}
 use Rattle.constraint.specs.Records.{timesBytes}
 use Rattle.table.proofs.writer.put_times.Statement.{statement}

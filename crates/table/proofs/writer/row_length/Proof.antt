@@ -1,6 +1,5 @@
 -- The length is the one that the list has for the row's type.
-use borrow.Author.Needs.{needs}
-use mathlib.Core.Path.{_∙_}
+use Rattle.constraint.proofs.Library.{needs, _∙_}
 use Rattle.constraint.proofs.Judged.{free}
 use Rattle.table.proofs.Stores.{numbers-length}
 use Rattle.table.proofs.writer.row_length.Statement.{statement}

@@ -1,9 +1,5 @@
 -- The loop adds row after row: the size so far and the bytes of the rows left are the whole.
-use native.Mathlib.Omega.{arith}
-use Prim.Native.Nat.{_+_, _*_, _-_, _≤_}
-use mathlib.Core.Path.{_≡_, sym, _∙_}
-use mathlib.Core.List.{[]}
-use lib.ListN.{length, drop, length-map, drop-of-length-le}
+use Rattle.constraint.proofs.Library.{arith, _+_, _*_, _-_, _≤_, _≡_, sym, _∙_, [], length, drop, length-map, drop-of-length-le}
 use Rattle.constraint.specs.Records.{rowsOf}
 use Rattle.constraint.specs.Table.{rowsBytes, tableBytes}
 use Rattle.constraint.proofs.Rows.{rows-length}

@@ -1,12 +1,5 @@
 -- The bytes copied are those that the text holds, and also of a text whose length says more than there is.
-use native.Mathlib.Omega.{arith}
-use Prim.Native.Nat.{_≤_}
-use mathlib.Core.Logic.{⊎-elim}
-use mathlib.Core.Path.{_≡_, sym, ap, _∙_}
-use lib.ListN.{length, take, length-map}
-use lib.Seq.{length-take-le, take-all}
-use borrow.Author.Needs.{needs}
-use denote.Ref.{now}
+use Rattle.constraint.proofs.Library.{arith, _≤_, ⊎-elim, _≡_, sym, ap, _∙_, length, take, length-map, length-take-le, take-all, needs, now}
 use Rattle.text.specs.Content.{textLimit, content}
 use Rattle.text.proofs.Texts.{copied-all, copied-none}
 use Rattle.text.proofs.Text.copy_to.Statement.{statement}

@@ -1,9 +1,5 @@
 -- The digits are those of the definition, and stand at the end of their bytes.
-use native.Mathlib.Omega.{arith}
-use Prim.Native.Nat.{_-_}
-use lib.ListN.{drop, length-drop}
-use lib.Seq.{take-all}
-use borrow.Author.Needs.{needs}
+use Rattle.constraint.proofs.Library.{arith, _-_, drop, length-drop, take-all, needs}
 use Rattle.text.proofs.Text.decimal.Statement.{statement}
 use Rattle.text.proofs.Text.decimal.Tie as tie
 

@@ -1,8 +1,5 @@
 -- The loop stores byte after byte: putting those left behind what there is now gives the whole, and a full text takes none of them.
-use native.Mathlib.Omega.{arith}
-use Prim.Native.Nat.{_-_, _≤_}
-use mathlib.Core.Path.{_≡_, refl, sym, _∙_}
-use lib.ListN.{length, drop, drop-of-length-le}
+use Rattle.constraint.proofs.Library.{arith, _-_, _≤_, _≡_, refl, sym, _∙_, length, drop, drop-of-length-le}
 use Rattle.text.specs.Content.{extended}
 use Rattle.text.proofs.Texts.{extended-next, extended-full}
 use Rattle.text.proofs.Text.word.Statement.{statement}

@@ -100,31 +100,41 @@ allCompute [] = true
 allCompute (e ∷ later) = computes e && allCompute later
 
 examples-computed : allCompute examples ≡ true
-unfolding allCompute computes playOf sameAnswers isVerdict play monitorOf mapFirst anyFirst takenCall stepOf verdictOf rowOf brokenRow applied changedRow rowStep rowVerdict ring pushRing putRing answeredBy decideDelay sourceStrongDelay targetStrongDelay decideStrongDelay decideRepeat laterSporadic decideSporadic changesTo decideOrder decideStrongSynchronization withdrawn withdrawOf zipFirst rowWithout keptWithout savedBy movesBy stepPlace backRow putBack
+unfolding allCompute computes playOf sameAnswers isVerdict play monitorOf mapFirst anyFirst takenCall stepOf verdictOf rowOf brokenRow
+    applied changedRow rowStep rowVerdict ring pushRing putRing answeredBy decideDelay sourceStrongDelay targetStrongDelay decideStrongDelay
+    decideRepeat laterSporadic decideSporadic changesTo decideOrder decideStrongSynchronization withdrawn withdrawOf zipFirst rowWithout
+    keptWithout savedBy movesBy stepPlace backRow putBack
 examples-computed = refl
 
 unlimited-computed : allCompute unlimited-delays ≡ true
-unfolding allCompute computes playOf sameAnswers isVerdict play monitorOf mapFirst anyFirst takenCall stepOf verdictOf rowOf brokenRow applied changedRow rowStep rowVerdict ring pushRing putRing answeredBy decideDelay
+unfolding allCompute computes playOf sameAnswers isVerdict play monitorOf mapFirst anyFirst takenCall stepOf verdictOf rowOf brokenRow
+    applied changedRow rowStep rowVerdict ring pushRing putRing answeredBy decideDelay
 unlimited-computed = refl
 
 silences-computed : allCompute silences ≡ true
-unfolding allCompute computes playOf sameAnswers isVerdict play monitorOf mapFirst anyFirst takenCall stepOf verdictOf rowOf brokenRow applied changedRow rowStep rowVerdict ring pushRing putRing decideRepeat laterSporadic decideSporadic
+unfolding allCompute computes playOf sameAnswers isVerdict play monitorOf mapFirst anyFirst takenCall stepOf verdictOf rowOf brokenRow
+    applied changedRow rowStep rowVerdict ring pushRing putRing decideRepeat laterSporadic decideSporadic
 silences-computed = refl
 
 execution-times-computed : allCompute execution-times ≡ true
-unfolding allCompute computes playOf sameAnswers isVerdict play monitorOf mapFirst anyFirst takenCall stepOf verdictOf rowOf brokenRow applied changedRow rowStep rowVerdict ring pushRing putRing whileIdle whileRunning whilePreempted decideExecutionTime
+unfolding allCompute computes playOf sameAnswers isVerdict play monitorOf mapFirst anyFirst takenCall stepOf verdictOf rowOf brokenRow
+    applied changedRow rowStep rowVerdict ring pushRing putRing whileIdle whileRunning whilePreempted decideExecutionTime
 execution-times-computed = refl
 
 reactions-computed : allCompute reactions ≡ true
-unfolding allCompute computes playOf sameAnswers isVerdict play monitorOf mapFirst anyFirst takenCall stepOf verdictOf rowOf brokenRow applied changedRow rowStep rowVerdict ring pushRing putRing dueBut decideReaction
+unfolding allCompute computes playOf sameAnswers isVerdict play monitorOf mapFirst anyFirst takenCall stepOf verdictOf rowOf brokenRow
+    applied changedRow rowStep rowVerdict ring pushRing putRing dueBut decideReaction
 reactions-computed = refl
 
 repetitions-computed : allCompute repetitions ≡ true
-unfolding allCompute computes playOf sameAnswers isVerdict play monitorOf mapFirst anyFirst takenCall stepOf verdictOf rowOf brokenRow applied changedRow rowStep rowVerdict ring pushRing putRing placed decideRepetition
+unfolding allCompute computes playOf sameAnswers isVerdict play monitorOf mapFirst anyFirst takenCall stepOf verdictOf rowOf brokenRow
+    applied changedRow rowStep rowVerdict ring pushRing putRing placed decideRepetition
 repetitions-computed = refl
 
 long-clocks-computed : allCompute long-clocks ≡ true
-unfolding allCompute computes playOf sameAnswers isVerdict play monitorOf mapFirst anyFirst takenCall stepOf verdictOf rowOf brokenRow applied changedRow rowStep rowVerdict ring pushRing putRing answeredBy decideDelay laterSporadic decideSporadic whileIdle whileRunning whilePreempted decideExecutionTime
+unfolding allCompute computes playOf sameAnswers isVerdict play monitorOf mapFirst anyFirst takenCall stepOf verdictOf rowOf brokenRow
+    applied changedRow rowStep rowVerdict ring pushRing putRing answeredBy decideDelay laterSporadic decideSporadic whileIdle whileRunning
+    whilePreempted decideExecutionTime
 long-clocks-computed = refl
 
 -- ---- so each reads by the definitions what the machine computes
@@ -200,7 +210,8 @@ both-read calls answers first second answered one two =
 
 -- §5.3.5
 pub crowded-silence-holds : CrowdedSilence
-unfolding crowdedPlay play monitorOf mapFirst anyFirst takenCall stepOf verdictOf rowOf brokenRow applied changedRow rowStep rowVerdict ring pushRing putRing answeredBy decideDelay decideRepeat
+unfolding crowdedPlay play monitorOf mapFirst anyFirst takenCall stepOf verdictOf rowOf brokenRow applied changedRow rowStep rowVerdict ring
+    pushRing putRing answeredBy decideDelay decideRepeat
 crowded-silence-holds =
     record {
       refused = both-read crowdedCalls crowdedAnswers Open Open refl refl refl;

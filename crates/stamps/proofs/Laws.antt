@@ -1,5 +1,5 @@
--- The last true time of a choice can be at each place from the earliest to the stamp, and a choice goes on with any later place of the next stamp; so each two
--- neighbours can take the ends of their ranges, and the tests on these ends tell what each choice and what some choice does.
+-- The last true time of a choice can be at each place from the earliest to the stamp, and a choice goes on with any later place of the next stamp; so
+-- each two neighbours can take the ends of their ranges, and the tests on these ends tell what each choice and what some choice does.
 use Rattle.constraint.proofs.Library.{ℕ, _+_, _-_, _≤_, _<_, min, max, arith, decLt, _≡_, refl, sym, ap, subst, _∙_, Bool, true, false, cond, _&&_}
 use Rattle.constraint.proofs.Library.{List, [], _∷_, _++_, inl, inr, ⊎-elim, by-cases, length, take, length-append, length-take, getD-take, eqb}
 use Rattle.constraint.proofs.Library.{eqb-true, eqb-false}
@@ -123,9 +123,12 @@ module _ (a : Asked) where
 
   -- with no limit the next can be as late as its stamp
   all-high : (low high t : ℕ) → highest (anyRule (a .late)) (marksWith low high) t ≡ t
-  all-high low high t = split (eqb noLimit noLimit) (λ x. cond x t (min (plus high noLimit) t) ≡ t) (λ e. refl) (λ e. absurd (eqb-false noLimit noLimit e refl))
+  all-high low high t =
+      split (eqb noLimit noLimit) (λ x. cond x t (min (plus high noLimit) t) ≡ t) (λ e. refl)
+      (λ e. absurd (eqb-false noLimit noLimit e refl))
 
-  module _ (small-lower : a .lower ≤ lastTime) (events : List ℕ) (s : Stamps) (known : Later events s) (t : ℕ) (small : t ≤ lastTime) (after : s .stamp < t) where
+  module _ (small-lower : a .lower ≤ lastTime) (events : List ℕ) (s : Stamps) (known : Later events s)
+      (t : ℕ) (small : t ≤ lastTime) (after : s .stamp < t) where
     abbrev next : ℕ
     next = nextLow 0 (a .late) (s .earliest) t
 
@@ -139,11 +142,13 @@ module _ (a : Asked) where
     next-choices : Places (anyRule (a .late)) more (length events) next t
     next-choices =
         subst (λ (high : ℕ). Places (anyRule (a .late)) more (length events) next high) (all-high (s .earliest) (s .stamp) t)
-        (later-places (anyRule (a .late)) events t small (marksWith (s .earliest) (s .stamp)) (known .n) (known .last) (known .choices) (omega arith) (omega arith)
+        (later-places (anyRule (a .late)) events t small (marksWith (s .earliest) (s .stamp))
+            (known .n) (known .last) (known .choices) (omega arith) (omega arith)
         (rw (all-high (s .earliest) (s .stamp) t) (omega (arith, early))))
 
     -- a choice goes on with a later time in the next one's range
-    goes-on : (points : List ℕ) → Chosen (a .late) events points → (q : ℕ) → at points (known .n) < q → next ≤ q → q ≤ t → Chosen (a .late) more (points ++ (q ∷ []))
+    goes-on : (points : List ℕ) → Chosen (a .late) events points → (q : ℕ) → at points (known .n) < q → next ≤ q → q ≤ t
+        → Chosen (a .late) more (points ++ (q ∷ []))
     goes-on points c q above from to =
         points-more 0 noLimit (a .late) events t points q c (omega arith, omega arith)
         (λ m f. let same : m ≡ known .n = omega (arith, known .last) in
@@ -173,15 +178,18 @@ module _ (a : Asked) where
     each-more all fits points c i h =
         by-cases (decLt (i + 1) (length events))
         (λ old. rw (getD-take (length events) points i 0 (omega arith), getD-take (length events) points (i + 1) 0 old) at
-        (all (take (length events) points) (first-of points c) i (omega (arith, length-take (length events) points, c .one-each, length-append events (t ∷ [])))))
+        (all (take (length events) points) (first-of points c) i
+            (omega (arith, length-take (length events) points, c .one-each, length-append events (t ∷ [])))))
         (λ end.
         let same : i ≡ known .n = omega (arith, known .last, c .one-each, length-append events (t ∷ [])) in
-        let before = rw (getD-take (length events) points (known .n) 0 (omega (arith, known .last))) at (known .choices .no-other (take (length events) points) (first-of points c)) in
+        let before = rw (getD-take (length events) points (known .n) 0 (omega (arith, known .last))) at
+            (known .choices .no-other (take (length events) points) (first-of points c)) in
         let now = next-choices .no-other points c in
         subst (λ (j : ℕ). Apart (a .lower) (a .upper) (at points j) (at points (j + 1))) (sym same)
         (subst (λ (j : ℕ). Apart (a .lower) (a .upper) (at points (known .n)) (at points j)) (sym (known .last))
         (pair-apart fits (at points (known .n)) (at points (length events)) (before .0) (before .1) (now .0) (now .1)
-        (subst (λ (j : ℕ). at points (known .n) < at points j) (known .last) (c .rise (known .n) (omega (arith, known .last, length-append events (t ∷ []))))))))
+        (subst (λ (j : ℕ). at points (known .n) < at points j) (known .last)
+            (c .rise (known .n) (omega (arith, known .last, length-append events (t ∷ []))))))))
 
     -- a choice that was not lower to upper apart goes on with the stamp
     each-still : EachAs events false → EachAs more false
@@ -248,9 +256,11 @@ module _ (a : Asked) where
           small = small;
           stamp-is = at-next events t [] (length events) refl;
           choices = next-choices;
-          each = each-after (s .each) (known .each) (tells-and (tells-leb (a .lower) (max 1 (next - s .stamp))) (tells-leb t (plus (s .earliest) (a .upper))));
+          each = each-after (s .each) (known .each)
+              (tells-and (tells-leb (a .lower) (max 1 (next - s .stamp))) (tells-leb t (plus (s .earliest) (a .upper))));
           some = some-after (s .low) (s .high) (s .some) (known .some)
-              (tells-and (tells-leb (stride (a .lower)) (a .upper)) (tells-leb (nextLow (a .lower) (a .late) (s .low) t) (nextHigh (a .upper) (s .high) t)));
+              (tells-and (tells-leb (stride (a .lower)) (a .upper))
+                  (tells-leb (nextLow (a .lower) (a .late) (s .low) t) (nextHigh (a .upper) (s .high) t)));
         }
 
   -- ---- one stamp more, and a call more
@@ -271,7 +281,8 @@ module _ (a : Asked) where
         more = λ f. first-later events t small (keeps .none e);
       })
 
-  pub keeps-call : a .event < firstColoured → a .lower ≤ lastTime → (steps : List Step) (s : Stamps) → Keeps (times (a .event) steps) s → (call : Call) → Accepts steps (stepFor call)
+  pub keeps-call : a .event < firstColoured → a .lower ≤ lastTime → (steps : List Step) (s : Stamps) → Keeps (times (a .event) steps) s
+      → (call : Call) → Accepts steps (stepFor call)
       → Keeps (times (a .event) (steps ++ (stepFor call ∷ []))) (callAfter a s call)
   keeps-call plain small-lower steps s keeps (Call.Event k t) accepts =
       split (eqb k (a .event)) (λ x. Keeps (times (a .event) (steps ++ (event k t ∷ []))) (cond x (stampAfter a s t) s))
@@ -294,16 +305,19 @@ module _ (a : Asked) where
 
     no-stamps : length events ≡ 0 → ReadsStamps (a .late) (a .lower) (a .upper) events now StampedVerdict.Kept
     unfolding MeetsRepeat SpansApart
-    no-stamps empty = each-meets (λ points c. (λ i h. absurd (omega (arith, c .one-each, empty, h)), λ i h. absurd (omega (arith, c .one-each, empty, h))))
+    no-stamps empty =
+        each-meets (λ points c. (λ i h. absurd (omega (arith, c .one-each, empty, h)), λ i h. absurd (omega (arith, c .one-each, empty, h))))
 
     module _ (s : Stamps) (known : Later events s) where
-      end : (points : List ℕ) → Chosen (a .late) events points → (i : ℕ) → i < length points → length points ≤ i + 1 → at points i ≡ at points (known .n)
+      end : (points : List ℕ) → Chosen (a .late) events points → (i : ℕ) → i < length points → length points ≤ i + 1
+          → at points i ≡ at points (known .n)
       end points c i h j = let same : i ≡ known .n = omega (arith, c .one-each, known .last) in ap (at points) same
 
       silent : (points : List ℕ) → Chosen (a .late) events points → MeetsNow points → now ≤ plus (at points (known .n)) (a .upper)
       unfolding MeetsRepeat
       silent points c meets =
-          ⊎-elim (λ f. omega arith) (λ h. omega arith) (meets .1 (known .n) (omega (arith, c .one-each, known .last)) (omega (arith, c .one-each, known .last)))
+          ⊎-elim (λ f. omega arith) (λ h. omega arith)
+              (meets .1 (known .n) (omega (arith, c .one-each, known .last)) (omega (arith, c .one-each, known .last)))
 
       -- each choice, and one that does not meet the row
       EachMeets : Bool → Type 0
@@ -324,7 +338,8 @@ module _ (a : Asked) where
       SomeMeets true = (points : List ℕ) × TrueTimes (a .late) events points × MeetsNow points
       SomeMeets false = (points : List ℕ) → TrueTimes (a .late) events points → ¬ MeetsNow points
 
-      some-now : (b : Bool) → SomeAs events (known .n) (s .low) (s .high) b → {test : Bool} → Tells (now ≤ plus (s .high) (a .upper)) test → SomeMeets (b && test)
+      some-now : (b : Bool) → SomeAs events (known .n) (s .low) (s .high) b → {test : Bool} → Tells (now ≤ plus (s .high) (a .upper)) test
+          → SomeMeets (b && test)
       unfolding MeetsRepeat SomeMeets
       some-now true places (holds soon) =
           let (points, c, is) = places .each (s .high) (places .ordered) (omega arith) in

@@ -43,23 +43,30 @@ module _ (bytes : List ℕ) (a : Asked) where
       pub pass-more : r .number ≡ 0 → PassedTo bytes a (r .clock) (callAfter a s (r .call)) (r .next)
       pass-more e =
           let taken = next .taken e (before .steps) (before .read .after) in
-          let asked = subst (λ (x : Call). Judged (questions [] (before .steps) x) Taken) (next .call-is (next .there e)) (record-accepts bytes [] (before .steps) place (taken .0) .1) in
+          let asked = subst (λ (x : Call). Judged (questions [] (before .steps) x) Taken) (next .call-is (next .there e))
+              (record-accepts bytes [] (before .steps) place (taken .0) .1) in
           record {
             steps = before .steps ++ (stepFor (r .call) ∷ []);
-            read = up-to-more bytes place (before .steps) o (before .read) (r .call) (r .next) (r .clock) there (next .call-is (next .there e)) (next .next-is (next .there e) .0) (taken .0) (taken .1);
-            keeps = λ plain small. keeps-call a plain small (before .steps) s (before .keeps plain small) (r .call) (accepts-taken [] (before .steps) (r .call) asked);
+            read = up-to-more bytes place (before .steps) o (before .read) (r .call) (r .next) (r .clock)
+                there (next .call-is (next .there e)) (next .next-is (next .there e) .0) (taken .0) (taken .1);
+            keeps = λ plain small. keeps-call a plain small (before .steps) s (before .keeps plain small)
+                (r .call) (accepts-taken [] (before .steps) (r .call) asked);
           }
 
       pub pass-refused : 0 < r .number → ReadsInOrder bytes (recording-refused (r .number) place)
-      pass-refused h = up-to-refused bytes place (before .steps) o (before .read) (r .number) there (next .refused h (before .steps) (before .read .after))
+      pass-refused h =
+          up-to-refused bytes place (before .steps) o (before .read) (r .number) there (next .refused h (before .steps) (before .read .after))
 
     pub pass-end : length bytes ≤ place → (steps : List Step) × ReadsInOrder bytes (recording-of steps)
-        × (a .event < firstColoured → a .lower ≤ lastTime → ReadsStamps (a .late) (a .lower) (a .upper) (times (a .event) steps) (clock steps) (stampsVerdict a s (o .time)))
+        × (a .event < firstColoured → a .lower ≤ lastTime → ReadsStamps (a .late) (a .lower) (a .upper)
+            (times (a .event) steps) (clock steps) (stampsVerdict a s (o .time)))
     pass-end end = (
       before .steps,
       up-to-end bytes place (before .steps) o (before .read) end,
       λ plain small.
-          subst (λ (now : ℕ). ReadsStamps (a .late) (a .lower) (a .upper) (times (a .event) (before .steps)) (clock (before .steps)) (stampsVerdict a s now))
+          subst (λ (now : ℕ). ReadsStamps (a .late) (a .lower) (a .upper) (times (a .event) (before .steps)) (clock (before .steps))
+              (stampsVerdict a s now))
           (sym (after-clock (before .steps) o (before .read .after)))
-          (reads-now a (times (a .event) (before .steps)) (clock (before .steps)) (past-of (after-valid (before .steps) o (before .read .after)) .small) s (before .keeps plain small)),
+          (reads-now a (times (a .event) (before .steps)) (clock (before .steps))
+              (past-of (after-valid (before .steps) o (before .read .after)) .small) s (before .keeps plain small)),
     )

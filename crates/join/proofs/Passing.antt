@@ -83,9 +83,11 @@ marks-set marks ks k h m =
       size = length-set marks k 1 ∙ m .size;
     }
 
-marks-more : (marks : List ℕ) (steps : List Step) (s : Step) (k : ℕ) → KindIs s k → Marks marks (kindsOf steps) → Marks (set marks k 1) (kindsOf (steps ++ (s ∷ [])))
+marks-more : (marks : List ℕ) (steps : List Step) (s : Step) (k : ℕ) → KindIs s k → Marks marks (kindsOf steps)
+    → Marks (set marks k 1) (kindsOf (steps ++ (s ∷ [])))
 marks-more marks steps s k (inl (e, h, of)) m =
-    subst (Marks (set marks k 1)) (sym (kinds-append steps (s ∷ []) ∙ ap (λ (l : List ℕ). kindsOf steps ++ l) e)) (marks-set marks (kindsOf steps) k h m)
+    subst (Marks (set marks k 1)) (sym (kinds-append steps (s ∷ []) ∙ ap (λ (l : List ℕ). kindsOf steps ++ l) e))
+    (marks-set marks (kindsOf steps) k h m)
 marks-more marks steps s k (inr (e, none, of)) m =
     subst (Marks (set marks k 1)) (sym (kinds-append steps (s ∷ []) ∙ ap (λ (l : List ℕ). kindsOf steps ++ l) e ∙ append-nil (kindsOf steps)))
     (subst (λ (l : List ℕ). Marks l (kindsOf steps)) (sym (set-out marks k 1 (omega (arith, m .size, none)))) m)
@@ -93,7 +95,8 @@ marks-more marks steps s k (inr (e, none, of)) m =
 -- the test of a mark
 marked-as : (marks ks : List ℕ) (s : Step) (k : ℕ) → KindIs s k → Marks marks ks → eqb (at marks k) 1 ≡ ofKinds ks s
 marked-as marks ks s k (inl (e, h, of)) m =
-    rw (m .each k h) (split (among k ks) (λ x. among k ks ≡ x → eqb (cond x 1 0) 1 ≡ ofKinds ks s) (λ t f. sym (of ks ∙ f)) (λ t f. sym (of ks ∙ f)) refl)
+    rw (m .each k h)
+    (split (among k ks) (λ x. among k ks ≡ x → eqb (cond x 1 0) 1 ≡ ofKinds ks s) (λ t f. sym (of ks ∙ f)) (λ t f. sym (of ks ∙ f)) refl)
 marked-as marks ks s k (inr (e, none, of)) m = rw (List·getD-eq-default marks 0 {n = k} (omega (arith, m .size, none))) (sym (of ks))
 
 -- ---- the search
@@ -101,10 +104,12 @@ marked-as marks ks s k (inr (e, none, of)) m = rw (List·getD-eq-default marks 0
 -- before a place: none so far, and what is found from there on is found from the start; or found
 abbrev Search : List ℕ → List ℕ → ℕ → List Step → ℕ → Type 0
 Search ks bytes place steps common =
-    ((common ≡ 0) × ((k : ℕ) → among k ks ≡ true → among k (kindsOf steps) ≡ false) × ((found : ℕ) → FirstOf ks bytes place found → FirstOf ks bytes 1 found))
+    ((common ≡ 0) × ((k : ℕ) → among k ks ≡ true → among k (kindsOf steps) ≡ false)
+        × ((found : ℕ) → FirstOf ks bytes place found → FirstOf ks bytes 1 found))
     ⊎ ((0 < common) × FirstOf ks bytes 1 common × ((k : ℕ) × (among k ks ≡ true) × (among k (kindsOf steps) ≡ true)))
 
-module _ (ks bytes : List ℕ) (place : ℕ) (steps : List Step) (s : Step) (k : ℕ) (is : KindIs s k) (at-place : s ≡ stepFor (callAt bytes place)) (within : place < length bytes)
+module _ (ks bytes : List ℕ) (place : ℕ) (steps : List Step) (s : Step) (k : ℕ)
+    (is : KindIs s k) (at-place : s ≡ stepFor (callAt bytes place)) (within : place < length bytes)
     (positive : 1 ≤ place) where
   all-kinds : (j : ℕ) → among j (kindsOf (steps ++ (s ∷ []))) ≡ among j (kindsOf steps ++ kindsOf (s ∷ []))
   all-kinds j = ap (among j) (kinds-append steps (s ∷ []))
@@ -128,7 +133,8 @@ module _ (ks bytes : List ℕ) (place : ℕ) (steps : List Step) (s : Step) (k :
   miss e before j t = all-kinds j ∙ go is
     where
       go : KindIs s k → among j (kindsOf steps ++ kindsOf (s ∷ [])) ≡ false
-      go (inl (f, h, of)) = rw f (among-others j k (kindsOf steps) (λ same. both (sym t ∙ ap (λ (x : ℕ). among x ks) same ∙ sym (of ks) ∙ e)) ∙ before j t)
+      go (inl (f, h, of)) =
+          rw f (among-others j k (kindsOf steps) (λ same. both (sym t ∙ ap (λ (x : ℕ). among x ks) same ∙ sym (of ks) ∙ e)) ∙ before j t)
       go (inr (f, none, of)) = rw f (rw (append-nil (kindsOf steps)) (before j t))
 
   search-more : (common : ℕ) → Search ks bytes place steps common → (avoided : Bool) → avoided ≡ ofKinds ks s
@@ -164,32 +170,43 @@ module _ (bytes avoid : List ℕ) where
 
   module _ (o : Clock) (kinds : List ℕ) (common place : ℕ) (before : PassedTo bytes avoid o kinds common place) where
     module _ (there : place < length bytes) (r : RecordRead) (next : ReadsNext bytes place o r) where
-      pub pass-more : r .number ≡ 0 → (kind : ℕ) (avoided : Bool) (kinds′ : List ℕ) (common′ : ℕ) → kind ≡ callKind (r .call) → avoided ≡ eqb (at avoid kind) 1
+      pub pass-more : r .number ≡ 0 → (kind : ℕ) (avoided : Bool) (kinds′ : List ℕ) (common′ : ℕ)
+          → kind ≡ callKind (r .call) → avoided ≡ eqb (at avoid kind) 1
           → kinds′ ≡ set kinds kind 1 → common′ ≡ firstCommon common avoided place → PassedTo bytes avoid (r .clock) kinds′ common′ (r .next)
       unfolding recordQuestions
       pass-more e kind avoided kinds′ common′ kind-is avoided-is kinds-are common-is =
           let taken = next .taken e (before .steps) (before .read .after) in
-          let asked = subst (λ (x : Call). Judged (questions [] (before .steps) x) Taken) (next .call-is (next .there e)) (judged-all 14 _ _ (taken .0) .1) in
+          let asked = subst (λ (x : Call). Judged (questions [] (before .steps) x) Taken) (next .call-is (next .there e))
+              (judged-all 14 _ _ (taken .0) .1) in
           let is : KindIs (stepFor (r .call)) kind = subst (KindIs (stepFor (r .call))) (sym kind-is) (call-kind (before .steps) (r .call) asked) in
           record {
             steps = before .steps ++ (stepFor (r .call) ∷ []);
-            read = up-to-more bytes place (before .steps) o (before .read) (r .call) (r .next) (r .clock) there (next .call-is (next .there e)) (next .next-is (next .there e) .0) (taken .0) (taken .1);
+            read = up-to-more bytes place (before .steps) o (before .read) (r .call) (r .next) (r .clock)
+                there (next .call-is (next .there e)) (next .next-is (next .there e) .0) (taken .0) (taken .1);
             marks = subst (λ (l : List ℕ). Marks l (kindsOf (before .steps ++ (stepFor (r .call) ∷ [])))) (sym kinds-are)
                 (marks-more kinds (before .steps) (stepFor (r .call)) kind is (before .marks));
             positive = omega (arith, before .positive, next .next-is (next .there e) .0);
             search = λ ks m.
                 subst (λ (n : ℕ). Search ks bytes (r .next) (before .steps ++ (stepFor (r .call) ∷ [])) n) (sym common-is)
-                (subst (λ (n : ℕ). Search ks bytes n (before .steps ++ (stepFor (r .call) ∷ [])) (firstCommon common avoided place)) (sym (next .next-is (next .there e) .0))
-                (search-more ks bytes place (before .steps) (stepFor (r .call)) kind is (ap stepFor (sym (next .call-is (next .there e)))) there (before .positive) common (before .search ks m)
+                (subst (λ (n : ℕ). Search ks bytes n (before .steps ++ (stepFor (r .call) ∷ [])) (firstCommon common avoided place))
+                    (sym (next .next-is (next .there e) .0))
+                (search-more ks bytes place (before .steps) (stepFor (r .call)) kind is
+                    (ap stepFor (sym (next .call-is (next .there e)))) there (before .positive) common (before .search ks m)
                 avoided (avoided-is ∙ marked-as avoid ks (stepFor (r .call)) kind is m)));
           }
 
       pub pass-refused : 0 < r .number → ReadsInOrder bytes (recording-refused (r .number) place)
-      pass-refused h = up-to-refused bytes place (before .steps) o (before .read) (r .number) there (next .refused h (before .steps) (before .read .after))
+      pass-refused h =
+          up-to-refused bytes place (before .steps) o (before .read) (r .number) there (next .refused h (before .steps) (before .read .after))
 
     pub pass-end : length bytes ≤ place → (steps : List Step) × ReadsInOrder bytes (recording-of steps) × Marks kinds (kindsOf steps)
         × ((ks : List ℕ) → Marks avoid ks → Found ks bytes steps common)
-    pass-end end = (before .steps, up-to-end bytes place (before .steps) o (before .read) end, before .marks, λ ks m. found (before .steps) ks (before .search ks m))
+    pass-end end = (
+      before .steps,
+      up-to-end bytes place (before .steps) o (before .read) end,
+      before .marks,
+      λ ks m. found (before .steps) ks (before .search ks m),
+    )
       where
         found : (steps : List Step) (ks : List ℕ) → Search ks bytes place steps common → Found ks bytes steps common
         found steps ks (inl (zero-yet, none, on)) = inl (zero-yet, none)

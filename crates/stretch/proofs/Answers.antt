@@ -57,13 +57,16 @@ module _ (c : Constraint) (streams times : List ℕ) (count : ℕ) (need : List 
 
     pub tries-first : 0 < r .tried → FirstAt (Breaking c steps) (stretches (length steps)) (stretchOf (r .first) (r .size)) (r .tried)
     tries-first h =
-        first-as (Enough need) (Breaking c steps) (Inside (length steps)) breaking enough (stretches (length steps)) (stretches-inside (length steps)) _ _
+        first-as (Enough need) (Breaking c steps) (Inside (length steps)) breaking enough
+            (stretches (length steps)) (stretches-inside (length steps)) _ _
         (subst (λ (l : List Stretch). FirstAt (Enough need) l (stretchOf (r .first) (r .size)) (r .tried)) as-steps (searches .first-is h))
 
     pub tries-none : r .tried ≡ 0 → ¬ Some (Breaking c steps) (stretches (length steps))
     tries-none e one =
         searches .none e
-        (subst (Some (Enough need)) (sym as-steps) (some-as (Breaking c steps) (Enough need) (Inside (length steps)) enough (stretches (length steps)) (stretches-inside (length steps)) one))
+        (subst (Some (Enough need)) (sym as-steps)
+        (some-as (Breaking c steps) (Enough need) (Inside (length steps)) enough
+            (stretches (length steps)) (stretches-inside (length steps)) one))
 
 -- ---- a row of a table
 
@@ -72,22 +75,26 @@ unfolding rowsQuestions
 row-accepted c sound =
     judged-yes 3 _ _ Taken (omega arith)
     (judged-yes 5 _ _ Taken (sound .kinds-fit)
-    (judged-yes 18 _ _ Taken (sound .kinds-suit) (judged-yes 6 _ _ Taken (sound .in-range) (judged-yes 7 _ _ Taken (sound .lower-first) judged-none))))
+    (judged-yes 18 _ _ Taken (sound .kinds-suit)
+    (judged-yes 6 _ _ Taken (sound .in-range) (judged-yes 7 _ _ Taken (sound .lower-first) judged-none))))
 
 -- the first that breaks is one that breaks
 some-first : (P : Stretch → Type 0) (list : List Stretch) (s : Stretch) (place : ℕ) → FirstAt P list s place → Some P list
 some-first P list s place f = subst (Some P) (sym (f .in-order)) (some-right P (f .before) (s ∷ f .later) (inl (f .has)))
 
 module _ (table : Table) (i : ℕ) (streams times : List ℕ) (count : ℕ) (few : count ≤ 256) where
-  pub asks-none : ((rows : List Constraint) → table ≡ tableOf rows → Accepted rows → length rows ≤ i) → Asks table i streams times count (StretchAnswer.Refused 15 0)
+  pub asks-none : ((rows : List Constraint) → table ≡ tableOf rows → Accepted rows → length rows ≤ i)
+      → Asks table i streams times count (StretchAnswer.Refused 15 0)
   asks-none past rows steps e accepted run =
-      no-stretch 15 (judged-yes 22 _ _ (Refused 15) (omega (arith, run .counted, few)) (judged-no 15 _ _ (λ h. omega (arith, h, past rows e accepted))))
+      no-stretch 15 (judged-yes 22 _ _ (Refused 15) (omega (arith, run .counted, few))
+          (judged-no 15 _ _ (λ h. omega (arith, h, past rows e accepted))))
 
   module _ (d : Entry) (there : i < table .count) where
     abbrev c : Constraint
     c = getD (table .rows) i d .constraint
 
-    module _ (rows : List Constraint) (steps : List Step) (e : table ≡ tableOf rows) (accepted : Accepted rows) (run : RunOf steps streams times count) where
+    module _ (rows : List Constraint) (steps : List Step) (e : table ≡ tableOf rows) (accepted : Accepted rows)
+        (run : RunOf steps streams times count) where
       within : i < length rows
       within = omega (arith, record-count table rows e, there)
 
@@ -98,31 +105,42 @@ module _ (table : Table) (i : ℕ) (streams times : List ℕ) (count : ℕ) (few
       alone = row-accepted c (sound-at rows (accepted-sound 0 rows accepted .0) i c is)
 
       -- 22 and 15 are answered "yes"
-      asked-first : (a : Answer) → Judged ((23, (d : Constraint) × (getElem? rows i ≡ some d) × Some (Breaking d steps) (stretches (length steps))) ∷ []) a → Judged (stretchQuestions rows steps i) a
+      asked-first : (a : Answer)
+          → Judged ((23, (d : Constraint) × (getElem? rows i ≡ some d) × Some (Breaking d steps) (stretches (length steps))) ∷ []) a
+          → Judged (stretchQuestions rows steps i) a
       asked-first a later = judged-yes 22 _ _ a (omega (arith, run .counted, few)) (judged-yes 15 _ _ a within later)
 
       by-answer : (answer : StretchAnswer) → Tries c steps answer → AnswersRow rows steps i answer
       by-answer (StretchAnswer.Found first size tried) first-at =
           found c first size tried
-          (asked-first Taken (judged-yes 23 _ _ Taken (c, is, some-first (Breaking c steps) (stretches (length steps)) (stretchOf first size) tried first-at) judged-none)) is first-at
+          (asked-first Taken
+          (judged-yes 23 _ _ Taken (c, is, some-first (Breaking c steps) (stretches (length steps)) (stretchOf first size) tried first-at)
+          judged-none))
+          is first-at
       by-answer (StretchAnswer.Refused n place) (n-is, place-is, none) =
           subst (λ (k : ℕ). AnswersRow rows steps i (StretchAnswer.Refused k place)) (sym n-is)
           (subst (λ (p : ℕ). AnswersRow rows steps i (StretchAnswer.Refused 23 p)) (sym place-is)
           (no-stretch 23 (asked-first (Refused 23) (judged-no 23 _ _ (λ one. none (of-row (one .0) (one .1) (one .2)))))))
         where
-          of-row : (d : Constraint) → getElem? rows i ≡ some d → Some (Breaking d steps) (stretches (length steps)) → Some (Breaking c steps) (stretches (length steps))
-          of-row d at-i one = let known = is in let same : d ≡ c = cc in subst (λ (x : Constraint). Some (Breaking x steps) (stretches (length steps))) same one
+          of-row : (d : Constraint) → getElem? rows i ≡ some d → Some (Breaking d steps) (stretches (length steps))
+              → Some (Breaking c steps) (stretches (length steps))
+          of-row d at-i one =
+              let known = is in
+              let same : d ≡ c = cc in
+              subst (λ (x : Constraint). Some (Breaking x steps) (stretches (length steps))) same one
 
     pub asks-row : (answer : StretchAnswer) → TriesAll c streams times count answer → Asks table i streams times count answer
     asks-row answer tries rows steps e accepted run = by-answer rows steps e accepted run answer (tries steps run (alone rows steps e accepted run))
 
 -- ---- a recording
 
-pub run-of : (bytes streams times : List ℕ) (steps : List Step) (count : ℕ) → ReadsInOrder bytes (recording-of steps) → count ≡ min (length steps) 257 → Kept steps streams times
+pub run-of : (bytes streams times : List ℕ) (steps : List Step) (count : ℕ)
+    → ReadsInOrder bytes (recording-of steps) → count ≡ min (length steps) 257 → Kept steps streams times
     → count ≤ 256 → RunOf steps streams times count
 run-of bytes streams times steps count reads counted kept few =
     record { counted = omega (arith, counted, few); kept = kept; taken = recording-taken bytes steps reads }
 
 -- more than 256 records
-pub too-many : (rows : List Constraint) (steps : List Step) (i count : ℕ) → count ≡ min (length steps) 257 → 256 < count → AnswersRow rows steps i (StretchAnswer.Refused 22 0)
+pub too-many : (rows : List Constraint) (steps : List Step) (i count : ℕ) → count ≡ min (length steps) 257 → 256 < count
+    → AnswersRow rows steps i (StretchAnswer.Refused 22 0)
 too-many rows steps i count counted many = no-stretch 22 (judged-no 22 _ _ (λ h. omega (arith, h, counted, many)))

@@ -38,11 +38,13 @@ seen-as past s t = split (eqb s streamCount) (λ x. seen past (cond x (tick t) (
 
 closed-as : (past : List Step) (s t : ℕ) → closed (past ++ (stepAs s t ∷ [])) ≡ closed past
 closed-as past s t =
-    split (eqb s streamCount) (λ x. closed (past ++ (cond x (tick t) (event s t) ∷ [])) ≡ closed past) (λ e. closed-tick t past) (λ e. closed-event s t past)
+    split (eqb s streamCount) (λ x. closed (past ++ (cond x (tick t) (event s t) ∷ [])) ≡ closed past)
+    (λ e. closed-tick t past) (λ e. closed-event s t past)
 
 not-close : (s t : ℕ) → stepAs s t ≡ close → ⊥
 not-close s t =
-    split (eqb s streamCount) (λ x. cond x (tick t) (event s t) ≡ close → ⊥) (λ e f. let z : _≡_ {A = ℕ} 0 1 = cc in omega arith) (λ e f. let z : _≡_ {A = ℕ} 0 1 = cc in omega arith)
+    split (eqb s streamCount) (λ x. cond x (tick t) (event s t) ≡ close → ⊥)
+    (λ e f. let z : _≡_ {A = ℕ} 0 1 = cc in omega arith) (λ e f. let z : _≡_ {A = ℕ} 0 1 = cc in omega arith)
 
 -- 12 was answered "yes" for a call that is not the close
 judged-room : (rows : List Constraint) (part : List Step) (call : Call) → (stepFor call ≡ close → ⊥) → Judged (questions rows part call) Taken
@@ -62,7 +64,9 @@ module _ (c : Constraint) (sound : Sound c) where
   -- the row has room where it fits, and where it is shut
   room-one : (part : List Step) → (Open c part → waiting c part ≤ waitingLimit) → Room alone part
   unfolding Room
-  room-one part room zero d e o = let same : c ≡ d = cc in subst (λ (x : Constraint). waiting x part ≤ waitingLimit) same (room (subst (λ (x : Constraint). Open x part) (sym same) o))
+  room-one part room zero d e o =
+      let same : c ≡ d = cc in
+      subst (λ (x : Constraint). waiting x part ≤ waitingLimit) same (room (subst (λ (x : Constraint). Open x part) (sym same) o))
   room-one part room (suc i) d e o = never (cc)
 
   of-room : (part : List Step) → Room alone part → Open c part → waiting c part ≤ waitingLimit
@@ -162,7 +166,8 @@ module _ (c : Constraint) (sound : Sound c) where
 
         accepts : Accepts (part size) step
         unfolding Room
-        accepts = accepts-taken [] (part size) (next steps taken start size there) (next-judged steps taken start size there [] (λ i d e o. never (cc)))
+        accepts =
+            accepts-taken [] (part size) (next steps taken start size there) (next-judged steps taken start size there [] (λ i d e o. never (cc)))
 
         -- what the step makes of the row
         abbrev Holds : List Step → RowStep → Type 0
@@ -196,7 +201,8 @@ module _ (c : Constraint) (sound : Sound c) where
                 (subst (λ (s : Step). Room alone (part size ++ (s ∷ []))) (sym (at-size .is) ∙ same)
                 (subst (λ (l : List Step). Room alone (l ++ (stepFor (at-size .s) ∷ []))) (take-take size m rest (omega (arith, longer)))
                 (judged-room alone (take size (part m)) (at-size .s)
-                (λ e. not-close (at streams (start + size)) (at times (start + size)) (sym (step-at (start + size) there) ∙ next-is steps taken start size there ∙ sym same ∙ at-size .is ∙ e))
+                (λ e. not-close (at streams (start + size)) (at times (start + size))
+                    (sym (step-at (start + size) there) ∙ next-is steps taken start size there ∙ sym same ∙ at-size .is ∙ e))
                 (at-size .judged))))
 
         module _ (calm : moved .crowded ≡ false) where
@@ -206,7 +212,8 @@ module _ (c : Constraint) (sound : Sound c) where
           now-takes : TakesEach alone (part (suc size))
           now-takes =
               takes-next steps taken start size there alone (run .takes)
-              (room-one (part (suc size)) (fits-room c (engine c sound) (part (suc size)) (part-valid (suc size) (omega (arith, there))) (moved .row) now-fits))
+              (room-one (part (suc size))
+                  (fits-room c (engine c sound) (part (suc size)) (part-valid (suc size) (omega (arith, there))) (moved .row) now-fits))
 
           pub run-on : moved .row .now .broken ≡ 0 → Running (suc size) (moved .row)
           run-on unbroken = record { within = omega (arith, there); takes = now-takes; fits = now-fits; unbroken = unbroken }
@@ -233,4 +240,5 @@ module _ (c : Constraint) (sound : Sound c) where
                 by-cases (decLt size m)
                 (λ longer. subst (Decides (Breaks c (part m))) (sym (le-leb (size + 1) m (omega (arith, longer))))
                 (takes-on (m - suc size) m (omega (arith, longer)) h, shut m longer h))
-                (λ shorter. subst (Decides (Breaks c (part m))) (sym (lt-leb (size + 1) m (omega (arith, shorter)))) (unbroken-yet m (omega (arith, shorter))))
+                (λ shorter. subst (Decides (Breaks c (part m))) (sym (lt-leb (size + 1) m (omega (arith, shorter))))
+                    (unbroken-yet m (omega (arith, shorter))))

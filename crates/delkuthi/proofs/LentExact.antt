@@ -19,7 +19,7 @@ use Rattle.monitor.specs.Contract.{resultOf, step, after}
 use Rattle.monitor.specs.declared.Monitor.{Monitor}
 use Rattle.monitor.proofs.Theorem.{monitor-is-exact}
 use Rattle.lent.specs.Contract.{answerFrom, Holds}
-use Rattle.lent.specs.Fresh.{Begins, begun, refused}
+use Rattle.fresh.specs.Fresh.{Begins, begun, refused}
 use Rattle.delkuthi.specs.Taking.{Took, RecordingTakenAs}
 use Rattle.delkuthi.specs.Reporting.{LeftBy, unused, used, ReportsOn, ReportsSteps}
 use Rattle.delkuthi.specs.LentExact.{Memory, Host, over, asked, Untouched, ReadsAs, ReadsRecorded, whole, cut, Reported, LentExact}

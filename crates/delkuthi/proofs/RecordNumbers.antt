@@ -12,7 +12,7 @@ use Rattle.constraint.specs.declared.Call.{Call}
 use Rattle.constraint.specs.declared.Constraint.{Constraint}
 use Rattle.constraint.specs.declared.StampedAnswer.{StampedAnswer}
 use Rattle.constraint.proofs.Judged.{never}
-use Rattle.lent.proofs.Refusals.{refused-small}
+use Rattle.fresh.proofs.Refusals.{refused-small}
 
 -- a number that leaves room for one bit more in its byte
 abbrev pub Short : ℕ → Type 0

@@ -24,7 +24,7 @@ use Rattle.monitor.specs.Contract.{after}
 use Rattle.monitor.specs.declared.Monitor.{Monitor}
 use Rattle.lent.specs.Layout.{Words}
 use Rattle.lent.specs.Contract.{Holds}
-use Rattle.lent.specs.Fresh.{freshLent, Begins, begun, refused}
+use Rattle.fresh.specs.Fresh.{freshLent, Begins, begun, refused}
 use Rattle.page.specs.declared.Summary.{Summary}
 use Rattle.delkuthi.specs.Taking.{TakesRecords}
 use Rattle.delkuthi.specs.Reporting.{LeftBy, unused, used, ReportsOn, ReportsSteps, unclosed, told, ReportsOf}

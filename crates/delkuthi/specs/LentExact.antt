@@ -16,7 +16,7 @@ use Rattle.constraint.specs.declared.Verdict.{Verdict}
 use Rattle.monitor.specs.Contract.{stepIn}
 use Rattle.lent.specs.Layout.{Words}
 use Rattle.lent.specs.Contract.{answerFrom, Takes, ReadOff}
-use Rattle.lent.specs.Fresh.{Begins}
+use Rattle.fresh.specs.Fresh.{Begins}
 use Rattle.delkuthi.specs.Taking.{StepsBefore}
 use Rattle.delkuthi.specs.Lent.{wordOf, WordOfVerdict, StepOfVerdict, NumberOfRows}
 use Rattle.delkuthi.specs.Printed.{WritesPage}

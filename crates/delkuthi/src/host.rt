@@ -2,7 +2,6 @@
 use constraint::Verdict;
 use lent::Words;
 use lent::calls;
-use lent::fresh;
 use machine::words;
 use monitor::RowVerdict;
 use monitor::verdicts;
@@ -13,7 +12,7 @@ ghost use Rattle.monitor.specs.Contract.{verdictIn, Reading};
 ghost use Rattle.monitor.specs.declared.Monitor.{Monitor};
 ghost use Rattle.constraint.specs.Run.{asks, withdraws};
 ghost use Rattle.lent.specs.Contract.{Takes, Holds, ReadOff};
-ghost use Rattle.lent.specs.Fresh.{Begins};
+ghost use Rattle.fresh.specs.Fresh.{Begins};
 ghost use Rattle.delkuthi.specs.Lent.{KnownWord, WordOfVerdict, StepOfVerdict, NumberOfRows, version, monitorSize};
 
 // The version of the library: 0.5.0 as major * 1,000,000 + minor * 1,000 + patch.

@@ -3,7 +3,6 @@ use crate::records::take_recording;
 use lent::COUNT;
 use lent::NUMBERS;
 use lent::Words;
-use lent::fresh::fresh;
 use machine::words;
 use page::Summary;
 use table::ReadAnswer;
@@ -34,7 +33,7 @@ fn refusal_of(number: u64) -> ReadAnswer
 pub(crate) fn answer_on(m: &mut Words, table: &[u8], recording: &[u8]) -> ReadAnswer
     ensures { λ r. ⌜ LeftBy (now (m .entry)) (now (table .entry)) (now (recording .entry)) r (now (m .exit)) ⌝ }
 {
-    let number = fresh(m, table);
+    let number = fresh::fresh(m, table);
     if number == 0 {
         return take_recording(m, recording);
     }

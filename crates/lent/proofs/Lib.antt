@@ -11,9 +11,3 @@ pub mod Counted
 pub mod OfStream
 pub mod OfNone
 pub mod Laws
-mod Padding
-mod Totals
-mod Lists
-mod Scanned
-mod Freshness
-pub mod Refusals

@@ -2,4 +2,3 @@
 pub mod Layout
 pub mod Steps
 pub mod Contract
-pub mod Fresh

@@ -5,7 +5,6 @@ ghost use Rattle.lent.specs.Layout.{Lent, wordsOf, Shaped, heldRows};
 use queue::minus;
 
 pub mod calls;
-pub mod fresh;
 mod numbers;
 mod rows;
 

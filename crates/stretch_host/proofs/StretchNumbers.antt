@@ -2,7 +2,7 @@
 use Rattle.constraint.proofs.Library.{ℕ, _<_, arith, List}
 use Rattle.constraint.specs.Stretches.{stretchQuestions, no-stretch, AnswersStretch, no-table, no-recording, answers}
 use Rattle.constraint.specs.declared.StretchAnswer.{StretchAnswer}
-use Rattle.lent.proofs.Refusals.{AllAbove, number-above, refused-small}
+use Rattle.fresh.proofs.Refusals.{AllAbove, number-above, refused-small}
 use Rattle.delkuthi.proofs.RecordNumbers.{refusal-short}
 
 pub stretch-above : (table recording : List ℕ) (i n place : ℕ) → AnswersStretch table recording i (StretchAnswer.Refused n place) → 0 < n

@@ -1,0 +1,7 @@
+-- Why the words of a monitor that is made fresh are those of the fresh monitor over the table.
+mod Padding
+mod Totals
+mod Lists
+mod Scanned
+mod Freshness
+pub mod Refusals

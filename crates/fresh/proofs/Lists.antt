@@ -1,0 +1,72 @@
+-- The lists of a lent monitor where they lie: a store in one is a store in one part of the record. Words whose blocks are all known are a monitor's.
+use Rattle.constraint.proofs.Library.{ℕ, suc, _<_, _≤_, _/_, _%_, arith, _≡_, refl, sym, ap, ap₂, subst, _∙_, List, [], _∷_, _++_, length, getD, set}
+use Rattle.constraint.proofs.Library.{drop, drop-cons, drop-length}
+use Rattle.row.specs.Undo.{noBefore}
+use Rattle.row.specs.Stored as Stored
+use Rattle.row.specs.declared.Before.{Before}
+use Rattle.row.specs.declared.Row.{Row}
+use Rattle.monitor.specs.Machine.{noRow}
+use Rattle.lent.specs.Layout.{Lent, Words, halves, numberBlock, lastBlocks, wordsOf, rowBlocks, Shaped}
+use Rattle.fresh.specs.Fresh.{padded, withLists, RowsLie}
+use Rattle.lent.proofs.Blocks.{last-written}
+use Rattle.lent.proofs.Parts.{half-written, numbers-read, entries-read}
+use Rattle.fresh.proofs.Padding.{padded-length}
+
+-- ---- stores
+
+module _ (h : Lent) (s : Shaped h) where
+  pub end-written : (kind v : ℕ)
+      → set (wordsOf h) 32 (set (getD (wordsOf h) 32 []) 1 (set (getD (getD (wordsOf h) 32 []) 1 []) kind v))
+      ≡ wordsOf (withLists h (set (h .ends) kind v) (h .entries))
+  unfolding wordsOf
+  end-written kind v =
+      ap (λ (b : List (List ℕ)). set (wordsOf h) 32 (set b 1 (set (getD b 1 []) kind v))) (numbers-read h s)
+      ∙ last-written h s 0 (set (numberBlock h) 1 (set (getD (numberBlock h) 1 []) kind v))
+
+  pub entry-written : (i v : ℕ) → i < 128
+      → set (wordsOf h) 33 (set (getD (wordsOf h) 33 []) (i / 64) (set (getD (getD (wordsOf h) 33 []) (i / 64) []) (i % 64) v))
+      ≡ wordsOf (withLists h (h .ends) (set (h .entries) i v))
+  unfolding wordsOf
+  entry-written i v small =
+      ap (λ (b : List (List ℕ)). set (wordsOf h) 33 (set b (i / 64) (set (getD b (i / 64) []) (i % 64) v))) (entries-read h s)
+      ∙ last-written h s 1 (set (halves (h .entries)) (i / 64) (set (getD (halves (h .entries)) (i / 64) []) (i % 64) v))
+      ∙ ap (λ (b : List (List ℕ)). rowBlocks (h .monitor .rows) (h .monitor .before)
+      ++ (numberBlock h ∷ b ∷ halves (drop 48 (h .monitor .next)) ∷ []))
+      (half-written (h .entries) i v small)
+
+  pub shaped-lists : (ends entries : List ℕ) → Shaped (withLists h (padded 64 ends) (padded 128 entries))
+  shaped-lists ends entries =
+      record {
+        rows-there = s .rows-there;
+        kept-there = s .kept-there;
+        next-there = s .next-there;
+        ends-there = padded-length ends 64;
+        entries-there = padded-length entries 128;
+        rest-zero = s .rest-zero;
+      }
+
+-- ---- words whose blocks are known
+
+rows-known : (rows : List Row) (kept : List Before) (words : Words) → length rows ≡ length kept → length rows ≤ length words
+    → ((i : ℕ) → i < length rows → getD words i [] ≡ Stored.wordsOf (getD rows i noRow) (getD kept i noBefore))
+    → words ≡ rowBlocks rows kept ++ drop (length rows) words
+unfolding rowBlocks
+rows-known [] kept words same few each = refl
+rows-known (r ∷ rows) [] words same few each = absurd (omega (arith, same))
+rows-known (r ∷ rows) (b ∷ kept) [] same few each = absurd (omega (arith, few))
+rows-known (r ∷ rows) (b ∷ kept) (w ∷ words) same few each =
+    ap₂ (λ (x : List (List ℕ)) (y : Words). x ∷ y) (each 0 (omega arith))
+    (rows-known rows kept words (omega (arith, same)) (omega (arith, few)) (λ i below. each (suc i) (omega (arith, below))))
+
+pub words-known : (h : Lent) → Shaped h → (words : Words) → length words ≡ 35 → RowsLie (h .monitor) 32 words
+    → getD words 32 [] ∷ getD words 33 [] ∷ getD words 34 [] ∷ [] ≡ lastBlocks h → words ≡ wordsOf h
+unfolding wordsOf
+words-known h s words long rows last =
+    let none : drop 35 words ≡ [] = subst (λ (n : ℕ). drop n words ≡ []) long (drop-length words) in
+    rows-known (h .monitor .rows) (h .monitor .before) words (s .rows-there ∙ sym (s .kept-there)) (omega (arith, s .rows-there, long))
+    (λ i below. rows i (omega (arith, below, s .rows-there)))
+    ∙ ap (λ (rest : Words). rowBlocks (h .monitor .rows) (h .monitor .before) ++ rest)
+    (ap (λ (n : ℕ). drop n words) (s .rows-there) ∙ drop-cons words 32 [] (omega (arith, long))
+    ∙ ap {B = Words} (λ rest. getD words 32 [] ∷ rest) (drop-cons words 33 [] (omega (arith, long))
+    ∙ ap {B = Words} (λ rest. getD words 33 [] ∷ rest) (drop-cons words 34 [] (omega (arith, long))
+    ∙ ap {B = Words} (λ rest. getD words 34 [] ∷ rest) none)) ∙ last)

@@ -1,0 +1,62 @@
+-- A table's rows are read again one by one, each is stored in its block, and behind the last of them nothing whole stands: the filler is read there.
+use Rattle.constraint.proofs.Library.{ℕ, zero, suc, _+_, _<_, _≤_, arith, _≡_, refl, sym, ap, subst, _∙_, List, [], _∷_, length, getD, set, drop}
+use Rattle.constraint.proofs.Library.{length-set, drop-of-length-le, getD-set-same, getD-set-other, ltb, eqb, ltb-true, ltb-false, eqb-true}
+use Rattle.constraint.proofs.Library.{eqb-false}
+use Rattle.constraint.specs.Records.{filler}
+use Rattle.constraint.specs.Table.{TableRead, table-of, table-refused, ReadsRows, no-more, row-refused, row-taken}
+use Rattle.constraint.specs.declared.Constraint.{Constraint}
+use Rattle.constraint.proofs.Judged.{never}
+use Rattle.constraint.proofs.Lists.{split}
+use Rattle.table.specs.Scan.{PlacedAt}
+use Rattle.table.specs.declared.scan.Placed.{Placed}
+use Rattle.table.proofs.Scanning.{scan-step}
+use Rattle.row.specs.Stored as Stored
+use Rattle.monitor.specs.declared.Monitor.{Monitor}
+use Rattle.lent.specs.Layout.{Words, rowAt, keptAt}
+use Rattle.fresh.specs.Fresh.{RowsPut}
+
+-- ---- read
+
+-- no row is left only at the end of the bytes
+at-end : (bytes : List ℕ) {i place : ℕ} {read : TableRead} → ReadsRows bytes i place read → read ≡ table-of [] → length bytes ≤ place
+at-end bytes (no-more end) e = end
+at-end bytes (row-refused n c there at-c refused) e = never (cc)
+at-end bytes (row-taken {later = table-of others} c there at-c judged reads) e = never (cc)
+at-end bytes (row-taken {later = table-refused n p} c there at-c judged reads) e = never (cc)
+
+getD-past : (rows : List Constraint) (i : ℕ) → length rows ≤ i → getD rows i filler ≡ filler
+getD-past [] i past = refl
+getD-past (c ∷ rows) zero past = absurd (omega (arith, past))
+getD-past (c ∷ rows) (suc i) past = getD-past rows i (omega (arith, past))
+
+pub scan-next : (bytes : List ℕ) (rows : List Constraint) (i place : ℕ) (r : Placed) → ReadsRows bytes i place (table-of (drop i rows))
+    → PlacedAt bytes place r → (r .row ≡ getD rows i filler) × ReadsRows bytes (i + 1) (r .next) (table-of (drop (i + 1) rows))
+scan-next bytes rows i place r reads placed =
+    split (ltb i (length rows)) (λ _. (r .row ≡ getD rows i filler) × ReadsRows bytes (i + 1) (r .next) (table-of (drop (i + 1) rows)))
+    (λ e. scan-step bytes rows i place filler r (ltb-true i (length rows) e) reads placed)
+    (λ e.
+    let past : length rows ≤ i = ltb-false i (length rows) e in
+    let end : length bytes ≤ place = at-end bytes reads (ap table-of (drop-of-length-le rows past)) in
+    let read = placed .none (λ whole. omega (arith, whole .0, end)) in (
+      read .0 ∙ sym (getD-past rows i past),
+      subst (λ (later : List Constraint). ReadsRows bytes (i + 1) (r .next) (table-of later))
+          (sym (drop-of-length-le rows {i = i + 1} (omega (arith, past)))) (no-more (omega (arith, end, read .1))),
+    ))
+
+-- ---- stored
+
+pub put-none : (entry : Words) (m : Monitor) → RowsPut entry m 0 entry
+put-none entry m = record { long = refl; rows-lie = λ i below. absurd (omega (arith, below)); others = λ i _. refl }
+
+pub put-next : (entry : Words) (m : Monitor) (n : ℕ) (words : Words) (block : List (List ℕ)) → n < length entry → RowsPut entry m n words
+    → block ≡ Stored.wordsOf (rowAt m n) (keptAt m n) → RowsPut entry m (n + 1) (set words n block)
+put-next entry m n words block room so-far is =
+    record {
+      long = length-set words n block ∙ so-far .long;
+      rows-lie = λ i below.
+          split (eqb i n) (λ _. getD (set words n block) i [] ≡ Stored.wordsOf (rowAt m i) (keptAt m i))
+          (λ e. let same = eqb-true i n e in
+          rw same (getD-set-same words n block [] (omega (arith, room, so-far .long)) ∙ is))
+          (λ e. getD-set-other words n i block [] (eqb-false i n e) ∙ so-far .rows-lie i (omega (arith, below, eqb-false i n e)));
+      others = λ i above. getD-set-other words n i block [] (λ same. omega (arith, same, above)) ∙ so-far .others i (omega (arith, above));
+    }

@@ -1,0 +1,42 @@
+-- The bytes are judged before anything is stored; where they are accepted, every word is stored, those of the lists last.
+use Rattle.constraint.proofs.Library.{ℕ, arith, _≡_, sym, ap, subst, subst₂, _∙_, List, [], now, needs}
+use Rattle.constraint.specs.declared.Constraint.{Constraint}
+use Rattle.monitor.specs.Contract.{after}
+use Rattle.lent.specs.Layout.{Words, wordsOf}
+use Rattle.fresh.specs.Fresh.{listedTo, endsTo, padded, withLists, freshLent, Begins, begun, refused}
+use Rattle.fresh.proofs.Freshness.{fresh-shaped, fresh-indexes}
+use Rattle.fresh.proofs.fresh.Statement.{statement}
+use Rattle.fresh.proofs.fresh.Tie as tie
+
+enlist-requires : tie.Need-enlist-requires
+enlist-requires c κs =
+    let t = c .before .before .before in
+    let counted = t .before .judge .ensures .accepted (t .if1 .taken) in
+    omega (arith, counted .counted, counted .room)
+
+returns : tie.Need-returns
+returns c =
+    let b = c .before .before in
+    let t = b .before .before in
+    let j = t .before in
+    let a = j .before .before .args in
+    let counted = j .judge .ensures .accepted (t .if1 .taken) in
+    let rows : List Constraint = counted .rows in
+    let lies = b .begin .ensures rows (counted .reads) (counted .room) (counted .counted) in
+    let words : c .enlist .last .0 ≡ wordsOf (freshLent rows) =
+    c .enlist .ensures (freshLent rows) (fresh-shaped rows (counted .room)) lies
+    ∙ ap (λ (n : ℕ). wordsOf (withLists (freshLent rows) (endsTo (after rows []) n 64) (padded 128 (listedTo (after rows []) n 64))))
+    (counted .counted) in
+    subst₂ (λ (number : ℕ) (exit : Words). Begins (now (a .table)) (now (a .m)) number exit) (sym (t .if1 .taken)) (sym words)
+    (begun rows (counted .reads) (counted .accepted) (fresh-indexes rows (counted .accepted)))
+
+returns-2 : tie.Need-returns-2
+returns-2 c =
+    let j = c .before in
+    let a = j .before .before .args in
+    let refusal = j .judge .ensures .refused (c .if1 .left) in
+    subst (λ (number : ℕ). Begins (now (a .table)) (now (a .m)) number (now (a .m))) (sym (refusal .numbered))
+    (refused (refusal .question) (refusal .place) (refusal .reads) (refusal .above) (refusal .below))
+
+pub fresh-spec : {M : Type 1} → statement M
+fresh-spec = tie.close (tie.spec (λ c κs. search needs) (λ c κs. search needs) enlist-requires returns returns-2)

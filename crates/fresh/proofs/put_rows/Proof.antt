@@ -1,0 +1,49 @@
+-- Row after row: before the turn of number i the first i are stored, and the others are read from the place on that the turn has.
+use Rattle.constraint.proofs.Library.{ℕ, _-_, _≤_, arith, _≡_, sym, ap, ap₂, subst, _∙_, List, [], length, drop}
+use Rattle.constraint.specs.Table.{ReadsRows, ReadsTable, table-of}
+use Rattle.constraint.specs.declared.Constraint.{Constraint}
+use Rattle.table.proofs.Scanning.{scan-start}
+use Rattle.row.specs.Machine.{rowOf}
+use Rattle.row.specs.Undo.{noBefore}
+use Rattle.row.specs.Stored as Stored
+use Rattle.monitor.specs.Contract.{after}
+use Rattle.fresh.specs.Fresh.{RowsPut}
+use Rattle.fresh.proofs.Scanned.{scan-next, put-none, put-next}
+use Rattle.fresh.proofs.Freshness.{row-is, kept-is}
+use Rattle.fresh.proofs.put_rows.Statement.{statement}
+use Rattle.fresh.proofs.put_rows.Tie as tie
+
+abbrev Inv-loop : tie.InvT-loop
+Inv-loop m₀ table place₀ i₀ m place i =
+    (i ≤ 32) × ((rows : List Constraint) → ReadsTable table (table-of rows) → length m₀ ≡ 35
+    → ReadsRows table i place (table-of (drop i rows)) × RowsPut m₀ (after rows []) i m)
+
+abbrev μ-loop : tie.MeasureT-loop
+μ-loop m₀ table place₀ i₀ m place i = 32 - i
+
+loop-holds : tie.Need-loop-holds Inv-loop μ-loop
+loop-holds c = (omega arith, λ rows reads long. (scan-start _ rows reads, put-none _ (after rows [])))
+
+loop-again : tie.Need-loop-again Inv-loop μ-loop
+loop-again c =
+    let d = c .before .before in
+    let l = d .before .before .loop in (
+      omega arith,
+      λ rows reads long.
+          let so-far = l .inv .1 rows reads long in
+          let next = scan-next _ rows (l .i) (l .place) (d .row-at .result) (so-far .0) (d .row-at .ensures) in
+          let row = c .begin .ensures ∙ ap (λ (x : Constraint). Stored.wordsOf (rowOf x) noBefore) (next .0)
+          ∙ ap₂ Stored.wordsOf (sym (row-is rows (l .i))) (sym (kept-is rows (l .i))) in
+          (next .1, put-next _ (after rows []) (l .i) (l .m) (c .begin .last .0) (omega arith) (so-far .1) row),
+    )
+
+returns : tie.Need-returns Inv-loop μ-loop
+returns c rows reads long =
+    let l = c .before .loop in
+    let at-end : l .i ≡ 32 = omega arith in
+    subst (λ (k : ℕ). RowsPut (c .before .before .before .args .m .now) (after rows []) k (l .m)) at-end (l .inv .1 rows reads long .1)
+
+pub put-rows-spec : {M : Type 1} → statement M
+put-rows-spec =
+    tie.close (tie.spec Inv-loop μ-loop loop-holds (λ c κs. tt) (λ c. omega arith) (λ c. omega arith) (λ c κs. tt) (λ c. omega arith) (λ c. omega
+    arith) loop-again returns)

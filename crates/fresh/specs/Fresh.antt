@@ -1,0 +1,114 @@
+-- A lent monitor made fresh over a table: every word of it, and the number that answers to the table's bytes.
+use Prim.Native.Nat.{ℕ, zero, suc, _+_, _*_, _<_, _≤_}
+use mathlib.Core.Path.{_≡_}
+use mathlib.Core.Bool.{Bool, cond}
+use mathlib.Core.List.{List, [], _∷_, _++_}
+use lib.ListN.{length, getD, take, replicate}
+use Rattle.constraint.specs.Limits.{rowLimit}
+use Rattle.constraint.specs.Accepted.{Accepted}
+use Rattle.constraint.specs.Table.{ReadsTable, table-of, table-refused}
+use Rattle.constraint.specs.declared.Constraint.{Constraint}
+use Rattle.table.specs.Scan.{Counted}
+use Rattle.row.specs.Stored as Stored
+use Rattle.monitor.specs.Contract.{after}
+use Rattle.monitor.specs.declared.Monitor.{Monitor}
+use Rattle.lent.specs.Layout.{Lent, Words, wordsOf, Shaped, rowAt, keptAt}
+use Rattle.lent.specs.Contract.{numbers, isOf, Indexes}
+use Rattle.fresh.specs.declared.Judged.{Judged}
+
+-- ---- the list of rows for each kind
+
+-- those of the first rows that each of the first kinds concerns, kind after kind
+unfoldable pub listedTo : Monitor → ℕ → ℕ → List ℕ
+listedTo m rows zero = []
+listedTo m rows (suc kind) = listedTo m rows kind ++ numbers (isOf m kind) rows
+
+-- where those of each of the first kinds end
+unfoldable pub endsTo : Monitor → ℕ → ℕ → List ℕ
+endsTo m rows zero = []
+endsTo m rows (suc kind) = endsTo m rows kind ++ (length (listedTo m rows (suc kind)) ∷ [])
+
+-- a list in so many places, and zeros behind it
+unfoldable pub padded : ℕ → List ℕ → List ℕ
+padded places list = take places (list ++ replicate places 0)
+
+-- ---- the fresh monitor over a table's rows
+
+abbrev pub withLists : Lent → List ℕ → List ℕ → Lent
+withLists h ends entries = record { monitor = h .monitor; soonest = h .soonest; room = h .room; ends = ends; entries = entries }
+
+abbrev pub freshLent : List Constraint → Lent
+freshLent rows =
+    record {
+      monitor = after rows [];
+      soonest = 0;
+      room = 0;
+      ends = endsTo (after rows []) (length rows) 64;
+      entries = padded 128 (listedTo (after rows []) (length rows) 64);
+    }
+
+-- §11.5: the number that answers and the words then: 0, and each is the fresh monitor's; or 256 times the place and the number of the refusal, and
+-- each as it was
+pub data Begins (bytes : List ℕ) (entry : Words) : ℕ → Words → Type 0 where
+  begun : (rows : List Constraint) → ReadsTable bytes (table-of rows) → Accepted rows → Indexes (freshLent rows)
+      → Begins bytes entry 0 (wordsOf (freshLent rows))
+  refused : (n place : ℕ) → ReadsTable bytes (table-refused n place) → 0 < n → n < 256 → Begins bytes entry (place * 256 + n) entry
+
+-- ---- what its parts promise
+
+-- the refusal that a number answers with
+pub record RefusedAs (bytes : List ℕ) (number : ℕ) : Type 0 where
+  pub question : ℕ
+  pub place : ℕ
+  pub reads : ReadsTable bytes (table-refused question place)
+  pub above : 0 < question
+  pub below : question < 256
+  pub numbered : number ≡ place * 256 + question
+
+-- the number that answers to a table's bytes, and where it is 0 how many rows they hold
+pub record Judges (bytes : List ℕ) (judged : Judged) : Type 0 where
+  pub accepted : judged .number ≡ 0 → Counted (ReadsTable bytes) (judged .rows)
+  pub refused : ¬ (judged .number ≡ 0) → RefusedAs bytes (judged .number)
+
+-- the words of a block that is cleared
+abbrev pub noWords : List (List ℕ)
+noWords = replicate 2 (replicate 64 0)
+
+-- the first blocks are those of a monitor's rows
+abbrev pub RowsLie : Monitor → ℕ → Words → Type 0
+RowsLie m n words = (i : ℕ) → i < n → getD words i [] ≡ Stored.wordsOf (rowAt m i) (keptAt m i)
+
+-- so they are after some words, and the other blocks as they were
+pub record RowsPut (entry : Words) (m : Monitor) (n : ℕ) (exit : Words) : Type 0 where
+  pub long : length exit ≡ length entry
+  pub rows-lie : RowsLie m n exit
+  pub others : (i : ℕ) → n ≤ i → getD exit i [] ≡ getD entry i []
+
+-- the rows of the table that the bytes hold
+abbrev pub StoresRows : List ℕ → Words → Words → Type 0
+StoresRows bytes entry exit =
+    (rows : List Constraint) → ReadsTable bytes (table-of rows) → length entry ≡ 35 → RowsPut entry (after rows []) 32 exit
+
+-- the lists so far, and the place behind the entries
+abbrev pub ListsLie : Lent → List ℕ → List ℕ → ℕ → Words → Type 0
+ListsLie h ends entries place words = (place ≡ length entries) × (words ≡ wordsOf (withLists h (padded 64 ends) (padded 128 entries)))
+
+-- every word but those of the lists, over the n rows of the table
+abbrev pub StoresAll : List ℕ → ℕ → Words → Type 0
+StoresAll bytes n exit =
+    (rows : List Constraint) → ReadsTable bytes (table-of rows) → length rows ≤ rowLimit → n ≡ length rows → ListsLie (freshLent rows) [] [] 0 exit
+
+-- one entry, or none
+abbrev pub oneIf : Bool → ℕ → List ℕ
+oneIf so i = cond so (i ∷ []) []
+
+-- more entries behind those before, from a place to a place
+abbrev pub Enters : ℕ → Words → (Lent → List ℕ) → ℕ → Words → Type 0
+Enters first entry more place exit =
+    (h : Lent) (ends entries : List ℕ) → Shaped h → ListsLie h ends entries first entry → ListsLie h ends (entries ++ more h) place exit
+
+-- the lists over n rows, where there were none
+abbrev pub Enlists : ℕ → Words → Words → Type 0
+Enlists n entry exit =
+    (h : Lent) → Shaped h → ListsLie h [] [] 0 entry
+    → exit ≡ wordsOf (withLists h (endsTo (h .monitor) n 64) (padded 128 (listedTo (h .monitor) n 64)))

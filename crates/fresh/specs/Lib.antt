@@ -1,0 +1,2 @@
+-- A lent monitor made fresh over a table.
+pub mod Fresh

@@ -1,0 +1,156 @@
+// A monitor made fresh where it lies: a table's bytes are judged first, and then its rows are read again one by one and stored.
+use lent::ENTRIES;
+use lent::NUMBERS;
+use lent::OPEN;
+use lent::ROWS;
+use lent::Words;
+use machine::words::rule_at;
+use row::concerns;
+use row::stored;
+use table::ReadAnswer;
+use table::scan;
+ghost use Prim.Native.Nat.{_+_, _<_, _≤_};
+ghost use mathlib.Core.Path.{_≡_};
+ghost use lib.ListN.{length, set, replicate};
+ghost use Rattle.lent.specs.Layout.{Lent, wordsOf, Shaped};
+ghost use Rattle.lent.specs.Steps.{Turns};
+ghost use Rattle.lent.specs.Contract.{numbers, isOf};
+ghost use Rattle.fresh.specs.Fresh.{withLists, oneIf, Begins, Judges, noWords, StoresRows, StoresAll, Enters, Enlists};
+
+// The number that answers to a table's bytes: 0, or 256 times the place and the number of the refusal; and how many rows they hold.
+pub struct Judged {
+    pub number: u64,
+    pub rows: usize,
+}
+
+// The answer to a table's bytes as a number.
+fn judge(table: &[u8]) -> Judged
+    ensures { λ r. ⌜ Judges (now (table .entry)) r ⌝ }
+{
+    let scanned = scan::judge(table);
+    let answer = scanned.answer;
+    match answer {
+        ReadAnswer::Accepted => Judged {
+            number: 0,
+            rows: scanned.rows,
+        },
+        ReadAnswer::Refused { number, place } => Judged {
+            number: place as u64 * 256 + number as u64,
+            rows: 0,
+        },
+    }
+}
+
+// Every word is 0.
+fn clear(blocks: &mut [[[u64; 64]; 2]])
+    ensures { λ _. ⌜ now (blocks .exit) ≡ replicate (length (now (blocks .entry))) noWords ⌝ }
+{
+    let mut i = 0;
+    while i < blocks.len() {
+        blocks[i] = [[0u64; 64]; 2];
+        i += 1;
+    }
+}
+
+// Each row of an accepted table, before any step; behind the last one no row is read but the filler, and it fills the other places.
+fn put_rows(m: &mut Words, table: &[u8])
+    ensures { λ _. ⌜ StoresRows (now (table .entry)) (now (m .entry)) (now (m .exit)) ⌝ }
+{
+    let mut place = 1;
+    let mut i = 0;
+    while i < 32 {
+        let placed = scan::row_at(table, place);
+        let row = placed.row;
+        stored::begin(&mut m[i], row);
+        place = placed.next;
+        i += 1;
+    }
+}
+
+// Every word but those of the lists, which are 0, over the n rows of a table.
+fn begin(m: &mut Words, table: &[u8], n: usize)
+    ensures { λ _. ⌜ StoresAll (now (table .entry)) n (now (m .exit)) ⌝ }
+{
+    clear(m);
+    m[NUMBERS][0][OPEN] = 1;
+    m[NUMBERS][0][ROWS] = n as u64;
+    put_rows(m, table);
+}
+
+// Another entry.
+fn put_entry(m: &mut Words, place: usize, i: usize)
+    ensures { λ _. ⌜ Turns (now (m .entry)) (λ h. withLists h (h .ends) (set (h .entries) place i)) (now (m .exit)) ⌝ }
+{
+    if place < 128 {
+        m[ENTRIES][place / 64][place % 64] = i as u64;
+    }
+}
+
+// Another end of a kind's rows.
+fn put_end(m: &mut Words, kind: usize, place: usize)
+    requires { ⌜ kind < 64 ⌝ }
+    ensures { λ _. ⌜ Turns (now (m .entry)) (λ h. withLists h (set (h .ends) kind place) (h .entries)) (now (m .exit)) ⌝ }
+{
+    m[NUMBERS][1][kind] = place as u64;
+}
+
+// Whether a kind concerns row i.
+fn is_of(m: &Words, i: usize, kind: usize) -> bool
+    requires { ⌜ i < 32 ⌝ }
+    ensures { λ r. ⌜ ((h : Lent) → now (m .entry) ≡ wordsOf h → Shaped h → r ≡ isOf (h .monitor) kind i) ⌝ }
+{
+    concerns(rule_at(&m[i][1]), kind as u64)
+}
+
+// Row i, entered at a place if a kind concerns it: the place behind.
+fn enter(m: &mut Words, kind: usize, i: usize, place: usize) -> usize
+    requires { ⌜ (i < 32) × (place ≤ 4096) ⌝ }
+    ensures { λ r. ⌜ ((r ≤ place + 1) × Enters place (now (m .entry)) (λ h. oneIf (isOf (h .monitor) kind i) i) r (now (m .exit))) ⌝ }
+{
+    if is_of(m, i, kind) {
+        put_entry(m, place, i);
+        return place + 1;
+    }
+    place
+}
+
+// Those of the first n rows that a kind concerns, entered from a place on: the place behind them.
+fn enlist_kind(m: &mut Words, kind: usize, n: usize, first: usize) -> usize
+    requires { ⌜ (n ≤ 32) × (first ≤ 2048) ⌝ }
+    ensures { λ r. ⌜ ((r ≤ first + n) × Enters first (now (m .entry)) (λ h. numbers (isOf (h .monitor) kind) n) r (now (m .exit))) ⌝ }
+{
+    let mut place = first;
+    let mut i = 0;
+    while i < n {
+        place = enter(m, kind, i, place);
+        i += 1;
+    }
+    place
+}
+
+// The lists over n rows, kind after kind.
+fn enlist(m: &mut Words, n: usize)
+    requires { ⌜ n ≤ 32 ⌝ }
+    ensures { λ _. ⌜ Enlists n (now (m .entry)) (now (m .exit)) ⌝ }
+{
+    let mut place = 0;
+    let mut kind = 0;
+    while kind < 64 {
+        place = enlist_kind(m, kind, n, place);
+        put_end(m, kind, place);
+        kind += 1;
+    }
+}
+
+// Makes a lent monitor fresh over a table's bytes, in place: 0, or 256 times the place and the number of the refusal, and all as it was.
+pub fn fresh(m: &mut Words, table: &[u8]) -> u64
+    ensures { λ r. ⌜ Begins (now (table .entry)) (now (m .entry)) r (now (m .exit)) ⌝ }
+{
+    let judged = judge(table);
+    let number = judged.number;
+    if number == 0 {
+        begin(m, table, judged.rows);
+        enlist(m, judged.rows);
+    }
+    number
+}

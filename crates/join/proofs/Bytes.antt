@@ -37,11 +37,11 @@ module _ (bytes : List ℕ) (place : ℕ) (after : List ℕ) where
       subst (λ (x : List ℕ). size ≡ 2 + lengthAt x 0 → size ≤ length x → 10 ≤ size → size ≤ 12 → callOf (at bytes 0) (bodyAt x 0) ≡ call
       → CallAt bytes place call (place + size)) e
       (λ size-is whole long short is.
-          record {
-            there = ((omega (arith, length-drop place bytes), omega (arith, length-drop place bytes)), omega arith, omega arith);
-            call-read = rw (← drop-drop 2 place bytes) is;
-            next-read = omega arith;
-          })
+      record {
+        there = ((omega (arith, length-drop place bytes), omega (arith, length-drop place bytes)), omega arith, omega arith);
+        call-read = rw (← drop-drop 2 place bytes) is;
+        next-read = omega arith;
+      })
 
   small-number : (t : ℕ) → t ≤ lastTime → number (bytesOf 8 t) ≡ t
   small-number t h = number-of-bytes 8 t (omega arith)

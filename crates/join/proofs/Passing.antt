@@ -105,7 +105,7 @@ marked-as marks ks s k (inr (e, none, of)) m = rw (List·getD-eq-default marks 0
 abbrev Search : List ℕ → List ℕ → ℕ → List Step → ℕ → Type 0
 Search ks bytes place steps common =
     ((common ≡ 0) × ((k : ℕ) → among k ks ≡ true → among k (kindsOf steps) ≡ false)
-        × ((found : ℕ) → FirstOf ks bytes place found → FirstOf ks bytes 1 found))
+    × ((found : ℕ) → FirstOf ks bytes place found → FirstOf ks bytes 1 found))
     ⊎ ((0 < common) × FirstOf ks bytes 1 common × ((k : ℕ) × (among k ks ≡ true) × (among k (kindsOf steps) ≡ true)))
 
 module _ (ks bytes : List ℕ) (place : ℕ) (steps : List Step) (s : Step) (k : ℕ)
@@ -177,7 +177,7 @@ module _ (bytes avoid : List ℕ) where
       pass-more e kind avoided kinds′ common′ kind-is avoided-is kinds-are common-is =
           let taken = next .taken e (before .steps) (before .read .after) in
           let asked = subst (λ (x : Call). Judged (questions [] (before .steps) x) Taken) (next .call-is (next .there e))
-              (judged-all 14 _ _ (taken .0) .1) in
+          (judged-all 14 _ _ (taken .0) .1) in
           let is : KindIs (stepFor (r .call)) kind = subst (KindIs (stepFor (r .call))) (sym kind-is) (call-kind (before .steps) (r .call) asked) in
           record {
             steps = before .steps ++ (stepFor (r .call) ∷ []);
@@ -189,9 +189,9 @@ module _ (bytes avoid : List ℕ) where
             search = λ ks m.
                 subst (λ (n : ℕ). Search ks bytes (r .next) (before .steps ++ (stepFor (r .call) ∷ [])) n) (sym common-is)
                 (subst (λ (n : ℕ). Search ks bytes n (before .steps ++ (stepFor (r .call) ∷ [])) (firstCommon common avoided place))
-                    (sym (next .next-is (next .there e) .0))
+                (sym (next .next-is (next .there e) .0))
                 (search-more ks bytes place (before .steps) (stepFor (r .call)) kind is
-                    (ap stepFor (sym (next .call-is (next .there e)))) there (before .positive) common (before .search ks m)
+                (ap stepFor (sym (next .call-is (next .there e)))) there (before .positive) common (before .search ks m)
                 avoided (avoided-is ∙ marked-as avoid ks (stepFor (r .call)) kind is m)));
           }
 

@@ -1,8 +1,8 @@
 // Two recordings joined: records by time, at equal times those of the first before those of the second, without the ticks that are not later
 // than the joined clock.
+use clock::Clock;
 use constraint::Call;
 use constraint::JoinAnswer;
-use clock::Clock;
 ghost use mathlib.Core.Path.{_≡_};
 ghost use mathlib.Core.Bool.{true, false, not, _&&_, _||_};
 ghost use Prim.Native.Nat.{_+_, _≤_, max};

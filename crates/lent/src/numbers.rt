@@ -29,7 +29,7 @@ ghost use Rattle.lent.specs.Layout.{Lent, wordsOf, Shaped, numberArray};
 ghost use Rattle.lent.specs.Steps.{Turns, withSoonest, withRoom, withNext, withClosed, countedMonitor, countedOn, countedTo, uncountedMonitor};
 
 // The first free time of a stream.
-pub fn free_at(m: &Words, stream: usize) -> u64
+pub(crate) fn free_at(m: &Words, stream: usize) -> u64
     requires { ⌜ stream < 176 ⌝ }
     ensures { λ r. ⌜ ((h : Lent) → now (m .entry) ≡ wordsOf h → Shaped h → r ≡ getD (h .monitor .next) stream 0) ⌝ }
 {
@@ -41,7 +41,7 @@ pub fn free_at(m: &Words, stream: usize) -> u64
 }
 
 // Another first free time of a stream.
-pub fn put_free(m: &mut Words, stream: usize, time: u64)
+pub(crate) fn put_free(m: &mut Words, stream: usize, time: u64)
     requires { ⌜ stream < 176 ⌝ }
     ensures { λ _. ⌜ Turns (now (m .entry)) (λ h. withNext h (set (h .monitor .next) stream time)) (now (m .exit)) ⌝ }
 {
@@ -54,7 +54,7 @@ pub fn put_free(m: &mut Words, stream: usize, time: u64)
 }
 
 // Questions 8 and 24, which every call is asked first: the number of the first "no", or 0.
-pub fn first_refusal(m: &Words) -> u8
+pub(crate) fn first_refusal(m: &Words) -> u8
     ensures { λ r. ⌜ ((h : Lent) → now (m .entry) ≡ wordsOf h → Shaped h → r ≡ cond (ltb 0 (h .monitor .closed)) 8 (cond (leb lastCount (h .monitor .count)) 24 0)) ⌝ }
 {
     if m[NUMBERS][0][OPEN] == 0 {
@@ -67,14 +67,14 @@ pub fn first_refusal(m: &Words) -> u8
 }
 
 // Another soonest time to look.
-pub fn put_soonest(m: &mut Words, time: u64)
+pub(crate) fn put_soonest(m: &mut Words, time: u64)
     ensures { λ _. ⌜ Turns (now (m .entry)) (λ h. withSoonest h time) (now (m .exit)) ⌝ }
 {
     m[NUMBERS][0][SOONEST] = time;
 }
 
 // Another mark for whether there is room.
-pub fn put_room(m: &mut Words, room: u64)
+pub(crate) fn put_room(m: &mut Words, room: u64)
     ensures { λ _. ⌜ Turns (now (m .entry)) (λ h. withRoom h room) (now (m .exit)) ⌝ }
 {
     m[NUMBERS][0][ROOM] = room;
@@ -97,7 +97,7 @@ fn count(n: &mut [[u64; 64]; 2], stream: u64, free: u64, time: u64)
 }
 
 // The numbers after an event of a stream.
-pub fn count_event(m: &mut Words, stream: usize, time: u64)
+pub(crate) fn count_event(m: &mut Words, stream: usize, time: u64)
     requires { ⌜ stream < 176 ⌝ }
     ensures { λ _. ⌜ ((h : Lent) → now (m .entry) ≡ wordsOf h → Shaped h → h .monitor .closed ≡ 0 → now (m .exit) ≡ wordsOf (countedOn h stream time)) ⌝ }
 {
@@ -107,7 +107,7 @@ pub fn count_event(m: &mut Words, stream: usize, time: u64)
 }
 
 // The numbers after a tick.
-pub fn count_tick(m: &mut Words, time: u64)
+pub(crate) fn count_tick(m: &mut Words, time: u64)
     ensures { λ _. ⌜ ((h : Lent) → now (m .entry) ≡ wordsOf h → Shaped h → h .monitor .closed ≡ 0 → now (m .exit) ≡ wordsOf (countedTo h time 0)) ⌝ }
 {
     let free = free_at(m, 0);
@@ -115,14 +115,14 @@ pub fn count_tick(m: &mut Words, time: u64)
 }
 
 // The recording is closed.
-pub fn shut(m: &mut Words)
+pub(crate) fn shut(m: &mut Words)
     ensures { λ _. ⌜ Turns (now (m .entry)) (λ h. withClosed h 1) (now (m .exit)) ⌝ }
 {
     m[NUMBERS][0][OPEN] = 0;
 }
 
 // The numbers as they were before the last step; nothing may be withdrawn then, and every row is to be looked at.
-pub fn uncount(n: &mut [[u64; 64]; 2])
+pub(crate) fn uncount(n: &mut [[u64; 64]; 2])
     ensures { λ _. ⌜ ((m : Monitor) (soonest room : ℕ) (plain ends : List ℕ) → now (n .entry) ≡ numberArray m soonest room plain ∷ ends ∷ [] → now (n .exit) ≡ numberArray (uncountedMonitor m) 0 room plain ∷ ends ∷ []) ⌝ }
 {
     let clock = n[0][THEN];

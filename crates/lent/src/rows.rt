@@ -68,7 +68,7 @@ fn visits(m: &mut Words, first: usize, end: usize, stream: u64, t: u64, number: 
 }
 
 // The rows of a kind after an event of it, which is the step that the count says.
-pub fn visits_of(m: &mut Words, kind: usize, stream: u64, t: u64)
+pub(crate) fn visits_of(m: &mut Words, kind: usize, stream: u64, t: u64)
     requires { ⌜ kind < 64 ⌝ }
     ensures { λ _. ⌜ Turns (now (m .entry)) (λ h. heardOn h (startOf h kind) (rowCount h kind) (eventAt stream t) (h .monitor .count)) (now (m .exit)) ⌝ }
 {
@@ -95,7 +95,7 @@ fn crowds(m: &Words, first: usize, end: usize, stream: u64, t: u64) -> bool
 }
 
 // Whether an event crowds a row of its kind.
-pub fn crowds_of(m: &Words, kind: usize, stream: u64, t: u64) -> bool
+pub(crate) fn crowds_of(m: &Words, kind: usize, stream: u64, t: u64) -> bool
     requires { ⌜ kind < 64 ⌝ }
     ensures { λ r. ⌜ ((h : Lent) → now (m .entry) ≡ wordsOf h → Shaped h → r ≡ crowded h (startOf h kind) (rowCount h kind) stream t) ⌝ }
 {
@@ -103,7 +103,7 @@ pub fn crowds_of(m: &Words, kind: usize, stream: u64, t: u64) -> bool
 }
 
 // How many places are taken in the fullest of the first n rows.
-pub fn fullest(m: &Words, n: usize) -> u64
+pub(crate) fn fullest(m: &Words, n: usize) -> u64
     requires { ⌜ n ≤ 32 ⌝ }
     ensures { λ r. ⌜ ((h : Lent) → now (m .entry) ≡ wordsOf h → Shaped h → r ≡ fullest (h .monitor) n) ⌝ }
 {
@@ -117,7 +117,7 @@ pub fn fullest(m: &Words, n: usize) -> u64
 }
 
 // The soonest due time of the first n rows.
-pub fn soonest(m: &Words, n: usize) -> u64
+pub(crate) fn soonest(m: &Words, n: usize) -> u64
     requires { ⌜ n ≤ 32 ⌝ }
     ensures { λ r. ⌜ ((h : Lent) → now (m .entry) ≡ wordsOf h → Shaped h → r ≡ soonestOf (h .monitor .rows) n) ⌝ }
 {
@@ -131,7 +131,7 @@ pub fn soonest(m: &Words, n: usize) -> u64
 }
 
 // The first n rows, where the clock or the close alone goes to them.
-pub fn ends(m: &mut Words, n: usize, o: Occurrence, number: u64)
+pub(crate) fn ends(m: &mut Words, n: usize, o: Occurrence, number: u64)
     requires { ⌜ n ≤ 32 ⌝ }
     ensures { λ _. ⌜ Turns (now (m .entry)) (λ h. ended h n o number) (now (m .exit)) ⌝ }
 {
@@ -143,7 +143,7 @@ pub fn ends(m: &mut Words, n: usize, o: Occurrence, number: u64)
 }
 
 // The first n rows without the step of that number.
-pub fn back(m: &mut Words, n: usize, number: u64)
+pub(crate) fn back(m: &mut Words, n: usize, number: u64)
     requires { ⌜ n ≤ 32 ⌝ }
     ensures { λ _. ⌜ Turns (now (m .entry)) (λ h. backed h n number) (now (m .exit)) ⌝ }
 {

@@ -143,7 +143,7 @@ module _ (a : Asked) where
     next-choices =
         subst (λ (high : ℕ). Places (anyRule (a .late)) more (length events) next high) (all-high (s .earliest) (s .stamp) t)
         (later-places (anyRule (a .late)) events t small (marksWith (s .earliest) (s .stamp))
-            (known .n) (known .last) (known .choices) (omega arith) (omega arith)
+        (known .n) (known .last) (known .choices) (omega arith) (omega arith)
         (rw (all-high (s .earliest) (s .stamp) t) (omega (arith, early))))
 
     -- a choice goes on with a later time in the next one's range
@@ -179,17 +179,17 @@ module _ (a : Asked) where
         by-cases (decLt (i + 1) (length events))
         (λ old. rw (getD-take (length events) points i 0 (omega arith), getD-take (length events) points (i + 1) 0 old) at
         (all (take (length events) points) (first-of points c) i
-            (omega (arith, length-take (length events) points, c .one-each, length-append events (t ∷ [])))))
+        (omega (arith, length-take (length events) points, c .one-each, length-append events (t ∷ [])))))
         (λ end.
         let same : i ≡ known .n = omega (arith, known .last, c .one-each, length-append events (t ∷ [])) in
         let before = rw (getD-take (length events) points (known .n) 0 (omega (arith, known .last))) at
-            (known .choices .no-other (take (length events) points) (first-of points c)) in
+        (known .choices .no-other (take (length events) points) (first-of points c)) in
         let now = next-choices .no-other points c in
         subst (λ (j : ℕ). Apart (a .lower) (a .upper) (at points j) (at points (j + 1))) (sym same)
         (subst (λ (j : ℕ). Apart (a .lower) (a .upper) (at points (known .n)) (at points j)) (sym (known .last))
         (pair-apart fits (at points (known .n)) (at points (length events)) (before .0) (before .1) (now .0) (now .1)
         (subst (λ (j : ℕ). at points (known .n) < at points j) (known .last)
-            (c .rise (known .n) (omega (arith, known .last, length-append events (t ∷ []))))))))
+        (c .rise (known .n) (omega (arith, known .last, length-append events (t ∷ []))))))))
 
     -- a choice that was not lower to upper apart goes on with the stamp
     each-still : EachAs events false → EachAs more false
@@ -260,7 +260,7 @@ module _ (a : Asked) where
               (tells-and (tells-leb (a .lower) (max 1 (next - s .stamp))) (tells-leb t (plus (s .earliest) (a .upper))));
           some = some-after (s .low) (s .high) (s .some) (known .some)
               (tells-and (tells-leb (stride (a .lower)) (a .upper))
-                  (tells-leb (nextLow (a .lower) (a .late) (s .low) t) (nextHigh (a .upper) (s .high) t)));
+              (tells-leb (nextLow (a .lower) (a .late) (s .low) t) (nextHigh (a .upper) (s .high) t)));
         }
 
   -- ---- one stamp more, and a call more
@@ -317,7 +317,7 @@ module _ (a : Asked) where
       unfolding MeetsRepeat
       silent points c meets =
           ⊎-elim (λ f. omega arith) (λ h. omega arith)
-              (meets .1 (known .n) (omega (arith, c .one-each, known .last)) (omega (arith, c .one-each, known .last)))
+          (meets .1 (known .n) (omega (arith, c .one-each, known .last)) (omega (arith, c .one-each, known .last)))
 
       -- each choice, and one that does not meet the row
       EachMeets : Bool → Type 0

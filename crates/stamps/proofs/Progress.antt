@@ -44,7 +44,7 @@ module _ (bytes : List ℕ) (a : Asked) where
       pass-more e =
           let taken = next .taken e (before .steps) (before .read .after) in
           let asked = subst (λ (x : Call). Judged (questions [] (before .steps) x) Taken) (next .call-is (next .there e))
-              (record-accepts bytes [] (before .steps) place (taken .0) .1) in
+          (record-accepts bytes [] (before .steps) place (taken .0) .1) in
           record {
             steps = before .steps ++ (stepFor (r .call) ∷ []);
             read = up-to-more bytes place (before .steps) o (before .read) (r .call) (r .next) (r .clock)
@@ -59,14 +59,14 @@ module _ (bytes : List ℕ) (a : Asked) where
 
     pub pass-end : length bytes ≤ place → (steps : List Step) × ReadsInOrder bytes (recording-of steps)
         × (a .event < firstColoured → a .lower ≤ lastTime → ReadsStamps (a .late) (a .lower) (a .upper)
-            (times (a .event) steps) (clock steps) (stampsVerdict a s (o .time)))
+        (times (a .event) steps) (clock steps) (stampsVerdict a s (o .time)))
     pass-end end = (
       before .steps,
       up-to-end bytes place (before .steps) o (before .read) end,
       λ plain small.
           subst (λ (now : ℕ). ReadsStamps (a .late) (a .lower) (a .upper) (times (a .event) (before .steps)) (clock (before .steps))
-              (stampsVerdict a s now))
+          (stampsVerdict a s now))
           (sym (after-clock (before .steps) o (before .read .after)))
           (reads-now a (times (a .event) (before .steps)) (clock (before .steps))
-              (past-of (after-valid (before .steps) o (before .read .after)) .small) s (before .keeps plain small)),
+          (past-of (after-valid (before .steps) o (before .read .after)) .small) s (before .keeps plain small)),
     )

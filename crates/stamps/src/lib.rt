@@ -1,4 +1,5 @@
 // Stamps known within a range: whether a Repeat row of span 1 is kept for each choice of true times, for none, or for some.
+use clock::Clock;
 use constraint::Call;
 use constraint::LAST_TIME;
 use constraint::NO_LIMIT;
@@ -8,7 +9,6 @@ use constraint::Table;
 use machine::parts::larger;
 use machine::parts::plus;
 use machine::parts::smaller;
-use clock::Clock;
 use queue::minus;
 use table::ReadAnswer;
 ghost use mathlib.Core.Path.{_≡_};

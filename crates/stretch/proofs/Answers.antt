@@ -58,7 +58,7 @@ module _ (c : Constraint) (streams times : List ℕ) (count : ℕ) (need : List 
     pub tries-first : 0 < r .tried → FirstAt (Breaking c steps) (stretches (length steps)) (stretchOf (r .first) (r .size)) (r .tried)
     tries-first h =
         first-as (Enough need) (Breaking c steps) (Inside (length steps)) breaking enough
-            (stretches (length steps)) (stretches-inside (length steps)) _ _
+        (stretches (length steps)) (stretches-inside (length steps)) _ _
         (subst (λ (l : List Stretch). FirstAt (Enough need) l (stretchOf (r .first) (r .size)) (r .tried)) as-steps (searches .first-is h))
 
     pub tries-none : r .tried ≡ 0 → ¬ Some (Breaking c steps) (stretches (length steps))
@@ -66,7 +66,7 @@ module _ (c : Constraint) (streams times : List ℕ) (count : ℕ) (need : List 
         searches .none e
         (subst (Some (Enough need)) (sym as-steps)
         (some-as (Breaking c steps) (Enough need) (Inside (length steps)) enough
-            (stretches (length steps)) (stretches-inside (length steps)) one))
+        (stretches (length steps)) (stretches-inside (length steps)) one))
 
 -- ---- a row of a table
 
@@ -87,7 +87,7 @@ module _ (table : Table) (i : ℕ) (streams times : List ℕ) (count : ℕ) (few
       → Asks table i streams times count (StretchAnswer.Refused 15 0)
   asks-none past rows steps e accepted run =
       no-stretch 15 (judged-yes 22 _ _ (Refused 15) (omega (arith, run .counted, few))
-          (judged-no 15 _ _ (λ h. omega (arith, h, past rows e accepted))))
+      (judged-no 15 _ _ (λ h. omega (arith, h, past rows e accepted))))
 
   module _ (d : Entry) (there : i < table .count) where
     abbrev c : Constraint

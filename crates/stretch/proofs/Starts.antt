@@ -202,7 +202,7 @@ module _ (c : Constraint) (sound : Sound c) where
                 (subst (λ (l : List Step). Room alone (l ++ (stepFor (at-size .s) ∷ []))) (take-take size m rest (omega (arith, longer)))
                 (judged-room alone (take size (part m)) (at-size .s)
                 (λ e. not-close (at streams (start + size)) (at times (start + size))
-                    (sym (step-at (start + size) there) ∙ next-is steps taken start size there ∙ sym same ∙ at-size .is ∙ e))
+                (sym (step-at (start + size) there) ∙ next-is steps taken start size there ∙ sym same ∙ at-size .is ∙ e))
                 (at-size .judged))))
 
         module _ (calm : moved .crowded ≡ false) where
@@ -213,7 +213,7 @@ module _ (c : Constraint) (sound : Sound c) where
           now-takes =
               takes-next steps taken start size there alone (run .takes)
               (room-one (part (suc size))
-                  (fits-room c (engine c sound) (part (suc size)) (part-valid (suc size) (omega (arith, there))) (moved .row) now-fits))
+              (fits-room c (engine c sound) (part (suc size)) (part-valid (suc size) (omega (arith, there))) (moved .row) now-fits))
 
           pub run-on : moved .row .now .broken ≡ 0 → Running (suc size) (moved .row)
           run-on unbroken = record { within = omega (arith, there); takes = now-takes; fits = now-fits; unbroken = unbroken }
@@ -241,4 +241,4 @@ module _ (c : Constraint) (sound : Sound c) where
                 (λ longer. subst (Decides (Breaks c (part m))) (sym (le-leb (size + 1) m (omega (arith, longer))))
                 (takes-on (m - suc size) m (omega (arith, longer)) h, shut m longer h))
                 (λ shorter. subst (Decides (Breaks c (part m))) (sym (lt-leb (size + 1) m (omega (arith, shorter))))
-                    (unbroken-yet m (omega (arith, shorter))))
+                (unbroken-yet m (omega (arith, shorter))))

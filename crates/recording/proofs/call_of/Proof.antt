@@ -17,8 +17,13 @@ returns-2 c =
 returns-3 : tie.Need-returns-3
 returns-3 c =
     let ten : length (now (c .before .before .before .before .before .before .before .args .body)) ≡ 10 = omega arith in
-    rw (c .before .before .before .byte-at .ensures, c .colour-in .ensures, c .before .byte-at2 .ensures,
-    c .before .before .before .before .before .eight-at .ensures, ten) refl
+    rw (
+      c .before .before .before .byte-at .ensures,
+      c .colour-in .ensures,
+      c .before .byte-at2 .ensures,
+      c .before .before .before .before .before .eight-at .ensures,
+      ten,
+    ) refl
 
 pub call-of-spec : {M : Type 1} → statement M
 call-of-spec =

@@ -49,9 +49,12 @@ returns-3 c fresh holds =
     let before = at-loop .loop .inv fresh holds in
     let stepped = call-steps (before .0) (before .2) (at-take .take .ensures) in
     let read = at-record .call-at .ensures .whole (omega (arith, left .if2 .left)) in
-    let there = at-record .before .loop-test .taken in
-    (stepped .0, taken-refused fresh (now (args .bytes)) (before .0) (at-loop .loop .place) (before .1) there _ _ read (stepped .0) _ (c .if3 .taken)
-    (stepped .1), stepped .2)
+    let there = at-record .before .loop-test .taken in (
+      stepped .0,
+      taken-refused fresh (now (args .bytes)) (before .0) (at-loop .loop .place) (before .1) there _ _ read (stepped .0) _ (c .if3 .taken)
+          (stepped .1),
+      stepped .2,
+    )
 
 loop-less : tie.Need-loop-less Inv-loop μ-loop
 loop-less c =
@@ -70,9 +73,12 @@ loop-again c fresh holds =
     let before = at-loop .loop .inv fresh holds in
     let stepped = call-steps (before .0) (before .2) (at-take .take .ensures) in
     let read = at-record .call-at .ensures .whole (omega (arith, left .if2 .left)) in
-    let there = at-record .before .loop-test .taken in
-    (stepped .0, taken-more fresh (now (args .bytes)) (before .0) (at-loop .loop .place) (before .1) there _ _ read (stepped .0)
-    (at-take .take .result) (omega (arith, c .if3 .left)) (stepped .1), stepped .2)
+    let there = at-record .before .loop-test .taken in (
+      stepped .0,
+      taken-more fresh (now (args .bytes)) (before .0) (at-loop .loop .place) (before .1) there _ _ read (stepped .0)
+          (at-take .take .result) (omega (arith, c .if3 .left)) (stepped .1),
+      stepped .2,
+    )
 
 returns-4 : tie.Need-returns-4 Inv-loop μ-loop
 returns-4 c fresh holds =
@@ -80,9 +86,12 @@ returns-4 c fresh holds =
     let args = at-loop .before .before .before .before .args in
     let before = at-loop .loop .inv fresh holds in
     let stepped = call-steps (before .0) (before .2) (takes-of (c .close .ensures)) in
-    let end = c .before .before .loop-test .left in
-    (stepped .0, taken-end fresh (now (args .bytes)) (before .0) (at-loop .loop .place) (before .1) (c .close .result) (stepped .0) (omega arith) end
-    (stepped .1), stepped .2)
+    let end = c .before .before .loop-test .left in (
+      stepped .0,
+      taken-end fresh (now (args .bytes)) (before .0) (at-loop .loop .place) (before .1) (c .close .result) (stepped .0) (omega arith) end
+          (stepped .1),
+      stepped .2,
+    )
 
 pub take-recording-spec : {M : Type 1} → statement M
 take-recording-spec =

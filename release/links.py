@@ -22,7 +22,7 @@ OTHER_NAMES = {"must-fail", "pkg-config"}
 LINKED = re.compile(r"\[`([^`\]]+)`\]")
 LINK = re.compile(r"^\[`([^`]+)`\]: (.*)\n", re.M)
 PROOF = re.compile(r"^\s*((?:(?:pub|abbrev|unfoldable|opaque|data|record|private)\s+)*)([^\s(){}.,;:]+)\s+[:({]", re.M)
-CODE = re.compile(r"(pub (?:\(crate\) )?(?:extern \"C\" )?)?\b(?:fn|const|struct|enum|type|int)\s+(\w+)")
+CODE = re.compile(r"(pub(?:\(crate\))? (?:extern \"C\" )?)?\b(?:fn|const|struct|enum|type|int)\s+(\w+)")
 IMPLEMENTED = re.compile(r"^impl (\w+)", re.M)
 # The folders by the column: definition, theorem, function.
 COLUMNS = {1: ("specs", "proofs", "src"), 2: ("proofs", "specs", "src"), 3: ("src", "", "specs", "proofs")}

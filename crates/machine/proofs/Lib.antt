@@ -1,6 +1,7 @@
 -- What each row type proves of its machine, and what several types share.
 pub mod FieldNumbers
 pub mod Exact
+pub mod FitsRow
 pub mod SeveralKinds
 pub mod OneKind
 pub mod TwoKinds

@@ -2,3 +2,4 @@
 pub mod Rule
 pub mod Parts
 pub mod Words
+pub mod Machine

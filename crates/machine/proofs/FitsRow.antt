@@ -1,0 +1,163 @@
+-- What a row asks of a machine beside that it is exact: its words keep all that a step changes, and how many times it keeps tells when an event
+-- would let more wait than its 64 places hold. What several types share in proving it goes by the edit of a change.
+use Rattle.constraint.proofs.Library.{ℕ, _+_, _-_, _<_, _≤_, arith, _≡_, refl, sym, Bool, true, false, cond, List, [], _∷_, _++_, ltb, length, set, drop}
+use Rattle.constraint.proofs.Library.{length-append, length-drop, length-set, lt-ltb, le-ltb, ltb-true, ltb-false}
+use Rattle.constraint.specs.Limits.{waitingLimit}
+use Rattle.constraint.proofs.Lists.{split}
+use Rattle.queue.specs.Ring.{changed}
+use Rattle.queue.specs.declared.Edit.the-variants.{Drop, Store}
+use Rattle.machine.specs.Parts.{noMarks, continuesWith, breaking}
+use Rattle.machine.specs.Words.{noneKept, lastKept, firstThreeKept, countsKept}
+use Rattle.machine.specs.Machine.{Machine, fillsNever, noneTaken, eachTaken, noMachine}
+use Rattle.machine.specs.declared.Rule.{Rule}
+use Rattle.machine.specs.declared.Marks.{Marks}
+use Rattle.machine.specs.declared.Change.{Change}
+
+-- ---- the marks
+
+-- the marks that a type keeps of a state are enough, where the others are 0 in its past, or what they were
+pub record Keeping (keeps : Marks → Marks → Marks) : Type 0 where
+  pub over-past : (marks past : Marks) → keeps marks (keeps past noMarks) ≡ keeps marks noMarks
+  pub over-own : (marks : Marks) → keeps marks marks ≡ marks
+
+pub keeping-none : Keeping noneKept
+keeping-none = record { over-past = λ marks past. refl; over-own = λ marks. refl }
+
+pub keeping-last : Keeping lastKept
+keeping-last = record { over-past = λ marks past. refl; over-own = λ marks. refl }
+
+pub keeping-first-three : Keeping firstThreeKept
+keeping-first-three = record { over-past = λ marks past. refl; over-own = λ marks. refl }
+
+pub keeping-counts : Keeping countsKept
+keeping-counts = record { over-past = λ marks past. refl; over-own = λ marks. refl }
+
+-- the marks that a type does not keep are 0
+abbrev pub Unkept : (Marks → Marks → Marks) → Marks → Type 0
+Unkept keeps marks = keeps marks noMarks ≡ marks
+
+-- ---- the places
+
+-- how many places are taken rises with how many times are kept: not above 64, and one is free where 62 are kept
+pub record Places (taken : ℕ → ℕ → ℕ) : Type 0 where
+  pub rise : (span n m : ℕ) → n ≤ m → taken span n ≤ taken span m
+  pub few : (span n : ℕ) → n ≤ 64 → taken span n ≤ 64
+  pub free : (span n : ℕ) → n ≤ 62 → taken span n ≤ 63
+
+pub places-none : Places noneTaken
+places-none = record { rise = λ span n m l. omega arith; few = λ span n l. omega arith; free = λ span n l. omega arith }
+
+pub places-each : Places eachTaken
+places-each = record { rise = λ span n m l. l; few = λ span n l. l; free = λ span n l. omega (arith, l) }
+
+-- ---- what each row type proves
+
+-- a change lets more wait than there is room for
+abbrev pub crowds-of : Change → List ℕ → Bool
+crowds-of change times = cond (change .breaks) false (ltb waitingLimit (length (changed (change .edit) times)))
+
+pub record FitsRow (m : Machine) : Type 0 where
+  pub keeping : Keeping (m .keeps)
+  -- only marks that it keeps change: the others stay 0
+  pub unkept : (rule : Rule) (marks : Marks) (times : List ℕ) (s t : ℕ) → Unkept (m .keeps) marks
+      → Unkept (m .keeps) (m .decide rule marks times s t .marks)
+  -- with 63 or 64 times, `fills` is whether the change lets more wait than there is room for
+  pub crowding : (rule : Rule) (marks : Marks) (times : List ℕ) (s t : ℕ) → 63 ≤ length times → length times ≤ 64
+      → m .fills rule marks (length times) s t ≡ crowds-of (m .decide rule marks times s t) times
+  -- and it is not so where a place is free
+  pub room : (rule : Rule) (marks : Marks) (n s t : ℕ) → 63 ≤ n → m .taken (rule .span) n < 64 → m .fills rule marks n s t ≡ false
+  pub places : Places (m .taken)
+
+pub neither : (b : Bool) → cond b false false ≡ false
+neither true = refl
+neither false = refl
+
+pub fits-none : FitsRow noMachine
+fits-none =
+    record {
+      keeping = keeping-none;
+      unkept = λ rule marks times s t e. refl;
+      crowding = λ rule marks times s t many few. refl;
+      room = λ rule marks n s t many free. refl;
+      places = places-none;
+    }
+
+-- ---- types that never keep more times than before, once there are many
+
+-- such a change, of marks of which a type keeps some
+pub record Steady (keeps : Marks → Marks → Marks) (marks : Marks) (times : List ℕ) (change : Change) : Type 0 where
+  pub unkept : Unkept keeps marks → Unkept keeps (change .marks)
+  pub no-more : 63 ≤ length times → length (changed (change .edit) times) ≤ length times
+
+module _ {keeps : Marks → Marks → Marks} {marks : Marks} {times : List ℕ} where
+  pub steady-by : (b : Bool) {x y : Change} → Steady keeps marks times x → Steady keeps marks times y → Steady keeps marks times (cond b x y)
+  steady-by true x y = x
+  steady-by false x y = y
+
+  pub steady-breaking : Keeping keeps → Steady keeps marks times breaking
+  steady-breaking keeping =
+      record { unkept = λ e. keeping .over-own noMarks; no-more = λ many. omega (arith, length-drop 0 times) }
+
+  pub steady-drop : (k : ℕ) {new : Marks} {due : ℕ} {kept : Bool} → (Unkept keeps marks → Unkept keeps new)
+      → Steady keeps marks times (continuesWith (Drop k) new due kept)
+  steady-drop k unkept = record { unkept = unkept; no-more = λ many. omega (arith, length-drop k times) }
+
+  pub steady-store : (place first second : ℕ) {new : Marks} {due : ℕ} {kept : Bool} → (Unkept keeps marks → Unkept keeps new)
+      → Steady keeps marks times (continuesWith (Store place first second) new due kept)
+  steady-store place first second unkept =
+      record {
+        unkept = unkept;
+        no-more = λ many. omega (arith, length-set (set times place first) (place + 1) second, length-set times place first);
+      }
+
+pub fits-steady : {keeps : Marks → Marks → Marks} {decide : Rule → Marks → List ℕ → ℕ → ℕ → Change} → Keeping keeps
+    → ((rule : Rule) (marks : Marks) (times : List ℕ) (s t : ℕ) → Steady keeps marks times (decide rule marks times s t))
+    → FitsRow (record { keeps = keeps; decide = decide; fills = fillsNever; taken = noneTaken })
+fits-steady {keeps} {decide} keeping steady =
+    record {
+      keeping = keeping;
+      unkept = λ rule marks times s t. steady rule marks times s t .unkept;
+      crowding = λ rule marks times s t many few.
+          sym (calm (decide rule marks times s t) times (omega (arith, steady rule marks times s t .no-more many, few)));
+      room = λ rule marks n s t many free. refl;
+      places = places-none;
+    }
+  where
+    calm : (change : Change) (times : List ℕ) → length (changed (change .edit) times) ≤ 64 → crowds-of change times ≡ false
+    calm change times fit = rw (le-ltb 64 (length (changed (change .edit) times)) fit) (neither (change .breaks))
+
+-- ---- types that let more wait: by a test, and by the edit
+
+pub unkept-by : (keeps : Marks → Marks → Marks) (b : Bool) (x y : Change) → Unkept keeps (x .marks) → Unkept keeps (y .marks)
+    → Unkept keeps (cond {A = Change} b x y .marks)
+unkept-by keeps true x y p q = p
+unkept-by keeps false x y p q = q
+
+module _ (times : List ℕ) where
+  abbrev n : ℕ
+  n = length times
+
+  -- a change lets not too many wait
+  abbrev pub Calm : Change → Type 0
+  Calm change = crowds-of change times ≡ false
+
+  pub calm-by : (b : Bool) (x y : Change) → Calm x → Calm y → Calm (cond b x y)
+  calm-by true x y p q = p
+  calm-by false x y p q = q
+
+  pub dropped : (k : ℕ) → n ≤ 64 → ltb 64 (length (drop k times)) ≡ false
+  dropped k few = rw (length-drop k times) (le-ltb 64 (n - k) (omega (arith, few)))
+
+  pub pushed : (t : ℕ) → ltb 64 (length (drop 0 times ++ (t ∷ []))) ≡ cond (ltb n waitingLimit) false true
+  pushed t =
+      rw (length-append times (t ∷ []))
+      (split (ltb n 64) (λ b. ltb n 64 ≡ b → ltb 64 (n + 1) ≡ cond b false true)
+      (λ _ e. le-ltb 64 (n + 1) (omega (arith, ltb-true n 64 e))) (λ _ e. lt-ltb 64 (n + 1) (omega (arith, ltb-false n 64 e))) refl)
+
+-- a test that is asked first where a place is free
+pub free-first : (n : ℕ) → n < 64 → (b : Bool) → cond (ltb n waitingLimit) false b ≡ false
+free-first n l b = rw (lt-ltb n 64 l)
+
+-- and one before it
+pub free-second : (n : ℕ) → n < 64 → (b c : Bool) → cond b (cond (ltb n waitingLimit) false c) false ≡ false
+free-second n l b c = rw (lt-ltb n 64 l) (neither b)

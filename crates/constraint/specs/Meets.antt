@@ -1,4 +1,4 @@
--- What each row asks of all events together, some of the clock too (§2.2, §5.1 to §5.10; 01, rows 1 to 7; CR 1, 2, 3, 6, 10).
+-- What each row asks of all events together, some of the clock too (§2.2, §5.1 to §5.11; 01, rows 1 to 7; CR 1, 2, 3, 6, 10).
 use Prim.Native.Nat.{ℕ, _+_, _-_, _≤_, _<_}
 use mathlib.Core.Path.{_≡_}
 use mathlib.Core.List.{List, [], _∷_}
@@ -82,6 +82,23 @@ MeetsStrongSynchronization kinds tolerance steps =
     (j k : ℕ) → j < length kinds → k < length kinds →
     (length (times (at kinds j) steps) ≡ length (times (at kinds k) steps))
     × ((i : ℕ) → i < length (times (at kinds j) steps) → at (times (at kinds j) steps) i ≤ at (times (at kinds k) steps) i + tolerance)
+
+-- §5.11: the j-th of the kinds has an event at s
+abbrev pub Recorded : List ℕ → List Step → ℕ → ℕ → Type 0
+Recorded kinds steps j s = (i : ℕ) × (i < length (times (at kinds j) steps)) × (at (times (at kinds j) steps) i ≡ s)
+
+-- §5.11: the window from x to x + tolerance is full, both ends included: each of the n kinds has an event in it, where `Event j s` is one of the j-th
+abbrev pub FullWindow : (ℕ → ℕ → Type 0) → ℕ → ℕ → ℕ → Type 0
+FullWindow Event n tolerance x = (j : ℕ) → j < n → (s : ℕ) × Event j s × Between 0 tolerance x s
+
+-- §5.11: the time e lies in a full window
+abbrev pub Covered : (ℕ → ℕ → Type 0) → ℕ → ℕ → ℕ → Type 0
+Covered Event n tolerance e = (x : ℕ) × Between 0 tolerance x e × FullWindow Event n tolerance x
+
+-- §5.11: each event of the row's kinds lies in a window from some x to x + tolerance in which every kind has an event
+unfoldable pub MeetsSynchronization : List ℕ → ℕ → List Step → Type 0
+MeetsSynchronization kinds tolerance steps =
+    (j s : ℕ) → j < length kinds → Recorded kinds steps j s → Covered (Recorded kinds steps) (length kinds) tolerance s
 
 module _ (start stop preempt resume lower upper : ℕ) where
   -- §5.8; CR 2: the row's events from the time `free` on, between two executions or in one that started at s and was preempted for so long: no

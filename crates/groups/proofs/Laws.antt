@@ -1,6 +1,8 @@
--- The laws of the row type, and what they are made of.
+-- The laws of the row types, and what they are made of.
 pub mod Groups
 pub mod Columns
 pub mod Counts
 pub mod LiveGroups
 pub mod StrongSynchronization
+pub mod Windows
+pub mod Synchronization

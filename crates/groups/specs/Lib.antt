@@ -1,2 +1,3 @@
--- The machine of rows of several kinds whose events come in groups.
+-- The machines of rows of several kinds whose events belong together.
 pub mod StrongSynchronization
+pub mod Synchronization

@@ -1,6 +1,7 @@
 -- StrongSynchronization: the times are the first times of the groups begun and not complete; `first` to `fourth` say how many of these groups
 -- have an event of that kind.
 use Prim.Native.Nat.{ℕ, _-_}
+use mathlib.Core.Path.{_≡_}
 use mathlib.Core.Bool.{Bool, true, false, cond, _&&_, _||_}
 use mathlib.Core.List.{List}
 use lib.ListN.{length}
@@ -9,8 +10,10 @@ use Rattle.constraint.specs.Limits.{waitingLimit}
 use Rattle.queue.specs.declared.Edit.the-variants.{Drop, Push}
 use Rattle.machine.specs.Rule.{noKind}
 use Rattle.machine.specs.Parts.{plus, waits}
+use Rattle.machine.specs.Words.{Past, numberWords, withMarks}
 use Rattle.machine.specs.declared.Rule.{Rule}
 use Rattle.machine.specs.declared.Marks.{Marks}
+use Rattle.machine.specs.declared.State.{State}
 use Rattle.machine.specs.declared.Change.{Change}
 
 -- how many of the groups have an event of the kind
@@ -24,6 +27,12 @@ countOf rule marks kind =
 -- the marks with these counts
 abbrev pub withCounts : ℕ → ℕ → ℕ → ℕ → Marks → Marks
 withCounts first second third fourth m = record { last = m .last; first = first; second = second; third = third; fourth = fourth }
+
+-- what a function on a row's numbers promises that changes marks alone
+abbrev pub MarksBecome : (Rule → Marks → Marks) → List ℕ → List ℕ → Type 0
+MarksBecome change entry exit =
+    (rule : Rule) (state : State) (past : Past) → entry ≡ numberWords rule state past
+    → exit ≡ numberWords rule (withMarks state (change rule (state .marks))) past
 
 -- one more of the kind
 abbrev pub oneMore : ℕ → ℕ → ℕ → ℕ

@@ -1,2 +1,3 @@
-// Rows of several kinds whose events come in groups: StrongSynchronization.
+// Rows of several kinds whose events belong together: StrongSynchronization, Synchronization.
 pub mod strong_synchronization;
+pub mod synchronization;

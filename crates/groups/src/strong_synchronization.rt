@@ -7,11 +7,9 @@ use queue::SIZE;
 use queue::minus;
 ghost use mathlib.Core.Path.{_≡_};
 ghost use Prim.Native.Nat.{ℕ};
-ghost use Rattle.machine.specs.Words.{Past, numberWords, withMarks, ruleAt, marksAt, askedOf, countsKept, Applies};
-ghost use Rattle.machine.specs.declared.Rule.{Rule};
-ghost use Rattle.machine.specs.declared.State.{State};
+ghost use Rattle.machine.specs.Words.{ruleAt, marksAt, askedOf, countsKept, Applies};
 ghost use Rattle.groups.specs.StrongSynchronization.{fillsStrongSynchronization, countOf, oneMore, counted, has, complete, withoutOldest};
-ghost use Rattle.groups.specs.StrongSynchronization.{decideStrongSynchronization};
+ghost use Rattle.groups.specs.StrongSynchronization.{MarksBecome, decideStrongSynchronization};
 
 // What an event makes of the row, where it lies.
 pub fn apply(row: &mut [[u64; SIZE]; 2], stream: u64, t: u64, number: u64)
@@ -68,7 +66,7 @@ fn gets(kind: u64, of: u64, count: u64) -> bool
 
 // One more of the kind is counted.
 fn count(w: &mut [u64; SIZE], kind: u64)
-    ensures { λ _. ⌜ ((rule : Rule) (state : State) (past : Past) → now (w .entry) ≡ numberWords rule state past → now (w .exit) ≡ numberWords rule (withMarks state (counted rule (state .marks) kind)) past) ⌝ }
+    ensures { λ _. ⌜ MarksBecome (λ rule marks. counted rule marks kind) (now (w .entry)) (now (w .exit)) ⌝ }
 {
     if kind == w[words::FIRST] {
         w[words::ONE] = parts::plus(w[words::ONE], 1);
@@ -86,7 +84,7 @@ fn count(w: &mut [u64; SIZE], kind: u64)
 
 // The oldest group is not counted any more.
 fn forget(w: &mut [u64; SIZE])
-    ensures { λ _. ⌜ ((rule : Rule) (state : State) (past : Past) → now (w .entry) ≡ numberWords rule state past → now (w .exit) ≡ numberWords rule (withMarks state (withoutOldest (state .marks))) past) ⌝ }
+    ensures { λ _. ⌜ MarksBecome (λ rule marks. withoutOldest marks) (now (w .entry)) (now (w .exit)) ⌝ }
 {
     w[words::ONE] = minus(w[words::ONE], 1);
     w[words::TWO] = minus(w[words::TWO], 1);

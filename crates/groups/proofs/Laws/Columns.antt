@@ -108,18 +108,18 @@ pub record Pending (ks : List ℕ) (tolerance done : ℕ) (firsts : List ℕ) (s
   pub groups : Groups (length ks) tolerance done (column ks steps) firsts
   pub in-time : 0 < length firsts → clock steps ≤ at firsts 0 + tolerance
 
+-- some continuation of the steps leads to what is asked
+abbrev pub Reaches : (List Step → Type 0) → List Step → Type 0
+Reaches Asked steps = (further : List Step) × Continues steps further × Asked (steps ++ further)
+
+pub reaches-before : (Asked : List Step → Type 0) (steps : List Step) (k t : ℕ) → closed steps ≡ false → k < streamCount → EventInOrder steps k t
+    → Reaches Asked (steps ++ (event k t ∷ [])) → Reaches Asked steps
+reaches-before Asked steps k t goes-on small order (further, follows, asked) =
+    (event k t ∷ further, more k t goes-on small order follows, subst Asked (append-assoc steps (event k t ∷ []) further) asked)
+
 module _ (ks : List ℕ) (fit : KindsFit ks) (tolerance : ℕ) where
   abbrev pub Completes : List Step → Type 0
-  Completes steps = (further : List Step) × Continues steps further × MeetsStrongSynchronization ks tolerance (steps ++ further)
-
-  completes-before : (steps : List Step) (k t : ℕ) → closed steps ≡ false → k < streamCount → EventInOrder steps k t
-      → Completes (steps ++ (event k t ∷ [])) → Completes steps
-  completes-before steps k t goes-on small order (further, follows, meets) = (
-    event k t ∷ further,
-    more k t goes-on small order follows,
-    subst (MeetsStrongSynchronization ks tolerance)
-        (append-assoc steps (event k t ∷ []) further) meets,
-  )
+  Completes = Reaches (MeetsStrongSynchronization ks tolerance)
 
   -- an event that the oldest group lacks, at its last moment
   abbrev lacking : ℕ → ℕ → Step
@@ -164,7 +164,7 @@ module _ (ks : List ℕ) (fit : KindsFit ks) (tolerance : ℕ) where
       (λ j l g. by-cases (ℕ-discrete j m) (λ e. rw e has) (λ e. full j (omega arith) g)) rest)
       (λ has. let lacks : length (column ks steps m) ≡ done = omega (arith, pending .groups .complete m h) in
       let added = columns-added ks fit steps m (f + tolerance) h in
-      completes-before steps (at ks m) (f + tolerance) (pending .goes-on) (kinds-stream ks fit m h)
+      reaches-before (MeetsStrongSynchronization ks tolerance) steps (at ks m) (f + tolerance) (pending .goes-on) (kinds-stream ks fit m h)
       (lacking-in-order done f fs steps pending m h lacks)
       (completes-oldest m done f fs (steps ++ (lacking f m ∷ [])) (omega arith) (pending-event done f fs steps pending m h lacks)
       (λ j l g. by-cases (ℕ-discrete j m)

@@ -1,5 +1,5 @@
--- The marks of a StrongSynchronization as one count for each kind: the kinds are different, so the machine's four places are those of the
--- list of kinds, and a place without a kind never matters.
+-- The marks of a row as one number for each kind, a count in a StrongSynchronization: the kinds are different, so the machine's four places are
+-- those of the list of kinds, and a place without a kind never matters.
 use Rattle.constraint.proofs.Library.{ℕ, zero, suc, _+_, _-_, _≤_, _<_, arith, decLt, _≡_, refl, sym, ap, _∙_, subst, Bool, true, false, _&&_, _||_}
 use Rattle.constraint.proofs.Library.{false≢true, and-eq-true-iff, List, [], _∷_, _++_, _⊎_, inl, inr, ⊎-elim, by-cases, length, replicate}
 use Rattle.constraint.proofs.Library.{length-append, length-replicate, getD-replicate, ltb, eqb, ltb-true, ltb-false, eqb-false, eq-eqb, ne-eqb}
@@ -29,7 +29,7 @@ pub record Names (rule : Rule) (ks : List ℕ) : Type 0 where
   pub padded : fourKinds rule ≡ ks ++ replicate absent noKind
 
 -- what holds of four places holds of each
-four-each : (P : ℕ → Type 0) → P 0 → P 1 → P 2 → P 3 → (i : ℕ) → i < 4 → P i
+pub four-each : (P : ℕ → Type 0) → P 0 → P 1 → P 2 → P 3 → (i : ℕ) → i < 4 → P i
 four-each P a b c d zero h = a
 four-each P a b c d (suc zero) h = b
 four-each P a b c d (suc (suc zero)) h = c
@@ -42,14 +42,14 @@ and-false false b e = inl refl
 
 -- four tests in a row
 module _ (f : ℕ → Bool) where
-  four-true : f 0 && (f 1 && (f 2 && f 3)) ≡ true → (i : ℕ) → i < 4 → f i ≡ true
+  pub four-true : f 0 && (f 1 && (f 2 && f 3)) ≡ true → (i : ℕ) → i < 4 → f i ≡ true
   four-true e =
       let (a, r) = and-eq-true-iff (f 0) (f 1 && (f 2 && f 3)) .0 e in
       let (b, s) = and-eq-true-iff (f 1) (f 2 && f 3) .0 r in
       let (c, d) = and-eq-true-iff (f 2) (f 3) .0 s in
       four-each (λ i. f i ≡ true) a b c d
 
-  four-false : f 0 && (f 1 && (f 2 && f 3)) ≡ false → (i : ℕ) × (i < 4) × (f i ≡ false)
+  pub four-false : f 0 && (f 1 && (f 2 && f 3)) ≡ false → (i : ℕ) × (i < 4) × (f i ≡ false)
   four-false e =
       ⊎-elim (λ a. (0, omega arith, a))
       (λ r. ⊎-elim (λ b. (1, omega arith, b))
@@ -99,16 +99,16 @@ module _ {rule : Rule} {ks : List ℕ} (names : Names rule ks) where
   abbrev padding : List ℕ
   padding = replicate (names .absent) noKind
 
-  names-four : length ks + names .absent ≡ 4
+  pub names-four : length ks + names .absent ≡ 4
   names-four = omega (arith, ap length (names .padded), length-append ks padding, length-replicate (names .absent) noKind)
 
   pub count-none : (j : ℕ) → j < length ks → at (fourCounts noMarks) j ≡ 0
   count-none j h = four-each (λ i. at (fourCounts noMarks) i ≡ 0) refl refl refl refl j (omega (arith, names-four))
 
-  kind-present : (j : ℕ) → j < length ks → at (fourKinds rule) j ≡ at ks j
+  pub kind-present : (j : ℕ) → j < length ks → at (fourKinds rule) j ≡ at ks j
   kind-present j h = ap (λ (l : List ℕ). at l j) (names .padded) ∙ at-left ks padding j h
 
-  kind-absent : (j : ℕ) → length ks ≤ j → j < 4 → at (fourKinds rule) j ≡ noKind
+  pub kind-absent : (j : ℕ) → length ks ≤ j → j < 4 → at (fourKinds rule) j ≡ noKind
   kind-absent j h l =
       let place : length ks + (j - length ks) ≡ j = omega arith in
       ap (λ (l : List ℕ). at l j) (names .padded)

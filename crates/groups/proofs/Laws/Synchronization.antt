@@ -1,0 +1,455 @@
+-- Synchronization: the last time of each kind and the oldest event in no full window are enough, since an event either makes the window that ends
+-- with it full, and that holds every event in none, or it covers nothing; and one event of each kind at the clock fills the window from the oldest.
+use Rattle.constraint.proofs.Library.{ℕ, zero, suc, _+_, _-_, _≤_, _<_, arith, decLt, ℕ-discrete, _≡_, refl, sym, ap, _∙_, Bool, true, false}
+use Rattle.constraint.proofs.Library.{cond, _&&_, _||_, false≢true, and-eq-true-iff, List, [], _∷_, _++_, append-nil, _⊎_, inl, inr, by-cases}
+use Rattle.constraint.proofs.Library.{length, length-append, length-drop, ltb, eqb, ltb-true, ltb-false, eqb-false, eq-eqb, ne-eqb}
+use Rattle.constraint.specs.Limits.{lastKind, lastTime, waitingLimit}
+use Rattle.constraint.specs.Steps.{Step, event, tick, at, times, own, clock, closed}
+use Rattle.constraint.specs.Meets.{Recorded, Meets, MeetsSynchronization}
+use Rattle.constraint.specs.Continuation.{Continues, stop, Open}
+use Rattle.constraint.specs.Waiting.{waiting}
+use Rattle.constraint.specs.Accepted.{kinds, KindsFit}
+use Rattle.constraint.specs.declared.Constraint.{Constraint}
+use Rattle.constraint.proofs.Streams.{streams}
+use Rattle.constraint.proofs.Lists.{split, at-left, at-right, at-next}
+use Rattle.constraint.proofs.Counting.{nextFree, next-above, next-least, next-snoc}
+use Rattle.constraint.proofs.History.{Accepts, Past, times-append, times-own, times-other, times-tick, clock-event, clock-tick, closed-event}
+use Rattle.constraint.proofs.History.{with-time}
+use Rattle.constraint.proofs.Continuations.{SameTimes, same-times, continues-late}
+use Rattle.queue.specs.Ring.{changed}
+use Rattle.queue.specs.declared.Edit.{Edit}
+use Rattle.queue.specs.declared.Edit.the-variants.{Drop, Push}
+use Rattle.machine.specs.Rule.{ruleOf, noKind, waitsIn, startWords}
+use Rattle.machine.specs.Parts.{plus, noMarks, waits, dueOldest, none-left}
+use Rattle.machine.specs.Words.{countsKept}
+use Rattle.machine.specs.declared.Rule.{Rule}
+use Rattle.machine.specs.declared.Marks.{Marks}
+use Rattle.machine.specs.declared.Change.{Change}
+use Rattle.machine.proofs.Exact.{OfStream, Starts, GoesOn, Waits, ByOutcome, Exact}
+use Rattle.machine.proofs.SeveralKinds.{kinds-small, kinds-stream, kinds-apart, by-place}
+use Rattle.machine.proofs.Oldest.{none-left-length, due-passed}
+use Rattle.groups.specs.StrongSynchronization.{withCounts}
+use Rattle.groups.specs.Synchronization.{newer, latest, recent, full, decideSynchronization}
+use Rattle.groups.proofs.Laws.Columns.{Reaches, reaches-before}
+use Rattle.groups.proofs.Laws.Counts.{fourKinds, fourCounts, Names, four-each, four-true, four-false, names-four, kind-present, kind-absent}
+use Rattle.groups.proofs.Laws.Counts.{count-none}
+use Rattle.groups.proofs.Laws.Windows.{OneMore, Lasts, Settled, SettledBefore, Owing, settled-same, owing-same, all-past, earlier-after}
+use Rattle.groups.proofs.Laws.Windows.{settled-on, owing-ends, owing-begins, owing-stays, owing-late, all-now}
+
+-- ---- the marks
+
+recent-true : (tolerance t kind last : ℕ) → kind ≤ lastKind → recent tolerance t kind last ≡ true → (0 < last) × (t < last + tolerance)
+recent-true tolerance t kind last small e =
+    let (some, near) = and-eq-true-iff (ltb 0 last) (ltb t (plus last tolerance)) .0 (rw (ne-eqb kind noKind (λ same. omega arith)) at e) in
+    (ltb-true 0 last some, omega (arith, ltb-true t (plus last tolerance) near))
+
+recent-false : (tolerance t kind last : ℕ) → t ≤ lastTime → recent tolerance t kind last ≡ false
+    → (¬ (kind ≡ noKind)) × (0 < last → last + tolerance ≤ t)
+recent-false tolerance t kind last small =
+    split (eqb kind noKind)
+    (λ x. (x || (ltb 0 last && ltb t (plus last tolerance))) ≡ false → (¬ (kind ≡ noKind)) × (0 < last → last + tolerance ≤ t))
+    (λ e f. absurd (false≢true (sym f)))
+    (λ e f. (eqb-false kind noKind e, λ some. by-last (ltb 0 last) refl some f))
+  where
+    by-last : (b : Bool) → ltb 0 last ≡ b → 0 < last → (b && ltb t (plus last tolerance)) ≡ false → last + tolerance ≤ t
+    by-last true e some f = omega (arith, ltb-false t (plus last tolerance) f)
+    by-last false e some f = absurd (omega (arith, ltb-false 0 last e))
+
+module _ {rule : Rule} {ks : List ℕ} (names : Names rule ks) (marks : Marks) where
+  latest-at : (k t i : ℕ) → i < 4 → at (fourCounts (latest rule marks k t)) i ≡ newer k t (at (fourKinds rule) i) (at (fourCounts marks) i)
+  latest-at k t =
+      four-each (λ i. at (fourCounts (latest rule marks k t)) i ≡ newer k t (at (fourKinds rule) i) (at (fourCounts marks) i)) refl refl refl refl
+
+  latest-own : (k t : ℕ) → k < length ks → t ≤ lastTime → at (fourCounts (latest rule marks (at ks k) t)) k ≡ suc t
+  latest-own k t h small =
+      latest-at (at ks k) t k (omega (arith, names-four names)) ∙ rw (kind-present names k h, eq-eqb (at ks k) (at ks k) refl) (omega arith)
+
+  latest-other : (k t j : ℕ) → k < length ks → j < length ks → ¬ (j ≡ k)
+      → at (fourCounts (latest rule marks (at ks k) t)) j ≡ at (fourCounts marks) j
+  latest-other k t j h l apart =
+      latest-at (at ks k) t j (omega (arith, names-four names))
+      ∙ rw (kind-present names j l, ne-eqb (at ks k) (at ks j) (kinds-apart ks (names .fit) k j h l (λ e. apart (sym e))))
+
+  abbrev recentAt : ℕ → ℕ → Bool
+  recentAt t i = recent (rule .upper) t (at (fourKinds rule) i) (at (fourCounts marks) i)
+
+  full-has : (t : ℕ) → full rule marks t ≡ true → (j : ℕ) → j < length ks
+      → (0 < at (fourCounts marks) j) × (t < at (fourCounts marks) j + rule .upper)
+  full-has t e j h =
+      recent-true (rule .upper) t (at ks j) (at (fourCounts marks) j) (kinds-small ks (names .fit) j h)
+      (rw (kind-present names j h) at (four-true (recentAt t) e j (omega (arith, names-four names))))
+
+  full-lacks : (t : ℕ) → t ≤ lastTime → full rule marks t ≡ false
+      → (j : ℕ) × (j < length ks) × (0 < at (fourCounts marks) j → at (fourCounts marks) j + rule .upper ≤ t)
+  full-lacks t small e =
+      let (j, h, lacks) = four-false (recentAt t) e in
+      let (known, early) = recent-false (rule .upper) t (at (fourKinds rule) j) (at (fourCounts marks) j) small lacks in
+      (j, by-cases (decLt j (length ks)) (λ l. l) (λ l. absurd (known (kind-absent names j (omega arith) h))), early)
+
+-- ---- what is recorded
+
+-- the last time of a list is in it
+next-in : (ts : List ℕ) (s : ℕ) → nextFree ts ≡ suc s → (i : ℕ) × (i < length ts) × (at ts i ≡ s)
+unfolding nextFree
+next-in [] s e = absurd (omega arith)
+next-in (t ∷ ts) s e =
+    by-cases (ℕ-discrete (nextFree ts) (suc s))
+    (λ f. let (i, h, is) = next-in ts s f in (suc i, omega arith, is))
+    (λ f. (0, omega arith, omega arith))
+
+module _ (ks : List ℕ) where
+  recorded-old : (steps further : List Step) (j s : ℕ) → Recorded ks steps j s → Recorded ks (steps ++ further) j s
+  recorded-old steps further j s (i, l, e) =
+      let now = times (at ks j) steps in
+      let rest = times (at ks j) further in
+      rw (times-append (at ks j) steps further) (i, omega (arith, length-append now rest), at-left now rest i l ∙ e)
+
+  -- what is recorded with a continuation is old or not before the clock
+  recorded-late : (steps further : List Step) (j s : ℕ) → Continues steps further → Recorded ks (steps ++ further) j s
+      → Recorded ks steps j s ⊎ (clock steps ≤ s)
+  recorded-late steps further j s follows (i, l, e) =
+      let now = times (at ks j) steps in
+      let rest = times (at ks j) further in
+      let both = times-append (at ks j) steps further in
+      let d = i - length now in
+      by-cases (decLt i (length now))
+      (λ old. inl (i, old, sym (at-left now rest i old) ∙ rw both at e))
+      (λ new. let is : length now + d ≡ i = omega arith in
+      let within : d < length rest = omega (arith, ap length both, length-append now rest) in
+      let same : at rest d ≡ s = sym (at-right now rest d) ∙ ap (at (now ++ rest)) is ∙ rw both at e in
+      inr (omega (arith, continues-late follows (at ks j) d within)))
+
+  recorded-event : (fit : KindsFit ks) (steps : List Step) (k t : ℕ) → k < length ks → ((j s : ℕ) → j < length ks → Recorded ks steps j s → s ≤ t)
+      → OneMore (Recorded ks steps) (Recorded ks (steps ++ (event (at ks k) t ∷ []))) (length ks) k t
+  recorded-event fit steps k t own past =
+      record {
+        old = λ j s h. recorded-old steps (event (at ks k) t ∷ []) j s;
+        new = rw (times-own (at ks k) t steps) (
+          length (times (at ks k) steps),
+          omega (arith, length-append (times (at ks k) steps) (t ∷ [])),
+          at-next (times (at ks k) steps) t [] (length (times (at ks k) steps)) refl,
+        );
+        other = λ j s h (i, l, e). with-time (at ks j) (at ks k) t steps
+            (λ ts. (i : ℕ) → i < length ts → at ts i ≡ s → Recorded ks steps j s ⊎ (s ≡ t))
+            (λ same i l e. by-cases (decLt i (length (times (at ks j) steps)))
+            (λ old. inl (i, old, sym (at-left (times (at ks j) steps) (t ∷ []) i old) ∙ e))
+            (λ new. inr (sym e ∙ at-next (times (at ks j) steps) t [] i (omega (arith, length-append (times (at ks j) steps) (t ∷ []))))))
+            (λ i l e. inl (i, l, e)) i l e;
+        past = past;
+      }
+
+  abbrev pub next : List Step → ℕ → ℕ
+  next steps j = nextFree (times (at ks j) steps)
+
+  recorded-lasts : (steps : List Step) → Lasts (Recorded ks steps) (length ks) (next steps)
+  recorded-lasts steps =
+      record {
+        above = λ j s h (i, l, e). omega (arith, next-above (times (at ks j) steps) i l);
+        reached = λ j s h e. next-in (times (at ks j) steps) s e;
+      }
+
+-- nothing is owed, or the one time is the oldest event in no full window
+abbrev pub Owed : List ℕ → ℕ → List Step → List ℕ → Type 0
+Owed ks tolerance steps [] = Settled (Recorded ks steps) (length ks) tolerance
+Owed ks tolerance steps (u ∷ []) = Owing (Recorded ks steps) (length ks) tolerance u
+Owed ks tolerance steps (u ∷ (v ∷ us)) = ⊥
+
+-- what the row keeps: the last time of each kind, and what is owed
+pub record LiveWindows (ks : List ℕ) (tolerance : ℕ) (steps : List Step) (marks : Marks) (owed : List ℕ) : Type 0 where
+  pub lasts : (j : ℕ) → j < length ks → at (fourCounts marks) j ≡ next ks steps j
+  pub owes : Owed ks tolerance steps owed
+
+-- its due time, and whether it is kept
+abbrev due : ℕ → Marks → List ℕ → ℕ
+due tolerance marks owed = dueOldest tolerance owed
+
+abbrev kept : Marks → List ℕ → Bool
+kept marks owed = none-left owed
+
+recorded-past : (ks : List ℕ) (steps : List Step) (t : ℕ) → Past steps → clock steps ≤ t → (j s : ℕ) → j < length ks → Recorded ks steps j s → s ≤ t
+recorded-past ks steps t past later j s h (i, l, e) = omega (arith, past .past (at ks j) i l)
+
+-- ---- Events
+
+module _ {rule : Rule} {ks : List ℕ} (names : Names rule ks) (steps : List Step) (marks : Marks) (k t : ℕ) (past : Past steps)
+    (lasts : (j : ℕ) → j < length ks → at (fourCounts marks) j ≡ next ks steps j) (of-row : k < length ks)
+    (accepts : Accepts steps (event (at ks k) t)) where
+  abbrev after : List Step
+  after = steps ++ (event (at ks k) t ∷ [])
+
+  abbrev noted : Marks
+  noted = latest rule marks (at ks k) t
+
+  one-more : OneMore (Recorded ks steps) (Recorded ks after) (length ks) k t
+  one-more = recorded-event ks (names .fit) steps k t of-row (recorded-past ks steps t past (accepts .in-order .0))
+
+  lasts-after : (j : ℕ) → j < length ks → at (fourCounts noted) j ≡ next ks after j
+  lasts-after j h =
+      by-cases (ℕ-discrete j k)
+      (λ e. rw e (latest-own names marks k t of-row (accepts .time-small)
+      ∙ sym (ap nextFree (times-own (at ks k) t steps) ∙ next-snoc (times (at ks k) steps) t (accepts .in-order .1))))
+      (λ e. latest-other names marks k t j of-row h e ∙ lasts j h
+      ∙ sym (ap nextFree (times-other (at ks j) (at ks k) t steps (kinds-apart ks (names .fit) k j of-row h (λ f. e (sym f))))))
+
+  -- what the row keeps after a change that it goes on with
+  abbrev Goes : List ℕ → Change → Type 0
+  Goes owed = GoesOn (LiveWindows ks (rule .upper) after) (due (rule .upper)) kept owed t
+
+  full-after : full rule noted t ≡ true → (j : ℕ) → j < length ks → (0 < next ks after j) × (t < next ks after j + rule .upper)
+  full-after e j h = rw (← lasts-after j h) (full-has names noted t e j h)
+
+  lacks-after : full rule noted t ≡ false → (j : ℕ) × (j < length ks) × (0 < next ks after j → next ks after j + rule .upper ≤ t)
+  lacks-after e = let (j, h, lacks) = full-lacks names noted t (accepts .time-small) e in (j, h, rw (← lasts-after j h) lacks)
+
+  goes-on : (owed : List ℕ) (edit : Edit) → Owed ks (rule .upper) after (changed edit owed) → t ≤ dueOldest (rule .upper) (changed edit owed)
+      → Goes owed (waits (rule .upper) owed edit noted)
+  goes-on owed edit owes in-time = record { live = record { lasts = lasts-after; owes = owes }; due-is = refl; kept-is = refl; in-time = in-time }
+
+  event-cases : (B : Type 0) (owed : List ℕ) (fills : Bool) → full rule noted t ≡ fills → Owed ks (rule .upper) steps owed
+      → t ≤ dueOldest (rule .upper) owed → ByOutcome B (Goes owed) (cond fills (waits (rule .upper) owed (Drop 1) noted)
+      (cond (none-left owed) (waits (rule .upper) owed (Push 0 t) noted) (waits (rule .upper) owed (Drop 0) noted)))
+  event-cases B [] true e settled in-time =
+      goes-on [] (Drop 1) (settled-on one-more (rule .upper) (next ks after) (recorded-lasts ks after) (full-after e) settled) in-time
+  event-cases B [] false e settled in-time =
+      let (j, h, lacks) = lacks-after e in
+      goes-on [] (Push 0 t) (owing-begins one-more (rule .upper) (next ks after) (recorded-lasts ks after) j h lacks of-row settled)
+      (omega (arith, accepts .time-small))
+  event-cases B (u ∷ []) true e owing in-time =
+      goes-on (u ∷ []) (Drop 1)
+      (owing-ends one-more (rule .upper) (next ks after) (recorded-lasts ks after) (full-after e) u (omega arith) owing)
+      (omega (arith, accepts .time-small))
+  event-cases B (u ∷ []) false e owing in-time =
+      let (j, h, lacks) = lacks-after e in
+      goes-on (u ∷ []) (Drop 0) (owing-stays one-more (rule .upper) (next ks after) (recorded-lasts ks after) j h lacks u owing) in-time
+
+  -- no event breaks the row
+  event-does : (B : Type 0) (owed : List ℕ) → Owed ks (rule .upper) steps owed → t ≤ dueOldest (rule .upper) owed
+      → ByOutcome B (Goes owed) (decideSynchronization rule marks owed (at ks k) t)
+  unfolding decideSynchronization
+  event-does B owed = event-cases B owed (full rule noted t) refl
+
+-- ---- Open
+
+-- steps after which each kind from the m-th on has an event now, and u can still be covered by events now
+record Filling (ks : List ℕ) (tolerance now u m : ℕ) (steps : List Step) : Type 0 where
+  goes-on : closed steps ≡ false
+  clocked : clock steps ≤ now
+  past : (j s : ℕ) → j < length ks → Recorded ks steps j s → s ≤ now
+  has : (j : ℕ) → m ≤ j → j < length ks → Recorded ks steps j now
+  earlier : SettledBefore (Recorded ks steps) (length ks) tolerance u
+
+module _ (ks : List ℕ) (fit : KindsFit ks) (tolerance now u : ℕ) (begun : u ≤ now) (in-time : now ≤ u + tolerance) where
+  filling-event : (m : ℕ) (steps : List Step) → m < length ks → Filling ks tolerance now u (suc m) steps
+      → Filling ks tolerance now u m (steps ++ (event (at ks m) now ∷ []))
+  filling-event m steps h filling =
+      let more = recorded-event ks fit steps m now h (filling .past) in
+      record {
+        goes-on = closed-event (at ks m) now steps ∙ filling .goes-on;
+        clocked = rw (clock-event (at ks m) now steps) (omega arith);
+        past = all-past more tolerance;
+        has = λ j l g. by-cases (ℕ-discrete j m) (λ e. rw e (more .new)) (λ e. more .old j now g (filling .has j (omega arith) g));
+        earlier = earlier-after more tolerance u begun (filling .earlier);
+      }
+
+  -- each kind below the m-th that has no event now gets one
+  fill : (m : ℕ) (steps : List Step) → m ≤ length ks → Filling ks tolerance now u m steps → Reaches (MeetsSynchronization ks tolerance) steps
+  unfolding MeetsSynchronization
+  fill zero steps h filling = (
+    [],
+    stop,
+    rw (append-nil steps) (all-now (Recorded ks steps) (length ks) tolerance now u (λ j l. filling .has j (omega arith) l) (filling .past)
+        (filling .earlier) begun in-time),
+  )
+  fill (suc m) steps h filling =
+      let ts = times (at ks m) steps in
+      by-cases (decLt now (next ks steps m))
+      (λ some. let none-later = next-least ts (suc now) (λ i l. omega (arith, filling .past m (at ts i) h (i, l, refl))) in
+      let is : next ks steps m ≡ suc now = omega (arith, none-later) in
+      fill m steps (omega arith) (record {
+        goes-on = filling .goes-on;
+        clocked = filling .clocked;
+        past = filling .past;
+        has = λ j l g. by-cases (ℕ-discrete j m) (λ e. rw e (recorded-lasts ks steps .reached m now h is)) (λ e. filling .has j (omega arith) g);
+        earlier = filling .earlier;
+      }))
+      (λ none. reaches-before (MeetsSynchronization ks tolerance) steps (at ks m) now (filling .goes-on) (kinds-stream ks fit m h)
+      (filling .clocked, λ i l. omega (arith, next-above ts i l))
+      (fill m (steps ++ (event (at ks m) now ∷ [])) (omega arith) (filling-event m steps h filling)))
+
+-- ---- a row of a list of kinds: its rule, its definition and what waits are those of the list
+
+pub record Synchronized (c : Constraint) : Type 1 where
+  pub names : Names (ruleOf c) (kinds c)
+  pub streams-are : streams c ≡ kinds c
+  pub no-words : startWords (ruleOf c) ≡ []
+  pub meets : (steps : List Step) → Meets c steps ≡ MeetsSynchronization (kinds c) (ruleOf c .upper) steps
+  pub waits-in : waitsIn (ruleOf c .form) ≡ false
+  pub waits : (steps : List Step) → waiting c steps ≡ 0
+
+module _ (c : Constraint) (s : Synchronized c) where
+  abbrev tolerance : ℕ
+  tolerance = ruleOf c .upper
+
+  abbrev Live : List Step → Marks → List ℕ → Type 0
+  Live = LiveWindows (kinds c) tolerance
+
+  -- ---- Start
+
+  live-start : Starts (Live []) (due tolerance) kept (startWords (ruleOf c))
+  unfolding times nextFree
+  live-start =
+      rw (s .no-words)
+      (record {
+        live = record { lasts = λ j h. count-none (s .names) j h; owes = λ j t h (i, l, e). absurd (omega arith) };
+        due-is = refl;
+        kept-is = refl;
+      })
+
+  -- ---- Events
+
+  live-does : {steps : List Step} {marks : Marks} {owed : List ℕ} {k t : ℕ} → Past steps → Live steps marks owed → OfStream c k
+      → Accepts steps (event k t) → t ≤ dueOldest tolerance owed
+      → ByOutcome (¬ Open c (steps ++ (event k t ∷ []))) (GoesOn (Live (steps ++ (event k t ∷ []))) (due tolerance) kept owed t)
+      (decideSynchronization (ruleOf c) marks owed k t)
+  live-does {steps} {marks} {owed} {k} {t} past live =
+      by-place c (kinds c) (s .streams-are) (λ j. Accepts steps (event j t) → t ≤ dueOldest tolerance owed
+      → ByOutcome (¬ Open c (steps ++ (event j t ∷ []))) (GoesOn (Live (steps ++ (event j t ∷ []))) (due tolerance) kept owed t)
+      (decideSynchronization (ruleOf c) marks owed j t))
+      (λ i h accepts in-time. event-does (s .names) steps marks i t past (live .lasts) h accepts
+      (¬ Open c (steps ++ (event (at (kinds c) i) t ∷ []))) owed (live .owes) in-time)
+
+  -- ---- Ticks
+
+  owed-same : (a b : List Step) → SameTimes (kinds c) a b → (owed : List ℕ) → Owed (kinds c) tolerance a owed → Owed (kinds c) tolerance b owed
+  owed-same a b same [] =
+      settled-same (Recorded (kinds c) a) (Recorded (kinds c) b) (length (kinds c)) tolerance
+      (λ j t h r. rw (← same j h) r) (λ j t h r. rw (same j h) r)
+  owed-same a b same (u ∷ []) =
+      owing-same (Recorded (kinds c) a) (Recorded (kinds c) b) (length (kinds c)) tolerance
+      (λ j t h r. rw (← same j h) r) (λ j t h r. rw (same j h) r) u
+  owed-same a b same (u ∷ (v ∷ us)) = λ never. never
+
+  live-same : (a b : List Step) (marks : Marks) (owed : List ℕ) → own (streams c) a ≡ own (streams c) b → Live a marks owed → Live b marks owed
+  live-same a b marks owed equal live =
+      let same : SameTimes (kinds c) a b = rw (s .streams-are) at (same-times (streams c) a b equal) in
+      record { lasts = λ j h. rw (← same j h) (live .lasts j h); owes = owed-same a b same owed (live .owes) }
+
+  owed-late : (steps : List Step) (owed : List ℕ) (t : ℕ) → Owed (kinds c) tolerance steps owed → 0 < length owed → at owed 0 + tolerance < t
+      → (further : List Step) → Continues (steps ++ (tick t ∷ [])) further
+      → ¬ MeetsSynchronization (kinds c) tolerance (steps ++ (tick t ∷ []) ++ further)
+  unfolding MeetsSynchronization
+  owed-late steps [] t settled some passed further follows meets = absurd (omega arith)
+  owed-late steps (u ∷ []) t owing some passed further follows meets =
+      let ks = kinds c in
+      let ticked = steps ++ (tick t ∷ []) in
+      owing-late (Recorded ks steps) (Recorded ks (ticked ++ further)) (length ks) tolerance t u
+      (λ j r h there before. old j r before (recorded-late ks ticked further j r follows there)) owing passed
+      (meets (owing .kind) u (owing .of-row) (recorded-old ks ticked further (owing .kind) u
+      (recorded-old ks steps (tick t ∷ []) (owing .kind) u (owing .there))))
+    where
+      old : (j r : ℕ) → r < t → Recorded (kinds c) (steps ++ (tick t ∷ [])) j r ⊎ (clock (steps ++ (tick t ∷ [])) ≤ r) → Recorded (kinds c) steps j r
+      old j r before (inl there) = rw (times-tick (at (kinds c) j) t steps) at there
+      old j r before (inr late) = absurd (omega (arith, clock-tick t steps))
+
+  live-late : (steps : List Step) (marks : Marks) (owed : List ℕ) (t : ℕ) → Live steps marks owed → dueOldest tolerance owed < t
+      → t ≤ lastTime → ¬ Open c (steps ++ (tick t ∷ []))
+  live-late steps marks owed t live passed small (further, follows, meets) =
+      let (some, late) = due-passed tolerance t owed small passed in
+      owed-late steps owed t (live .owes) some late further follows (rw (s .meets (steps ++ (tick t ∷ []) ++ further)) at meets)
+
+  -- ---- Open
+
+  owed-open : (steps : List Step) (owed : List ℕ) → Past steps → closed steps ≡ false → Owed (kinds c) tolerance steps owed
+      → clock steps ≤ dueOldest tolerance owed → Reaches (MeetsSynchronization (kinds c) tolerance) steps
+  unfolding MeetsSynchronization
+  owed-open steps [] past goes-on settled in-time = ([], stop, rw (append-nil steps) settled)
+  owed-open steps (u ∷ []) past goes-on owing in-time =
+      let ks = kinds c in
+      let recorded = recorded-past ks steps (clock steps) past (omega arith) in
+      fill ks (s .names .fit) tolerance (clock steps) u (recorded (owing .kind) u (owing .of-row) (owing .there)) (omega arith) (length ks) steps
+      (omega arith) (record {
+        goes-on = goes-on;
+        clocked = omega arith;
+        past = recorded;
+        has = λ j l g. absurd (omega arith);
+        earlier = owing .earlier;
+      })
+
+  live-open : (steps : List Step) (marks : Marks) (owed : List ℕ) → Past steps → closed steps ≡ false → Live steps marks owed
+      → clock steps ≤ dueOldest tolerance owed → Open c steps
+  live-open steps marks owed past goes-on live in-time =
+      let (further, follows, meets) = owed-open steps owed past goes-on (live .owes) in-time in
+      (further, follows, rw (s .meets (steps ++ further)) meets)
+
+  -- ---- Waiting
+
+  owed-few : (steps : List Step) (owed : List ℕ) → Owed (kinds c) tolerance steps owed → length owed ≤ waitingLimit
+  owed-few steps [] owes = omega arith
+  owed-few steps (u ∷ []) owes = omega arith
+
+  live-waits : (steps : List Step) (marks : Marks) (owed : List ℕ) → Live steps marks owed
+      → Waits (waitsIn (ruleOf c .form)) (waiting c steps) (length owed)
+  live-waits steps marks owed live = rw (s .waits-in) (s .waits steps, owed-few steps owed (live .owes))
+
+  -- ---- Close
+
+  live-kept : (steps : List Step) (marks : Marks) (owed : List ℕ) → Live steps marks owed → none-left owed ≡ true → Meets c steps
+  unfolding MeetsSynchronization
+  live-kept steps marks [] live e = rw (s .meets steps) (live .owes)
+  live-kept steps marks (u ∷ us) live e = absurd (false≢true e)
+
+  live-not-kept : (steps : List Step) (marks : Marks) (owed : List ℕ) → Live steps marks owed → none-left owed ≡ false → ¬ Meets c steps
+  unfolding MeetsSynchronization
+  live-not-kept steps marks [] live e = absurd (false≢true (sym e))
+  live-not-kept steps marks (u ∷ (v ∷ us)) live e = absurd (live .owes)
+  live-not-kept steps marks (u ∷ []) live e =
+      λ meets. let owing = live .owes in
+      owing .uncovered ((rw (s .meets steps) at meets) (owing .kind) u (owing .of-row) (owing .there))
+
+  -- ---- Exact
+
+  pub exact-synchronized : Exact c (decideSynchronization (ruleOf c))
+  exact-synchronized =
+      record {
+        Live = Live;
+        due = due tolerance;
+        kept = kept;
+        start = live-start;
+        does = live-does;
+        same = live-same _ _ _ _;
+        late = λ past live. live-late _ _ _ _ live;
+        is-open = live-open _ _ _;
+        waits = λ past live. live-waits _ _ _ live;
+        is-kept = λ past live in-time. live-kept _ _ _ live;
+        not-kept = λ past live. live-not-kept _ _ _ live;
+      }
+
+-- ---- In a row
+
+-- an event changes the four marks alone, and with a time in the ring it lets no other in
+module _ (rule : Rule) (m : Marks) (times : List ℕ) (kind t : ℕ) where
+  abbrev change : Bool → Bool → Change
+  change fills none =
+      cond fills (waits (rule .upper) times (Drop 1) (latest rule m kind t))
+      (cond none (waits (rule .upper) times (Push 0 t) (latest rule m kind t)) (waits (rule .upper) times (Drop 0) (latest rule m kind t)))
+
+  pub unkept-synchronization : countsKept m noMarks ≡ m
+      → countsKept (decideSynchronization rule m times kind t .marks) noMarks ≡ decideSynchronization rule m times kind t .marks
+  unfolding decideSynchronization
+  unkept-synchronization e = by-tests (full rule (latest rule m kind t) t) (none-left times)
+    where
+      by-tests : (fills none : Bool) → countsKept (change fills none .marks) noMarks ≡ change fills none .marks
+      by-tests true none = ap (withCounts _ _ _ _) e
+      by-tests false true = ap (withCounts _ _ _ _) e
+      by-tests false false = ap (withCounts _ _ _ _) e
+
+  pub no-more-synchronization : 0 < length times → length (changed (decideSynchronization rule m times kind t .edit) times) ≤ length times
+  unfolding decideSynchronization
+  no-more-synchronization some =
+      by-tests (full rule (latest rule m kind t) t) (none-left times)
+      (sym (none-left-length times (length times) refl) ∙ ne-eqb (length times) 0 (λ e. omega arith))
+    where
+      by-tests : (fills none : Bool) → none ≡ false → length (changed (change fills none .edit) times) ≤ length times
+      by-tests true none e = omega (arith, length-drop 1 times)
+      by-tests false true e = absurd (false≢true (sym e))
+      by-tests false false e = omega (arith, length-drop 0 times)

@@ -7,6 +7,8 @@ use lib.Dec.{ltb, eqb}
 use Rattle.queue.specs.declared.Edit.the-variants.{Drop, Push}
 use Rattle.machine.specs.Rule.{noKind}
 use Rattle.machine.specs.Parts.{plus, none-left, waits}
+use Rattle.machine.specs.Words.{countsKept}
+use Rattle.machine.specs.Machine.{Machine, fillsNever, noneTaken}
 use Rattle.machine.specs.declared.Rule.{Rule}
 use Rattle.machine.specs.declared.Marks.{Marks}
 use Rattle.machine.specs.declared.Change.{Change}
@@ -32,9 +34,16 @@ full rule marks t =
     && (recent (rule .upper) t (rule .second) (marks .second)
     && (recent (rule .upper) t (rule .third) (marks .third) && recent (rule .upper) t (rule .fourth) (marks .fourth)))
 
--- an event that makes the window full ends all waiting for one; after any other the oldest goes on, or it is the event itself
+-- a full window holds every event that was in none; after an event that fills none the oldest such event goes on, or it is the event itself
+abbrev pub afterEvent : Rule → Marks → List ℕ → ℕ → Bool → Change
+afterEvent rule now times t fills =
+    cond fills (waits (rule .upper) times (Drop 1) now)
+    (cond (none-left times) (waits (rule .upper) times (Push 0 t) now) (waits (rule .upper) times (Drop 0) now))
+
 unfoldable pub decideSynchronization : Rule → Marks → List ℕ → ℕ → ℕ → Change
 decideSynchronization rule marks times kind t =
     let now : Marks = latest rule marks kind t in
-    cond (full rule now t) (waits (rule .upper) times (Drop 1) now)
-    (cond (none-left times) (waits (rule .upper) times (Push 0 t) now) (waits (rule .upper) times (Drop 0) now))
+    afterEvent rule now times t (full rule now t)
+
+abbrev pub machineSynchronization : Machine
+machineSynchronization = record { keeps = countsKept; decide = decideSynchronization; fills = fillsNever; taken = noneTaken }

@@ -2,7 +2,7 @@
 -- with it full, and that holds every event in none, or it covers nothing; and one event of each kind at the clock fills the window from the oldest.
 use Rattle.constraint.proofs.Library.{ℕ, zero, suc, _+_, _-_, _≤_, _<_, arith, decLt, ℕ-discrete, _≡_, refl, sym, ap, _∙_, Bool, true, false}
 use Rattle.constraint.proofs.Library.{cond, _&&_, _||_, false≢true, and-eq-true-iff, List, [], _∷_, _++_, append-nil, _⊎_, inl, inr, by-cases}
-use Rattle.constraint.proofs.Library.{length, length-append, length-drop, ltb, eqb, ltb-true, ltb-false, eqb-false, eq-eqb, ne-eqb}
+use Rattle.constraint.proofs.Library.{length, length-append, ltb, eqb, ltb-true, ltb-false, eqb-false, eq-eqb, ne-eqb}
 use Rattle.constraint.specs.Limits.{lastKind, lastTime, waitingLimit}
 use Rattle.constraint.specs.Steps.{Step, event, tick, at, times, own, clock, closed}
 use Rattle.constraint.specs.Meets.{Recorded, Meets, MeetsSynchronization}
@@ -20,16 +20,17 @@ use Rattle.queue.specs.Ring.{changed}
 use Rattle.queue.specs.declared.Edit.{Edit}
 use Rattle.queue.specs.declared.Edit.the-variants.{Drop, Push}
 use Rattle.machine.specs.Rule.{ruleOf, noKind, waitsIn, startWords}
-use Rattle.machine.specs.Parts.{plus, noMarks, waits, dueOldest, none-left}
+use Rattle.machine.specs.Parts.{plus, waits, dueOldest, none-left}
 use Rattle.machine.specs.Words.{countsKept}
 use Rattle.machine.specs.declared.Rule.{Rule}
 use Rattle.machine.specs.declared.Marks.{Marks}
 use Rattle.machine.specs.declared.Change.{Change}
 use Rattle.machine.proofs.Exact.{OfStream, Starts, GoesOn, Waits, ByOutcome, Exact}
+use Rattle.machine.proofs.FitsRow.{FitsRow, Steady, keeping-counts, steady-by, steady-drop, fits-steady}
 use Rattle.machine.proofs.SeveralKinds.{kinds-small, kinds-stream, kinds-apart, by-place}
-use Rattle.machine.proofs.Oldest.{none-left-length, due-passed}
+use Rattle.machine.proofs.Oldest.{due-passed}
 use Rattle.groups.specs.StrongSynchronization.{withCounts}
-use Rattle.groups.specs.Synchronization.{newer, latest, recent, full, decideSynchronization}
+use Rattle.groups.specs.Synchronization.{newer, latest, recent, full, afterEvent, decideSynchronization, machineSynchronization}
 use Rattle.groups.proofs.Laws.Columns.{Reaches, reaches-before}
 use Rattle.groups.proofs.Laws.Counts.{fourKinds, fourCounts, Names, four-each, four-true, four-false, names-four, kind-present, kind-absent}
 use Rattle.groups.proofs.Laws.Counts.{count-none}
@@ -206,21 +207,20 @@ module _ {rule : Rule} {ks : List ℕ} (names : Names rule ks) (steps : List Ste
   goes-on owed edit owes in-time = record { live = record { lasts = lasts-after; owes = owes }; due-is = refl; kept-is = refl; in-time = in-time }
 
   event-cases : (B : Type 0) (owed : List ℕ) (fills : Bool) → full rule noted t ≡ fills → Owed ks (rule .upper) steps owed
-      → t ≤ dueOldest (rule .upper) owed → ByOutcome B (Goes owed) (cond fills (waits (rule .upper) owed (Drop 1) noted)
-      (cond (none-left owed) (waits (rule .upper) owed (Push 0 t) noted) (waits (rule .upper) owed (Drop 0) noted)))
+      → t ≤ dueOldest (rule .upper) owed → ByOutcome B (Goes owed) (afterEvent rule noted owed t fills)
   event-cases B [] true e settled in-time =
-      goes-on [] (Drop 1) (settled-on one-more (rule .upper) (next ks after) (recorded-lasts ks after) (full-after e) settled) in-time
+      goes-on [] _ (settled-on one-more (rule .upper) (next ks after) (recorded-lasts ks after) (full-after e) settled) in-time
   event-cases B [] false e settled in-time =
       let (j, h, lacks) = lacks-after e in
-      goes-on [] (Push 0 t) (owing-begins one-more (rule .upper) (next ks after) (recorded-lasts ks after) j h lacks of-row settled)
+      goes-on [] _ (owing-begins one-more (rule .upper) (next ks after) (recorded-lasts ks after) j h lacks of-row settled)
       (omega (arith, accepts .time-small))
   event-cases B (u ∷ []) true e owing in-time =
-      goes-on (u ∷ []) (Drop 1)
+      goes-on (u ∷ []) _
       (owing-ends one-more (rule .upper) (next ks after) (recorded-lasts ks after) (full-after e) u (omega arith) owing)
       (omega (arith, accepts .time-small))
   event-cases B (u ∷ []) false e owing in-time =
       let (j, h, lacks) = lacks-after e in
-      goes-on (u ∷ []) (Drop 0) (owing-stays one-more (rule .upper) (next ks after) (recorded-lasts ks after) j h lacks u owing) in-time
+      goes-on (u ∷ []) _ (owing-stays one-more (rule .upper) (next ks after) (recorded-lasts ks after) j h lacks u owing) in-time
 
   -- no event breaks the row
   event-does : (B : Type 0) (owed : List ℕ) → Owed ks (rule .upper) steps owed → t ≤ dueOldest (rule .upper) owed
@@ -427,29 +427,17 @@ module _ (c : Constraint) (s : Synchronized c) where
 -- ---- In a row
 
 -- an event changes the four marks alone, and with a time in the ring it lets no other in
-module _ (rule : Rule) (m : Marks) (times : List ℕ) (kind t : ℕ) where
-  abbrev change : Bool → Bool → Change
-  change fills none =
-      cond fills (waits (rule .upper) times (Drop 1) (latest rule m kind t))
-      (cond none (waits (rule .upper) times (Push 0 t) (latest rule m kind t)) (waits (rule .upper) times (Drop 0) (latest rule m kind t)))
+steady-synchronization : (rule : Rule) (m : Marks) (times : List ℕ) (kind t : ℕ)
+    → Steady countsKept m times (decideSynchronization rule m times kind t)
+unfolding decideSynchronization
+steady-synchronization rule m times kind t =
+    steady-by (full rule (latest rule m kind t) t) (steady-drop 1 (ap (withCounts _ _ _ _)))
+    (by-times times)
+  where
+    by-times : (times : List ℕ) → Steady countsKept m times (cond (none-left times) (waits (rule .upper) times (Push 0 t) (latest rule m kind t))
+        (waits (rule .upper) times (Drop 0) (latest rule m kind t)))
+    by-times [] = record { unkept = ap (withCounts _ _ _ _); no-more = λ many. absurd (omega arith) }
+    by-times (u ∷ us) = steady-drop 0 (ap (withCounts _ _ _ _))
 
-  pub unkept-synchronization : countsKept m noMarks ≡ m
-      → countsKept (decideSynchronization rule m times kind t .marks) noMarks ≡ decideSynchronization rule m times kind t .marks
-  unfolding decideSynchronization
-  unkept-synchronization e = by-tests (full rule (latest rule m kind t) t) (none-left times)
-    where
-      by-tests : (fills none : Bool) → countsKept (change fills none .marks) noMarks ≡ change fills none .marks
-      by-tests true none = ap (withCounts _ _ _ _) e
-      by-tests false true = ap (withCounts _ _ _ _) e
-      by-tests false false = ap (withCounts _ _ _ _) e
-
-  pub no-more-synchronization : 0 < length times → length (changed (decideSynchronization rule m times kind t .edit) times) ≤ length times
-  unfolding decideSynchronization
-  no-more-synchronization some =
-      by-tests (full rule (latest rule m kind t) t) (none-left times)
-      (sym (none-left-length times (length times) refl) ∙ ne-eqb (length times) 0 (λ e. omega arith))
-    where
-      by-tests : (fills none : Bool) → none ≡ false → length (changed (change fills none .edit) times) ≤ length times
-      by-tests true none e = omega (arith, length-drop 1 times)
-      by-tests false true e = absurd (false≢true (sym e))
-      by-tests false false e = omega (arith, length-drop 0 times)
+pub fitsSynchronization : FitsRow machineSynchronization
+fitsSynchronization = fits-steady keeping-counts steady-synchronization

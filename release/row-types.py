@@ -11,68 +11,13 @@ its file in the model, its row in examples/rows.
 import re
 import sys
 from os.path import commonprefix
-from pathlib import Path
-from textwrap import fill
 
-ROOT = Path(__file__).resolve().parent.parent
 sys.dont_write_bytecode = True
-sys.path.insert(0, str(ROOT / "python"))
-from delkuthi.fields import MOST, SIZES
-from delkuthi.rowtypes import TYPES
+import row_definitions
+import row_machines
+from row_list import END, LISTED, MADE, ROOT, TYPES, declared, having, length, listed, names, one, small, snake, text_of, wrapped
+from delkuthi.fields import MOST
 from delkuthi.text import form_lines
-
-
-def text_of(path):
-    return (ROOT / path).read_text(encoding="utf-8") if (ROOT / path).is_file() else ""
-
-
-def snake(row_type):
-    """The name of a type in C, and of its files."""
-    return re.sub(r"(?<!^)(?=[A-Z])", "_", row_type.name).lower()
-
-
-def having(role):
-    return [row_type for row_type in TYPES if row_type.has(role)]
-
-
-def listed(words, last="and"):
-    """``a, b and c``"""
-    return f" {last} ".join([", ".join(words[:-1]), words[-1]] if len(words) > 1 else words)
-
-
-def one(name):
-    """``a Burst``, ``an Order``"""
-    return f"{'an' if name[0] in 'AEIOUaeiou' else 'a'} {name}"
-
-
-def small(row_type):
-    """The fields of one byte, and those of eight; kinds, which come first where there are any, are neither."""
-    sizes = [SIZES.get(part.role, 0) for part in row_type.fields]
-    assert sizes == sorted(sizes) and (sizes[0] or 1 not in sizes), f"{row_type.name}: kinds and counts stand before times"
-    return [part.name for part in row_type.fields if SIZES.get(part.role) == 1], [part.name for part in row_type.fields if SIZES.get(part.role) == 8]
-
-
-def wrapped(text, width, first="", other=""):
-    """The words in lines; where a 0 stands for a blank none is broken."""
-    lines = fill(" ".join(text.split()), width, initial_indent=first, subsequent_indent=other, break_long_words=False, break_on_hyphens=False)
-    return lines.replace("\0", " ")
-
-
-def length(row_type):
-    """What the length field of such a row says: the type and the fields; the n of kinds is added to it."""
-    known = 1 + sum(SIZES.get(part.role, 1) for part in row_type.fields)
-    return f"{known} + n" if row_type.has("kinds") else str(known)
-
-
-def names(row_type, kinds):
-    """The fields' names in their order."""
-    return [kinds if part.role == "kinds" else part.name for part in row_type.fields]
-
-
-def declared(row_type, form, kinds, byte="u8", time="u64"):
-    """The fields as a program declares them."""
-    return [kinds if part.role == "kinds" else form.format(name=part.name, size=byte if SIZES[part.role] == 1 else time)
-            for part in row_type.fields]
 
 
 def counted():
@@ -262,7 +207,6 @@ def model_list():
     return "".join(f"    {t.number} => {t.name},\n" for t in TYPES)
 
 
-MADE, LISTED, END = "Made by release/row-types.py.", "Made by release/row-types.py, to the end of the list.", "End of what is made."
 # A file, the two texts between which a part stands, and what makes the part.
 PARTS = (
     ("docs/CONTRACT.md", "order of §4.5.\n\n", "**4.8** ", contract),
@@ -281,6 +225,7 @@ PARTS = (
     ("host/model/src/types.rs", f"// {MADE}\n\n", f"\n// {END}\n", model_modules),
     ("host/model/src/types.rs", f"row_types! {{\n    // {LISTED}\n", "}\n", model_list),
 )
+PARTS += row_definitions.PARTS + row_machines.PARTS
 
 
 # The roles that have another name in the model.

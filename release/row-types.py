@@ -207,7 +207,7 @@ def model_list():
     return "".join(f"    {t.number} => {t.name},\n" for t in TYPES)
 
 
-# A file, the two texts between which a part stands, and what makes the part.
+# A file, the two texts between which a part stands, and what makes the part; without a first text it begins with the file, without a last it ends so.
 PARTS = (
     ("docs/CONTRACT.md", "order of §4.5.\n\n", "**4.8** ", contract),
     ("python/README.md", "    form:\n", "    A kind is an event's name", grammar),
@@ -250,12 +250,13 @@ def main():
     if [row_type.number for row_type in TYPES] != list(range(1, len(TYPES) + 1)):
         wrong.append("python/delkuthi/rowtypes: the numbers of the types are not 1, 2, 3 and so on")
     for path, first, last, make in PARTS:
-        before, begin, rest = text_of(path).partition(first)
-        part, end, after = rest.partition(last)
+        before, begin, rest = text_of(path).partition(first) if first else ("", "", text_of(path))
+        part, end, after = rest.partition(last) if last else (rest, "", "")
         made = make()
-        if not begin or not end or first in rest:
+        if begin != first or end != last or first and first in rest:
             wrong.append(f"{path}: there is no part, or several, from {first.strip()!r} to {last.strip()!r}")
         elif part != made and sys.argv[1:]:
+            (ROOT / path).parent.mkdir(parents=True, exist_ok=True)
             (ROOT / path).write_text(before + begin + made + end + after, encoding="utf-8")
         elif part != made:
             same = len(commonprefix([part, made]))

@@ -20,8 +20,8 @@ def test_what_is_made_is_what_the_list_says():
 
 def test_a_new_type_is_made(tmp_path):
     """A line that is missing is said, what a new type lacks is said, and the rest is written wherever it belongs."""
-    for part in ("release", "python/delkuthi", "python/README.md", "docs/CONTRACT.md", "include", "examples/rows", "host/c/make_table.c",
-                 "host/delkuthi/src/table.rs", "host/checks/src/rows.rs", "host/model/src"):
+    for part in ("release", "crates", "python/delkuthi", "python/README.md", "docs/CONTRACT.md", "include", "examples/rows",
+                 "host/c/make_table.c", "host/delkuthi/src/table.rs", "host/checks/src/rows.rs", "host/model/src"):
         (tmp_path / part).parent.mkdir(parents=True, exist_ok=True)
         copy = shutil.copytree if (ROOT / part).is_dir() else shutil.copy
         copy(ROOT / part, tmp_path / part)
@@ -38,7 +38,11 @@ def test_a_new_type_is_made(tmp_path):
              "host/c/make_table.c": "    default:\n        return delkuthi_weak_order(b[0], b[1]);\n",
              "host/delkuthi/src/table.rs": f"            Row::WeakOrder {{ source, target }} => body(&[{n}, source, target], &[]),\n",
              "host/checks/src/rows.rs": "Constraint::WeakOrder(types::WeakOrder { source, target }) => Row::WeakOrder { source, target },\n",
-             "host/model/src/types.rs": f"    {n} => WeakOrder,\n"}
+             "host/model/src/types.rs": f"    {n} => WeakOrder,\n",
+             "crates/constraint/src/lib.rt": f"            {n} => Constraint::WeakOrder {{\n                source: byte0,\n",
+             "crates/constraint/specs/Types.antt": f"typeLine (WeakOrder source target) = ({n}, byte kind source ∷ byte kind target ∷ [])\n",
+             "crates/constraint/specs/Waiting.antt": "waiting (WeakOrder source target) steps = 0\n",
+             "crates/constraint/proofs/Types.antt": "lawful (Constraint.WeakOrder a b) = lawfulWeakOrder a b\n"}
     for path, line in lines.items():
         assert line in (tmp_path / path).read_text(encoding="utf-8"), path
     left = subprocess.run([sys.executable, tmp_path / PROGRAM], capture_output=True, text=True).stdout

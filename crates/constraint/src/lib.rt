@@ -18,7 +18,7 @@ ghost use mathlib.Core.Path.{_≡_};
 ghost use mathlib.Core.List.{[]};
 ghost use Rattle.constraint.specs.Questions.{Judged};
 ghost use Rattle.constraint.specs.Accepted.{rowQuestions, rowsQuestions};
-ghost use Rattle.constraint.specs.Types.{groupRead, rowRead, lengthOf};
+ghost use Rattle.constraint.specs.Types.{strongSynchronizationRead, rowRead, lengthOf};
 ghost use Rattle.constraint.specs.Records.{rowsOf, tableOf, Adds, HoldsRow};
 
 // The largest kind of event.
@@ -46,6 +46,7 @@ pub const WAITING_LIMIT: usize = 64;
 
 // A row of a table: one TADL2 timing constraint with its fields.
 pub enum Constraint {
+    // Made by release/row-types.py, to the end of the list.
     Delay {
         source: u8,
         target: u8,
@@ -185,6 +186,7 @@ pub struct Table {
 }
 
 // The table of types: a line for each variant, with its type byte and the roles of its fields.
+// Made by release/row-types.py.
 const DELAY: Line = Line {
     form: 1,
     bytes: [KIND, KIND, 0, 0, 0],
@@ -221,19 +223,19 @@ const ORDER: Line = Line {
     times: [0, 0, 0, 0],
 };
 
-const GROUP_OF_2: Line = Line {
+const STRONG_SYNCHRONIZATION_2: Line = Line {
     form: 7,
     bytes: [COUNT, KIND, KIND, 0, 0],
     times: [TOLERANCE, 0, 0, 0],
 };
 
-const GROUP_OF_3: Line = Line {
+const STRONG_SYNCHRONIZATION_3: Line = Line {
     form: 7,
     bytes: [COUNT, KIND, KIND, KIND, 0],
     times: [TOLERANCE, 0, 0, 0],
 };
 
-const GROUP_OF_4: Line = Line {
+const STRONG_SYNCHRONIZATION_4: Line = Line {
     form: 7,
     bytes: [COUNT, KIND, KIND, KIND, KIND],
     times: [TOLERANCE, 0, 0, 0],
@@ -257,7 +259,9 @@ const REPETITION: Line = Line {
     times: [LOWER, UPPER, JITTER, 0],
 };
 
-// The length expected for each type, by the type byte; to a StrongSynchronization's its n is added.
+// End of what is made.
+
+// The length expected for each type, by the type byte; to a type's with an n its n is added.
 const LENGTHS: [usize; 11] = [0, 19, 19, 19, 34, 19, 3, 10, 21, 19, 27];
 
 // The length expected of a row of a type, with the byte behind it, which is the n of a StrongSynchronization; 0 if there is
@@ -275,9 +279,11 @@ pub fn length_of(form: u8, n: u8) -> usize
     LENGTHS[place]
 }
 
+// Made by release/row-types.py.
+
 // The StrongSynchronization of as many kinds as its first byte says.
-fn group_read(bytes: [u8; 5], tolerance: u64) -> Constraint
-    ensures { λ r. ⌜ r ≡ groupRead bytes tolerance ⌝ }
+fn strong_synchronization_read(bytes: [u8; 5], tolerance: u64) -> Constraint
+    ensures { λ r. ⌜ r ≡ strongSynchronizationRead bytes tolerance ⌝ }
 {
     let n = bytes[0];
     let first = bytes[1];
@@ -306,6 +312,8 @@ fn group_read(bytes: [u8; 5], tolerance: u64) -> Constraint
     }
 }
 
+// End of what is made.
+
 impl Constraint {
     // The row of a type byte, the values of its fields of one byte, and its times: what `fields` takes apart.
     pub fn read(form: u8, bytes: [u8; 5], times: [u64; 4]) -> Self
@@ -320,6 +328,7 @@ impl Constraint {
         let time2 = times[2];
         let time3 = times[3];
         match form {
+            // Made by release/row-types.py, to the end of the list.
             1 => Constraint::Delay {
                 source: byte0,
                 target: byte1,
@@ -376,7 +385,7 @@ impl Constraint {
                 upper: time1,
                 jitter: time2,
             },
-            _ => group_read(bytes, time0),
+            _ => strong_synchronization_read(bytes, time0),
         }
     }
 
@@ -385,6 +394,7 @@ impl Constraint {
         ensures { λ r. ⌜ HoldsRow self r ⌝ }
     {
         match self {
+            // Made by release/row-types.py, to the end of the list.
             Constraint::Delay {
                 source,
                 target,
@@ -433,14 +443,18 @@ impl Constraint {
                 first,
                 second,
                 tolerance,
-            } => Fields::new(GROUP_OF_2, [2, first, second, 0, 0], [tolerance, 0, 0, 0]),
+            } => Fields::new(
+                STRONG_SYNCHRONIZATION_2,
+                [2, first, second, 0, 0],
+                [tolerance, 0, 0, 0],
+            ),
             Constraint::StrongSynchronization3 {
                 first,
                 second,
                 third,
                 tolerance,
             } => Fields::new(
-                GROUP_OF_3,
+                STRONG_SYNCHRONIZATION_3,
                 [3, first, second, third, 0],
                 [tolerance, 0, 0, 0],
             ),
@@ -451,7 +465,7 @@ impl Constraint {
                 fourth,
                 tolerance,
             } => Fields::new(
-                GROUP_OF_4,
+                STRONG_SYNCHRONIZATION_4,
                 [4, first, second, third, fourth],
                 [tolerance, 0, 0, 0],
             ),

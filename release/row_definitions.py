@@ -101,6 +101,23 @@ def code_lengths():
     return f"const LENGTHS: [usize; {len(TYPES) + 1}] = [{', '.join(plain_lengths())}];"
 
 
+def last_types():
+    """The last type of each edition, by its number."""
+    editions = [getattr(row_type, "edition", 1) for row_type in TYPES]
+    assert editions == sorted(editions), "a later edition has all types of the one before, and those behind them"
+    return ["0", *(str(sum(edition <= last for edition in editions)) for last in range(1, max(2, *editions) + 1))]
+
+
+def code_last_types():
+    return f"const LAST_TYPES: [u8; {len(last_types())}] = [{', '.join(last_types())}];"
+
+
+def code_tests(row_types):
+    """That a number is one of these types'."""
+    *first, last = [f"form == {row_type.number}" for row_type in row_types]
+    return "".join(f"{test} || (" for test in first[:-1]) + "".join(f"{test} || " for test in first[-1:]) + last + ")" * (len(first) - 1)
+
+
 def struct(one, indent, values=None):
     """A variant with its fields in lines of their own."""
     named = [f"{value.name}: {values[value]}" if values else value.name for value in one.fields]
@@ -219,6 +236,33 @@ def row_read():
     return "rowRead t b x =\n" + chosen([f"eqb t {row_type.number}" for row_type in PLAIN], list(map(value, [*PLAIN, COUNTED[0]])))
 
 
+def tests(row_types, name):
+    """The same in the definitions."""
+    return " || ".join(f"eqb {name} {row_type.number}" for row_type in row_types)
+
+
+def tests_proof(crate, function, defined, row_types):
+    """The proof that such a function is such a definition."""
+    count, module = len(row_types), f"Rattle.{crate}.proofs.{function}"
+    name = function.replace("_", "-")
+
+    def law(place):
+        before = [f"ne-eqb _ _ (c .{'before .' * (place - i if place < count else place - 1 - i)}if{i} .left)" for i in range(1, place)]
+        found = [*before, f"eq-eqb _ _ (c .if{place} .taken)"] if place < count else before
+        need = f"returns{f'-{place}' if place > 1 else ''}"
+        return need, f"{need} : tie.Need-{need}\n{need} c = rw ({', '.join(found)})\n\n"
+
+    laws = list(map(law, range(1, count + 1)))
+    return f"""-- The tests are those of `{defined}`, in its order. Made by release/row-types.py.
+use borrow.Author.Tests.{{eq-eqb, ne-eqb}}
+use {module}.Statement.{{statement}}
+use {module}.Tie as tie
+
+{"".join(text for _, text in laws)}pub {name}-spec : {{M : Type 1}} → statement M
+{name}-spec = tie.close (tie.spec {" ".join(need for need, _ in laws)})
+"""
+
+
 def type_names():
     """The names in bytes, a line for each."""
     return "".join(f"    -- {t.number} {t.name}\n    ∷ ({' ∷ '.join([*map(str, t.name.encode()), '[]'])})\n" for t in TYPES)
@@ -257,8 +301,8 @@ def law_modules():
 
 def law_names():
     """The laws of the types, from their files."""
-    return "".join(listed_names(f"use Rattle.constraint.proofs.Types.{row_type.name}.{{", [f"lawful{one.name}" for one in variants_of(row_type)])
-                   for row_type in TYPES) + listed_names("use Rattle.constraint.specs.Types.{", map(group_name, COUNTED))
+    laws = {row_type.name: [f"lawful{one.name}" for one in variants_of(row_type)] for row_type in TYPES}
+    return "".join(listed_names(f"use Rattle.constraint.proofs.Types.{name}.{{", found) for name, found in laws.items()) + listed_names("use Rattle.constraint.specs.Types.{", map(group_name, COUNTED))
 
 
 def lawful():
@@ -304,7 +348,7 @@ def read_back():
     """The types by their numbers."""
     def arm(row_type):
         if row_type in COUNTED:
-            return f"      (λ n. {dashed(row_type)}-back (several n))\n"
+            return f"      (λ n. {dashed(row_type)}-back (several (ap takesCount n)))\n"
         return "      (λ n. record { typed = refl; bytes = refl; times = refl; long = refl })\n"
 
     return (f"      each-then (λ n. t ≡ n → Back n) (Back t) 1 {len(TYPES)} (λ each. each t (known .0) (omega (arith, known .1)) refl)\n"
@@ -381,6 +425,8 @@ PARTS = tuple((f"crates/constraint/{path}", first, last, make) for path, first, 
     ("src/lib.rt", f"pub enum Constraint {{\n    // {LISTED}\n", "}\n\n", enum),
     ("src/lib.rt", f"type byte and the roles of its fields.\n// {MADE}\n", f"// {END}\n", lines),
     ("src/lib.rt", "to a type's with an n its n is added.\n", "\n\n", code_lengths),
+    ("src/lib.rt", "edition of the table, by its version byte.\n", "\n\n", code_last_types),
+    ("src/lib.rt", "λ r. ⌜ r ≡ takesCount form ⌝ }\n{\n", "}\n", lambda: f"    {code_tests(COUNTED)}\n"),
     ("src/lib.rt", f"}}\n\n// {MADE}\n\n", f"// {END}\n", group_reads),
     ("src/lib.rt", f"        match form {{\n            // {LISTED}\n", "        }\n", code_read),
     ("src/lib.rt", f"        match self {{\n            // {LISTED}\n", "        }\n", code_fields),
@@ -389,6 +435,8 @@ PARTS = tuple((f"crates/constraint/{path}", first, last, make) for path, first, 
     ("specs/Types.antt", f"-- {MADE}\n\n", f"-- {END}\n", groups_read),
     ("specs/Types.antt", f"rowRead : ℕ → List ℕ → List ℕ → Constraint\n{ARMS}", "\n-- ", row_read),
     ("specs/Types.antt", "abbrev pub lengths : List ℕ\n", "\n\n", lambda: f"lengths = {' ∷ '.join([*plain_lengths(), '[]'])}"),
+    ("specs/Types.antt", "abbrev pub lastTypes : List ℕ\n", "\n\n", lambda: f"lastTypes = {' ∷ '.join([*last_types(), '[]'])}"),
+    ("specs/Types.antt", "takesCount t = ", "\n", lambda: tests(COUNTED, "t")),
     ("specs/Types.antt", f"    {ARMS}    unknownName\n", "    ∷ []\n", type_names),
     ("specs/Waiting.antt", DECLARED, "\n-- ", variant_names),
     ("specs/Waiting.antt", ARMS, "", nothing_waits),
@@ -398,9 +446,12 @@ PARTS = tuple((f"crates/constraint/{path}", first, last, make) for path, first, 
     ("proofs/Types.antt", f"pub lawful : (c : Constraint) → Lawful c\n{ARMS}", "\n-- ", lawful),
     ("proofs/Types.antt", f"pub regular : (c : Constraint) → Regular c\n{ARMS}", "\n-- ", regular),
     ("proofs/Types.antt", f"-- ---- from numbers\n\n-- {MADE}\n\n", f"\n-- {END}\n", read_group),
+    ("proofs/Types.antt", "length-unknown t n past = rw (List·getD-eq-default lengths 0 {n = t} past", ")\n\n",
+     lambda: "".join(f", ne-eqb t {row_type.number} (λ e. omega arith)" for row_type in COUNTED)),
     ("proofs/Types.antt", f"  -- {MADE}\n\n", f"  -- {END}\n", groups_back),
     ("proofs/Types.antt", f"  read-back t known several =\n      {ARMS}", "", read_back),
     ("proofs/Constraint/fields/Proof.antt", "    (tie.spec\n", "", fields_proof),
     ("proofs/Constraint/read/Proof.antt", "", "", read_proof),
     *((f"proofs/{snake(row_type)}_read/Proof.antt", "", "", partial(group_proof, row_type)) for row_type in COUNTED),
+    *([("proofs/takes_count/Proof.antt", "", "", lambda: tests_proof("constraint", "takes_count", "takesCount", COUNTED))] * (len(COUNTED) > 1)),
 ))

@@ -11,8 +11,9 @@ pub mod StrongSynchronization
 pub mod ExecutionTime
 pub mod Reaction
 pub mod Repetition
-use Prim.Native.Nat.{ℕ, zero, suc, _+_, _*_, _≤_, _<_}
-use mathlib.Core.Path.{_≡_, refl, sym, ap₂, subst⁻¹, _∙_}
+use Prim.Native.Nat.{ℕ, zero, suc, _+_, _-_, _*_, _≤_, _<_}
+use mathlib.Core.Path.{_≡_, refl, sym, ap, ap₂, subst⁻¹, _∙_}
+use mathlib.Core.Bool.{Bool, true, false, cond}
 use mathlib.Core.List.{List, [], _∷_, _++_}
 use native.Mathlib.Nat.{add-zero}
 use native.Mathlib.Omega.{arith}
@@ -22,6 +23,7 @@ use lib.ListN.{length, take, drop, List·getD-eq-default, take-append-drop}
 use Rattle.constraint.specs.Steps.{at}
 use Rattle.constraint.specs.Bytes.{bytesOf}
 use Rattle.constraint.specs.Types.{kind, coloured, count, span, Field, byte, time, typeOf, fieldsOf, rowRead, lengths, lengthOf}
+use Rattle.constraint.specs.Types.{lastTypes, lastType, takesCount}
 use Rattle.constraint.specs.Table.{fieldsBytes, rowBody, ShapeFits}
 use Rattle.constraint.specs.Records.{bytesIn, timesIn, timesBytes, HoldsRow}
 use Rattle.constraint.specs.Accepted.{kinds}
@@ -75,7 +77,10 @@ pub record Sized (c : Constraint) : Type 0 where
   pub few : length (bytesIn (fieldsOf c)) ≤ 5
   pub few-times : length (timesIn (fieldsOf c)) ≤ 4
   pub few-kinds : length (kinds c) ≤ 4
-  pub fits : ShapeFits (rowBody c)
+  pub typed : 1 ≤ typeOf c
+  pub two : 1 < length (rowBody c)
+  pub n-known : _≡_ {A = ℕ} (cond (takesCount (typeOf c)) 1 0) 1 → (2 ≤ at (rowBody c) 1) × (at (rowBody c) 1 ≤ 4)
+  pub long : length (rowBody c) ≡ lengthOf (typeOf c) (at (rowBody c) 1)
 
 pub record Regular (c : Constraint) : Type 0 where
   pub again : (more later : List ℕ) → rowRead (typeOf c) (bytesIn (fieldsOf c) ++ more) (timesIn (fieldsOf c) ++ later) ≡ c
@@ -122,12 +127,39 @@ read-group t b x n1 n2 n3 n4 n5 n6 n8 n9 n10 =
 
 -- End of what is made.
 
--- the list of lengths, where it has no entry, and for every type but 7
+-- a row's shape fits in the editions that have its type
+pub row-fits : (c : Constraint) {edition : ℕ} → typeOf c ≤ lastType edition → ShapeFits edition (rowBody c)
+unfolding rowBody
+row-fits c known =
+    let sized = regular c .sized in
+    record {
+      type-there = omega (arith, sized .two);
+      type-known = (sized .typed, known);
+      n-there = λ e. sized .two;
+      n-known = λ e. sized .n-known (ap (λ (b : Bool). cond b 1 0) e);
+      length-right = sized .long;
+    }
+
+-- a list of numbers, each at most some number: so is what stands at a place of it
+abbrev pub AtMost : ℕ → List ℕ → Type 0
+AtMost most [] = Unit {0}
+AtMost most (x ∷ xs) = (x ≤ most) × AtMost most xs
+
+pub at-most : (most : ℕ) (xs : List ℕ) → AtMost most xs → (i : ℕ) → at xs i ≤ most
+at-most most [] h i = omega arith
+at-most most (x ∷ xs) h zero = h .0
+at-most most (x ∷ xs) h (suc i) = at-most most xs (h .1) i
+
+-- every type of an edition is in the list of lengths
+pub last-listed : (edition : ℕ) → lastType edition < length lengths
+last-listed edition = omega (arith, at-most (length lengths - 1) lastTypes (omega arith) edition)
+
+-- the list of lengths, where it has no entry, and for every type that has no n
 pub length-unknown : (t n : ℕ) → length lengths ≤ t → lengthOf t n ≡ 0
 length-unknown t n past = rw (List·getD-eq-default lengths 0 {n = t} past, ne-eqb t 7 (λ e. omega arith))
 
-pub length-plain : (t n : ℕ) → ¬ (t ≡ 7) → lengthOf t n ≡ at lengths t
-length-plain t n other = rw (ne-eqb t 7 other) (add-zero (at lengths t))
+pub length-plain : (t n : ℕ) → takesCount t ≡ false → lengthOf t n ≡ at lengths t
+length-plain t n other = rw other (add-zero (at lengths t))
 
 -- what is shown of each of n numbers from i on, one after the other, is shown of all of them
 abbrev EachThen : (ℕ → Type 0) → Type 0 → ℕ → ℕ → Type 0
@@ -172,7 +204,7 @@ module _ (b0 b1 b2 b3 b4 x0 x1 x2 x3 : ℕ) where
 
   -- End of what is made.
 
-  pub read-back : (t : ℕ) → (1 ≤ t) × (t < length lengths) → (t ≡ 7 → (2 ≤ b0) × (b0 ≤ 4)) → Back t
+  pub read-back : (t : ℕ) → (1 ≤ t) × (t < length lengths) → (takesCount t ≡ true → (2 ≤ b0) × (b0 ≤ 4)) → Back t
   unfolding rowRead
   read-back t known several =
       -- Made by release/row-types.py, to the end of the list.
@@ -183,7 +215,7 @@ module _ (b0 b1 b2 b3 b4 x0 x1 x2 x3 : ℕ) where
       (λ n. record { typed = refl; bytes = refl; times = refl; long = refl })
       (λ n. record { typed = refl; bytes = refl; times = refl; long = refl })
       (λ n. record { typed = refl; bytes = refl; times = refl; long = refl })
-      (λ n. strong-synchronization-back (several n))
+      (λ n. strong-synchronization-back (several (ap takesCount n)))
       (λ n. record { typed = refl; bytes = refl; times = refl; long = refl })
       (λ n. record { typed = refl; bytes = refl; times = refl; long = refl })
       (λ n. record { typed = refl; bytes = refl; times = refl; long = refl })

@@ -1,7 +1,7 @@
 -- The table of types (§4.4 to §4.7; 01, table): the types, their fields in order, and what each field says, and back from the values to the row
 -- (`regular` and `read-back`: each way is the other's inverse). What is asked of a row, its bytes and its numbers in a monitor are read off it.
 use Prim.Native.Nat.{ℕ, _+_}
-use mathlib.Core.Bool.{cond}
+use mathlib.Core.Bool.{Bool, cond}
 use mathlib.Core.List.{List, [], _∷_}
 use lib.Dec.{eqb}
 use Rattle.constraint.specs.Limits.{spanLimit, repetitionSpanLimit}
@@ -91,13 +91,25 @@ rowRead t b x =
     (cond (eqb t 10) (Repetition (at b 0) (at b 1) (at x 0) (at x 1) (at x 2))
     (strongSynchronizationRead b (at x 0))))))))))
 
--- §4.5; 01, table; CR 2, 6, 10: the lengths, by the type byte; to a StrongSynchronization's its n is added
+-- §4.5; 01, table; CR 2, 6, 10: the lengths, by the type byte; to a type's with an n its n is added
 abbrev pub lengths : List ℕ
 lengths = 0 ∷ 19 ∷ 19 ∷ 19 ∷ 34 ∷ 19 ∷ 3 ∷ 10 ∷ 21 ∷ 19 ∷ 27 ∷ []
 
--- §4.5; 01, table: the length of a type, and of the n of a StrongSynchronization
+-- §4.2; 01, table: the last type of each edition of the table, by its version byte; no other number is an edition's
+abbrev pub lastTypes : List ℕ
+lastTypes = 0 ∷ 10 ∷ 10 ∷ []
+
+-- §4.2; 01, table: the last type of an edition; 0, which is no type's, where there is no such edition
+abbrev pub lastType : ℕ → ℕ
+lastType edition = at lastTypes edition
+
+-- §4.5; 01, table: the types whose first field is n, the number of the kinds behind it
+abbrev pub takesCount : ℕ → Bool
+takesCount t = eqb t 7
+
+-- §4.5; 01, table: the length of a type, and of its n where it has one
 abbrev pub lengthOf : ℕ → ℕ → ℕ
-lengthOf t n = at lengths t + cond (eqb t 7) n 0
+lengthOf t n = at lengths t + cond (takesCount t) n 0
 
 -- what stands for a number that is no type's, which no table has: Unknown
 abbrev pub unknownName : List ℕ

@@ -17,8 +17,8 @@ use fields::UPPER_OR_NONE;
 ghost use mathlib.Core.Path.{_≡_};
 ghost use mathlib.Core.List.{[]};
 ghost use Rattle.constraint.specs.Questions.{Judged};
-ghost use Rattle.constraint.specs.Accepted.{rowQuestions, rowsQuestions};
-ghost use Rattle.constraint.specs.Types.{strongSynchronizationRead, rowRead, lengthOf};
+ghost use Rattle.constraint.specs.Accepted.{rowQuestions, rowQuestionsIn, rowsQuestions};
+ghost use Rattle.constraint.specs.Types.{strongSynchronizationRead, rowRead, lengthOf, lastType, takesCount};
 ghost use Rattle.constraint.specs.Records.{rowsOf, tableOf, Adds, HoldsRow};
 
 // The largest kind of event.
@@ -264,8 +264,28 @@ const REPETITION: Line = Line {
 // The length expected for each type, by the type byte; to a type's with an n its n is added.
 const LENGTHS: [usize; 11] = [0, 19, 19, 19, 34, 19, 3, 10, 21, 19, 27];
 
-// The length expected of a row of a type, with the byte behind it, which is the n of a StrongSynchronization; 0 if there is
-// no such type.
+// The last type of each edition of the table, by its version byte.
+const LAST_TYPES: [u8; 3] = [0, 10, 10];
+
+// The last type of an edition; 0 if there is no such edition.
+pub fn last_type(edition: u8) -> u8
+    ensures { λ r. ⌜ r ≡ lastType edition ⌝ }
+{
+    let place = edition as usize;
+    if LAST_TYPES.len() <= place {
+        return 0;
+    }
+    LAST_TYPES[place]
+}
+
+// Whether the first field of a type is n, the number of the kinds behind it.
+pub fn takes_count(form: u8) -> bool
+    ensures { λ r. ⌜ r ≡ takesCount form ⌝ }
+{
+    form == 7
+}
+
+// The length expected of a row of a type, with the byte behind it, which is the n of a type that has one; 0 if there is no such type.
 pub fn length_of(form: u8, n: u8) -> usize
     ensures { λ r. ⌜ r ≡ lengthOf form n ⌝ }
 {
@@ -273,7 +293,7 @@ pub fn length_of(form: u8, n: u8) -> usize
     if LENGTHS.len() <= place {
         return 0;
     }
-    if form == 7 {
+    if takes_count(form) {
         return LENGTHS[place] + n as usize;
     }
     LENGTHS[place]
@@ -532,6 +552,18 @@ impl Constraint {
         }
         Answer::Taken
     }
+
+    // The answer to question 4, whether the type is one of the edition, and then to the row's own questions.
+    pub fn judge_in(self, edition: u8) -> Answer
+        ensures { λ r. ⌜ Judged (rowQuestionsIn edition self) r ⌝ }
+    {
+        let fields = self.fields();
+        let line = fields.line;
+        if last_type(edition) < line.form {
+            return Answer::Refused(4);
+        }
+        self.judge()
+    }
 }
 
 impl Table {
@@ -564,9 +596,9 @@ impl Table {
         self
     }
 
-    // The answer to questions 3 to 7 and 18, row by row. Any record is taken, also one whose count is above 32.
-    pub fn judge(self) -> Answer
-        ensures { λ r. ⌜ Judged (rowsQuestions 0 (rowsOf self) []) r ⌝ }
+    // The answer to questions 3 to 7 and 18, row by row, in an edition. Any record is taken, also one whose count is above 32.
+    pub fn judge(self, edition: u8) -> Answer
+        ensures { λ r. ⌜ Judged (rowsQuestions edition 0 (rowsOf self) []) r ⌝ }
     {
         let count = self.count;
         let mut i = 0;
@@ -576,7 +608,7 @@ impl Table {
             }
             let entry = self.rows[i];
             let constraint = entry.constraint;
-            match constraint.judge() {
+            match constraint.judge_in(edition) {
                 Answer::Refused(number) => {
                     return Answer::Refused(number);
                 }

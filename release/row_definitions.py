@@ -1,8 +1,9 @@
 """What follows from the list of row types in crate `constraint`, where a row is defined, and in what is shown of every row."""
+import re
 from functools import partial
 from typing import NamedTuple
 
-from row_list import END, LISTED, MADE, TYPES, length, one, snake, wrapped
+from row_list import END, LISTED, MADE, ROOT, TYPES, length, one, snake, text_of, wrapped
 
 #: The kinds of a type that has an n: how many there may be, and their names.
 NUMBERS, KINDS = (2, 3, 4), ("first", "second", "third", "fourth")
@@ -417,6 +418,73 @@ unfolding {read}
 """
 
 
+# Other crates.
+
+def coloured_waits():
+    """An event of a coloured kind changes nothing of what waits in a row: nothing waits there, or all its kinds are plain."""
+    def line(one, waits):
+        row = f"({one.name} {letters(one)})"
+        places = [i for i, value in enumerate(one.bytes, bool(one.n)) if value.role == "kind"]
+        others = ", ".join(f"other {'abcde'[i - bool(one.n)]} (k{' .1' * i} .0)" for i in places)
+        left, right = f"  coloured-waits {row} k", f"same-waits {row} (rw ({others}) refl)" if waits else "refl"
+        assert not waits or not any(value.role == "coloured" for value in one.bytes), f"{one.name}: something waits in a row of coloured kinds"
+        if len(right) > 144:
+            right = right.replace(" (rw", "\n      (rw")
+        return equation(left, right, " " * 6)
+
+    return "".join(line(one, row_type.waits) for row_type in TYPES for one in variants_of(row_type))
+
+
+def page_names():
+    """The names as a page has them."""
+    names = ["Unknown", *(row_type.name for row_type in TYPES)]
+    return f"const NAMES: [[u8; 24]; {len(names)}] = [\n" + "".join(f'    *b"{name:24}",\n' for name in names)
+
+
+def machine_names():
+    """What the machines of the types are made of, by the modules of their definitions; a type that shares another's machine has none."""
+    found = {}
+    for row_type in TYPES:
+        for path in sorted(ROOT.glob(f"crates/*/specs/{row_type.name}.antt")):
+            names = re.findall(r"^unfoldable pub (?!fills)(\w+) :", path.read_text(encoding="utf-8"), re.M)
+            found[f"{path.parts[-3]}.specs.{row_type.name}"] = names
+    return found
+
+
+def example_lists():
+    """The lists of examples beside those of the contract's last section, and the clauses that have them."""
+    return re.findall(r"^-- (.*?)[;:].*\nabbrev pub (\S+) : List Example$", text_of("crates/examples/specs/Vectors.antt"), re.M)
+
+
+def example_names():
+    machines = "".join(listed_names(f"use Rattle.{module}.{{", names) for module, names in machine_names().items())
+    return machines + listed_names("use Rattle.examples.specs.Vectors.{", [name for _, name in example_lists()])
+
+
+def examples_computed():
+    """That the machine computes all lists, one after the other."""
+    lists = ["examples", *(name for _, name in example_lists())]
+    imported = re.findall(r"^use Rattle·(?:row|queue|monitor)\.specs\.(?:Machine|Undo|Ring)\.\{(.*)\}$", text_of(EXAMPLES), re.M)
+    names = ["allCompute", "computes", "playOf", "sameAnswers", "isVerdict", "play", *", ".join(imported).split(", "),
+             *(name for found in machine_names().values() for name in found)]
+    stated = " ×\0".join(f"(allCompute\0{name}\0≡\0true)" for name in lists)
+    return (broken(f"all-computed : {stated}") + broken(f"unfolding {' '.join(names)}")
+            + f"all-computed = ({', '.join(['refl'] * len(lists))})\n")
+
+
+def examples_hold():
+    """So each list reads as it says."""
+    found = example_lists()
+
+    def law(place, clauses, name):
+        return (f"\n-- {clauses}\npub {name}-hold : AllRead {name}\n"
+                f"{name}-hold = all-read {name} (all-computed{' .1' * place}{' .0' * (place < len(found))})\n")
+
+    return "".join(law(place, *one) for place, one in enumerate(found, 1))
+
+
+EXAMPLES = "crates/examples/proofs/Examples.antt"
+WAITING = [row_type for row_type in TYPES if row_type.waits]
 DECLARED = "use Rattle.constraint.specs.declared.Constraint.{Constraint}\n"
 #: Of a law of every row: what stands before its arms.
 ARMS = f"-- {LISTED}\n"
@@ -455,3 +523,15 @@ PARTS = tuple((f"crates/constraint/{path}", first, last, make) for path, first, 
     *((f"proofs/{snake(row_type)}_read/Proof.antt", "", "", partial(group_proof, row_type)) for row_type in COUNTED),
     *([("proofs/takes_count/Proof.antt", "", "", lambda: tests_proof("constraint", "takes_count", "takesCount", COUNTED))] * (len(COUNTED) > 1)),
 ))
+PARTS += (
+    (EXAMPLES, "use Rattle.examples.specs.Vectors.{crowdedRows, crowdedCalls, crowdedAnswers}\n", "\n-- ----", example_names),
+    (EXAMPLES, f"-- {MADE}\n\n", f"\n-- {END}\n", examples_computed),
+    (EXAMPLES, "(all-computed .0)\n", "\n-- ---- a table of two rows", examples_hold),
+    ("crates/page/src/lib.rt", "left-aligned in 24. 0 is no type's number.\n", "];\n", page_names),
+    ("crates/machine/specs/Rule.antt", "waitsIn form = ", "\n", lambda: tests(WAITING, "form")),
+    ("crates/status/src/lib.rt", "λ r. ⌜ r ≡ waitsIn form ⌝ }\n{\n", "}\n", lambda: f"    {code_tests(WAITING)}\n"),
+    ("crates/status/proofs/waits_in/Proof.antt", "", "", lambda: tests_proof("status", "waits_in", "waitsIn", WAITING)),
+    ("crates/status/proofs/Coloured.antt", DECLARED.replace("·specs.specs", ".specs"), "use Rattle.constraint.proofs.",
+     lambda: variant_names("Rattle.constraint.specs")),
+    ("crates/status/proofs/Coloured.antt", f"  unfolding KindsSuit waiting\n  {ARMS}", "\n-- ----", coloured_waits),
+)

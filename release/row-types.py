@@ -6,7 +6,7 @@
 
 The list is python/delkuthi/rowtypes, a file for each type. Each part stands between two texts of its file: in code from a comment that says so to
 the end of the list, in documents and in the header between what stands around it. What a type lacks is written by hand: its section of the contract,
-its file in the model, its row in examples/rows.
+its file in the model, its example.
 """
 import re
 import sys
@@ -61,16 +61,41 @@ def grammar():
 
 def asked():
     """What each row asks, in the manual: with the example of which there is a picture."""
-    rows, found = text_of("examples/rows/rows.txt"), []
-    for t in TYPES:
-        example = re.search(rf'^"[^"]*" +{t.name} (.*)$', rows, re.M)
-        words = f"**{t.name}** `{example[1] if example else ''}`: {t.manual}"
-        found.append(f"{wrapped(words, 145)}\n\n![{t.name}](pictures/{t.name}.svg)\n\n")
-    return "".join(found)
+    def said(row_type):
+        words = f"**{row_type.name}** `{row_type.example[1]}`: {row_type.manual}"
+        return f"{wrapped(words, 145)}\n\n![{row_type.name}](pictures/{row_type.name}.svg)\n\n"
+
+    return "".join(map(said, TYPES))
 
 
 def measured():
     return "".join(f"| {t.name} | {t.measures} | {t.each} |\n" for t in TYPES)
+
+
+# Examples.
+
+def example_rows():
+    """The rows of the manual, and the kinds that they are of: the next plain one, or the next coloured one."""
+    taken, events, found = {"kind": 0, "coloured": 48}, [], []
+    for row_type in TYPES:
+        name, fields, times = row_type.example
+        for event in times:
+            role = "coloured" if row_type.has("coloured") else "kind"
+            events.append(f"event {event:8} = {taken[role]}\n")
+            taken[role] += 1
+        quoted = f'"{name}"'
+        found.append(f"{quoted:17} {row_type.name} {fields}\n")
+    assert len({line.split()[1] for line in events}) == len(events), "two types' examples have an event of the same name"
+    first = "# A row of each type. In rows.csv each is met at first and then broken; the manual has the pictures.\nunit ms\n"
+    return first + "".join(events) + "".join(found)
+
+
+def example_log():
+    """Their events, in the order of time, and a tick behind them."""
+    found = [(int(time.split("/")[0]), event + "".join(f"/{colour}" for colour in time.split("/")[1:]))
+             for row_type in TYPES for event, times in row_type.example[2].items() for time in times.split()]
+    found.sort(key=lambda one: one[0])
+    return "time,event\n" + "".join(f"{time},{event}\n" for time, event in [*found, (found[-1][0] // 10 * 10 + 10, "")])
 
 
 # C.
@@ -217,6 +242,8 @@ PARTS = (
     ("include/delkuthi.h", " * each type, from clause 5.1 on.\n *\n", " *\n *\n * A BENCH LOOP", header_asks),
     ("include/delkuthi.h", "DELKUTHI_STEP_STACK    1024\n\n", "#define DELKUTHI_NO_LIMIT", lambda: f"/* {limited()} */\n"),
     ("include/delkuthi.h", "/* A function for each type. */\n", "/* The table writer;", lambda: "\n" + "".join(map(c_maker, TYPES))),
+    ("examples/rows/rows.txt", "", "", example_rows),
+    ("examples/rows/rows.csv", "", "", example_log),
     ("host/c/make_table.c", f"    /* {LISTED} */\n", "    }\n}\n", c_cases),
     ("host/delkuthi/src/table.rs", "TABLE_LIMIT: usize = 1153;\n", "pub const NO_LIMIT", lambda: f"/// {limited()}\n"),
     ("host/delkuthi/src/table.rs", f"pub enum Row<'a> {{\n    // {LISTED}\n", "}\n\n", rust_rows),
@@ -238,7 +265,7 @@ def lacking(row_type):
     bounds = f"    {' <= '.join(row_type.bounds)}\n" if row_type.bounds else ""
     wanted = (("docs/CONTRACT.md", f"\n### 5.{row_type.number} {row_type.name}: {', '.join(names(row_type, 'n kinds'))}\n"),
               (f"host/model/src/types/{snake(row_type)}.rs", f"\n    {row_type.name} {{ {fields} }}\n{bounds}}}\n"),
-              ("examples/rows/rows.txt", f" {row_type.name} "))
+              (f"python/delkuthi/rowtypes/{snake(row_type)}.py", "    example=("))
     return [f"{path}: lacks {' '.join(text.split())}" for path, text in wanted if text not in text_of(path)]
 
 

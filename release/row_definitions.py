@@ -1,6 +1,7 @@
 """What follows from the list of row types in crate `constraint`, where a row is defined, and in what is shown of every row."""
 import re
 from functools import partial
+from pathlib import Path
 from typing import NamedTuple
 
 from row_list import END, LISTED, MADE, ROOT, TYPES, length, one, snake, text_of, wrapped
@@ -483,6 +484,26 @@ def examples_hold():
     return "".join(law(place, *one) for place, one in enumerate(found, 1))
 
 
+def type_crates():
+    """The crates that have a type's machine or laws."""
+    found = [path for row_type in TYPES for place in ("specs", "proofs/Laws") for path in ROOT.glob(f"crates/*/{place}/{row_type.name}.antt")]
+    return sorted({path.relative_to(ROOT).parts[1] for path in found})
+
+
+def modules(path, folder):
+    """The list of a crate's modules: those it has, and behind them those whose files are new; a list that has code beside it stays."""
+    before, own = text_of(path), Path(path).suffix
+    head, _, last = re.fullmatch(r"((?:(?://|--)[^\n]*\n)*)((?:(?:pub )?mod \w+;?\n)*)(.*)", before, re.S).groups()
+    if last:
+        return before
+    there = {file.stem for file in (ROOT / folder).glob(f"*{own}")} - {"lib", "Lib"}
+    listed = [line for line in re.findall(r"^(?:pub )?mod \w+", before, re.M) if line.split()[-1] in there]
+    new = sorted(there - {line.split()[-1] for line in listed})
+    return head + "".join(f"{line}{';' * (own == '.rt')}\n" for line in [*listed, *(f"pub mod {name}" for name in new)])
+
+
+#: The lists of modules in a type's crate, and the folders that have the modules.
+MODULES = {"src/lib.rt": "src", "specs/Lib.antt": "specs", "proofs/Lib.antt": "proofs", "proofs/Laws.antt": "proofs/Laws"}
 EXAMPLES = "crates/examples/proofs/Examples.antt"
 WAITING = [row_type for row_type in TYPES if row_type.waits]
 DECLARED = "use Rattle.constraint.specs.declared.Constraint.{Constraint}\n"
@@ -534,4 +555,6 @@ PARTS += (
     ("crates/status/proofs/Coloured.antt", DECLARED.replace("·specs.specs", ".specs"), "use Rattle.constraint.proofs.",
      lambda: variant_names("Rattle.constraint.specs")),
     ("crates/status/proofs/Coloured.antt", f"  unfolding KindsSuit waiting\n  {ARMS}", "\n-- ----", coloured_waits),
+    *((f"crates/{crate}/{path}", "", "", partial(modules, f"crates/{crate}/{path}", f"crates/{crate}/{folder}"))
+      for crate in type_crates() for path, folder in MODULES.items()),
 )

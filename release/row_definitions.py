@@ -328,9 +328,11 @@ def read_group():
     value = f"{group_name(COUNTED[0])} b {' '.join(f'(at x {i})' for i in range(len(variants_of(COUNTED[0])[0].times)))}"
     others = " ".join(f"→\0¬\0(t\0≡\0{number})" for number in numbers)
     stated = broken(f"pub read-group : (t : ℕ) (b x : List ℕ) {others} " + f"→ rowRead t b x ≡ {value}".replace(" ", "\0"))
-    tests = broken("    rw (" + ", ".join(f"ne-eqb\0t\0{number}\0n{number}" for number in numbers) + ")")
+    tests = [f"ne-eqb t {number} n{number}" for number in numbers]
+    line = f"    rw ({', '.join(tests)})\n"
+    proof = line if len(line) <= 151 else "    rw (\n" + "".join(f"      {test},\n" for test in tests) + "    )\n"
     return (f"-- a number that is no other type's is read as {one_of(COUNTED[0])}\n{stated}unfolding rowRead\n"
-            f"read-group t b x {' '.join(f'n{number}' for number in numbers)} =\n{tests}")
+            f"read-group t b x {' '.join(f'n{number}' for number in numbers)} =\n{proof}")
 
 
 def groups_back():
@@ -475,13 +477,11 @@ def examples_computed():
 
 def examples_hold():
     """So each list reads as it says."""
-    found = example_lists()
-
     def law(place, clauses, name):
         return (f"\n-- {clauses}\npub {name}-hold : AllRead {name}\n"
-                f"{name}-hold = all-read {name} (all-computed{' .1' * place}{' .0' * (place < len(found))})\n")
+                f"{name}-hold = all-read {name} (all-computed .{place})\n")
 
-    return "".join(law(place, *one) for place, one in enumerate(found, 1))
+    return "".join(law(place, *one) for place, one in enumerate(example_lists(), 1))
 
 
 def type_crates():
@@ -519,6 +519,7 @@ PARTS = tuple((f"crates/constraint/{path}", first, last, make) for path, first, 
     ("src/lib.rt", f"}}\n\n// {MADE}\n\n", f"// {END}\n", group_reads),
     ("src/lib.rt", f"        match form {{\n            // {LISTED}\n", "        }\n", code_read),
     ("src/lib.rt", f"        match self {{\n            // {LISTED}\n", "        }\n", code_fields),
+    ("specs/Types.antt", "use mathlib.Core.Bool.{Bool, ", "cond}\n", lambda: "_||_, " * (len(COUNTED) > 1)),
     ("specs/Types.antt", DECLARED, "\n-- ", variant_names),
     ("specs/Types.antt", f"typeLine : Constraint → ℕ × List Field\n{ARMS}", "\n-- ", lambda: "".join(map(type_line, VARIANTS))),
     ("specs/Types.antt", f"-- {MADE}\n\n", f"-- {END}\n", groups_read),

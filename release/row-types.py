@@ -6,73 +6,18 @@
 
 The list is python/delkuthi/rowtypes, a file for each type. Each part stands between two texts of its file: in code from a comment that says so to
 the end of the list, in documents and in the header between what stands around it. What a type lacks is written by hand: its section of the contract,
-its file in the model, its row in examples/rows.
+its file in the model, its example.
 """
 import re
 import sys
 from os.path import commonprefix
-from pathlib import Path
-from textwrap import fill
 
-ROOT = Path(__file__).resolve().parent.parent
 sys.dont_write_bytecode = True
-sys.path.insert(0, str(ROOT / "python"))
-from delkuthi.fields import MOST, SIZES
-from delkuthi.rowtypes import TYPES
+import row_definitions
+import row_machines
+from row_list import END, LISTED, MADE, ROOT, TYPES, declared, having, length, listed, names, one, small, snake, text_of, wrapped
+from delkuthi.fields import MOST
 from delkuthi.text import form_lines
-
-
-def text_of(path):
-    return (ROOT / path).read_text(encoding="utf-8") if (ROOT / path).is_file() else ""
-
-
-def snake(row_type):
-    """The name of a type in C, and of its files."""
-    return re.sub(r"(?<!^)(?=[A-Z])", "_", row_type.name).lower()
-
-
-def having(role):
-    return [row_type for row_type in TYPES if row_type.has(role)]
-
-
-def listed(words, last="and"):
-    """``a, b and c``"""
-    return f" {last} ".join([", ".join(words[:-1]), words[-1]] if len(words) > 1 else words)
-
-
-def one(name):
-    """``a Burst``, ``an Order``"""
-    return f"{'an' if name[0] in 'AEIOUaeiou' else 'a'} {name}"
-
-
-def small(row_type):
-    """The fields of one byte, and those of eight; kinds, which come first where there are any, are neither."""
-    sizes = [SIZES.get(part.role, 0) for part in row_type.fields]
-    assert sizes == sorted(sizes) and (sizes[0] or 1 not in sizes), f"{row_type.name}: kinds and counts stand before times"
-    return [part.name for part in row_type.fields if SIZES.get(part.role) == 1], [part.name for part in row_type.fields if SIZES.get(part.role) == 8]
-
-
-def wrapped(text, width, first="", other=""):
-    """The words in lines; where a 0 stands for a blank none is broken."""
-    lines = fill(" ".join(text.split()), width, initial_indent=first, subsequent_indent=other, break_long_words=False, break_on_hyphens=False)
-    return lines.replace("\0", " ")
-
-
-def length(row_type):
-    """What the length field of such a row says: the type and the fields; the n of kinds is added to it."""
-    known = 1 + sum(SIZES.get(part.role, 1) for part in row_type.fields)
-    return f"{known} + n" if row_type.has("kinds") else str(known)
-
-
-def names(row_type, kinds):
-    """The fields' names in their order."""
-    return [kinds if part.role == "kinds" else part.name for part in row_type.fields]
-
-
-def declared(row_type, form, kinds, byte="u8", time="u64"):
-    """The fields as a program declares them."""
-    return [kinds if part.role == "kinds" else form.format(name=part.name, size=byte if SIZES[part.role] == 1 else time)
-            for part in row_type.fields]
 
 
 def counted():
@@ -116,16 +61,41 @@ def grammar():
 
 def asked():
     """What each row asks, in the manual: with the example of which there is a picture."""
-    rows, found = text_of("examples/rows/rows.txt"), []
-    for t in TYPES:
-        example = re.search(rf'^"[^"]*" +{t.name} (.*)$', rows, re.M)
-        words = f"**{t.name}** `{example[1] if example else ''}`: {t.manual}"
-        found.append(f"{wrapped(words, 145)}\n\n![{t.name}](pictures/{t.name}.svg)\n\n")
-    return "".join(found)
+    def said(row_type):
+        words = f"**{row_type.name}** `{row_type.example[1]}`: {row_type.manual}"
+        return f"{wrapped(words, 145)}\n\n![{row_type.name}](pictures/{row_type.name}.svg)\n\n"
+
+    return "".join(map(said, TYPES))
 
 
 def measured():
     return "".join(f"| {t.name} | {t.measures} | {t.each} |\n" for t in TYPES)
+
+
+# Examples.
+
+def example_rows():
+    """The rows of the manual, and the kinds that they are of: the next plain one, or the next coloured one."""
+    taken, events, found = {"kind": 0, "coloured": 48}, [], []
+    for row_type in TYPES:
+        name, fields, times = row_type.example
+        for event in times:
+            role = "coloured" if row_type.has("coloured") else "kind"
+            events.append(f"event {event:8} = {taken[role]}\n")
+            taken[role] += 1
+        quoted = f'"{name}"'
+        found.append(f"{quoted:17} {row_type.name} {fields}\n")
+    assert len({line.split()[1] for line in events}) == len(events), "two types' examples have an event of the same name"
+    first = "# A row of each type. In rows.csv each is met at first and then broken; the manual has the pictures.\nunit ms\n"
+    return first + "".join(events) + "".join(found)
+
+
+def example_log():
+    """Their events, in the order of time, and a tick behind them."""
+    found = [(int(time.split("/")[0]), event + "".join(f"/{colour}" for colour in time.split("/")[1:]))
+             for row_type in TYPES for event, times in row_type.example[2].items() for time in times.split()]
+    found.sort(key=lambda one: one[0])
+    return "time,event\n" + "".join(f"{time},{event}\n" for time, event in [*found, (found[-1][0] // 10 * 10 + 10, "")])
 
 
 # C.
@@ -262,8 +232,7 @@ def model_list():
     return "".join(f"    {t.number} => {t.name},\n" for t in TYPES)
 
 
-MADE, LISTED, END = "Made by release/row-types.py.", "Made by release/row-types.py, to the end of the list.", "End of what is made."
-# A file, the two texts between which a part stands, and what makes the part.
+# A file, the two texts between which a part stands, and what makes the part; without a first text it begins with the file, without a last it ends so.
 PARTS = (
     ("docs/CONTRACT.md", "order of §4.5.\n\n", "**4.8** ", contract),
     ("python/README.md", "    form:\n", "    A kind is an event's name", grammar),
@@ -273,6 +242,8 @@ PARTS = (
     ("include/delkuthi.h", " * each type, from clause 5.1 on.\n *\n", " *\n *\n * A BENCH LOOP", header_asks),
     ("include/delkuthi.h", "DELKUTHI_STEP_STACK    1024\n\n", "#define DELKUTHI_NO_LIMIT", lambda: f"/* {limited()} */\n"),
     ("include/delkuthi.h", "/* A function for each type. */\n", "/* The table writer;", lambda: "\n" + "".join(map(c_maker, TYPES))),
+    ("examples/rows/rows.txt", "", "", example_rows),
+    ("examples/rows/rows.csv", "", "", example_log),
     ("host/c/make_table.c", f"    /* {LISTED} */\n", "    }\n}\n", c_cases),
     ("host/delkuthi/src/table.rs", "TABLE_LIMIT: usize = 1153;\n", "pub const NO_LIMIT", lambda: f"/// {limited()}\n"),
     ("host/delkuthi/src/table.rs", f"pub enum Row<'a> {{\n    // {LISTED}\n", "}\n\n", rust_rows),
@@ -281,6 +252,7 @@ PARTS = (
     ("host/model/src/types.rs", f"// {MADE}\n\n", f"\n// {END}\n", model_modules),
     ("host/model/src/types.rs", f"row_types! {{\n    // {LISTED}\n", "}\n", model_list),
 )
+PARTS += row_definitions.PARTS + row_machines.PARTS
 
 
 # The roles that have another name in the model.
@@ -293,7 +265,7 @@ def lacking(row_type):
     bounds = f"    {' <= '.join(row_type.bounds)}\n" if row_type.bounds else ""
     wanted = (("docs/CONTRACT.md", f"\n### 5.{row_type.number} {row_type.name}: {', '.join(names(row_type, 'n kinds'))}\n"),
               (f"host/model/src/types/{snake(row_type)}.rs", f"\n    {row_type.name} {{ {fields} }}\n{bounds}}}\n"),
-              ("examples/rows/rows.txt", f" {row_type.name} "))
+              (f"python/delkuthi/rowtypes/{snake(row_type)}.py", "    example=("))
     return [f"{path}: lacks {' '.join(text.split())}" for path, text in wanted if text not in text_of(path)]
 
 
@@ -305,12 +277,13 @@ def main():
     if [row_type.number for row_type in TYPES] != list(range(1, len(TYPES) + 1)):
         wrong.append("python/delkuthi/rowtypes: the numbers of the types are not 1, 2, 3 and so on")
     for path, first, last, make in PARTS:
-        before, begin, rest = text_of(path).partition(first)
-        part, end, after = rest.partition(last)
+        before, begin, rest = text_of(path).partition(first) if first else ("", "", text_of(path))
+        part, end, after = rest.partition(last) if last else (rest, "", "")
         made = make()
-        if not begin or not end or first in rest:
+        if begin != first or end != last or first and first in rest:
             wrong.append(f"{path}: there is no part, or several, from {first.strip()!r} to {last.strip()!r}")
         elif part != made and sys.argv[1:]:
+            (ROOT / path).parent.mkdir(parents=True, exist_ok=True)
             (ROOT / path).write_text(before + begin + made + end + after, encoding="utf-8")
         elif part != made:
             same = len(commonprefix([part, made]))

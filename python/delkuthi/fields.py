@@ -64,6 +64,9 @@ class RowType:
     instance: tuple[str, int | str] = field(compare=False)
     #: Whether something waits in such a row.
     waits: bool = field(default=False, compare=False)
+    #: A row for the manual: its name, what follows the type, and when each event comes, in ms, of a coloured kind with the colour.
+    #: The events meet the row at first and break it then. ``release/row-types.py`` makes examples/rows of it.
+    example: tuple[str, str, dict[str, str]] = field(default=("", "", {}), compare=False)
     parts: tuple[str | Field, ...] = field(init=False, compare=False)
 
     def __post_init__(self) -> None:

@@ -20,29 +20,35 @@ def test_what_is_made_is_what_the_list_says():
 
 def test_a_new_type_is_made(tmp_path):
     """A line that is missing is said, what a new type lacks is said, and the rest is written wherever it belongs."""
-    for part in ("release", "python/delkuthi", "python/README.md", "docs/CONTRACT.md", "include", "examples/rows", "host/c/make_table.c",
-                 "host/delkuthi/src/table.rs", "host/checks/src/rows.rs", "host/model/src"):
+    for part in ("release", "crates", "python/delkuthi", "python/README.md", "docs/CONTRACT.md", "include", "examples/rows",
+                 "host/c/make_table.c", "host/delkuthi/src/table.rs", "host/checks/src/rows.rs", "host/model/src"):
         (tmp_path / part).parent.mkdir(parents=True, exist_ok=True)
         copy = shutil.copytree if (ROOT / part).is_dir() else shutil.copy
         copy(ROOT / part, tmp_path / part)
     n, order = len(TYPES) + 1, (tmp_path / "python/delkuthi/rowtypes/order.py").read_text(encoding="utf-8")
-    (tmp_path / "python/delkuthi/rowtypes/weak_order.py").write_text(order.replace('6, "Order"', f'{n}, "WeakOrder"'), encoding="utf-8")
+    weak = order.replace('6, "Order"', f'{n}, "WeakOrder"').replace("sensor", "probe").replace("entry", "note")
+    (tmp_path / "python/delkuthi/rowtypes/weak_order.py").write_text(weak, encoding="utf-8")
     said = subprocess.run([sys.executable, tmp_path / PROGRAM], capture_output=True, text=True)
     assert said.returncode == 1
     assert f"docs/CONTRACT.md: lacks ### 5.{n} WeakOrder: source, target\n" in said.stdout
     assert "host/model/src/types/weak_order.rs: lacks WeakOrder { source: Kind, target: Kind } }\n" in said.stdout
     assert re.search(r"^include/delkuthi\.h:\d+: not what the list of types says", said.stdout, re.M)
     subprocess.run([sys.executable, tmp_path / PROGRAM, "--write"], capture_output=True)
-    lines = {"docs/CONTRACT.md": f"| {n} | WeakOrder | source, target | 3 |\n", "python/README.md": "| WeakOrder | lag from each source to its",
+    lines = {"examples/rows/rows.txt": '"order"           WeakOrder probe -> note\n', "examples/rows/rows.csv": "12,note\n",
+             "docs/CONTRACT.md": f"| {n} | WeakOrder | source, target | 3 |\n", "python/README.md": "| WeakOrder | lag from each source to its",
              "include/delkuthi.h": "static inline delkuthi_row delkuthi_weak_order(uint8_t source, uint8_t target)\n",
              "host/c/make_table.c": "    default:\n        return delkuthi_weak_order(b[0], b[1]);\n",
              "host/delkuthi/src/table.rs": f"            Row::WeakOrder {{ source, target }} => body(&[{n}, source, target], &[]),\n",
              "host/checks/src/rows.rs": "Constraint::WeakOrder(types::WeakOrder { source, target }) => Row::WeakOrder { source, target },\n",
-             "host/model/src/types.rs": f"    {n} => WeakOrder,\n"}
+             "host/model/src/types.rs": f"    {n} => WeakOrder,\n",
+             "crates/constraint/src/lib.rt": f"            {n} => Constraint::WeakOrder {{\n                source: byte0,\n",
+             "crates/constraint/specs/Types.antt": f"typeLine (WeakOrder source target) = ({n}, byte kind source ∷ byte kind target ∷ [])\n",
+             "crates/constraint/specs/Waiting.antt": "waiting (WeakOrder source target) steps = 0\n",
+             "crates/constraint/proofs/Types.antt": "lawful (Constraint.WeakOrder a b) = lawfulWeakOrder a b\n"}
     for path, line in lines.items():
         assert line in (tmp_path / path).read_text(encoding="utf-8"), path
     left = subprocess.run([sys.executable, tmp_path / PROGRAM], capture_output=True, text=True).stdout
-    assert left.count(": lacks ") == len(re.findall(r"^\S+: ", left, re.M)) == 3
+    assert left.count(": lacks ") == len(re.findall(r"^\S+: ", left, re.M)) == 2
 
 
 def text(path):

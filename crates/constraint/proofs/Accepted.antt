@@ -7,45 +7,68 @@ use lib.ListN.{length, drop}
 use lib.Seq.{drop-cons}
 use Rattle.constraint.specs.Limits.{rowLimit}
 use Rattle.constraint.specs.Questions.{Question, Judged}
-use Rattle.constraint.specs.Accepted.{rowQuestions, rowsQuestions}
+use Rattle.constraint.specs.Accepted.{rowQuestions, rowQuestionsIn, rowsQuestions, AcceptedIn}
+use Rattle.constraint.specs.Types.{typeOf, lastType}
 use Rattle.constraint.specs.Records.{filler}
 use Rattle.constraint.specs.declared.Answer.{Answer}
 use Rattle.constraint.specs.declared.Answer.the-variants.{Taken, Refused}
 use Rattle.constraint.specs.declared.Constraint.{Constraint}
 use Rattle.constraint.proofs.Judged.{judged-yes, judged-no, judged-all, judged-parts, judged-later, judged-first}
 
--- the row's questions, and then those of the rows after it
-pub rows-taken : (i : ℕ) (c : Constraint) (rows : List Constraint) (after : List Question) (a : Answer) → i < rowLimit → Judged (rowQuestions c) Taken
-    → Judged (rowsQuestions (i + 1) rows after) a → Judged (rowsQuestions i (c ∷ rows) after) a
-unfolding rowsQuestions
-rows-taken i c rows after a room taken later =
-    judged-yes 3 _ _ a room (judged-later (rowQuestions c) (rowsQuestions (i + 1) rows after) a taken later)
+module _ (edition : ℕ) where
+  -- the row's questions, and then those of the rows after it
+  pub rows-taken : (i : ℕ) (c : Constraint) (rows : List Constraint) (after : List Question) (a : Answer) → i < rowLimit
+      → Judged (rowQuestionsIn edition c) Taken → Judged (rowsQuestions edition (i + 1) rows after) a
+      → Judged (rowsQuestions edition i (c ∷ rows) after) a
+  unfolding rowsQuestions
+  rows-taken i c rows after a room taken later =
+      judged-yes 3 _ _ a room (judged-later (rowQuestionsIn edition c) (rowsQuestions edition (i + 1) rows after) a taken later)
 
--- a row that is refused
-pub rows-refused : (i : ℕ) (c : Constraint) (rows : List Constraint) (after : List Question) (n : ℕ) → i < rowLimit
-    → Judged (rowQuestions c) (Refused n)
-    → Judged (rowsQuestions i (c ∷ rows) after) (Refused n)
-unfolding rowsQuestions
-rows-refused i c rows after n room refused =
-    judged-yes 3 _ _ _ room (judged-first (rowQuestions c) (rowsQuestions (i + 1) rows after) n refused)
+  -- a row that is refused
+  pub rows-refused : (i : ℕ) (c : Constraint) (rows : List Constraint) (after : List Question) (n : ℕ) → i < rowLimit
+      → Judged (rowQuestionsIn edition c) (Refused n) → Judged (rowsQuestions edition i (c ∷ rows) after) (Refused n)
+  unfolding rowsQuestions
+  rows-refused i c rows after n room refused =
+      judged-yes 3 _ _ _ room (judged-first (rowQuestionsIn edition c) (rowsQuestions edition (i + 1) rows after) n refused)
 
--- a row past the last that there is room for
-pub rows-full : (i : ℕ) (rows : List Constraint) (after : List Question) → i < length rows → rowLimit ≤ i
-    → Judged (rowsQuestions i (drop i rows) after) (Refused 3)
-unfolding rowsQuestions
-rows-full i rows after there full = rw (drop-cons rows i filler there) (judged-no 3 _ _ (λ h. omega arith))
+  -- a row past the last that there is room for
+  pub rows-full : (i : ℕ) (rows : List Constraint) (after : List Question) → i < length rows → rowLimit ≤ i
+      → Judged (rowsQuestions edition i (drop i rows) after) (Refused 3)
+  unfolding rowsQuestions
+  rows-full i rows after there full = rw (drop-cons rows i filler there) (judged-no 3 _ _ (λ h. omega arith))
 
--- what is asked after the rows stands behind the rows' questions
-pub rows-then : (i : ℕ) (rows : List Constraint) (after : List Question) → rowsQuestions i rows after ≡ rowsQuestions i rows [] ++ after
-unfolding rowsQuestions
-rows-then i [] after = refl
-rows-then i (c ∷ rows) after = ap (λ (later : List Question). (3, i < rowLimit) ∷ rowQuestions c ++ later) (rows-then (i + 1) rows after)
+  -- what is asked after the rows stands behind the rows' questions
+  pub rows-then : (i : ℕ) (rows : List Constraint) (after : List Question)
+      → rowsQuestions edition i rows after ≡ rowsQuestions edition i rows [] ++ after
+  unfolding rowsQuestions
+  rows-then i [] after = refl
+  rows-then i (c ∷ rows) after =
+      ap (λ (later : List Question). (3, i < rowLimit) ∷ rowQuestionsIn edition c ++ later) (rows-then (i + 1) rows after)
 
--- accepted rows are at most 32
-pub rows-room : (i : ℕ) (rows : List Constraint) → i ≤ rowLimit → Judged (rowsQuestions i rows []) Taken → i + length rows ≤ rowLimit
-unfolding rowsQuestions
-rows-room i [] h judged = omega arith
-rows-room i (c ∷ rows) h judged =
-    let room = judged-all 3 (i < rowLimit) _ judged in
-    let later = rows-room (i + 1) rows (omega arith) (judged-parts (rowQuestions c) (rowsQuestions (i + 1) rows []) (room .1) .1) in
-    omega arith
+  -- accepted rows are at most 32
+  pub rows-room : (i : ℕ) (rows : List Constraint) → i ≤ rowLimit → Judged (rowsQuestions edition i rows []) Taken → i + length rows ≤ rowLimit
+  unfolding rowsQuestions
+  rows-room i [] h judged = omega arith
+  rows-room i (c ∷ rows) h judged =
+      let room = judged-all 3 (i < rowLimit) _ judged in
+      let later = rows-room (i + 1) rows (omega arith)
+      (judged-parts (rowQuestionsIn edition c) (rowsQuestions edition (i + 1) rows []) (room .1) .1) in
+      omega arith
+
+-- rows that are accepted in an edition are accepted in one that has its types
+module _ (edition later : ℕ) (more : lastType edition ≤ lastType later) where
+  rows-later : (i : ℕ) (rows : List Constraint) → Judged (rowsQuestions edition i rows []) Taken → Judged (rowsQuestions later i rows []) Taken
+  unfolding rowsQuestions
+  rows-later i [] judged = judged
+  rows-later i (c ∷ rows) judged =
+      let room = judged-all 3 (i < rowLimit) _ judged in
+      let known = judged-all 4 (typeOf c ≤ lastType edition) _ (room .1) in
+      let parts = judged-parts (rowQuestions c) (rowsQuestions edition (i + 1) rows []) (known .1) in
+      rows-taken later i c rows [] Taken (room .0) (judged-yes 4 _ _ Taken (omega (arith, known .0, more)) (parts .0)) (rows-later (i + 1) rows (parts .1))
+
+  pub accepted-in-later : (rows : List Constraint) → AcceptedIn edition rows → AcceptedIn later rows
+  accepted-in-later rows = rows-later 0 rows
+
+-- §4.2: so those of the first edition are accepted in the second
+pub accepted-later : (rows : List Constraint) → AcceptedIn 1 rows → AcceptedIn 2 rows
+accepted-later = accepted-in-later 1 2 (omega arith)

@@ -13,7 +13,7 @@ use Rattle.constraint.specs.Limits.{lastKind, firstColoured, lastColour,
 use Rattle.constraint.specs.Streams.{stream}
 use Rattle.constraint.specs.Steps.{Step, event, tick, close, times, clockFrom, clock, closed}
 use Rattle.constraint.specs.Continuation.{EventInOrder}
-use Rattle.constraint.specs.Types.{kind, coloured, count, span, plain, lower, upper, upper-or-none, Field, byte, time, fieldsOf}
+use Rattle.constraint.specs.Types.{kind, coloured, count, span, plain, lower, upper, upper-or-none, Field, byte, time, typeOf, fieldsOf, lastType}
 use Rattle.constraint.specs.Accepted.{kinds, KindsFit, KindsSuit, FieldsInRange, InRange, LowerFirst, rowsQuestions, Accepted}
 use Rattle.constraint.specs.Questions.{Question, Judged}
 use Rattle.constraint.specs.Run.{stepFor, Room, questions, asks, Left, noneLeft, leftBy, Run, done, request}
@@ -64,24 +64,25 @@ range-still (time upper-or-none x ∷ fields) h = (⊎-elim (λ small. inl (omeg
 abbrev pub rowsQuestionsBefore : ℕ → List Constraint → List Question
 rowsQuestionsBefore i [] = []
 rowsQuestionsBefore i (c ∷ rows) =
-    (3, i < rowLimit) ∷ (5, KindsFit (kinds c)) ∷ (18, KindsSuit c) ∷ (6, FieldsInRangeBefore (fieldsOf c)) ∷ (7, LowerFirst c)
+    (3, i < rowLimit) ∷ (4, typeOf c ≤ lastType 1) ∷ (5, KindsFit (kinds c)) ∷ (18, KindsSuit c) ∷ (6, FieldsInRangeBefore (fieldsOf c)) ∷ (7, LowerFirst c)
     ∷ rowsQuestionsBefore (i + 1) rows
 
-rows-still : (i : ℕ) (rows : List Constraint) → Judged (rowsQuestionsBefore i rows) Taken → Judged (rowsQuestions i rows []) Taken
+rows-still : (i : ℕ) (rows : List Constraint) → Judged (rowsQuestionsBefore i rows) Taken → Judged (rowsQuestions 1 i rows []) Taken
 unfolding rowsQuestions InRange
 rows-still i [] judged = judged
 rows-still i (c ∷ rows) judged =
     let room = judged-all 3 _ _ judged in
-    let fit = judged-all 5 _ _ (room .1) in
+    let known = judged-all 4 _ _ (room .1) in
+    let fit = judged-all 5 _ _ (known .1) in
     let suit = judged-all 18 _ _ (fit .1) in
     let range = judged-all 6 _ _ (suit .1) in
     let first = judged-all 7 _ _ (range .1) in
-    judged-yes 3 _ _ Taken (room .0) (judged-yes 5 _ _ Taken (fit .0) (judged-yes 18 _ _ Taken (suit .0)
-    (judged-yes 6 _ _ Taken (range-still (fieldsOf c) (range .0)) (judged-yes 7 _ _ Taken (first .0) (rows-still (i + 1) rows (first .1))))))
+    judged-yes 3 _ _ Taken (room .0) (judged-yes 4 _ _ Taken (known .0) (judged-yes 5 _ _ Taken (fit .0) (judged-yes 18 _ _ Taken (suit .0)
+    (judged-yes 6 _ _ Taken (range-still (fieldsOf c) (range .0)) (judged-yes 7 _ _ Taken (first .0) (rows-still (i + 1) rows (first .1)))))))
 
 -- a table that was accepted is accepted; its bytes (§4.3) name no last time
 pub accepted-still : (rows : List Constraint) → Judged (rowsQuestionsBefore 0 rows) Taken → Accepted rows
-accepted-still rows judged = rows-still 0 rows judged
+accepted-still rows judged = (1, rows-still 0 rows judged)
 
 -- ---- the sum over the first n streams
 

@@ -1,5 +1,6 @@
 -- What is true of every type, seen type by type: a line of the table of types has its fields of one byte first and the length that the list says,
 -- and a row and its number and values say the same.
+-- Made by release/row-types.py, to the end of the list.
 pub mod Delay
 pub mod StrongDelay
 pub mod Repeat
@@ -10,8 +11,9 @@ pub mod StrongSynchronization
 pub mod ExecutionTime
 pub mod Reaction
 pub mod Repetition
-use Prim.Native.Nat.{ℕ, zero, suc, _+_, _*_, _≤_, _<_}
-use mathlib.Core.Path.{_≡_, refl, sym, ap₂, subst⁻¹, _∙_}
+use Prim.Native.Nat.{ℕ, zero, suc, _+_, _-_, _*_, _≤_, _<_}
+use mathlib.Core.Path.{_≡_, refl, sym, ap, ap₂, subst⁻¹, _∙_}
+use mathlib.Core.Bool.{Bool, true, false, cond}
 use mathlib.Core.List.{List, [], _∷_, _++_}
 use native.Mathlib.Nat.{add-zero}
 use native.Mathlib.Omega.{arith}
@@ -20,7 +22,8 @@ use lib.Dec.{ltb}
 use lib.ListN.{length, take, drop, List·getD-eq-default, take-append-drop}
 use Rattle.constraint.specs.Steps.{at}
 use Rattle.constraint.specs.Bytes.{bytesOf}
-use Rattle.constraint.specs.Types.{kind, coloured, count, span, Field, byte, time, typeOf, fieldsOf, groupRead, rowRead, lengths, lengthOf}
+use Rattle.constraint.specs.Types.{kind, coloured, count, span, Field, byte, time, typeOf, fieldsOf, rowRead, lengths, lengthOf}
+use Rattle.constraint.specs.Types.{lastTypes, lastType, takesCount}
 use Rattle.constraint.specs.Table.{fieldsBytes, rowBody, ShapeFits}
 use Rattle.constraint.specs.Records.{bytesIn, timesIn, timesBytes, HoldsRow}
 use Rattle.constraint.specs.Accepted.{kinds}
@@ -39,22 +42,24 @@ use Rattle.constraint.proofs.Types.StrongSynchronization.{lawfulStrongS
 use Rattle.constraint.proofs.Types.ExecutionTime.{lawfulExecutionTime}
 use Rattle.constraint.proofs.Types.Reaction.{lawfulReaction}
 use Rattle.constraint.proofs.Types.Repetition.{lawfulRepetition}
+use Rattle.constraint.specs.Types.{strongSynchronizationRead}
 
 -- ---- the definitions
 
 pub lawful : (c : Constraint) → Lawful c
-lawful (Constraint.Delay source target lower upper) = lawfulDelay source target lower upper
-lawful (Constraint.StrongDelay source target lower upper) = lawfulStrongDelay source target lower upper
-lawful (Constraint.Repeat event number lower upper) = lawfulRepeat event number lower upper
-lawful (Constraint.Sporadic event lower upper jitter minimum) = lawfulSporadic event lower upper jitter minimum
-lawful (Constraint.Burst event maximum len minimum) = lawfulBurst event maximum len minimum
-lawful (Constraint.Order source target) = lawfulOrder source target
-lawful (Constraint.StrongSynchronization2 a b tolerance) = lawfulStrongSynchronization2 a b tolerance
-lawful (Constraint.StrongSynchronization3 a b c tolerance) = lawfulStrongSynchronization3 a b c tolerance
-lawful (Constraint.StrongSynchronization4 a b c d tolerance) = lawfulStrongSynchronization4 a b c d tolerance
-lawful (Constraint.ExecutionTime start stop preempt resume lower upper) = lawfulExecutionTime start stop preempt resume lower upper
-lawful (Constraint.Reaction stimulus response minimum maximum) = lawfulReaction stimulus response minimum maximum
-lawful (Constraint.Repetition event number lower upper jitter) = lawfulRepetition event number lower upper jitter
+-- Made by release/row-types.py, to the end of the list.
+lawful (Constraint.Delay a b x y) = lawfulDelay a b x y
+lawful (Constraint.StrongDelay a b x y) = lawfulStrongDelay a b x y
+lawful (Constraint.Repeat a b x y) = lawfulRepeat a b x y
+lawful (Constraint.Sporadic a x y z w) = lawfulSporadic a x y z w
+lawful (Constraint.Burst a b x y) = lawfulBurst a b x y
+lawful (Constraint.Order a b) = lawfulOrder a b
+lawful (Constraint.StrongSynchronization2 a b x) = lawfulStrongSynchronization2 a b x
+lawful (Constraint.StrongSynchronization3 a b c x) = lawfulStrongSynchronization3 a b c x
+lawful (Constraint.StrongSynchronization4 a b c d x) = lawfulStrongSynchronization4 a b c d x
+lawful (Constraint.ExecutionTime a b c d x y) = lawfulExecutionTime a b c d x y
+lawful (Constraint.Reaction a b x y) = lawfulReaction a b x y
+lawful (Constraint.Repetition a b x y z) = lawfulRepetition a b x y z
 
 -- ---- from a row
 
@@ -72,7 +77,10 @@ pub record Sized (c : Constraint) : Type 0 where
   pub few : length (bytesIn (fieldsOf c)) ≤ 5
   pub few-times : length (timesIn (fieldsOf c)) ≤ 4
   pub few-kinds : length (kinds c) ≤ 4
-  pub fits : ShapeFits (rowBody c)
+  pub typed : 1 ≤ typeOf c
+  pub two : 1 < length (rowBody c)
+  pub n-known : _≡_ {A = ℕ} (cond (takesCount (typeOf c)) 1 0) 1 → (2 ≤ at (rowBody c) 1) × (at (rowBody c) 1 ≤ 4)
+  pub long : length (rowBody c) ≡ lengthOf (typeOf c) (at (rowBody c) 1)
 
 pub record Regular (c : Constraint) : Type 0 where
   pub again : (more later : List ℕ) → rowRead (typeOf c) (bytesIn (fieldsOf c) ++ more) (timesIn (fieldsOf c) ++ later) ≡ c
@@ -81,7 +89,8 @@ pub record Regular (c : Constraint) : Type 0 where
   pub uncoloured : ¬ (typeOf c ≡ 9) → Uncoloured (fieldsOf c)
 
 pub regular : (c : Constraint) → Regular c
-unfolding rowRead groupRead rowBody fieldsBytes timesBytes bytesOf
+-- Made by release/row-types.py, to the end of the list.
+unfolding rowRead strongSynchronizationRead rowBody fieldsBytes timesBytes bytesOf
 regular (Constraint.Delay a b x y) = record { again = λ more later. refl; parts = refl; sized = omega arith; uncoloured = λ e. tt }
 regular (Constraint.StrongDelay a b x y) = record { again = λ more later. refl; parts = refl; sized = omega arith; uncoloured = λ e. tt }
 regular (Constraint.Repeat a b x y) = record { again = λ more later. refl; parts = refl; sized = omega arith; uncoloured = λ e. tt }
@@ -107,19 +116,50 @@ numbers-read c f holds =
 
 -- ---- from numbers
 
+-- Made by release/row-types.py.
+
 -- a number that is no other type's is read as a StrongSynchronization
-pub read-group : (t : ℕ) (b x : List ℕ) → ¬ (t ≡ 1) → ¬ (t ≡ 2) → ¬ (t ≡ 3) → ¬ (t ≡ 4) → ¬ (t ≡ 5) → ¬ (t ≡ 6) → ¬ (t ≡ 8) → ¬ (t ≡ 9)
-    → ¬ (t ≡ 10) → rowRead t b x ≡ groupRead b (at x 0)
+pub read-group : (t : ℕ) (b x : List ℕ) → ¬ (t ≡ 1) → ¬ (t ≡ 2) → ¬ (t ≡ 3) → ¬ (t ≡ 4) → ¬ (t ≡ 5) → ¬ (t ≡ 6) → ¬ (t ≡ 8) → ¬ (t ≡ 9) → ¬ (t ≡ 10)
+    → rowRead t b x ≡ strongSynchronizationRead b (at x 0)
 unfolding rowRead
 read-group t b x n1 n2 n3 n4 n5 n6 n8 n9 n10 =
     rw (ne-eqb t 1 n1, ne-eqb t 2 n2, ne-eqb t 3 n3, ne-eqb t 4 n4, ne-eqb t 5 n5, ne-eqb t 6 n6, ne-eqb t 8 n8, ne-eqb t 9 n9, ne-eqb t 10 n10)
 
--- the list of lengths, where it has no entry, and for every type but 7
+-- End of what is made.
+
+-- a row's shape fits in the editions that have its type
+pub row-fits : (c : Constraint) {edition : ℕ} → typeOf c ≤ lastType edition → ShapeFits edition (rowBody c)
+unfolding rowBody
+row-fits c known =
+    let sized = regular c .sized in
+    record {
+      type-there = omega (arith, sized .two);
+      type-known = (sized .typed, known);
+      n-there = λ e. sized .two;
+      n-known = λ e. sized .n-known (ap (λ (b : Bool). cond b 1 0) e);
+      length-right = sized .long;
+    }
+
+-- a list of numbers, each at most some number: so is what stands at a place of it
+abbrev pub AtMost : ℕ → List ℕ → Type 0
+AtMost most [] = Unit {0}
+AtMost most (x ∷ xs) = (x ≤ most) × AtMost most xs
+
+pub at-most : (most : ℕ) (xs : List ℕ) → AtMost most xs → (i : ℕ) → at xs i ≤ most
+at-most most [] h i = omega arith
+at-most most (x ∷ xs) h zero = h .0
+at-most most (x ∷ xs) h (suc i) = at-most most xs (h .1) i
+
+-- every type of an edition is in the list of lengths
+pub last-listed : (edition : ℕ) → lastType edition < length lengths
+last-listed edition = omega (arith, at-most (length lengths - 1) lastTypes (omega arith) edition)
+
+-- the list of lengths, where it has no entry, and for every type that has no n
 pub length-unknown : (t n : ℕ) → length lengths ≤ t → lengthOf t n ≡ 0
 length-unknown t n past = rw (List·getD-eq-default lengths 0 {n = t} past, ne-eqb t 7 (λ e. omega arith))
 
-pub length-plain : (t n : ℕ) → ¬ (t ≡ 7) → lengthOf t n ≡ at lengths t
-length-plain t n other = rw (ne-eqb t 7 other) (add-zero (at lengths t))
+pub length-plain : (t n : ℕ) → takesCount t ≡ false → lengthOf t n ≡ at lengths t
+length-plain t n other = rw other (add-zero (at lengths t))
 
 -- what is shown of each of n numbers from i on, one after the other, is shown of all of them
 abbrev EachThen : (ℕ → Type 0) → Type 0 → ℕ → ℕ → Type 0
@@ -151,28 +191,31 @@ module _ (b0 b1 b2 b3 b4 x0 x1 x2 x3 : ℕ) where
   abbrev Back : ℕ → Type 0
   Back t = ReadBack t bytes times (rowRead t bytes times)
 
+  -- Made by release/row-types.py.
+
   -- a StrongSynchronization, by its n
-  group-back : (2 ≤ b0) × (b0 ≤ 4) → Back 7
-  unfolding rowRead groupRead
-  group-back known =
+  strong-synchronization-back : (2 ≤ b0) × (b0 ≤ 4) → Back 7
+  unfolding rowRead strongSynchronizationRead
+  strong-synchronization-back known =
       each-then (λ n. b0 ≡ n → Back 7) (Back 7) 2 3 (λ each. each b0 (known .0) (omega (arith, known .1)) refl)
       (λ n. rw n (record { typed = refl; bytes = refl; times = refl; long = refl }))
       (λ n. rw n (record { typed = refl; bytes = refl; times = refl; long = refl }))
       (λ n. rw n (record { typed = refl; bytes = refl; times = refl; long = refl }))
 
-  pub read-back : (t : ℕ) → (1 ≤ t) × (t < length lengths) → (t ≡ 7 → (2 ≤ b0) × (b0 ≤ 4)) → Back t
+  -- End of what is made.
+
+  pub read-back : (t : ℕ) → (1 ≤ t) × (t < length lengths) → (takesCount t ≡ true → (2 ≤ b0) × (b0 ≤ 4)) → Back t
   unfolding rowRead
   read-back t known several =
+      -- Made by release/row-types.py, to the end of the list.
       each-then (λ n. t ≡ n → Back n) (Back t) 1 10 (λ each. each t (known .0) (omega (arith, known .1)) refl)
-      -- Delay, StrongDelay, Repeat, Sporadic, Burst, Order
       (λ n. record { typed = refl; bytes = refl; times = refl; long = refl })
       (λ n. record { typed = refl; bytes = refl; times = refl; long = refl })
       (λ n. record { typed = refl; bytes = refl; times = refl; long = refl })
       (λ n. record { typed = refl; bytes = refl; times = refl; long = refl })
       (λ n. record { typed = refl; bytes = refl; times = refl; long = refl })
       (λ n. record { typed = refl; bytes = refl; times = refl; long = refl })
-      (λ n. group-back (several n))
-      -- ExecutionTime, Reaction, Repetition
+      (λ n. strong-synchronization-back (several (ap takesCount n)))
       (λ n. record { typed = refl; bytes = refl; times = refl; long = refl })
       (λ n. record { typed = refl; bytes = refl; times = refl; long = refl })
       (λ n. record { typed = refl; bytes = refl; times = refl; long = refl })

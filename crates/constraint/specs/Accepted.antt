@@ -1,5 +1,5 @@
--- Questions 3 to 7 and 18, row by row, as fresh and the table writer put them (§9.7; 01, questions; CR 6). Question 4 is always answered "yes"
--- here, as every `Constraint` has a known type and n.
+-- Questions 3 to 7 and 18, row by row, as fresh and the table writer put them (§9.7; 01, questions; CR 6). Of question 4 the edition of the type is
+-- asked here, as every `Constraint` has a known n and the length of its type.
 use Prim.Native.Nat.{ℕ, _+_, _≤_, _<_}
 use mathlib.Core.Path.{_≡_}
 use mathlib.Core.List.{List, [], _∷_, _++_}
@@ -8,7 +8,7 @@ use lib.ListN.{length}
 use Rattle.constraint.specs.Limits.{lastKind, firstColoured, lastTime, noLimit, rowLimit}
 use Rattle.constraint.specs.Steps.{at}
 use Rattle.constraint.specs.Questions.{Question, Judged}
-use Rattle.constraint.specs.Types.{kind, coloured, count, span, plain, lower, upper, upper-or-none, Field, byte, time, fieldsOf}
+use Rattle.constraint.specs.Types.{kind, coloured, count, span, plain, lower, upper, upper-or-none, Field, byte, time, typeOf, fieldsOf, lastType}
 use Rattle.constraint.specs.declared.Answer.the-variants.{Taken}
 use Rattle.constraint.specs.declared.Constraint.{Constraint}
 
@@ -79,11 +79,19 @@ LowerFirst c = NotBelow 0 (fieldsOf c)
 abbrev pub rowQuestions : Constraint → List Question
 rowQuestions c = (5, KindsFit (kinds c)) ∷ (18, KindsSuit c) ∷ (6, InRange c) ∷ (7, LowerFirst c) ∷ []
 
--- §9.7; 01, questions: 3 with i rows before (§8.3), then the row's own questions, row after row; and the questions that come after the rows
-unfoldable pub rowsQuestions : ℕ → List Constraint → List Question → List Question
-rowsQuestions i [] after = after
-rowsQuestions i (c ∷ rows) after = (3, i < rowLimit) ∷ rowQuestions c ++ rowsQuestions (i + 1) rows after
+-- §8.4, §9.7; 01, questions: 4, whether the type is one of the edition, and then these
+abbrev pub rowQuestionsIn : ℕ → Constraint → List Question
+rowQuestionsIn edition c = (4, typeOf c ≤ lastType edition) ∷ rowQuestions c
 
--- §3.2; 01, time: a table that is accepted, every question answered "yes"
+-- §9.7; 01, questions: 3 with i rows before (§8.3), then the row's own questions, row after row; and the questions that come after the rows
+unfoldable pub rowsQuestions : ℕ → ℕ → List Constraint → List Question → List Question
+rowsQuestions edition i [] after = after
+rowsQuestions edition i (c ∷ rows) after = (3, i < rowLimit) ∷ rowQuestionsIn edition c ++ rowsQuestions edition (i + 1) rows after
+
+-- §3.2, §4.2; 01, time: a table that is accepted in an edition, every question answered "yes"
+abbrev pub AcceptedIn : ℕ → List Constraint → Type 0
+AcceptedIn edition rows = Judged (rowsQuestions edition 0 rows []) Taken
+
+-- §3.2, §4.2; 01, time: a table that is accepted, in one of the editions
 abbrev pub Accepted : List Constraint → Type 0
-Accepted rows = Judged (rowsQuestions 0 rows []) Taken
+Accepted rows = (edition : ℕ) × AcceptedIn edition rows

@@ -10,8 +10,8 @@ use Rattle.constraint.specs.Streams.{stream}
 use Rattle.constraint.specs.Steps.{Step, at, times, own, clock}
 use Rattle.constraint.specs.declared.Constraint.{Constraint}
 use Rattle.constraint.specs.declared.Constraint.the-variants.{Delay, StrongDelay, Repeat, Sporadic, Burst, Order, StrongSynchronization2}
-use Rattle.constraint.specs.declared.Constraint.the-variants.{StrongSynchronization3, StrongSynchronization4}
-use Rattle.constraint.specs.declared.Constraint.the-variants.{ExecutionTime, Reaction, Repetition}
+use Rattle.constraint.specs.declared.Constraint.the-variants.{StrongSynchronization3, StrongSynchronization4, ExecutionTime, Reaction}
+use Rattle.constraint.specs.declared.Constraint.the-variants.{Repetition}
 
 -- §5.2; 01, row 2: y is lower to upper after x, both ends included
 abbrev pub Between : ℕ → ℕ → ℕ → ℕ → Type 0

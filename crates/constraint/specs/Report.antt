@@ -6,7 +6,7 @@ use lib.ListN.{length, drop}
 use lib.Dec.{ltb}
 use Rattle.constraint.specs.Steps.{Step, close}
 use Rattle.constraint.specs.Continuation.{Reads}
-use Rattle.constraint.specs.Table.{ReadsTable, table-of, table-refused}
+use Rattle.constraint.specs.Table.{ReadsTableUpTo, table-of, table-refused}
 use Rattle.constraint.specs.Recording.{ReadsRecording, recording-of, recording-refused}
 use Rattle.constraint.specs.declared.Constraint.{Constraint}
 use Rattle.constraint.specs.declared.Verdict.{Verdict}
@@ -70,17 +70,26 @@ pub data EachReads (after : List Step) : List Constraint → List Verdict → Ty
   row-reads : {c : Constraint} {rows : List Constraint} {v : Verdict} {verdicts : List Verdict} → Reads c after v → EachReads after rows verdicts
       → EachReads after (c ∷ rows) (v ∷ verdicts)
 
--- §7.3, §9.10; 01, report: the report's text
-pub data ReportOf (table recording : List ℕ) : List ℕ → Type 0 where
-  no-table : (n place : ℕ) → ReadsTable table (table-refused n place) → ReportOf table recording (refusedText n place)
-  no-recording : (rows : List Constraint) (n place : ℕ) → ReadsTable table (table-of rows)
-      → ReadsRecording rows recording (recording-refused n place) → ReportOf table recording (refusedText n place)
-  all-taken : (rows : List Constraint) (accepted : List Step) (verdicts : List Verdict) → ReadsTable table (table-of rows)
+-- §7.3, §9.10; 01, report: the report's text, where tables are taken up to the newest edition
+pub data ReportOfUpTo (newest : ℕ) (table recording : List ℕ) : List ℕ → Type 0 where
+  no-table : (n place : ℕ) → ReadsTableUpTo newest table (table-refused n place) → ReportOfUpTo newest table recording (refusedText n place)
+  no-recording : (rows : List Constraint) (n place : ℕ) → ReadsTableUpTo newest table (table-of rows)
+      → ReadsRecording rows recording (recording-refused n place) → ReportOfUpTo newest table recording (refusedText n place)
+  all-taken : (rows : List Constraint) (accepted : List Step) (verdicts : List Verdict) → ReadsTableUpTo newest table (table-of rows)
       → ReadsRecording rows recording (recording-of accepted) → EachReads (accepted ++ (close ∷ [])) rows verdicts
-      → ReportOf table recording (closedText (length (accepted ++ (close ∷ []))) verdicts)
+      → ReportOfUpTo newest table recording (closedText (length (accepted ++ (close ∷ []))) verdicts)
 
 -- §7.8; 01, report: the answer, and what is then in the buffer
-pub data Reports (table recording before : List ℕ) : ℕ → List ℕ → Type 0 where
-  written : (text : List ℕ) → ReportOf table recording text → length text ≤ length before
-      → Reports table recording before (length text) (text ++ drop (length text) before)
-  too-short : (text : List ℕ) → ReportOf table recording text → length before < length text → Reports table recording before 0 before
+pub data ReportsUpTo (newest : ℕ) (table recording before : List ℕ) : ℕ → List ℕ → Type 0 where
+  written : (text : List ℕ) → ReportOfUpTo newest table recording text → length text ≤ length before
+      → ReportsUpTo newest table recording before (length text) (text ++ drop (length text) before)
+  too-short : (text : List ℕ) → ReportOfUpTo newest table recording text → length before < length text
+      → ReportsUpTo newest table recording before 0 before
+
+-- §7.3; 01, report: of a table of the first edition
+abbrev pub ReportOf : List ℕ → List ℕ → List ℕ → Type 0
+ReportOf = ReportOfUpTo 1
+
+-- §7.8; 01, report
+abbrev pub Reports : List ℕ → List ℕ → List ℕ → ℕ → List ℕ → Type 0
+Reports = ReportsUpTo 1

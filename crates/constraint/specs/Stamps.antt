@@ -8,7 +8,7 @@ use Rattle.constraint.specs.Limits.{lastTime}
 use Rattle.constraint.specs.Steps.{Step, at, times, clock}
 use Rattle.constraint.specs.Meets.{Between, MeetsRepeat}
 use Rattle.constraint.specs.Questions.{Question, Judged}
-use Rattle.constraint.specs.Table.{ReadsTable, table-of, table-refused}
+use Rattle.constraint.specs.Table.{ReadsTableUpTo, table-of, table-refused}
 use Rattle.constraint.specs.Recording.{ReadsInOrder, recording-of, recording-refused}
 use Rattle.constraint.specs.declared.Answer.the-variants.{Refused}
 use Rattle.constraint.specs.declared.Constraint.{Constraint}
@@ -42,12 +42,18 @@ stampsQuestions rows i e =
     (15, i < length rows) ∷ (25, (k : ℕ) × ((lower : ℕ) × ((upper : ℕ) × RepeatRow rows i k lower upper))) ∷ (10, e ≤ lastTime) ∷ []
 
 -- §12.5, §12.6; CR 13: the answer for row i of a table, a recording and an e; 15, 25 and 10 have the place 0
-pub data AnswersStamps (table recording : List ℕ) (i e : ℕ) : StampedAnswer → Type 0 where
-  no-table : (n place : ℕ) → ReadsTable table (table-refused n place) → AnswersStamps table recording i e (StampedAnswer.Refused n place)
-  no-recording : (rows : List Constraint) (n place : ℕ) → ReadsTable table (table-of rows)
-      → ReadsInOrder recording (recording-refused n place) → AnswersStamps table recording i e (StampedAnswer.Refused n place)
-  not-asked : (rows : List Constraint) (steps : List Step) (n : ℕ) → ReadsTable table (table-of rows) → ReadsInOrder recording (recording-of steps)
-      → Judged (stampsQuestions rows i e) (Refused n) → AnswersStamps table recording i e (StampedAnswer.Refused n 0)
-  reads : (rows : List Constraint) (steps : List Step) (k lower upper : ℕ) (v : StampedVerdict) → ReadsTable table (table-of rows)
+pub data AnswersStampsUpTo (newest : ℕ) (table recording : List ℕ) (i e : ℕ) : StampedAnswer → Type 0 where
+  no-table : (n place : ℕ) → ReadsTableUpTo newest table (table-refused n place)
+      → AnswersStampsUpTo newest table recording i e (StampedAnswer.Refused n place)
+  no-recording : (rows : List Constraint) (n place : ℕ) → ReadsTableUpTo newest table (table-of rows)
+      → ReadsInOrder recording (recording-refused n place) → AnswersStampsUpTo newest table recording i e (StampedAnswer.Refused n place)
+  not-asked : (rows : List Constraint) (steps : List Step) (n : ℕ) → ReadsTableUpTo newest table (table-of rows)
+      → ReadsInOrder recording (recording-of steps) → Judged (stampsQuestions rows i e) (Refused n)
+      → AnswersStampsUpTo newest table recording i e (StampedAnswer.Refused n 0)
+  reads : (rows : List Constraint) (steps : List Step) (k lower upper : ℕ) (v : StampedVerdict) → ReadsTableUpTo newest table (table-of rows)
       → ReadsInOrder recording (recording-of steps) → RepeatRow rows i k lower upper → e ≤ lastTime
-      → ReadsStamps e lower upper (times k steps) (clock steps) v → AnswersStamps table recording i e (StampedAnswer.Reads v)
+      → ReadsStamps e lower upper (times k steps) (clock steps) v → AnswersStampsUpTo newest table recording i e (StampedAnswer.Reads v)
+
+-- §12.5, §12.6; CR 13: of a table of the first edition
+abbrev pub AnswersStamps : List ℕ → List ℕ → ℕ → ℕ → StampedAnswer → Type 0
+AnswersStamps = AnswersStampsUpTo 1

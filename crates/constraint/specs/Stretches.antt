@@ -9,7 +9,7 @@ use Rattle.constraint.specs.Steps.{Step}
 use Rattle.constraint.specs.Continuation.{Open}
 use Rattle.constraint.specs.Questions.{Question, Judged}
 use Rattle.constraint.specs.Run.{stepFor, questions}
-use Rattle.constraint.specs.Table.{ReadsTable, table-of, table-refused}
+use Rattle.constraint.specs.Table.{ReadsTableUpTo, table-of, table-refused}
 use Rattle.constraint.specs.Recording.{ReadsInOrder, recording-of, recording-refused}
 use Rattle.constraint.specs.declared.Answer.the-variants.{Taken, Refused}
 use Rattle.constraint.specs.declared.Call.{Call}
@@ -85,9 +85,14 @@ pub data AnswersRow (rows : List Constraint) (steps : List Step) (i : ℕ) : Str
       → AnswersRow rows steps i (StretchAnswer.Found first size tried)
 
 -- §14.5; CR 11: and of a table and a recording, which are asked first
-pub data AnswersStretch (table recording : List ℕ) (i : ℕ) : StretchAnswer → Type 0 where
-  no-table : (n place : ℕ) → ReadsTable table (table-refused n place) → AnswersStretch table recording i (StretchAnswer.Refused n place)
-  no-recording : (rows : List Constraint) (n place : ℕ) → ReadsTable table (table-of rows)
-      → ReadsInOrder recording (recording-refused n place) → AnswersStretch table recording i (StretchAnswer.Refused n place)
-  answers : (rows : List Constraint) (steps : List Step) {answer : StretchAnswer} → ReadsTable table (table-of rows)
-      → ReadsInOrder recording (recording-of steps) → AnswersRow rows steps i answer → AnswersStretch table recording i answer
+pub data AnswersStretchUpTo (newest : ℕ) (table recording : List ℕ) (i : ℕ) : StretchAnswer → Type 0 where
+  no-table : (n place : ℕ) → ReadsTableUpTo newest table (table-refused n place)
+      → AnswersStretchUpTo newest table recording i (StretchAnswer.Refused n place)
+  no-recording : (rows : List Constraint) (n place : ℕ) → ReadsTableUpTo newest table (table-of rows)
+      → ReadsInOrder recording (recording-refused n place) → AnswersStretchUpTo newest table recording i (StretchAnswer.Refused n place)
+  answers : (rows : List Constraint) (steps : List Step) {answer : StretchAnswer} → ReadsTableUpTo newest table (table-of rows)
+      → ReadsInOrder recording (recording-of steps) → AnswersRow rows steps i answer → AnswersStretchUpTo newest table recording i answer
+
+-- §14.5; CR 11: where the table is one of the first edition
+abbrev pub AnswersStretch : List ℕ → List ℕ → ℕ → StretchAnswer → Type 0
+AnswersStretch = AnswersStretchUpTo 1

@@ -1,6 +1,7 @@
 -- The table's format: rows to bytes (§4.1 to §4.8; 01, table), and bytes to rows or a refusal with its number and place (§9.3; 01, questions).
 use Prim.Native.Nat.{ℕ, _+_, _^_, _≤_, _<_}
 use mathlib.Core.Path.{_≡_}
+use mathlib.Core.Bool.{true}
 use mathlib.Core.List.{List, [], _∷_, _++_}
 use lib.ListN.{length, drop}
 use Rattle.constraint.specs.Limits.{rowLimit}
@@ -8,7 +9,7 @@ use Rattle.constraint.specs.Steps.{at}
 use Rattle.constraint.specs.Questions.{Question, Judged}
 use Rattle.constraint.specs.declared.Answer.{Answer}
 use Rattle.constraint.specs.declared.Answer.the-variants.{Taken, Refused}
-use Rattle.constraint.specs.Types.{Field, byte, time, typeOf, fieldsOf, lengths, lengthOf}
+use Rattle.constraint.specs.Types.{Field, byte, time, typeOf, fieldsOf, lastType, takesCount, lengthOf}
 use Rattle.constraint.specs.Accepted.{rowQuestions, rowsQuestions}
 use Rattle.constraint.specs.Bytes.{bytesOf, bytesAt, numberAt}
 use Rattle.constraint.specs.declared.Constraint.{Constraint}
@@ -42,27 +43,31 @@ unfoldable pub rowsBytes : List Constraint → List ℕ
 rowsBytes [] = []
 rowsBytes (c ∷ rows) = rowBytes c ++ rowsBytes rows
 
--- §4.2; 01, table: the version byte, then the rows
-unfoldable pub tableBytes : List Constraint → List ℕ
-tableBytes rows = 1 ∷ rowsBytes rows
+-- §4.2; 01, table: the version byte, which is the edition, then the rows
+unfoldable pub tableBytesIn : ℕ → List Constraint → List ℕ
+tableBytesIn edition rows = edition ∷ rowsBytes rows
+
+-- §4.2; 01, table: in the first edition
+abbrev pub tableBytes : List Constraint → List ℕ
+tableBytes = tableBytesIn 1
 
 -- §9.7, §9.8; 01, questions; CR 6: the writer's questions, 3 to 7 and 18 of each row and then 16
-abbrev pub writerQuestions : List Constraint → List ℕ → List Question
-writerQuestions rows buffer = rowsQuestions 0 rows ((16, length (tableBytes rows) ≤ length buffer) ∷ [])
+abbrev pub writerQuestions : ℕ → List Constraint → List ℕ → List Question
+writerQuestions edition rows buffer = rowsQuestions edition 0 rows ((16, length (tableBytesIn edition rows) ≤ length buffer) ∷ [])
 
 -- §9.8, §9.2; 01, questions: what writing leaves in a lent buffer: the table and what stood behind it; on a refusal the buffer as it was
-abbrev pub writtenTo : List ℕ → List Constraint → Answer → List ℕ
-writtenTo buffer rows Taken = tableBytes rows ++ drop (length (tableBytes rows)) buffer
-writtenTo buffer rows (Refused n) = buffer
+abbrev pub writtenTo : ℕ → List ℕ → List Constraint → Answer → List ℕ
+writtenTo edition buffer rows Taken = tableBytesIn edition rows ++ drop (length (tableBytesIn edition rows)) buffer
+writtenTo edition buffer rows (Refused n) = buffer
 
 -- Bytes to rows
 
--- §8.4; 01, questions; CR 2, 6, 10: the type is one that the list of lengths has, the n is known, and the length is the type's
-pub record ShapeFits (body : List ℕ) : Type 0 where
+-- §8.4; 01, questions; CR 2, 6, 10: the type is one of the edition, the n is known, and the length is the type's
+pub record ShapeFits (edition : ℕ) (body : List ℕ) : Type 0 where
   pub type-there : 0 < length body
-  pub type-known : (1 ≤ at body 0) × (at body 0 < length lengths)
-  pub n-there : at body 0 ≡ 7 → 1 < length body
-  pub n-known : at body 0 ≡ 7 → (2 ≤ at body 1) × (at body 1 ≤ 4)
+  pub type-known : (1 ≤ at body 0) × (at body 0 ≤ lastType edition)
+  pub n-there : takesCount (at body 0) ≡ true → 1 < length body
+  pub n-known : takesCount (at body 0) ≡ true → (2 ≤ at body 1) × (at body 1 ≤ 4)
   pub length-right : length body ≡ lengthOf (at body 0) (at body 1)
 
 -- §4.4; 01, table: the times among some fields fit their eight bytes
@@ -89,12 +94,13 @@ abbrev pub WholeAt : List ℕ → ℕ → Type 0
 WholeAt bytes place = (place + 2 ≤ length bytes) × (place + 2 + lengthAt bytes place ≤ length bytes)
 
 -- §9.3; 01, questions: the row at a place: the one that the body there stands for, where it has a row's shape
-abbrev pub RowAt : List ℕ → ℕ → Constraint → Type 0
-RowAt bytes place c = ShapeFits (bodyAt bytes place) → StandsFor (bodyAt bytes place) c
+abbrev pub RowAt : ℕ → List ℕ → ℕ → Constraint → Type 0
+RowAt edition bytes place c = ShapeFits edition (bodyAt bytes place) → StandsFor (bodyAt bytes place) c
 
 -- §9.3; 01, questions; CR 6: 2 to 7 and 18, of the row c at a place, with i rows before it
-unfoldable pub placeQuestions : List ℕ → ℕ → ℕ → Constraint → List Question
-placeQuestions bytes i place c = (2, WholeAt bytes place) ∷ (3, i < rowLimit) ∷ (4, ShapeFits (bodyAt bytes place)) ∷ rowQuestions c
+unfoldable pub placeQuestions : ℕ → List ℕ → ℕ → ℕ → Constraint → List Question
+placeQuestions edition bytes i place c =
+    (2, WholeAt bytes place) ∷ (3, i < rowLimit) ∷ (4, ShapeFits edition (bodyAt bytes place)) ∷ rowQuestions c
 
 -- §7.6; 01, report: what reading gives: the rows, or the refusal's number and its place
 pub data TableRead : Type 0 where
@@ -106,20 +112,24 @@ abbrev pub rowThen : Constraint → TableRead → TableRead
 rowThen c (table-of later) = table-of (c ∷ later)
 rowThen c (table-refused n place) = table-refused n place
 
--- §9.3; 01, questions: row by row, the rows from a place on, with i rows before
-pub data ReadsRows (bytes : List ℕ) : ℕ → ℕ → TableRead → Type 0 where
-  no-more : {i place : ℕ} → length bytes ≤ place → ReadsRows bytes i place (table-of [])
-  row-refused : {i place : ℕ} (n : ℕ) (c : Constraint) → place < length bytes → RowAt bytes place c
-      → Judged (placeQuestions bytes i place c) (Refused n) → ReadsRows bytes i place (table-refused n place)
-  row-taken : {i place : ℕ} {later : TableRead} (c : Constraint) → place < length bytes → RowAt bytes place c
-      → Judged (placeQuestions bytes i place c) Taken → ReadsRows bytes (i + 1) (place + 2 + lengthAt bytes place) later
-      → ReadsRows bytes i place (rowThen c later)
+-- §9.3; 01, questions: row by row, the rows of an edition from a place on, with i rows before
+pub data ReadsRows (edition : ℕ) (bytes : List ℕ) : ℕ → ℕ → TableRead → Type 0 where
+  no-more : {i place : ℕ} → length bytes ≤ place → ReadsRows edition bytes i place (table-of [])
+  row-refused : {i place : ℕ} (n : ℕ) (c : Constraint) → place < length bytes → RowAt edition bytes place c
+      → Judged (placeQuestions edition bytes i place c) (Refused n) → ReadsRows edition bytes i place (table-refused n place)
+  row-taken : {i place : ℕ} {later : TableRead} (c : Constraint) → place < length bytes → RowAt edition bytes place c
+      → Judged (placeQuestions edition bytes i place c) Taken → ReadsRows edition bytes (i + 1) (place + 2 + lengthAt bytes place) later
+      → ReadsRows edition bytes i place (rowThen c later)
 
--- §8.1; 01, questions: the first byte is there, and is 1
-abbrev pub VersionOne : List ℕ → Type 0
-VersionOne bytes = (0 < length bytes) × (at bytes 0 ≡ 1)
+-- §8.1; 01, questions: the first byte is there, and is an edition up to the newest that the call takes
+abbrev pub VersionUpTo : ℕ → List ℕ → Type 0
+VersionUpTo newest bytes = (0 < length bytes) × (1 ≤ at bytes 0) × (at bytes 0 ≤ newest)
 
--- §9.3; 01, questions: 1, then row by row
-pub data ReadsTable (bytes : List ℕ) : TableRead → Type 0 where
-  version-refused : ¬ VersionOne bytes → ReadsTable bytes (table-refused 1 0)
-  version-taken : {read : TableRead} → VersionOne bytes → ReadsRows bytes 0 1 read → ReadsTable bytes read
+-- §9.3; 01, questions: 1, then row by row in the edition that the first byte says
+pub data ReadsTableUpTo (newest : ℕ) (bytes : List ℕ) : TableRead → Type 0 where
+  version-refused : ¬ VersionUpTo newest bytes → ReadsTableUpTo newest bytes (table-refused 1 0)
+  version-taken : {read : TableRead} → VersionUpTo newest bytes → ReadsRows (at bytes 0) bytes 0 1 read → ReadsTableUpTo newest bytes read
+
+-- §9.3; 01, questions: where the first edition alone is taken
+abbrev pub ReadsTable : List ℕ → TableRead → Type 0
+ReadsTable = ReadsTableUpTo 1

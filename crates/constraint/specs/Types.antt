@@ -1,15 +1,15 @@
 -- The table of types (§4.4 to §4.7; 01, table): the types, their fields in order, and what each field says, and back from the values to the row
 -- (`regular` and `read-back`: each way is the other's inverse). What is asked of a row, its bytes and its numbers in a monitor are read off it.
 use Prim.Native.Nat.{ℕ, _+_}
-use mathlib.Core.Bool.{cond}
+use mathlib.Core.Bool.{Bool, cond}
 use mathlib.Core.List.{List, [], _∷_}
 use lib.Dec.{eqb}
 use Rattle.constraint.specs.Limits.{spanLimit, repetitionSpanLimit}
 use Rattle.constraint.specs.Steps.{at}
 use Rattle.constraint.specs.declared.Constraint.{Constraint}
 use Rattle.constraint.specs.declared.Constraint.the-variants.{Delay, StrongDelay, Repeat, Sporadic, Burst, Order, StrongSynchronization2}
-use Rattle.constraint.specs.declared.Constraint.the-variants.{StrongSynchronization3, StrongSynchronization4}
-use Rattle.constraint.specs.declared.Constraint.the-variants.{ExecutionTime, Reaction, Repetition}
+use Rattle.constraint.specs.declared.Constraint.the-variants.{StrongSynchronization3, StrongSynchronization4, ExecutionTime, Reaction}
+use Rattle.constraint.specs.declared.Constraint.the-variants.{Repetition}
 
 -- §4.4, §4.6; 01, table; CR 6, 10: what a byte says: a kind is a plain one or a coloured one; a span or maximum has its own limit
 pub data ByteRole : Type 0 where
@@ -39,6 +39,7 @@ pub data Field : Type 0 where
 
 -- §4.5; 01, table; CR 2, 6, 10: a line for each type: its number, and its fields in their order
 abbrev pub typeLine : Constraint → ℕ × List Field
+-- Made by release/row-types.py, to the end of the list.
 typeLine (Delay source target low high) = (1, byte kind source ∷ byte kind target ∷ time lower low ∷ time upper-or-none high ∷ [])
 typeLine (StrongDelay source target low high) = (2, byte kind source ∷ byte kind target ∷ time lower low ∷ time upper high ∷ [])
 typeLine (Repeat event number low high) = (3, byte kind event ∷ byte (span spanLimit) number ∷ time lower low ∷ time upper-or-none high ∷ [])
@@ -52,8 +53,7 @@ typeLine (StrongSynchronization4 a b c d apart) =
     (7, byte count 4 ∷ byte kind a ∷ byte kind b ∷ byte kind c ∷ byte kind d ∷ time (plain tolerance) apart ∷ [])
 typeLine (ExecutionTime start stop preempt resume low high) =
     (8, byte kind start ∷ byte kind stop ∷ byte kind preempt ∷ byte kind resume ∷ time lower low ∷ time upper high ∷ [])
-typeLine (Reaction stimulus response low high) =
-    (9, byte coloured stimulus ∷ byte coloured response ∷ time lower low ∷ time upper high ∷ [])
+typeLine (Reaction stimulus response low high) = (9, byte coloured stimulus ∷ byte coloured response ∷ time lower low ∷ time upper high ∷ [])
 typeLine (Repetition event number low high late) =
     (10, byte kind event ∷ byte (span repetitionSpanLimit) number ∷ time lower low ∷ time upper high ∷ time (plain jitter) late ∷ [])
 
@@ -65,15 +65,20 @@ typeOf c = typeLine c .0
 abbrev pub fieldsOf : Constraint → List Field
 fieldsOf c = typeLine c .1
 
+-- Made by release/row-types.py.
+
 -- §4.5; 01, table: the StrongSynchronization of as many kinds as its first byte says
-unfoldable pub groupRead : List ℕ → ℕ → Constraint
-groupRead b apart =
+unfoldable pub strongSynchronizationRead : List ℕ → ℕ → Constraint
+strongSynchronizationRead b apart =
     cond (eqb (at b 0) 2) (StrongSynchronization2 (at b 1) (at b 2) apart)
     (cond (eqb (at b 0) 3) (StrongSynchronization3 (at b 1) (at b 2) (at b 3) apart)
     (StrongSynchronization4 (at b 1) (at b 2) (at b 3) (at b 4) apart))
 
+-- End of what is made.
+
 -- §4.5; 01, table; CR 2, 6, 10: back: the row of a type's number, of the values b of its fields of one byte, and of its times x
 unfoldable pub rowRead : ℕ → List ℕ → List ℕ → Constraint
+-- Made by release/row-types.py, to the end of the list.
 rowRead t b x =
     cond (eqb t 1) (Delay (at b 0) (at b 1) (at x 0) (at x 1))
     (cond (eqb t 2) (StrongDelay (at b 0) (at b 1) (at x 0) (at x 1))
@@ -84,15 +89,27 @@ rowRead t b x =
     (cond (eqb t 8) (ExecutionTime (at b 0) (at b 1) (at b 2) (at b 3) (at x 0) (at x 1))
     (cond (eqb t 9) (Reaction (at b 0) (at b 1) (at x 0) (at x 1))
     (cond (eqb t 10) (Repetition (at b 0) (at b 1) (at x 0) (at x 1) (at x 2))
-    (groupRead b (at x 0))))))))))
+    (strongSynchronizationRead b (at x 0))))))))))
 
--- §4.5; 01, table; CR 2, 6, 10: the lengths, by the type byte; to a StrongSynchronization's its n is added
+-- §4.5; 01, table; CR 2, 6, 10: the lengths, by the type byte; to a type's with an n its n is added
 abbrev pub lengths : List ℕ
 lengths = 0 ∷ 19 ∷ 19 ∷ 19 ∷ 34 ∷ 19 ∷ 3 ∷ 10 ∷ 21 ∷ 19 ∷ 27 ∷ []
 
--- §4.5; 01, table: the length of a type, and of the n of a StrongSynchronization
+-- §4.2; 01, table: the last type of each edition of the table, by its version byte; no other number is an edition's
+abbrev pub lastTypes : List ℕ
+lastTypes = 0 ∷ 10 ∷ 10 ∷ []
+
+-- §4.2; 01, table: the last type of an edition; 0, which is no type's, where there is no such edition
+abbrev pub lastType : ℕ → ℕ
+lastType edition = at lastTypes edition
+
+-- §4.5; 01, table: the types whose first field is n, the number of the kinds behind it
+abbrev pub takesCount : ℕ → Bool
+takesCount t = eqb t 7
+
+-- §4.5; 01, table: the length of a type, and of its n where it has one
 abbrev pub lengthOf : ℕ → ℕ → ℕ
-lengthOf t n = at lengths t + cond (eqb t 7) n 0
+lengthOf t n = at lengths t + cond (takesCount t) n 0
 
 -- what stands for a number that is no type's, which no table has: Unknown
 abbrev pub unknownName : List ℕ
@@ -101,6 +118,7 @@ unknownName = 85 ∷ 110 ∷ 107 ∷ 110 ∷ 111 ∷ 119 ∷ 110 ∷ []
 -- §7.16; CR 5: the names of the types, as TADL2 has them without their last word, by the number of the type, a line for each; 0 is no type's
 abbrev pub typeNames : List (List ℕ)
 typeNames =
+    -- Made by release/row-types.py, to the end of the list.
     unknownName
     -- 1 Delay
     ∷ (68 ∷ 101 ∷ 108 ∷ 97 ∷ 121 ∷ [])

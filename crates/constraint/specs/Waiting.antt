@@ -8,8 +8,8 @@ use Rattle.constraint.specs.Limits.{noLimit}
 use Rattle.constraint.specs.Steps.{Step, times}
 use Rattle.constraint.specs.declared.Constraint.{Constraint}
 use Rattle.constraint.specs.declared.Constraint.the-variants.{Delay, StrongDelay, Repeat, Sporadic, Burst, Order, StrongSynchronization2}
-use Rattle.constraint.specs.declared.Constraint.the-variants.{StrongSynchronization3, StrongSynchronization4}
-use Rattle.constraint.specs.declared.Constraint.the-variants.{ExecutionTime, Reaction, Repetition}
+use Rattle.constraint.specs.declared.Constraint.the-variants.{StrongSynchronization3, StrongSynchronization4, ExecutionTime, Reaction}
+use Rattle.constraint.specs.declared.Constraint.the-variants.{Repetition}
 
 -- §6.1: the test that t is lower to upper after s, where upper may be the mark: it says what `Apart` says (`answered-true`, `answered-by`)
 abbrev pub inInterval : ℕ → ℕ → ℕ → ℕ → Bool
@@ -44,13 +44,14 @@ begunIncomplete kinds steps = let counts : List ℕ = map (λ k. length (times k
 unfoldable pub waiting : Constraint → List Step → ℕ
 waiting (Delay source target lower upper) steps = unanswered lower upper (times source steps) (times target steps)
 waiting (StrongDelay source target lower upper) steps = length (times source steps) - length (times target steps)
-waiting (Repeat event span lower upper) steps = 0
-waiting (Sporadic event lower upper jitter minimum) steps = 0
-waiting (Burst event maximum len minimum) steps = 0
-waiting (Order source target) steps = 0
 waiting (StrongSynchronization2 a b tolerance) steps = begunIncomplete (a ∷ b ∷ []) steps
 waiting (StrongSynchronization3 a b c tolerance) steps = begunIncomplete (a ∷ b ∷ c ∷ []) steps
 waiting (StrongSynchronization4 a b c d tolerance) steps = begunIncomplete (a ∷ b ∷ c ∷ d ∷ []) steps
+-- Made by release/row-types.py, to the end of the list.
+waiting (Repeat event span lower upper) steps = 0
+waiting (Sporadic event lower upper jitter minimum) steps = 0
+waiting (Burst event maximum length minimum) steps = 0
+waiting (Order source target) steps = 0
 waiting (ExecutionTime start stop preempt resume lower upper) steps = 0
 waiting (Reaction stimulus response minimum maximum) steps = 0
 waiting (Repetition event span lower upper jitter) steps = 0

@@ -17,8 +17,8 @@ use fields::UPPER_OR_NONE;
 ghost use mathlib.Core.Path.{_≡_};
 ghost use mathlib.Core.List.{[]};
 ghost use Rattle.constraint.specs.Questions.{Judged};
-ghost use Rattle.constraint.specs.Accepted.{rowQuestions, rowsQuestions};
-ghost use Rattle.constraint.specs.Types.{groupRead, rowRead, lengthOf};
+ghost use Rattle.constraint.specs.Accepted.{rowQuestions, rowQuestionsIn, rowsQuestions};
+ghost use Rattle.constraint.specs.Types.{strongSynchronizationRead, rowRead, lengthOf, lastType, takesCount};
 ghost use Rattle.constraint.specs.Records.{rowsOf, tableOf, Adds, HoldsRow};
 
 // The largest kind of event.
@@ -46,6 +46,7 @@ pub const WAITING_LIMIT: usize = 64;
 
 // A row of a table: one TADL2 timing constraint with its fields.
 pub enum Constraint {
+    // Made by release/row-types.py, to the end of the list.
     Delay {
         source: u8,
         target: u8,
@@ -185,6 +186,7 @@ pub struct Table {
 }
 
 // The table of types: a line for each variant, with its type byte and the roles of its fields.
+// Made by release/row-types.py.
 const DELAY: Line = Line {
     form: 1,
     bytes: [KIND, KIND, 0, 0, 0],
@@ -221,19 +223,19 @@ const ORDER: Line = Line {
     times: [0, 0, 0, 0],
 };
 
-const GROUP_OF_2: Line = Line {
+const STRONG_SYNCHRONIZATION_2: Line = Line {
     form: 7,
     bytes: [COUNT, KIND, KIND, 0, 0],
     times: [TOLERANCE, 0, 0, 0],
 };
 
-const GROUP_OF_3: Line = Line {
+const STRONG_SYNCHRONIZATION_3: Line = Line {
     form: 7,
     bytes: [COUNT, KIND, KIND, KIND, 0],
     times: [TOLERANCE, 0, 0, 0],
 };
 
-const GROUP_OF_4: Line = Line {
+const STRONG_SYNCHRONIZATION_4: Line = Line {
     form: 7,
     bytes: [COUNT, KIND, KIND, KIND, KIND],
     times: [TOLERANCE, 0, 0, 0],
@@ -257,11 +259,33 @@ const REPETITION: Line = Line {
     times: [LOWER, UPPER, JITTER, 0],
 };
 
-// The length expected for each type, by the type byte; to a StrongSynchronization's its n is added.
+// End of what is made.
+
+// The length expected for each type, by the type byte; to a type's with an n its n is added.
 const LENGTHS: [usize; 11] = [0, 19, 19, 19, 34, 19, 3, 10, 21, 19, 27];
 
-// The length expected of a row of a type, with the byte behind it, which is the n of a StrongSynchronization; 0 if there is
-// no such type.
+// The last type of each edition of the table, by its version byte.
+const LAST_TYPES: [u8; 3] = [0, 10, 10];
+
+// The last type of an edition; 0 if there is no such edition.
+pub fn last_type(edition: u8) -> u8
+    ensures { λ r. ⌜ r ≡ lastType edition ⌝ }
+{
+    let place = edition as usize;
+    if LAST_TYPES.len() <= place {
+        return 0;
+    }
+    LAST_TYPES[place]
+}
+
+// Whether the first field of a type is n, the number of the kinds behind it.
+pub fn takes_count(form: u8) -> bool
+    ensures { λ r. ⌜ r ≡ takesCount form ⌝ }
+{
+    form == 7
+}
+
+// The length expected of a row of a type, with the byte behind it, which is the n of a type that has one; 0 if there is no such type.
 pub fn length_of(form: u8, n: u8) -> usize
     ensures { λ r. ⌜ r ≡ lengthOf form n ⌝ }
 {
@@ -269,15 +293,17 @@ pub fn length_of(form: u8, n: u8) -> usize
     if LENGTHS.len() <= place {
         return 0;
     }
-    if form == 7 {
+    if takes_count(form) {
         return LENGTHS[place] + n as usize;
     }
     LENGTHS[place]
 }
 
+// Made by release/row-types.py.
+
 // The StrongSynchronization of as many kinds as its first byte says.
-fn group_read(bytes: [u8; 5], tolerance: u64) -> Constraint
-    ensures { λ r. ⌜ r ≡ groupRead bytes tolerance ⌝ }
+fn strong_synchronization_read(bytes: [u8; 5], tolerance: u64) -> Constraint
+    ensures { λ r. ⌜ r ≡ strongSynchronizationRead bytes tolerance ⌝ }
 {
     let n = bytes[0];
     let first = bytes[1];
@@ -306,6 +332,8 @@ fn group_read(bytes: [u8; 5], tolerance: u64) -> Constraint
     }
 }
 
+// End of what is made.
+
 impl Constraint {
     // The row of a type byte, the values of its fields of one byte, and its times: what `fields` takes apart.
     pub fn read(form: u8, bytes: [u8; 5], times: [u64; 4]) -> Self
@@ -320,6 +348,7 @@ impl Constraint {
         let time2 = times[2];
         let time3 = times[3];
         match form {
+            // Made by release/row-types.py, to the end of the list.
             1 => Constraint::Delay {
                 source: byte0,
                 target: byte1,
@@ -376,7 +405,7 @@ impl Constraint {
                 upper: time1,
                 jitter: time2,
             },
-            _ => group_read(bytes, time0),
+            _ => strong_synchronization_read(bytes, time0),
         }
     }
 
@@ -385,6 +414,7 @@ impl Constraint {
         ensures { λ r. ⌜ HoldsRow self r ⌝ }
     {
         match self {
+            // Made by release/row-types.py, to the end of the list.
             Constraint::Delay {
                 source,
                 target,
@@ -433,14 +463,18 @@ impl Constraint {
                 first,
                 second,
                 tolerance,
-            } => Fields::new(GROUP_OF_2, [2, first, second, 0, 0], [tolerance, 0, 0, 0]),
+            } => Fields::new(
+                STRONG_SYNCHRONIZATION_2,
+                [2, first, second, 0, 0],
+                [tolerance, 0, 0, 0],
+            ),
             Constraint::StrongSynchronization3 {
                 first,
                 second,
                 third,
                 tolerance,
             } => Fields::new(
-                GROUP_OF_3,
+                STRONG_SYNCHRONIZATION_3,
                 [3, first, second, third, 0],
                 [tolerance, 0, 0, 0],
             ),
@@ -451,7 +485,7 @@ impl Constraint {
                 fourth,
                 tolerance,
             } => Fields::new(
-                GROUP_OF_4,
+                STRONG_SYNCHRONIZATION_4,
                 [4, first, second, third, fourth],
                 [tolerance, 0, 0, 0],
             ),
@@ -518,6 +552,18 @@ impl Constraint {
         }
         Answer::Taken
     }
+
+    // The answer to question 4, whether the type is one of the edition, and then to the row's own questions.
+    pub fn judge_in(self, edition: u8) -> Answer
+        ensures { λ r. ⌜ Judged (rowQuestionsIn edition self) r ⌝ }
+    {
+        let fields = self.fields();
+        let line = fields.line;
+        if last_type(edition) < line.form {
+            return Answer::Refused(4);
+        }
+        self.judge()
+    }
 }
 
 impl Table {
@@ -550,9 +596,9 @@ impl Table {
         self
     }
 
-    // The answer to questions 3 to 7 and 18, row by row. Any record is taken, also one whose count is above 32.
-    pub fn judge(self) -> Answer
-        ensures { λ r. ⌜ Judged (rowsQuestions 0 (rowsOf self) []) r ⌝ }
+    // The answer to questions 3 to 7 and 18, row by row, in an edition. Any record is taken, also one whose count is above 32.
+    pub fn judge(self, edition: u8) -> Answer
+        ensures { λ r. ⌜ Judged (rowsQuestions edition 0 (rowsOf self) []) r ⌝ }
     {
         let count = self.count;
         let mut i = 0;
@@ -562,7 +608,7 @@ impl Table {
             }
             let entry = self.rows[i];
             let constraint = entry.constraint;
-            match constraint.judge() {
+            match constraint.judge_in(edition) {
                 Answer::Refused(number) => {
                     return Answer::Refused(number);
                 }

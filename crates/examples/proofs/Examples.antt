@@ -16,6 +16,16 @@ use Rattle.constraint.specs.declared.Constraint.the-variants.{Delay, Repeat}
 use Rattle.constraint.specs.declared.Verdict.{Verdict}
 use Rattle.constraint.specs.declared.Verdict.the-variants.{Open, Kept, Broken}
 use Rattle.constraint.proofs.Lists.{both}
+use Rattle.row.specs.Machine.{rowOf, brokenRow, applied, changedRow, rowStep, rowVerdict}
+use Rattle.queue.specs.Ring.{ring, pushRing, putRing, putBack}
+use Rattle.row.specs.Undo.{movesBy, stepPlace, savedBy, backRow, rowWithout, keptWithout}
+use Rattle.monitor.specs.Machine.{monitorOf, mapFirst, zipFirst, anyFirst, takenCall, stepOf, withdrawn, withdrawOf, verdictOf}
+use Rattle.monitor.specs.Contract.{step, after}
+use Rattle.monitor.specs.declared.Monitor.{Monitor}
+use Rattle.monitor.proofs.Theorem.{monitor-is-exact}
+use Rattle.examples.specs.Reading.{ReadsSo, AllRead, BothRead, CrowdedSilence}
+use Rattle.examples.proofs.Fitting.{and-true, fits, accepted-by, accepted-both}
+use Rattle.examples.specs.Vectors.{crowdedRows, crowdedCalls, crowdedAnswers}
 use Rattle.pairs.specs.Delay.{answeredBy, decideDelay}
 use Rattle.pairs.specs.StrongDelay.{sourceStrongDelay, targetStrongDelay, decideStrongDelay}
 use Rattle.spans.specs.Repeat.{decideRepeat}
@@ -25,17 +35,7 @@ use Rattle.groups.specs.StrongSynchronization.{decideStrongSynchronization}
 use Rattle.phases.specs.ExecutionTime.{whileIdle, whileRunning, whilePreempted, decideExecutionTime}
 use Rattle.chains.specs.Reaction.{dueBut, decideReaction}
 use Rattle.repetition.specs.Repetition.{placed, decideRepetition}
-use Rattle.row.specs.Machine.{rowOf, brokenRow, applied, changedRow, rowStep, rowVerdict}
-use Rattle.queue.specs.Ring.{ring, pushRing, putRing, putBack}
-use Rattle.row.specs.Undo.{movesBy, stepPlace, savedBy, backRow, rowWithout, keptWithout}
-use Rattle.monitor.specs.Machine.{monitorOf, mapFirst, zipFirst, anyFirst, takenCall, stepOf, withdrawn, withdrawOf, verdictOf}
-use Rattle.monitor.specs.Contract.{step, after}
-use Rattle.monitor.specs.declared.Monitor.{Monitor}
-use Rattle.monitor.proofs.Theorem.{monitor-is-exact}
-use Rattle.examples.specs.Vectors.{unlimited-delays, silences, execution-times, reactions, repetitions, long-clocks}
-use Rattle.examples.specs.Vectors.{crowdedRows, crowdedCalls, crowdedAnswers}
-use Rattle.examples.specs.Reading.{ReadsSo, AllRead, BothRead, CrowdedSilence}
-use Rattle.examples.proofs.Fitting.{and-true, fits, accepted-by, accepted-both}
+use Rattle.examples.specs.Vectors.{unlimited-delays, silences, execution-times, repetitions, long-clocks, reactions}
 
 -- ---- what the machine computes
 
@@ -99,43 +99,17 @@ allCompute : List Example → Bool
 allCompute [] = true
 allCompute (e ∷ later) = computes e && allCompute later
 
-examples-computed : allCompute examples ≡ true
-unfolding allCompute computes playOf sameAnswers isVerdict play monitorOf mapFirst anyFirst takenCall stepOf verdictOf rowOf brokenRow
-    applied changedRow rowStep rowVerdict ring pushRing putRing answeredBy decideDelay sourceStrongDelay targetStrongDelay decideStrongDelay
-    decideRepeat laterSporadic decideSporadic changesTo decideOrder decideStrongSynchronization withdrawn withdrawOf zipFirst rowWithout
-    keptWithout savedBy movesBy stepPlace backRow putBack
-examples-computed = refl
+-- Made by release/row-types.py.
 
-unlimited-computed : allCompute unlimited-delays ≡ true
-unfolding allCompute computes playOf sameAnswers isVerdict play monitorOf mapFirst anyFirst takenCall stepOf verdictOf rowOf brokenRow
-    applied changedRow rowStep rowVerdict ring pushRing putRing answeredBy decideDelay
-unlimited-computed = refl
+all-computed : (allCompute examples ≡ true) × (allCompute unlimited-delays ≡ true) × (allCompute silences ≡ true)
+    × (allCompute execution-times ≡ true) × (allCompute repetitions ≡ true) × (allCompute long-clocks ≡ true) × (allCompute reactions ≡ true)
+unfolding allCompute computes playOf sameAnswers isVerdict play rowOf brokenRow applied changedRow rowStep rowVerdict ring pushRing putRing putBack
+    movesBy stepPlace savedBy backRow rowWithout keptWithout monitorOf mapFirst zipFirst anyFirst takenCall stepOf withdrawn withdrawOf verdictOf
+    answeredBy decideDelay sourceStrongDelay targetStrongDelay decideStrongDelay decideRepeat laterSporadic decideSporadic changesTo decideOrder
+    decideStrongSynchronization whileIdle whileRunning whilePreempted decideExecutionTime dueBut decideReaction placed decideRepetition
+all-computed = (refl, refl, refl, refl, refl, refl, refl)
 
-silences-computed : allCompute silences ≡ true
-unfolding allCompute computes playOf sameAnswers isVerdict play monitorOf mapFirst anyFirst takenCall stepOf verdictOf rowOf brokenRow
-    applied changedRow rowStep rowVerdict ring pushRing putRing decideRepeat laterSporadic decideSporadic
-silences-computed = refl
-
-execution-times-computed : allCompute execution-times ≡ true
-unfolding allCompute computes playOf sameAnswers isVerdict play monitorOf mapFirst anyFirst takenCall stepOf verdictOf rowOf brokenRow
-    applied changedRow rowStep rowVerdict ring pushRing putRing whileIdle whileRunning whilePreempted decideExecutionTime
-execution-times-computed = refl
-
-reactions-computed : allCompute reactions ≡ true
-unfolding allCompute computes playOf sameAnswers isVerdict play monitorOf mapFirst anyFirst takenCall stepOf verdictOf rowOf brokenRow
-    applied changedRow rowStep rowVerdict ring pushRing putRing dueBut decideReaction
-reactions-computed = refl
-
-repetitions-computed : allCompute repetitions ≡ true
-unfolding allCompute computes playOf sameAnswers isVerdict play monitorOf mapFirst anyFirst takenCall stepOf verdictOf rowOf brokenRow
-    applied changedRow rowStep rowVerdict ring pushRing putRing placed decideRepetition
-repetitions-computed = refl
-
-long-clocks-computed : allCompute long-clocks ≡ true
-unfolding allCompute computes playOf sameAnswers isVerdict play monitorOf mapFirst anyFirst takenCall stepOf verdictOf rowOf brokenRow
-    applied changedRow rowStep rowVerdict ring pushRing putRing answeredBy decideDelay laterSporadic decideSporadic whileIdle whileRunning
-    whilePreempted decideExecutionTime
-long-clocks-computed = refl
+-- End of what is made.
 
 -- ---- so each reads by the definitions what the machine computes
 
@@ -164,31 +138,31 @@ all-read (e ∷ later) computed = let parts = and-true (computes e) (allCompute 
 
 -- §10.1 to §10.12, §10.14, §10.15
 pub examples-hold : AllRead examples
-examples-hold = all-read examples examples-computed
+examples-hold = all-read examples (all-computed .0)
 
 -- §5.1.6, §5.1.7
 pub unlimited-delays-hold : AllRead unlimited-delays
-unlimited-delays-hold = all-read unlimited-delays unlimited-computed
+unlimited-delays-hold = all-read unlimited-delays (all-computed .1)
 
 -- §5.3.2, §5.4.4
 pub silences-hold : AllRead silences
-silences-hold = all-read silences silences-computed
+silences-hold = all-read silences (all-computed .2)
 
 -- §5.8.1 to §5.8.6
 pub execution-times-hold : AllRead execution-times
-execution-times-hold = all-read execution-times execution-times-computed
-
--- §5.9.1 to §5.9.7
-pub reactions-hold : AllRead reactions
-reactions-hold = all-read reactions reactions-computed
+execution-times-hold = all-read execution-times (all-computed .3)
 
 -- §5.10 to §5.10.4
 pub repetitions-hold : AllRead repetitions
-repetitions-hold = all-read repetitions repetitions-computed
+repetitions-hold = all-read repetitions (all-computed .4)
 
 -- §1.1
 pub long-clocks-hold : AllRead long-clocks
-long-clocks-hold = all-read long-clocks long-clocks-computed
+long-clocks-hold = all-read long-clocks (all-computed .5)
+
+-- §5.9.1 to §5.9.7
+pub reactions-hold : AllRead reactions
+reactions-hold = all-read reactions (all-computed .6)
 
 -- ---- a table of two rows
 

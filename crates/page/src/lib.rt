@@ -19,7 +19,7 @@ const GROUP: usize = 16;
 // The line that heads each group of rows.
 const HYPHENS: [u8; 73] =
     *b"------------------------------------------------------------------------\n";
-// The names by the number of the type, a line for each, left-aligned in 24. 0 is no type's number.
+// The names by the number of the type, as release/row-types.py makes them, left-aligned in 24. 0 is no type's number.
 const NAMES: [[u8; 24]; 11] = [
     *b"Unknown                 ",
     *b"Delay                   ",

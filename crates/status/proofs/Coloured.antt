@@ -10,8 +10,8 @@ use Rattle.constraint.specs.Waiting.{waiting}
 use Rattle.constraint.specs.declared.Answer.the-variants.{Refused}
 use Rattle.constraint.specs.declared.Call.{Call}
 use Rattle.constraint.specs.declared.Constraint.{Constraint}
-use Rattle.constraint.specs.declared.Constraint.the-variants.{Delay, StrongDelay, Repeat, Sporadic, Burst, Order, ExecutionTime, Reaction, Repetition}
-use Rattle.constraint.specs.declared.Constraint.the-variants.{StrongSynchronization2, StrongSynchronization3, StrongSynchronization4}
+use Rattle.constraint.specs.declared.Constraint.the-variants.{Delay, StrongDelay, Repeat, Sporadic, Burst, Order, StrongSynchronization2}
+use Rattle.constraint.specs.declared.Constraint.the-variants.{StrongSynchronization3, StrongSynchronization4, ExecutionTime, Reaction, Repetition}
 use Rattle.constraint.proofs.Streams.{streams}
 use Rattle.constraint.proofs.History.{own-other}
 use Rattle.constraint.proofs.Continuations.{open-before}
@@ -38,22 +38,22 @@ module _ (s t : ℕ) (late : firstColoured ≤ s) (steps : List Step) where
 
   coloured-waits : (c : Constraint) → KindsSuit c → waiting c (steps ++ (event s t ∷ [])) ≡ waiting c steps
   unfolding KindsSuit waiting
-  coloured-waits (Delay a b lower upper) k = same-waits (Delay a b lower upper) (rw (other a (k .0), other b (k .1 .0)) refl)
-  coloured-waits (StrongDelay a b lower upper) k = same-waits (StrongDelay a b lower upper) (rw (other a (k .0), other b (k .1 .0)) refl)
-  coloured-waits (Repeat a span lower upper) k = refl
-  coloured-waits (Sporadic a lower upper jitter minimum) k = refl
-  coloured-waits (Burst a maximum length minimum) k = refl
+  -- Made by release/row-types.py, to the end of the list.
+  coloured-waits (Delay a b x y) k = same-waits (Delay a b x y) (rw (other a (k .0), other b (k .1 .0)) refl)
+  coloured-waits (StrongDelay a b x y) k = same-waits (StrongDelay a b x y) (rw (other a (k .0), other b (k .1 .0)) refl)
+  coloured-waits (Repeat a b x y) k = refl
+  coloured-waits (Sporadic a x y z w) k = refl
+  coloured-waits (Burst a b x y) k = refl
   coloured-waits (Order a b) k = refl
-  coloured-waits (StrongSynchronization2 a b tolerance) k =
-      same-waits (StrongSynchronization2 a b tolerance) (rw (other a (k .1 .0), other b (k .1 .1 .0)) refl)
-  coloured-waits (StrongSynchronization3 a b c tolerance) k =
-      same-waits (StrongSynchronization3 a b c tolerance) (rw (other a (k .1 .0), other b (k .1 .1 .0), other c (k .1 .1 .1 .0)) refl)
-  coloured-waits (StrongSynchronization4 a b c d tolerance) k =
-      same-waits (StrongSynchronization4 a b c d tolerance)
+  coloured-waits (StrongSynchronization2 a b x) k = same-waits (StrongSynchronization2 a b x) (rw (other a (k .1 .0), other b (k .1 .1 .0)) refl)
+  coloured-waits (StrongSynchronization3 a b c x) k =
+      same-waits (StrongSynchronization3 a b c x) (rw (other a (k .1 .0), other b (k .1 .1 .0), other c (k .1 .1 .1 .0)) refl)
+  coloured-waits (StrongSynchronization4 a b c d x) k =
+      same-waits (StrongSynchronization4 a b c d x)
       (rw (other a (k .1 .0), other b (k .1 .1 .0), other c (k .1 .1 .1 .0), other d (k .1 .1 .1 .1 .0)) refl)
-  coloured-waits (ExecutionTime a b c d lower upper) k = refl
-  coloured-waits (Reaction a b minimum maximum) k = refl
-  coloured-waits (Repetition a span lower upper jitter) k = refl
+  coloured-waits (ExecutionTime a b c d x y) k = refl
+  coloured-waits (Reaction a b x y) k = refl
+  coloured-waits (Repetition a b x y z) k = refl
 
 -- ---- so it is never why an event is refused
 

@@ -79,4 +79,6 @@ TYPE = RowType(
         breaks nothing.""",
     measures="distance over maximum places; the least distance of neighbours counts in the margin", each="each event but the first",
     reason=reason, windows=windows, measuring=Bursts, instance=("event", 1),
+    example=("burst", "fault maximum 3, length 50 ms, minimum 2 ms",
+             {"fault": "10 14 18 62 66 70 74"}),
 )

@@ -82,4 +82,6 @@ TYPE = RowType(
         targets do no harm.""",
     measures="latency: to the first target that is not too early", each="each source",
     reason=reason, windows=windows, measuring=Delays, instance=("source", 0), waits=True,
+    example=("delay", "pedal -> light, 2 ms .. 20 ms",
+             {"pedal": "10 50", "light": "22 75"}),
 )

@@ -176,4 +176,6 @@ TYPE = RowType(
         that may not come next breaks the row too.""",
     measures="running time", each="each run",
     reason=reason, windows=windows, measuring=Executions, instance=("start", 0),
+    example=("task", "start -> stop, preempt preempt, resume resume, 5 ms .. 10 ms",
+             {"start": "10 50", "stop": "30 65", "preempt": "13", "resume": "25"}),
 )

@@ -55,4 +55,6 @@ TYPE = RowType(
         source may wait for its target as long as it likes, until the end of the recording.""",
     measures="lag from each source to its target", each="each pair",
     reason=reason, windows=windows, measuring=Lags, instance=("source", 0),
+    example=("order", "sensor -> entry",
+             {"sensor": "10 55", "entry": "12 50"}),
 )

@@ -73,4 +73,6 @@ TYPE = RowType(
         row too, once upper is over.""",
     measures="distance over the span", each="each event span places after another",
     reason=reason, windows=windows, measuring=Spans, instance=("event", "span"),
+    example=("repeat", "speed span 1, 9 ms .. 11 ms",
+             {"speed": "5 15 24 34 46"}),
 )

@@ -91,4 +91,6 @@ TYPE = RowType(
         places before it. Silence breaks nothing.""",
     measures="distance over the span", each="each event span places after another",
     reason=reason, windows=windows, measuring=Repetitions, instance=("event", "span"),
+    example=("rhythm", "beat span 2, 40 ms .. 40 ms, jitter 4 ms",
+             {"beat": "10 32 52 70 101"}),
 )

@@ -115,4 +115,6 @@ TYPE = RowType(
         events are at least minimum apart. With lower = upper it is a periodic signal with jitter, whose clock may not wander.""",
     measures="gap to the event before", each="each event but the first",
     reason=reason, windows=windows, measuring=Gaps, instance=("event", 1),
+    example=("sporadic", "camera, 20 ms .. 20 ms, jitter 5 ms, minimum 12 ms",
+             {"camera": "7 25 48 65 93"}),
 )

@@ -109,4 +109,6 @@ TYPE = RowType(
         its source. A target too early, or one too many, breaks the row at once.""",
     measures="latency: from the first source to the first target, the second to the second, and so on", each="each pair",
     reason=reason, windows=windows, measuring=Pairs, instance=("source", 0), waits=True,
+    example=("strong delay", "request -> reply, 5 ms .. 20 ms",
+             {"request": "10 14 50", "reply": "20 30 53"}),
 )

@@ -99,4 +99,6 @@ TYPE = RowType(
         that lacks a kind breaks the row once tolerance is over.""",
     measures="width: from the first event of a group to the last", each="each group",
     reason=reason, windows=windows, measuring=Groups, instance=("kinds", 0), waits=True,
+    example=("together", "front rear mirror, tolerance 5 ms",
+             {"front": "10 50", "rear": "12 60", "mirror": "14 52"}),
 )

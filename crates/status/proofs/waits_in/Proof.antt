@@ -1,4 +1,4 @@
--- The tests are those of `waitsIn`, in its order.
+-- The tests are those of `waitsIn`, in its order. Made by release/row-types.py.
 use borrow.Author.Tests.{eq-eqb, ne-eqb}
 use Rattle.status.proofs.waits_in.Statement.{statement}
 use Rattle.status.proofs.waits_in.Tie as tie

@@ -1,4 +1,4 @@
--- In each case the line of the table of types and the values make the fields of the row.
+-- In each case the line of the table of types and the values make the fields of the row. The lines are made by release/row-types.py.
 use mathlib.Core.Path.{refl}
 use Rattle.constraint.specs.Records.{fieldsAs}
 use Rattle.constraint.proofs.Judged.{free}

@@ -1,4 +1,4 @@
--- The type byte says which row it is.
+-- The type byte says which row it is. Made by release/row-types.py.
 use mathlib.Core.Path.{sym, _∙_}
 use borrow.Author.Needs.{needs}
 use Rattle.constraint.specs.Types.{rowRead}
@@ -11,7 +11,7 @@ returns-10 : tie.Need-returns-10
 returns-10 c =
     let other = c .before .match .rest in
     let a = c .before .before .args in
-    c .group-read .ensures
+    c .strong-synchronization-read .ensures
     ∙ sym (read-group (a .form) (a .t2) (a .t3) (other .0 .0 .0 .0 .0 .0 .0 .0 .1) (other .0 .0 .0 .0 .0 .0 .0 .1) (other .0 .0 .0 .0 .0 .0 .1)
     (other .0 .0 .0 .0 .0 .1) (other .0 .0 .0 .0 .1) (other .0 .0 .0 .1) (other .0 .0 .1) (other .0 .1) (other .1))
 

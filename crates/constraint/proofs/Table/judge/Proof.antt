@@ -17,11 +17,11 @@ use Rattle.constraint.proofs.Table.judge.Statement.{statement}
 use Rattle.constraint.proofs.Table.judge.Tie as tie
 
 abbrev Inv-loop : tie.InvT-loop
-Inv-loop self count i₀ i =
-    (i ≤ count) × ((a : Answer) → Judged (rowsQuestions i (drop i (rowsOf self)) []) a → Judged (rowsQuestions 0 (rowsOf self) []) a)
+Inv-loop edition self count i₀ i =
+    (i ≤ count) × ((a : Answer) → Judged (rowsQuestions edition i (drop i (rowsOf self)) []) a → Judged (rowsQuestions edition 0 (rowsOf self) []) a)
 
 abbrev μ-loop : tie.MeasureT-loop
-μ-loop self count i₀ i = count - i
+μ-loop edition self count i₀ i = count - i
 
 -- a table has 32 entries
 size : (c : tie.At-loop Inv-loop μ-loop) → length (c .before .args .t1 .rows) ≡ 32
@@ -31,30 +31,32 @@ returns : tie.Need-returns Inv-loop μ-loop
 returns c =
     let table = c .before .before .before .args .t1 in
     let loop = c .before .before .loop in
-    loop .inv .1 _ (rows-full (loop .i) (rowsOf table) [] (omega (arith, rows-length table)) (c .if1 .taken))
+    loop .inv .1 _ (rows-full _ (loop .i) (rowsOf table) [] (omega (arith, rows-length table)) (c .if1 .taken))
 
 returns-2 : tie.Need-returns-2 Inv-loop μ-loop
 returns-2 c =
     let at-judge = c .before .before .before in
     let at-loop = at-judge .before .before .before .before in
     let table = at-loop .before .args .t1 in
+    let edition = at-loop .before .args .edition in
     let i = at-loop .loop .i in
     at-loop .loop .inv .1 _
-    (subst⁻¹ (λ rows. Judged (rowsQuestions i rows []) (Refused (c .before .number .given .0 .0)))
+    (subst⁻¹ (λ rows. Judged (rowsQuestions edition i rows []) (Refused (c .before .number .given .0 .0)))
     (rows-from table i _ (omega arith) (omega (arith, size at-loop)))
-    (rows-refused i _ (drop (i + 1) (rowsOf table)) [] _ (omega arith) (rw (c .before .number .given .1) at (at-judge .judge .ensures))))
+    (rows-refused edition i _ (drop (i + 1) (rowsOf table)) [] _ (omega arith) (rw (c .before .number .given .1) at (at-judge .judge-in .ensures))))
 
 loop-again : tie.Need-loop-again Inv-loop μ-loop
 loop-again c =
     let at-judge = c .before .before in
     let at-loop = at-judge .before .before .before .before in
     let table = at-loop .before .args .t1 in
+    let edition = at-loop .before .args .edition in
     let i = at-loop .loop .i in (
       omega arith,
       λ a later.
           at-loop .loop .inv .1 a
-          (subst⁻¹ (λ rows. Judged (rowsQuestions i rows []) a) (rows-from table i _ (omega arith) (omega (arith, size at-loop)))
-          (rows-taken i _ (drop (i + 1) (rowsOf table)) [] a (omega arith) (rw (c .enum-told .given .1) at (at-judge .judge .ensures)) later)),
+          (subst⁻¹ (λ rows. Judged (rowsQuestions edition i rows []) a) (rows-from table i _ (omega arith) (omega (arith, size at-loop)))
+          (rows-taken edition i _ (drop (i + 1) (rowsOf table)) [] a (omega arith) (rw (c .enum-told .given .1) at (at-judge .judge-in .ensures)) later)),
     )
 
 returns-3 : tie.Need-returns-3 Inv-loop μ-loop

@@ -117,10 +117,10 @@
  *
  * THE TABLE
  *
- * One byte 1, then the rows; the first is row 0. Each row has a length field
- * of two bytes and, as many bytes as it says, its type and its fields. Kinds,
- * n, span and maximum take one byte, all other fields eight, the most
- * significant byte first.
+ * One byte, its version, then the rows; the first is row 0. The version is 1,
+ * or 2 (EDITIONS below). Each row has a length field of two bytes and, as many
+ * bytes as it says, its type and its fields. Kinds, n, span and maximum take
+ * one byte, all other fields eight, the most significant byte first.
  *
  *   type                      fields                                   length
  *   1 Delay                   source, target, lower, upper                 19
@@ -154,6 +154,27 @@
  *
  *     if (DELKUTHI_NUMBER(answer) == DELKUTHI_TAKEN)
  *         answer = delkuthi_fresh(&monitor, table, DELKUTHI_LENGTH(answer));
+ *
+ *
+ * EDITIONS
+ *
+ * The version of a table is its edition. Edition 1 has the row types 1 to 10,
+ * and edition 2 has all; nothing else is different. A call that takes a table
+ * has two forms, with the same arguments and answers:
+ *
+ *   tables of edition 1           tables of editions 1 and 2
+ *   delkuthi_fresh                delkuthi_fresh_2
+ *   delkuthi_report               delkuthi_report_2
+ *   delkuthi_report_on            delkuthi_report_on_2
+ *   delkuthi_stamps               delkuthi_stamps_2
+ *   delkuthi_shortest_stretch     delkuthi_shortest_stretch_2
+ *   delkuthi_make_table           delkuthi_make_table_2, which writes edition 2
+ *
+ * A new host calls the second forms. Of a table of edition 1 both answer the
+ * same. The first forms mean what they meant when there was no other edition:
+ * they refuse a table of edition 2 with 1. In every form a row whose type the
+ * table's edition does not have is refused with 4. A monitor is the same
+ * whichever form made it, and every other call goes with both.
  *
  *
  * WHAT EACH ROW ASKS
@@ -274,7 +295,7 @@ static int bench(const uint8_t *table, size_t table_length)
         printf("the library is not this header's\n");
         return 3;
     }
-    answer = delkuthi_fresh(&monitor, table, table_length);
+    answer = delkuthi_fresh_2(&monitor, table, table_length);
     if (answer != DELKUTHI_TAKEN) {
         printf("table refused with %d at byte %" PRIu64 "\n",
                DELKUTHI_NUMBER(answer), DELKUTHI_PLACE(answer));
@@ -356,6 +377,10 @@ extern "C" {
 /* The upper of a Delay, Repeat or Sporadic that has no upper limit. */
 #define DELKUTHI_NO_LIMIT UINT64_C(18446744073709551615)
 
+/* The newest edition of the table, and the last type that the first has. */
+#define DELKUTHI_NEWEST_EDITION 2
+#define DELKUTHI_FIRST_EDITION_TYPES 10
+
 /*
  * A monitor: 35,840 bytes, aligned as a uint64_t is. Put it on the stack, in
  * static memory, on a heap or in a struct of your own, and give it to
@@ -407,10 +432,12 @@ uint64_t delkuthi_monitor_size(void);
 enum delkuthi_refusal {
     /* A table (delkuthi_fresh, delkuthi_report; 3 to 7 and 18 also of
        delkuthi_make_table). Mend the table. */
-    DELKUTHI_TABLE_VERSION = 1, /* it does not begin with a byte 1 */
+    DELKUTHI_TABLE_VERSION = 1, /* it does not begin with a byte 1, or 2 where
+                                   the call takes both editions */
     DELKUTHI_ROW_CUT = 2,       /* a length field, or a row, is not whole */
     DELKUTHI_ROW_TOO_MANY = 3,  /* more than 32 rows: use two monitors */
-    DELKUTHI_ROW_SHAPE = 4,     /* no such type or n, or the wrong length */
+    DELKUTHI_ROW_SHAPE = 4,     /* no such type in the table's edition, no such
+                                   n, or the wrong length */
     DELKUTHI_ROW_KINDS = 5,     /* a kind above 63, or one kind twice */
     DELKUTHI_ROW_RANGE = 6,     /* a time, span or maximum out of range */
     DELKUTHI_ROW_BOUNDS = 7,    /* lower is more than upper, or minimum more
@@ -477,13 +504,15 @@ static inline const char *delkuthi_refusal_text(uint8_t number)
     case DELKUTHI_TAKEN:
         return "taken";
     case DELKUTHI_TABLE_VERSION:
-        return "the table does not begin with a version byte 1";
+        return "the table does not begin with a version byte 1, or 2 where "
+               "both editions are taken";
     case DELKUTHI_ROW_CUT:
         return "a length field or a row of the table is not whole";
     case DELKUTHI_ROW_TOO_MANY:
         return "the table has more than 32 rows";
     case DELKUTHI_ROW_SHAPE:
-        return "a row has no known type or n, or the wrong length";
+        return "a row has no type of the table's edition, no known n, or the "
+               "wrong length";
     case DELKUTHI_ROW_KINDS:
         return "a row has a kind above 63, or one kind twice";
     case DELKUTHI_ROW_RANGE:
@@ -548,7 +577,7 @@ uint64_t delkuthi_fresh(delkuthi_monitor *monitor,
                         const uint8_t *table, size_t table_length);
 
 /*
- * A row for delkuthi_make_table. Make it with the function of its type, which
+ * A row for delkuthi_make_table or delkuthi_make_table_2. Make it with the function of its type, which
  * takes the fields by their names and in the order of the list above.
  */
 typedef struct delkuthi_row {
@@ -681,9 +710,9 @@ uint64_t delkuthi_table(const delkuthi_row *rows, size_t rows_size,
                         uint8_t *table, size_t table_length);
 
 /*
- * Writes the table of some rows, for delkuthi_fresh and delkuthi_report; a
- * buffer of DELKUTHI_TABLE_LIMIT bytes holds any. Bytes behind the table stay
- * as they were.
+ * Writes the table of some rows in edition 1, for delkuthi_fresh and
+ * delkuthi_report; a buffer of DELKUTHI_TABLE_LIMIT bytes holds any. Bytes
+ * behind the table stay as they were.
  *
  * DELKUTHI_NUMBER of the answer is DELKUTHI_TAKEN, and DELKUTHI_LENGTH then the
  * length of the table; or a refusal, and the buffer stays as it was: of number
@@ -1015,6 +1044,74 @@ uint64_t delkuthi_shortest_stretch(const uint8_t *table, size_t table_length,
 #define DELKUTHI_STRETCH_FIRST(answer)  ((answer) >> 8 & 255)
 #define DELKUTHI_STRETCH_LENGTH(answer) ((answer) >> 16 & 65535)
 #define DELKUTHI_STRETCH_TRIED(answer)  ((answer) >> 32)
+
+/*
+ * THE SECOND FORMS
+ *
+ * The calls above that take a table, for tables of editions 1 and 2: each has
+ * the arguments, the answers and the stack of the call without _2. Question 1
+ * is for them whether the table begins with a byte 1 or 2, and question 4
+ * whether the row's type is one of the edition that this byte says.
+ */
+
+DELKUTHI_CHECKED DELKUTHI_NONNULL
+uint64_t delkuthi_fresh_2(delkuthi_monitor *monitor,
+                          const uint8_t *table, size_t table_length);
+
+DELKUTHI_CHECKED DELKUTHI_NONNULL
+size_t delkuthi_report_2(const uint8_t *table, size_t table_length,
+                         const uint8_t *recording, size_t recording_length,
+                         uint8_t *report, size_t report_length);
+
+DELKUTHI_CHECKED DELKUTHI_NONNULL
+size_t delkuthi_report_on_2(delkuthi_monitor *monitor,
+                            const uint8_t *table, size_t table_length,
+                            const uint8_t *recording, size_t recording_length,
+                            uint8_t *report, size_t report_length);
+
+DELKUTHI_CHECKED DELKUTHI_NONNULL
+uint64_t delkuthi_stamps_2(const uint8_t *table, size_t table_length,
+                           const uint8_t *recording, size_t recording_length,
+                           uint64_t row, uint64_t late);
+
+DELKUTHI_CHECKED DELKUTHI_NONNULL
+uint64_t delkuthi_shortest_stretch_2(const uint8_t *table, size_t table_length,
+                                     const uint8_t *recording,
+                                     size_t recording_length, uint64_t row);
+
+/* The table writer of edition 2, which delkuthi_make_table_2 calls. */
+DELKUTHI_CHECKED DELKUTHI_NONNULL
+uint64_t delkuthi_table_2(const delkuthi_row *rows, size_t rows_size,
+                          uint8_t *table, size_t table_length);
+
+/*
+ * Writes the table of some rows as delkuthi_make_table does, in edition 2: for
+ * delkuthi_fresh_2, delkuthi_report_2 and their like.
+ */
+DELKUTHI_CHECKED DELKUTHI_NONNULL
+static inline uint64_t delkuthi_make_table_2(const delkuthi_row *rows,
+                                             size_t count, uint8_t *table,
+                                             size_t table_length)
+{
+    if (count > DELKUTHI_ROW_LIMIT)
+        count = DELKUTHI_ROW_LIMIT + 1;
+    return delkuthi_table_2(rows, count * sizeof *rows, table, table_length);
+}
+
+/*
+ * Returns the edition that some rows need: 1, or 2 where one of them has a type
+ * that the first edition has not. No row behind the 33rd is looked at.
+ */
+DELKUTHI_NONNULL
+static inline uint8_t delkuthi_edition(const delkuthi_row *rows, size_t count)
+{
+    size_t i;
+
+    for (i = 0; i < count && i <= DELKUTHI_ROW_LIMIT; i++)
+        if (rows[i].body[0] > DELKUTHI_FIRST_EDITION_TYPES)
+            return 2;
+    return 1;
+}
 
 #ifdef __cplusplus
 }

@@ -75,7 +75,8 @@ inline bool matches() noexcept
     return DELKUTHI_MATCHES();
 }
 
-// A table of rows, which the functions of delkuthi.h make by their fields' names. It is empty where the rows are refused.
+// A table of rows, which the functions of delkuthi.h make by their fields' names, in the edition that they need. It is empty where the
+// rows are refused.
 class table {
 public:
     table(std::initializer_list<delkuthi_row> rows) noexcept : table(rows.begin(), rows.size()) {}
@@ -83,7 +84,10 @@ public:
     table(const delkuthi_row *rows, std::size_t count) noexcept
     {
         const delkuthi_row none{};
-        const std::uint64_t made = delkuthi_make_table(count ? rows : &none, count, bytes_.data(), bytes_.size());
+        const delkuthi_row *given = count ? rows : &none;
+        const std::uint64_t made = delkuthi_edition(given, count) == 1
+            ? delkuthi_make_table(given, count, bytes_.data(), bytes_.size())
+            : delkuthi_make_table_2(given, count, bytes_.data(), bytes_.size());
 
         answer_ = delkuthi::answer(made);
         if (answer_)
@@ -101,8 +105,8 @@ private:
     delkuthi::answer answer_{DELKUTHI_TABLE_ROOM};
 };
 
-// A monitor. It holds its memory and no more: a copy is a monitor of its own, and nothing needs to be given back. Before `fresh` it
-// is closed and has no rows.
+// A monitor over a table of either edition. It holds its memory and no more: a copy is a monitor of its own, and nothing needs to be
+// given back. Before `fresh` it is closed and has no rows.
 class monitor {
 public:
     monitor() noexcept = default;
@@ -111,7 +115,7 @@ public:
     {
         static const std::uint8_t none = 0;
 
-        return delkuthi::answer(delkuthi_fresh(&words_, bytes ? bytes : &none, bytes ? size : 0));
+        return delkuthi::answer(delkuthi_fresh_2(&words_, bytes ? bytes : &none, bytes ? size : 0));
     }
 
     delkuthi::answer fresh(const table &rows) noexcept

@@ -2,8 +2,9 @@
  * The program: delkuthi
  *
  * Reads table.bin and recording.bin in the folder where it is run, and prints
- * the report on them. A file that cannot be opened is taken as one of 0 bytes.
- * The exit status says what the report says:
+ * the report on them; the table may be of either edition. A file that cannot
+ * be opened is taken as one of 0 bytes. The exit status says what the report
+ * says:
  *   0  every row is kept
  *   1  a row is broken
  *   2  something is refused; so are arguments other than --version and
@@ -59,7 +60,7 @@ static void make_report(size_t table_length, size_t recording_length)
         memcpy(report, TOO_LARGE, sizeof TOO_LARGE);
         return;
     }
-    written = delkuthi_report(table, table_length, recording, recording_length, report, DELKUTHI_REPORT_LIMIT);
+    written = delkuthi_report_2(table, table_length, recording, recording_length, report, DELKUTHI_REPORT_LIMIT);
     report[written] = 0;
 }
 

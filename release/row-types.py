@@ -17,6 +17,7 @@ import row_definitions
 import row_machines
 from row_list import END, LISTED, MADE, ROOT, TYPES, declared, having, length, listed, names, one, small, snake, text_of, wrapped
 from delkuthi.fields import MOST
+from delkuthi.library import NEWEST_EDITION
 from delkuthi.text import form_lines
 
 
@@ -43,15 +44,15 @@ def contract():
     """§4.4 to §4.7."""
     own, others = counted()
     bytes_each = listed(["A kind", "an n", *map(one, own), *others])
-    lines = [f"| {t.number} | {t.name} | {', '.join(names(t, 'n (2, 3 or 4), n kinds'))} | {length(t)} |\n" for t in TYPES]
+    lines = [f"| {t.number} | {t.name} | {', '.join(names(t, 'n (2, 3 or 4), n kinds'))} | {length(t)} | {t.edition} |\n" for t in TYPES]
     marked = listed([str(t.number) for t in having("limit")])
     texts = (f"**4.4** {bytes_each} are one byte each. All other fields are times, of eight bytes each.",
-             "**4.5** The types, their fields, and what the length field has to say:",
+             "**4.5** The types, their fields, what the length field has to say, and the first edition of the table that has the type (§16.2):",
              f"**4.6** {spans()} Times go as far as §1.1 says.",
              f"**4.7** Where upper is 2^64 − 1, eight bytes 255, there is no upper limit. Types {marked} have this mark; everywhere else that "
              "number is a time out of range.")
     first, second, third, fourth = (wrapped(text, 123) + "\n\n" for text in texts)
-    return first + second + "| type | name | fields | length |\n|---|---|---|---|\n" + "".join(lines) + "\n" + third + fourth
+    return first + second + "| type | name | fields | length | edition |\n|---|---|---|---|---|\n" + "".join(lines) + "\n" + third + fourth
 
 
 def grammar():
@@ -118,13 +119,26 @@ def header_table():
     """The table, what its fields may be, and where it has no limit."""
     marked = listed([str(t.number) for t in having("limit")], "or")
     coloured = listed([one(t.name) for t in having("coloured")])
-    size = f"""One byte 1, then the rows; the first is row 0. Each row has a length field of two bytes and, as many bytes as it says, its type
-        and its fields. Kinds, n, {listed(list(dict.fromkeys(part.name for t in TYPES for part in t.fields if part.role in MOST)))} take one byte,
-        all other fields eight, the most significant byte first."""
+    counts = listed(list(dict.fromkeys(part.name for t in TYPES for part in t.fields if part.role in MOST)))
+    size = f"""One byte, its version, then the rows; the first is row 0. The version is 1, or 2 (EDITIONS below). Each row has a length field of
+        two bytes and, as many bytes as it says, its type and its fields. Kinds, n, {counts} take one byte, all other fields eight, the most
+        significant byte first."""
     kinds = f"The kinds of {coloured} are coloured ones, those of all other types plain ones. Its maximum is a time, as its minimum is."
     limit = f"{spans()} Where the upper of type {marked} is 2^64 - 1, DELKUTHI_NO_LIMIT, there is no upper limit."
     table = " *   type                      fields                                   length\n" + "".join(map(header_line, TYPES))
-    return " *\n".join([comment(size), table, comment(kinds), comment(limit)]) + " *\n"
+    return " *\n".join([comment(size), table, comment(kinds), comment(limit), *map(comment, later())]) + " *\n"
+
+
+def later():
+    """Which types only a later edition of the table has, if there are such."""
+    editions = sorted({t.edition for t in TYPES} - {1})
+    numbers = {edition: [str(t.number) for t in TYPES if t.edition == edition] for edition in editions}
+    return [f"{'Types' if len(found) > 1 else 'Type'} {listed(found)}: in tables of edition {edition} alone." for edition, found in numbers.items()]
+
+
+def last_type():
+    """The last type that the first edition of the table has."""
+    return max(t.number for t in TYPES if t.edition == 1)
 
 
 def header_asks():
@@ -229,7 +243,7 @@ def model_modules():
 
 
 def model_list():
-    return "".join(f"    {t.number} => {t.name},\n" for t in TYPES)
+    return "".join(f"    {t.number} => {t.name} from {t.edition},\n" for t in TYPES)
 
 
 # A file, the two texts between which a part stands, and what makes the part; without a first text it begins with the file, without a last it ends so.
@@ -244,8 +258,10 @@ PARTS = (
     ("include/delkuthi.h", "/* A function for each type. */\n", "/* The table writer;", lambda: "\n" + "".join(map(c_maker, TYPES))),
     ("examples/rows/rows.txt", "", "", example_rows),
     ("examples/rows/rows.csv", "", "", example_log),
+    ("include/delkuthi.h", "DELKUTHI_NEWEST_EDITION 2\n", "\n", lambda: f"#define DELKUTHI_FIRST_EDITION_TYPES {last_type()}"),
     ("host/c/make_table.c", f"    /* {LISTED} */\n", "    }\n}\n", c_cases),
     ("host/delkuthi/src/table.rs", "TABLE_LIMIT: usize = 1153;\n", "pub const NO_LIMIT", lambda: f"/// {limited()}\n"),
+    ("host/delkuthi/src/table.rs", "edition of the table has.\n", "\n\n", lambda: f"const FIRST_EDITION_TYPES: u8 = {last_type()};"),
     ("host/delkuthi/src/table.rs", f"pub enum Row<'a> {{\n    // {LISTED}\n", "}\n\n", rust_rows),
     ("host/delkuthi/src/table.rs", f"            // {LISTED}\n", "        }\n    }\n}\n", rust_bodies),
     ("host/checks/src/rows.rs", f"        // {LISTED}\n", "    }\n}\n", rust_checks),
@@ -276,6 +292,8 @@ def main():
     wrong = [line for row_type in TYPES for line in lacking(row_type)]
     if [row_type.number for row_type in TYPES] != list(range(1, len(TYPES) + 1)):
         wrong.append("python/delkuthi/rowtypes: the numbers of the types are not 1, 2, 3 and so on")
+    if sorted(editions := [row_type.edition for row_type in TYPES]) != editions or not set(editions) <= set(range(1, NEWEST_EDITION + 1)):
+        wrong.append(f"python/delkuthi/rowtypes: the editions of the types do not rise with their numbers, from 1 to {NEWEST_EDITION}")
     for path, first, last, make in PARTS:
         before, begin, rest = text_of(path).partition(first) if first else ("", "", text_of(path))
         part, end, after = rest.partition(last) if last else (rest, "", "")

@@ -58,6 +58,7 @@ void start(void)
 
     (void)DELKUTHI_MATCHES();
     (void)delkuthi_fresh(&monitor, bytes, sizeof bytes);
+    (void)delkuthi_fresh_2(&monitor, bytes, sizeof bytes);
     (void)delkuthi_event(&monitor, 0, 0);
     (void)delkuthi_tick(&monitor, 0);
     (void)delkuthi_close(&monitor);
@@ -67,4 +68,5 @@ void start(void)
     (void)delkuthi_report_of(&monitor, report, sizeof report);
     (void)delkuthi_report(bytes, sizeof bytes, bytes, sizeof bytes, report, sizeof report);
     (void)delkuthi_report_on(&monitor, bytes, sizeof bytes, bytes, sizeof bytes, report, sizeof report);
+    (void)delkuthi_report_on_2(&monitor, bytes, sizeof bytes, bytes, sizeof bytes, report, sizeof report);
 }

@@ -49,7 +49,7 @@ static int bench(const uint8_t *table, size_t table_length)
         printf("the library is not this header's\n");
         return 3;
     }
-    answer = delkuthi_fresh(&monitor, table, table_length);
+    answer = delkuthi_fresh_2(&monitor, table, table_length);
     if (answer != DELKUTHI_TAKEN) {
         printf("table refused with %d at byte %" PRIu64 "\n",
                DELKUTHI_NUMBER(answer), DELKUTHI_PLACE(answer));

@@ -2,7 +2,7 @@
  * Every cut of a table and of a recording: every_cut TABLE RECORDING
  *
  * For each length of the table, then for each of the recording, it prints what
- * delkuthi_fresh answers and the report. All that a call is lent lies in a
+ * delkuthi_fresh_2 answers and the report. All that a call is lent lies in a
  * block that is just as long as it says, so that valgrind sees a byte read or
  * written outside.
  */
@@ -37,7 +37,7 @@ static struct file cut(const struct file *file, size_t length)
 static size_t report_in(const struct file *table, const struct file *recording, uint8_t *block, size_t length)
 {
     memset(block, '#', length);
-    return delkuthi_report(table->bytes, table->length, recording->bytes, recording->length, block, length);
+    return delkuthi_report_2(table->bytes, table->length, recording->bytes, recording->length, block, length);
 }
 
 /* Prints the report, made in blocks that are long enough, just so, one byte short, and of length 0. */
@@ -66,7 +66,7 @@ static void print_report(const struct file *table, const struct file *recording)
 static void print_fresh(const struct file *table)
 {
     delkuthi_monitor *monitor = (delkuthi_monitor *)(void *)block_of(sizeof *monitor);
-    uint64_t answer = delkuthi_fresh(monitor, table->bytes, table->length);
+    uint64_t answer = delkuthi_fresh_2(monitor, table->bytes, table->length);
 
     if (answer == DELKUTHI_TAKEN)
         printf("fresh %" PRIu64 "\n", delkuthi_rows(monitor));

@@ -122,7 +122,7 @@ static int stepped(const struct file *table, delkuthi_monitor *monitor)
 {
     uint64_t time;
 
-    if (delkuthi_fresh(monitor, table->bytes, table->length) != DELKUTHI_TAKEN)
+    if (delkuthi_fresh_2(monitor, table->bytes, table->length) != DELKUTHI_TAKEN)
         return 0;
     for (time = 0; time < 20; time++)
         (void)delkuthi_event(monitor, (uint8_t)(time % 5 == 0 ? time % 4 : 0), time);

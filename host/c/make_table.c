@@ -1,5 +1,6 @@
 /*
- * Tables of rows by their fields' names: make_table ROWS
+ * Tables of rows by their fields' names, in the edition that they need:
+ * make_table ROWS
  *
  * ROWS is a text file of numbers: for each table how many rows it has and how
  * long the buffer is, then for each row its type, five bytes and four times, as
@@ -76,7 +77,8 @@ static int next_table(FILE *file)
     for (i = 0; i < count; i++)
         well = well && read_row(file, &rows[i]);
     if (well) {
-        answer = delkuthi_make_table(rows, count, table, length);
+        answer = delkuthi_edition(rows, count) == 1 ? delkuthi_make_table(rows, count, table, length)
+                                                    : delkuthi_make_table_2(rows, count, table, length);
         printf("%d %" PRIu64 " ", DELKUTHI_NUMBER(answer), DELKUTHI_LENGTH(answer));
         for (i = 0; i < length; i++)
             printf("%02x", table[i]);

@@ -63,7 +63,7 @@ int main(int argc, char **argv)
 
     if (argc != 3 || !read_file(argv[1], &table) || !read_file(argv[2], &recording))
         return 3;
-    if (delkuthi_fresh(&monitor, table.bytes, table.length) != DELKUTHI_TAKEN)
+    if (delkuthi_fresh_2(&monitor, table.bytes, table.length) != DELKUTHI_TAKEN)
         return 2;
     well = page();
     for (place = 1; place < recording.length; place += 2u + recording.bytes[place + 1]) {

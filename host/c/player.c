@@ -13,6 +13,8 @@
  *
  * A line of the script is a call and its arguments: numbers, bytes in
  * hexadecimal, and for a buffer its length. An empty stretch of bytes is a "-".
+ * A call that takes a table has behind its name a "_2" where it is the form for
+ * both editions.
  */
 #include "delkuthi.h"
 #include <inttypes.h>
@@ -29,7 +31,7 @@ static char line[LINE_LIMIT];
 static uint8_t bytes[3][LINE_LIMIT / 2];
 static size_t lengths[3];
 static uint8_t buffer[BUFFER_LIMIT];
-static int with_words, well = 1;
+static int with_words, well = 1, both; /* both: the call is the form for both editions */
 
 /* The next word of the line. */
 static const char *word(void)
@@ -182,7 +184,7 @@ static int played_monitor(const char *call)
     if (strcmp(call, "fresh") == 0) {
         const uint8_t *table = stretch(0);
 
-        stepped(delkuthi_fresh(&monitor, table, lengths[0]));
+        stepped(both ? delkuthi_fresh_2(&monitor, table, lengths[0]) : delkuthi_fresh(&monitor, table, lengths[0]));
     } else if (strcmp(call, "event") == 0) {
         uint8_t kind = byte();
 
@@ -202,6 +204,16 @@ static int played_monitor(const char *call)
     return 1;
 }
 
+/* The report on a recording, on the monitor or on none; returns how many bytes were written. */
+static size_t reported(int on, size_t length)
+{
+    if (on)
+        return both ? delkuthi_report_on_2(&monitor, bytes[0], lengths[0], bytes[1], lengths[1], buffer, length)
+                    : delkuthi_report_on(&monitor, bytes[0], lengths[0], bytes[1], lengths[1], buffer, length);
+    return both ? delkuthi_report_2(bytes[0], lengths[0], bytes[1], lengths[1], buffer, length)
+                : delkuthi_report(bytes[0], lengths[0], bytes[1], lengths[1], buffer, length);
+}
+
 /* Calls that write to a buffer; returns whether this is one. */
 static int played_writer(const char *call)
 {
@@ -216,8 +228,7 @@ static int played_writer(const char *call)
         (void)stretch(0);
         (void)stretch(1);
         length = lent();
-        written = call[6] ? delkuthi_report_on(&monitor, bytes[0], lengths[0], bytes[1], lengths[1], buffer, length)
-                          : delkuthi_report(bytes[0], lengths[0], bytes[1], lengths[1], buffer, length);
+        written = reported(call[6] != 0, length);
         wrote(written, written);
         rows();
     } else if (strcmp(call, "join") == 0) {
@@ -229,7 +240,7 @@ static int played_writer(const char *call)
     } else if (strcmp(call, "table") == 0) {
         (void)stretch(0);
         length = lent();
-        answer = delkuthi_table((const delkuthi_row *)bytes[0], lengths[0], buffer, length);
+        answer = (both ? delkuthi_table_2 : delkuthi_table)((const delkuthi_row *)bytes[0], lengths[0], buffer, length);
         wrote(answer, DELKUTHI_NUMBER(answer) == DELKUTHI_TAKEN ? (size_t)DELKUTHI_LENGTH(answer) : 0);
     } else
         return 0;
@@ -245,12 +256,24 @@ static int played_reader(const char *call)
     (void)stretch(1);
     row = number();
     if (strcmp(call, "stamps") == 0)
-        printf(" %" PRIu64, delkuthi_stamps(bytes[0], lengths[0], bytes[1], lengths[1], row, number()));
+        printf(" %" PRIu64, (both ? delkuthi_stamps_2 : delkuthi_stamps)(bytes[0], lengths[0], bytes[1], lengths[1], row, number()));
     else if (strcmp(call, "stretch") == 0)
-        printf(" %" PRIu64, delkuthi_shortest_stretch(bytes[0], lengths[0], bytes[1], lengths[1], row));
+        printf(" %" PRIu64, (both ? delkuthi_shortest_stretch_2 : delkuthi_shortest_stretch)(bytes[0], lengths[0], bytes[1],
+                                                                                             lengths[1], row));
     else
         return 0;
     return 1;
+}
+
+/* The name of a call without its "_2", which says whether it is the form for both editions. */
+static const char *name_of(char *call)
+{
+    size_t length = strlen(call);
+
+    both = length > 2 && strcmp(call + length - 2, "_2") == 0;
+    if (both)
+        call[length - 2] = 0;
+    return call;
 }
 
 int main(int argc, char **argv)
@@ -262,7 +285,7 @@ int main(int argc, char **argv)
         return 3;
     with_words = argc > 2;
     while (well && fgets(line, sizeof line, script)) {
-        call = strtok(line, " \n");
+        call = name_of(strtok(line, " \n"));
         fputs(call, stdout);
         if (!played_monitor(call) && !played_writer(call) && !played_reader(call))
             return 2;

@@ -13,7 +13,7 @@ int main(int argc, char **argv)
         fprintf(stderr, "usage: report TABLE RECORDING\n");
         return 3;
     }
-    written = delkuthi_report(table.bytes, table.length, recording.bytes, recording.length, report, sizeof report);
+    written = delkuthi_report_2(table.bytes, table.length, recording.bytes, recording.length, report, sizeof report);
     fwrite(report, 1, written, stdout);
     free_file(&table);
     free_file(&recording);

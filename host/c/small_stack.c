@@ -31,8 +31,8 @@ static uint8_t stack[BELOW + STACK];
 
 static void make(void)
 {
-    written = delkuthi_report_on(&monitor, table.bytes, table.length, recording.bytes, recording.length, report,
-                                 sizeof report);
+    written = delkuthi_report_on_2(&monitor, table.bytes, table.length, recording.bytes, recording.length, report,
+                                   sizeof report);
 }
 
 /* Runs it on the small stack; returns whether nothing was written below. */

@@ -1,6 +1,7 @@
 /*
  * How much of the stack each call uses: stack TABLE RECORDING
  *
+ * Of a call with two forms, for the editions of the table, both are made.
  * The calls run in a thread whose stack was filled with a pattern; what is not
  * the pattern any more was used. Prints a line for each call: bytes and name.
  * The exit status is 1 where a call uses more than the header says.
@@ -33,12 +34,14 @@ static void *nothing(void *unused)
 static void *fresh(void *unused)
 {
     (void)delkuthi_fresh(&monitor, table.bytes, table.length);
+    (void)delkuthi_fresh_2(&monitor, table.bytes, table.length);
     return unused;
 }
 
 static void *make_table(void *unused)
 {
     (void)delkuthi_make_table(rows, DELKUTHI_ROW_LIMIT, report, sizeof report);
+    (void)delkuthi_make_table_2(rows, DELKUTHI_ROW_LIMIT, report, sizeof report);
     return unused;
 }
 
@@ -91,6 +94,7 @@ static void *close_it(void *unused)
 static void *whole_report(void *unused)
 {
     (void)delkuthi_report(table.bytes, table.length, recording.bytes, recording.length, report, sizeof report);
+    (void)delkuthi_report_2(table.bytes, table.length, recording.bytes, recording.length, report, sizeof report);
     return unused;
 }
 
@@ -98,6 +102,8 @@ static void *report_on(void *unused)
 {
     (void)delkuthi_report_on(&monitor, table.bytes, table.length, recording.bytes, recording.length, report,
                              sizeof report);
+    (void)delkuthi_report_on_2(&monitor, table.bytes, table.length, recording.bytes, recording.length, report,
+                               sizeof report);
     return unused;
 }
 
@@ -110,6 +116,7 @@ static void *report_of(void *unused)
 static void *late_stamps(void *unused)
 {
     (void)delkuthi_stamps(table.bytes, table.length, recording.bytes, recording.length, 0, 1);
+    (void)delkuthi_stamps_2(table.bytes, table.length, recording.bytes, recording.length, 0, 1);
     return unused;
 }
 
@@ -124,6 +131,7 @@ static void *join(void *unused)
 static void *short_stretch(void *unused)
 {
     (void)delkuthi_shortest_stretch(table.bytes, table.length, recording.bytes, recording.length, 0);
+    (void)delkuthi_shortest_stretch_2(table.bytes, table.length, recording.bytes, recording.length, 0);
     return unused;
 }
 

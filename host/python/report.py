@@ -15,7 +15,7 @@ def load(path):
     library = ctypes.CDLL(path)
     data, length, monitor, number = ctypes.c_char_p, ctypes.c_size_t, ctypes.c_void_p, ctypes.c_uint64
     calls = {
-        "delkuthi_fresh": (number, [monitor, data, length]),
+        "delkuthi_fresh_2": (number, [monitor, data, length]),
         "delkuthi_event": (ctypes.c_uint8, [monitor, ctypes.c_uint8, number]),
         "delkuthi_coloured_event": (ctypes.c_uint8, [monitor, ctypes.c_uint8, ctypes.c_uint8, number]),
         "delkuthi_tick": (ctypes.c_uint8, [monitor, number]),
@@ -23,7 +23,7 @@ def load(path):
         "delkuthi_row_verdict": (ctypes.c_uint8, [monitor, number]),
         "delkuthi_row_step": (number, [monitor, number]),
         "delkuthi_rows": (number, [monitor]),
-        "delkuthi_report": (length, [data, length, data, length, data, length]),
+        "delkuthi_report_2": (length, [data, length, data, length, data, length]),
         "delkuthi_monitor_size": (number, []),
     }
     for name, (result, arguments) in calls.items():
@@ -35,7 +35,7 @@ def load(path):
 def report(library, table, recording):
     """The report, as the library writes it."""
     buffer = ctypes.create_string_buffer(REPORT_LIMIT)
-    written = library.delkuthi_report(table, len(table), recording, len(recording), buffer, REPORT_LIMIT)
+    written = library.delkuthi_report_2(table, len(table), recording, len(recording), buffer, REPORT_LIMIT)
     return buffer.raw[:written].decode("ascii")
 
 
@@ -52,7 +52,7 @@ def records(recording):
 def step_by_step(library, table, recording):
     """The same report, made of single calls; none of them may be refused."""
     monitor = (ctypes.c_uint64 * (library.delkuthi_monitor_size() // 8))()
-    answers = [library.delkuthi_fresh(monitor, table, len(table))]
+    answers = [library.delkuthi_fresh_2(monitor, table, len(table))]
     calls = [library.delkuthi_tick, library.delkuthi_event, library.delkuthi_coloured_event]
     for before, time in records(recording):
         answers.append(calls[len(before)](monitor, *before, time))

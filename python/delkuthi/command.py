@@ -24,7 +24,7 @@ from .output import as_json, as_junit, as_text, overall
 from .plot import PlotMissing, write_plot
 from .policies import add_databases, add_options, policy, read_table
 from .readers.standard_input import NAME, kept
-from .table import Table
+from .table import Table, is_bytes
 from .text import TextError, grammar
 from .timeline import close_up, gather, overview
 from .trace import write_trace
@@ -186,7 +186,7 @@ def _table(given: argparse.Namespace) -> int:
         if table.unit is not None:
             raise LogError(given.table, "", f"the table has the unit {table.unit} already")
         table = Table(table.rows, table.events, given.unit, table.databases, table.folder)
-    to_text = given.text or not given.bytes and (data[:1] == b"\x01" or given.output is None)
+    to_text = given.text or not given.bytes and (is_bytes(data) or given.output is None)
     write(given.output, table.text() if to_text else table.bytes())
     return KEPT
 

@@ -67,6 +67,8 @@ class RowType:
     #: A row for the manual: its name, what follows the type, and when each event comes, in ms, of a coloured kind with the colour.
     #: The events meet the row at first and break it then. ``release/row-types.py`` makes examples/rows of it.
     example: tuple[str, str, dict[str, str]] = field(default=("", "", {}), compare=False)
+    #: The first edition of the table that has the type: the least version byte of a table with such a row.
+    edition: int = field(default=1, compare=False)
     parts: tuple[str | Field, ...] = field(init=False, compare=False)
 
     def __post_init__(self) -> None:

@@ -13,6 +13,7 @@ VERSION = (Path(__file__).parent / "VERSION").read_text(encoding="ascii").strip(
 INTERFACE = VERSION.rsplit(".", 1)[0]
 
 LAST_TIME = 2**60 - 1
+NEWEST_EDITION = 2
 LAST_KIND = 63
 FIRST_COLOURED = 48
 LAST_COLOUR = 7
@@ -25,10 +26,10 @@ PAGE_LIMIT = 2482
 
 #: What each refusal says, as ``delkuthi_refusal_text`` of the header has it.
 REFUSALS = {
-    1: "the table does not begin with a version byte 1",
+    1: "the table does not begin with a version byte 1, or 2 where both editions are taken",
     2: "a length field or a row of the table is not whole",
     3: "the table has more than 32 rows",
-    4: "a row has no known type or n, or the wrong length",
+    4: "a row has no type of the table's edition, no known n, or the wrong length",
     5: "a row has a kind above 63, or one kind twice",
     6: "a row has a time, span or maximum out of range",
     7: "a row has a lower that is more than its upper",
@@ -80,7 +81,7 @@ _DATA, _LENGTH, _MONITOR, _NUMBER, _BYTE = ctypes.c_char_p, ctypes.c_size_t, cty
 CALLS: dict[str, tuple[Any, list[Any]]] = {
     "delkuthi_version": (ctypes.c_uint32, []),
     "delkuthi_monitor_size": (_NUMBER, []),
-    "delkuthi_fresh": (_NUMBER, [_MONITOR, _DATA, _LENGTH]),
+    "delkuthi_fresh_2": (_NUMBER, [_MONITOR, _DATA, _LENGTH]),
     "delkuthi_event": (_BYTE, [_MONITOR, _BYTE, _NUMBER]),
     "delkuthi_coloured_event": (_BYTE, [_MONITOR, _BYTE, _BYTE, _NUMBER]),
     "delkuthi_tick": (_BYTE, [_MONITOR, _NUMBER]),
@@ -94,11 +95,11 @@ CALLS: dict[str, tuple[Any, list[Any]]] = {
     "delkuthi_closed": (_BYTE, [_MONITOR]),
     "delkuthi_broken_rows": (ctypes.c_uint32, [_MONITOR]),
     "delkuthi_page": (_LENGTH, [_MONITOR, _DATA, _LENGTH]),
-    "delkuthi_stamps": (_NUMBER, [_DATA, _LENGTH, _DATA, _LENGTH, _NUMBER, _NUMBER]),
-    "delkuthi_shortest_stretch": (_NUMBER, [_DATA, _LENGTH, _DATA, _LENGTH, _NUMBER]),
+    "delkuthi_stamps_2": (_NUMBER, [_DATA, _LENGTH, _DATA, _LENGTH, _NUMBER, _NUMBER]),
+    "delkuthi_shortest_stretch_2": (_NUMBER, [_DATA, _LENGTH, _DATA, _LENGTH, _NUMBER]),
     "delkuthi_join": (_NUMBER, [_DATA, _LENGTH, _DATA, _LENGTH, _DATA, _LENGTH]),
-    "delkuthi_report": (_LENGTH, [_DATA, _LENGTH, _DATA, _LENGTH, _DATA, _LENGTH]),
-    "delkuthi_report_on": (_LENGTH, [_MONITOR, _DATA, _LENGTH, _MONITOR, _LENGTH, _DATA, _LENGTH]),
+    "delkuthi_report_2": (_LENGTH, [_DATA, _LENGTH, _DATA, _LENGTH, _DATA, _LENGTH]),
+    "delkuthi_report_on_2": (_LENGTH, [_MONITOR, _DATA, _LENGTH, _MONITOR, _LENGTH, _DATA, _LENGTH]),
     "delkuthi_report_of": (_LENGTH, [_MONITOR, _DATA, _LENGTH]),
 }
 #: The calls that are used where the library has them.

@@ -36,7 +36,7 @@ class Monitor:
         self._library = lib.library()
         self._memory = (ctypes.c_uint64 * (self._library.delkuthi_monitor_size() // 8))()
         data = self.table.bytes()
-        _taken(self._library.delkuthi_fresh(self._memory, data, len(data)))
+        _taken(self._library.delkuthi_fresh_2(self._memory, data, len(data)))
 
     def event(self, event: int | str, time: int, colour: int | None = None) -> None:
         """Takes an event, by its kind or its name; one of a coloured kind with its colour."""
@@ -74,7 +74,7 @@ class Monitor:
         and the number of that refusal, or 0."""
         data, buffer = self.table.bytes(), ctypes.create_string_buffer(lib.REPORT_LIMIT)
         lent = (ctypes.c_char * len(recording)).from_buffer(recording)
-        written = self._library.delkuthi_report_on(self._memory, data, len(data), lent, len(recording), buffer, lib.REPORT_LIMIT)
+        written = self._library.delkuthi_report_on_2(self._memory, data, len(data), lent, len(recording), buffer, lib.REPORT_LIMIT)
         word, number, *place = buffer.raw[:written].split(b"\n")[0].split()
         if word == b"closed":
             self.withdraw()
@@ -203,14 +203,14 @@ def report(table: Table | bytes, recording: bytes) -> str:
     """The library's report on a whole recording."""
     data = _bytes(table)
     buffer = ctypes.create_string_buffer(lib.REPORT_LIMIT)
-    written = lib.library().delkuthi_report(data, len(data), recording, len(recording), buffer, lib.REPORT_LIMIT)
+    written = lib.library().delkuthi_report_2(data, len(data), recording, len(recording), buffer, lib.REPORT_LIMIT)
     return buffer.raw[:written].decode("ascii")
 
 
 def stamps(table: Table | bytes, recording: bytes, row: int, late: int) -> str:
     """What a Repeat row of span 1 reads at the close where stamps may be late by up to ``late``: kept, broken or unsure."""
     data, given = _bytes(table), late if 0 <= late <= _LARGEST else _LARGEST
-    answer = lib.library().delkuthi_stamps(data, len(data), recording, len(recording), _row(row), given)
+    answer = lib.library().delkuthi_stamps_2(data, len(data), recording, len(recording), _row(row), given)
     return ("kept", "broken", "unsure")[_answer(answer) - 1]
 
 
@@ -245,7 +245,7 @@ class Stretch:
 def shortest_stretch(table: Table | bytes, recording: bytes, row: int) -> Stretch | None:
     """The library's shortest stretch of a recording of at most 256 records that breaks the row; ``None`` if none does."""
     data = _bytes(table)
-    answer = lib.library().delkuthi_shortest_stretch(data, len(data), recording, len(recording), _row(row))
+    answer = lib.library().delkuthi_shortest_stretch_2(data, len(data), recording, len(recording), _row(row))
     if answer % 256 == 23:
         return None
     _answer(answer)

@@ -36,8 +36,7 @@ def split(rows: Sequence[Row]) -> list[Part]:
     """The parts of a table: one with the kinds as they are, if there are not too many; else as many as are needed."""
     kinds = {kind for row in rows for kind in row.kinds}
     if len(rows) <= ROW_LIMIT and all(kind <= 255 for kind in kinds):
-        data = bytes([1]) + b"".join(row_bytes(row.type, row.values) for row in rows)
-        return [Part(tuple(range(len(rows))), data, {kind: kind for kind in kinds})]
+        return [Part(tuple(range(len(rows))), _table(rows, {kind: kind for kind in kinds}), {kind: kind for kind in kinds})]
     groups: list[list[int]] = [[]]
     for number, row in enumerate(rows):
         if len(groups[-1]) == ROW_LIMIT or not _fits([*(rows[one] for one in groups[-1]), row]):
@@ -58,8 +57,13 @@ def _part(rows: Sequence[Row], group: list[int]) -> Part:
         # What the library refuses stays as it is.
         first = FIRST_COLOURED if is_coloured(kind) else 0
         kinds[kind] = kind if LAST_KIND < kind <= 255 else first + sum(is_coloured(one) == is_coloured(kind) for one in kinds)
-    data = bytes([1]) + b"".join(row_bytes(rows[number].type, rows[number].with_kinds(kinds)) for number in group)
-    return Part(tuple(group), data, kinds)
+    return Part(tuple(group), _table([rows[number] for number in group], kinds), kinds)
+
+
+def _table(rows: Sequence[Row], kinds: dict[int, int]) -> bytes:
+    """The bytes of a table of these rows, in the first edition that has all their types, with other numbers for the kinds."""
+    edition = max((row.type.edition for row in rows), default=1)
+    return bytes([edition]) + b"".join(row_bytes(row.type, row.with_kinds(kinds)) for row in rows)
 
 
 class Local:

@@ -16,7 +16,8 @@ from .sources import CanSource, CsvSource, KeySource, Source
 from .split import Part, split
 from .units import exact
 
-__all__ = ["CanSource", "CsvSource", "Event", "Executed", "KeySource", "Row", "Source", "Table", "ask_table", "one_line", "table_places"]
+__all__ = ["CanSource", "CsvSource", "Event", "Executed", "KeySource", "Row", "Source", "Table", "ask_table", "is_bytes", "one_line",
+           "table_places"]
 
 
 @dataclass(frozen=True)
@@ -174,9 +175,9 @@ class Table:
 
     @staticmethod
     def read(path: str | Path) -> Table:
-        """The table in a file: bytes if it begins with a byte 1, text otherwise."""
+        """The table in a file: bytes if it begins with the version byte of an edition, text otherwise."""
         data = Path(path).read_bytes()
-        if data[:1] == b"\x01" or not data:
+        if not data or is_bytes(data):
             return Table.from_bytes(data)
         try:
             text = data.decode("utf-8-sig")
@@ -259,6 +260,11 @@ class Table:
         return tuple(str(Path(self.folder) / name) for name in self.databases)
 
 
+def is_bytes(data: bytes) -> bool:
+    """Does it begin with the version byte of an edition, as the bytes of a table do and no text does?"""
+    return bool(data) and 1 <= data[0] <= lib.NEWEST_EDITION
+
+
 def table_places(data: bytes) -> Iterable[tuple[int, bytes]]:
     """The place of each row's length field, and the row's bytes behind it."""
     place = 1
@@ -272,6 +278,6 @@ def ask_table(data: bytes) -> None:
     """Does the library accept the table? :class:`Refused` if not."""
     library = lib.library()
     memory = (ctypes.c_uint64 * (library.delkuthi_monitor_size() // 8))()
-    answer = library.delkuthi_fresh(memory, data, len(data))
+    answer = library.delkuthi_fresh_2(memory, data, len(data))
     if answer:
         raise Refused(answer % 256, answer // 256)

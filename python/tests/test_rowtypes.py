@@ -6,6 +6,7 @@ import subprocess
 import sys
 
 from delkuthi.fields import SIZES
+from delkuthi.library import NEWEST_EDITION
 from delkuthi.rowtypes import TYPES
 
 from conftest import ROOT
@@ -27,6 +28,7 @@ def test_a_new_type_is_made(tmp_path):
         copy(ROOT / part, tmp_path / part)
     n, order = len(TYPES) + 1, (tmp_path / "python/delkuthi/rowtypes/order.py").read_text(encoding="utf-8")
     weak = order.replace('6, "Order"', f'{n}, "WeakOrder"').replace("sensor", "probe").replace("entry", "note")
+    weak = weak.replace("instance=", f"edition={NEWEST_EDITION}, instance=")
     (tmp_path / "python/delkuthi/rowtypes/weak_order.py").write_text(weak, encoding="utf-8")
     said = subprocess.run([sys.executable, tmp_path / PROGRAM], capture_output=True, text=True)
     assert said.returncode == 1
@@ -35,12 +37,13 @@ def test_a_new_type_is_made(tmp_path):
     assert re.search(r"^include/delkuthi\.h:\d+: not what the list of types says", said.stdout, re.M)
     subprocess.run([sys.executable, tmp_path / PROGRAM, "--write"], capture_output=True)
     lines = {"examples/rows/rows.txt": '"order"           WeakOrder probe -> note\n', "examples/rows/rows.csv": "12,note\n",
-             "docs/CONTRACT.md": f"| {n} | WeakOrder | source, target | 3 |\n", "python/README.md": "| WeakOrder | lag from each source to its",
+             "docs/CONTRACT.md": f"| {n} | WeakOrder | source, target | 3 | {NEWEST_EDITION} |\n",
+             "python/README.md": "| WeakOrder | lag from each source to its",
              "include/delkuthi.h": "static inline delkuthi_row delkuthi_weak_order(uint8_t source, uint8_t target)\n",
              "host/c/make_table.c": "    default:\n        return delkuthi_weak_order(b[0], b[1]);\n",
              "host/delkuthi/src/table.rs": f"            Row::WeakOrder {{ source, target }} => body(&[{n}, source, target], &[]),\n",
              "host/checks/src/rows.rs": "Constraint::WeakOrder(types::WeakOrder { source, target }) => Row::WeakOrder { source, target },\n",
-             "host/model/src/types.rs": f"    {n} => WeakOrder,\n",
+             "host/model/src/types.rs": f"    {n} => WeakOrder from {NEWEST_EDITION},\n",
              "crates/constraint/src/lib.rt": f"            {n} => Constraint::WeakOrder {{\n                source: byte0,\n",
              "crates/constraint/specs/Types.antt": f"typeLine (WeakOrder source target) = ({n}, byte kind source ∷ byte kind target ∷ [])\n",
              "crates/constraint/specs/Waiting.antt": "waiting (WeakOrder source target) steps = 0\n",

@@ -7,7 +7,7 @@ from hypothesis import strategies as st
 
 import delkuthi
 from delkuthi import Event, Refused, Row, Table, TextError, TextRefused
-from delkuthi.library import LAST_TIME
+from delkuthi.library import LAST_TIME, NEWEST_EDITION
 from delkuthi.rowtypes import BY_NAME, TYPES
 from delkuthi.text import grammar
 from delkuthi.units import UNITS
@@ -33,6 +33,34 @@ def test_a_text_has_a_normal_form(table):
     bare = Table.from_bytes(read.bytes()).text()
     assert Table.from_text(bare).text() == bare
     assert Table.from_text(bare).bytes() == table.bytes()
+
+
+def test_tables_of_both_editions_are_read(tmp_path):
+    """What is written has the first edition that has the types of all rows."""
+    rows = [Row.of("Order", source=0, target=1), Row.of("Repeat", event=2, span=1, lower=0, upper=9)]
+    first = Table(rows).bytes()
+    second = bytes([NEWEST_EDITION]) + first[1:]
+    assert first[0] == 1
+    for data in (first, second):
+        (tmp_path / "table.bin").write_bytes(data)
+        for table in (Table.from_bytes(data), Table.read(tmp_path / "table.bin")):
+            assert (table.rows, table.bytes()) == (Table(rows).rows, first)
+        assert delkuthi.report(data, b"\x01") == "closed 1\n0 kept\n1 kept\n"
+    for data in (b"", b"\x00", bytes([NEWEST_EDITION + 1]) + first[1:]):
+        with pytest.raises(Refused) as refusal:
+            Table.from_bytes(data)
+        assert (refusal.value.number, refusal.value.place) == (1, 0)
+
+
+@given(rows())
+def test_a_row_needs_the_edition_of_its_type(row):
+    """In an earlier edition its type is refused with 4; behind an Order it stands at byte 6."""
+    data = Table([Row.of("Order", source=0, target=1), row]).bytes()
+    assert data[0] == row.type.edition
+    for edition in range(1, row.type.edition):
+        with pytest.raises(Refused) as refusal:
+            Table.from_bytes(bytes([edition]) + data[1:])
+        assert (refusal.value.number, refusal.value.place) == (4, 6)
 
 
 def test_the_drive():

@@ -3,6 +3,7 @@
 pub mod beside;
 pub mod contract;
 pub mod documents;
+pub mod editions;
 pub mod hosts;
 pub mod pages;
 pub mod places;

@@ -2,6 +2,9 @@
 
 use model::Refusal;
 
+/// The edition of the tables that it reads and writes.
+pub const EDITION: u8 = 1;
+
 unsafe extern "C" {
     fn table_read(bytes: *const u8, bytes_length: usize) -> u64;
     fn table_rewrite(bytes: *const u8, bytes_length: usize, buffer: *mut u8, buffer_length: usize) -> u64;

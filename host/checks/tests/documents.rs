@@ -141,7 +141,7 @@ fn the_wrong_programs_that_are_named_are_edits() {
     assert!(named.len() >= 40 && missing.is_empty(), "{} named, not there: {missing:?}", named.len());
 }
 
-/// The page of the calls has each function that the header declares; the table writer stands there by the name that hosts call.
+/// The page of the calls has each function that the header declares; the table writers stand there by the names that hosts call.
 #[test]
 fn each_call_has_its_line() {
     let header = text_of(&root().join("include/delkuthi.h"));
@@ -151,7 +151,9 @@ fn each_call_has_its_line() {
         let name = rest.split_once('(')?.0;
         result.chars().all(|one| one.is_ascii_alphanumeric() || one == '_').then(|| format!("delkuthi_{name}("))
     };
-    let declared: Vec<String> = header.lines().filter_map(named).filter(|name| name != "delkuthi_table(").collect();
+    let writers = ["delkuthi_table(", "delkuthi_table_2("];
+    let declared: Vec<String> =
+        header.lines().filter_map(named).filter(|name| !writers.contains(&name.as_str())).collect();
     assert!(declared.len() >= 24, "{declared:?}");
     let missing: Vec<&String> = declared.iter().filter(|name| !calls.contains(&format!("`{name}"))).collect();
     assert!(missing.is_empty(), "{missing:?}");

@@ -45,6 +45,8 @@ fn by_definitions() -> BTreeMap<String, u64> {
         ("ROW_LIMIT", definition(LIMITS, "rowLimit")),
         ("WAITING_LIMIT", definition(LIMITS, "waitingLimit")),
         ("NO_LIMIT", definition(LIMITS, "noLimit")),
+        ("NEWEST_EDITION", last_types().len() as u64),
+        ("FIRST_EDITION_TYPES", last_types()[0]),
         ("TABLE_LIMIT", table_limit()),
         ("OPEN", definition(LENT_DEFINED, "wordOf (some Verdict.Open)")),
         ("KEPT", definition(LENT_DEFINED, "wordOf (some Verdict.Kept)")),
@@ -61,11 +63,22 @@ fn stamps_word(word: &str) -> u64 {
     definition("crates/delkuthi/specs/Stamps.antt", &format!("verdictNumber StampedVerdict.{word}")) / 256
 }
 
+/// A list of numbers in the definition of the types.
+fn list_of_types(name: &str) -> Vec<u64> {
+    let types = text("crates/constraint/specs/Types.antt");
+    let start = format!("{name} = ");
+    let list = types.lines().find_map(|line| line.strip_prefix(&start)).unwrap_or_else(|| panic!("no list {name}"));
+    list.split(" ∷ ").filter_map(|one| one.parse().ok()).collect()
+}
+
 /// The bytes of the longest row, by the list of lengths.
 fn longest_row() -> u64 {
-    let types = text("crates/constraint/specs/Types.antt");
-    let list = types.lines().find_map(|line| line.strip_prefix("lengths = ")).expect("the list of lengths");
-    list.split(" ∷ ").filter_map(|length| length.parse().ok()).max().expect("a length")
+    list_of_types("lengths").into_iter().max().expect("a length")
+}
+
+/// The last type of each edition of the table, from the first on.
+fn last_types() -> Vec<u64> {
+    list_of_types("lastTypes")[1..].to_vec()
 }
 
 /// The bytes of the longest table: the version byte, then rows with their length fields.
@@ -104,7 +117,7 @@ fn refusals() -> BTreeMap<String, u64> {
         ("RECORDING_VERSION", number_between(&all, "(recording-refused ", " 0)")),
         ("RECORD", question("RecordAt ")),
         ("NO_ROW", number_between(&all, "(RowVerdict.Refused ", ")")),
-        ("TABLE_ROOM", question("length (tableBytes ")),
+        ("TABLE_ROOM", question("length (tableBytes")),
         ("COMMON_KIND", number_between(&all, "(JoinAnswer.SecondRefused ", " place)")),
         ("TOO_MANY_RECORDS", question("length steps ≤ recordLimit)")),
         ("NO_STRETCH", question("(c : Constraint) × (getElem? rows i ≡ some c) × Some ")),
@@ -201,6 +214,7 @@ fn the_rust_crates_numbers_are_the_headers() {
         ("REPORT_LIMIT", delkuthi::REPORT_LIMIT as u64),
         ("PAGE_LIMIT", delkuthi::PAGE_LIMIT as u64),
         ("TABLE_LIMIT", delkuthi::TABLE_LIMIT as u64),
+        ("NEWEST_EDITION", delkuthi::NEWEST_EDITION.into()),
         ("NO_LIMIT", delkuthi::NO_LIMIT),
         ("OPEN", word("OPEN")),
         ("KEPT", word("KEPT")),

@@ -149,7 +149,7 @@ fn of_tables() {
     let delay = |source, target, lower, upper| Constraint::Delay(Delay { source, target, lower, upper });
     let row = |row: Constraint| table_bytes(&[row]);
     let refused = [
-        (1, vec![2]),
+        (1, vec![3]),
         (2, vec![1, 0]),
         (3, table_bytes(&vec![Constraint::Order(Order { source: 0, target: 1 }); 33])),
         (4, vec![1, 0, 3, 11, 0, 1]),

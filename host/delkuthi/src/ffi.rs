@@ -1,4 +1,4 @@
-//! The functions of `libdelkuthi.a`, as `include/delkuthi.h` declares them.
+//! The functions of `libdelkuthi.a`, as `include/delkuthi.h` declares them: those that take tables of both editions.
 //!
 //! They keep to Rust's rules for what they are lent: a monitor is lent by reference, bytes are read and written only as
 //! far as their length says, and nothing is kept. So the calls are safe wherever the references are.
@@ -48,11 +48,12 @@ safe! {
 }
 
 extern "C" {
-    pub fn delkuthi_fresh(monitor: &mut Monitor, table: *const u8, table_length: usize) -> u64;
+    pub fn delkuthi_fresh_2(monitor: &mut Monitor, table: *const u8, table_length: usize) -> u64;
     pub fn delkuthi_table(rows: *const u8, rows_size: usize, table: *mut u8, table_length: usize) -> u64;
+    pub fn delkuthi_table_2(rows: *const u8, rows_size: usize, table: *mut u8, table_length: usize) -> u64;
     pub fn delkuthi_page(monitor: &Monitor, page: *mut u8, page_length: usize) -> usize;
     pub fn delkuthi_report_of(monitor: &Monitor, report: *mut u8, report_length: usize) -> usize;
-    pub fn delkuthi_report(
+    pub fn delkuthi_report_2(
         table: *const u8,
         table_length: usize,
         recording: *const u8,
@@ -60,7 +61,7 @@ extern "C" {
         report: *mut u8,
         report_length: usize,
     ) -> usize;
-    pub fn delkuthi_report_on(
+    pub fn delkuthi_report_on_2(
         monitor: &mut Monitor,
         table: *const u8,
         table_length: usize,
@@ -69,7 +70,7 @@ extern "C" {
         report: *mut u8,
         report_length: usize,
     ) -> usize;
-    pub fn delkuthi_stamps(
+    pub fn delkuthi_stamps_2(
         table: *const u8,
         table_length: usize,
         recording: *const u8,
@@ -85,7 +86,7 @@ extern "C" {
         joined: *mut u8,
         joined_length: usize,
     ) -> u64;
-    pub fn delkuthi_shortest_stretch(
+    pub fn delkuthi_shortest_stretch_2(
         table: *const u8,
         table_length: usize,
         recording: *const u8,

@@ -62,7 +62,7 @@ pub use refusal::{Refusal, refusal_text};
 pub use report::{REPORT_LIMIT, report};
 pub use stamps::{Stamped, stamped};
 pub use stretches::{RECORD_LIMIT, Stretch, shortest_stretch};
-pub use table::{NO_LIMIT, Row, TABLE_LIMIT, write_table};
+pub use table::{NEWEST_EDITION, NO_LIMIT, Row, TABLE_LIMIT, write_table};
 pub use version::{VERSION, library_version, matches};
 
 /// The largest kind of event.

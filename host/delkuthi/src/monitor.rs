@@ -41,7 +41,7 @@ impl fmt::Display for Verdict {
 }
 
 impl Monitor {
-    /// A fresh monitor over a table: clock 0, no events, count 0, not closed.
+    /// A fresh monitor over a table of either edition: clock 0, no events, count 0, not closed.
     ///
     /// # Errors
     /// 1 to 7 and 18, with the place in the table.
@@ -60,7 +60,7 @@ impl Monitor {
     /// 1 to 7 and 18, with the place in the table.
     pub fn restart(&mut self, table: &[u8]) -> Result<(), Refusal> {
         // SAFETY: pointer and length are a slice's, and its memory is not the monitor's.
-        let answer = unsafe { ffi::delkuthi_fresh(self, table.as_ptr(), table.len()) };
+        let answer = unsafe { ffi::delkuthi_fresh_2(self, table.as_ptr(), table.len()) };
         Refusal::of_table(answer)
     }
 

@@ -76,10 +76,10 @@ impl Refusal {
 pub const fn refusal_text(number: u8) -> &'static str {
     match number {
         0 => "taken",
-        1 => "the table does not begin with a version byte 1",
+        1 => "the table does not begin with a version byte 1, or 2 where both editions are taken",
         2 => "a length field or a row of the table is not whole",
         3 => "the table has more than 32 rows",
-        4 => "a row has no known type or n, or the wrong length",
+        4 => "a row has no type of the table's edition, no known n, or the wrong length",
         5 => "a row has a kind above 63, or one kind twice",
         6 => "a row has a time, span or maximum out of range",
         7 => "a row has a lower that is more than its upper",

@@ -19,7 +19,7 @@ pub const REPORT_LIMIT: usize = 1024;
 pub fn report(table: &[u8], recording: &[u8], buffer: &mut [u8]) -> Option<usize> {
     // SAFETY: the pointers and lengths are slices', and the buffer's memory is not that of the others.
     let written = unsafe {
-        ffi::delkuthi_report(
+        ffi::delkuthi_report_2(
             table.as_ptr(),
             table.len(),
             recording.as_ptr(),
@@ -73,7 +73,7 @@ impl Monitor {
     pub fn report_on(&mut self, table: &[u8], recording: &[u8], buffer: &mut [u8]) -> Option<usize> {
         // SAFETY: the pointers and lengths are slices', and neither the buffer's memory nor the monitor's is that of the others.
         let written = unsafe {
-            ffi::delkuthi_report_on(
+            ffi::delkuthi_report_on_2(
                 self,
                 table.as_ptr(),
                 table.len(),

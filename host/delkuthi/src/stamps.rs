@@ -34,7 +34,7 @@ pub enum Stamped {
 pub fn stamped(table: &[u8], recording: &[u8], row: u64, late: u64) -> Result<Stamped, Refusal> {
     // SAFETY: the pointers and lengths are slices'.
     let answer =
-        unsafe { ffi::delkuthi_stamps(table.as_ptr(), table.len(), recording.as_ptr(), recording.len(), row, late) };
+        unsafe { ffi::delkuthi_stamps_2(table.as_ptr(), table.len(), recording.as_ptr(), recording.len(), row, late) };
     Refusal::of_table(answer)?;
     Ok(match answer / 256 {
         1 => Stamped::Kept,

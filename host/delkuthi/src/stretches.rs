@@ -37,7 +37,7 @@ pub struct Stretch {
 pub fn shortest_stretch(table: &[u8], recording: &[u8], row: u64) -> Result<Stretch, Refusal> {
     // SAFETY: the pointers and lengths are slices'.
     let answer = unsafe {
-        ffi::delkuthi_shortest_stretch(table.as_ptr(), table.len(), recording.as_ptr(), recording.len(), row)
+        ffi::delkuthi_shortest_stretch_2(table.as_ptr(), table.len(), recording.as_ptr(), recording.len(), row)
     };
     Refusal::of_table(answer)?;
     Ok(Stretch { first: (answer >> 8) as u8, length: (answer >> 16) as u16, tried: (answer >> 32) as u32 })

@@ -8,6 +8,11 @@ pub const TABLE_LIMIT: usize = 1153;
 /// The upper of a Delay, Repeat or Sporadic that has no upper limit.
 pub const NO_LIMIT: u64 = u64::MAX;
 
+/// The newest edition of the table: the largest version byte that a table may begin with. Every function that takes a table takes all editions.
+pub const NEWEST_EDITION: u8 = 2;
+/// The last type that the first edition of the table has.
+const FIRST_EDITION_TYPES: u8 = 10;
+
 /// How many bytes a row has when it is given to the writer: as many as the longest has, the rest being 0.
 const ROW_SIZE: usize = 34;
 /// How many rows the writer asks at most: the one behind the last that there is room for is refused.
@@ -40,8 +45,8 @@ pub enum Row<'a> {
     Repetition { event: u8, span: u8, lower: u64, upper: u64, jitter: u64 },
 }
 
-/// Writes the table of some rows; gives the number of bytes written. Bytes after those written stay as they were. On a
-/// refusal all do.
+/// Writes the table of some rows, in the first edition that has the types of all; gives the number of bytes written. Bytes
+/// after those written stay as they were. On a refusal all do.
 ///
 /// # Errors
 /// 3 to 7 and 18, with the first row concerned ([`Refusal::row`]); 16 a buffer too short.
@@ -50,12 +55,19 @@ pub fn write_table(rows: &[Row], table: &mut [u8]) -> Result<usize, Refusal> {
     for (body, row) in bodies.chunks_exact_mut(ROW_SIZE).zip(rows) {
         body.copy_from_slice(&row.body());
     }
-    let bytes = &bodies[..rows.len().min(ASKED) * ROW_SIZE];
+    let asked = &rows[..rows.len().min(ASKED)];
+    let bytes = &bodies[..asked.len() * ROW_SIZE];
+    let writer = if asked.iter().all(|row| row.edition() == 1) { ffi::delkuthi_table } else { ffi::delkuthi_table_2 };
     // SAFETY: the pointers and lengths are slices', and the table's memory is not that of the rows.
-    Refusal::of_writer(unsafe { ffi::delkuthi_table(bytes.as_ptr(), bytes.len(), table.as_mut_ptr(), table.len()) })
+    Refusal::of_writer(unsafe { writer(bytes.as_ptr(), bytes.len(), table.as_mut_ptr(), table.len()) })
 }
 
 impl Row<'_> {
+    /// The first edition of the table that has the row's type: the version byte of a table with such a row is not below it.
+    pub fn edition(&self) -> u8 {
+        if self.body()[0] <= FIRST_EDITION_TYPES { 1 } else { 2 }
+    }
+
     /// The row's type byte and fields, as many bytes as the longest has.
     fn body(&self) -> [u8; ROW_SIZE] {
         match *self {

@@ -40,8 +40,8 @@ pub mod table;
 pub mod types;
 
 pub use limits::{
-    EARLIER_LAST_TIME, FIRST_COLOURED, LAST_COLOUR, LAST_COUNT, LAST_KIND, LAST_TIME, NO_LIMIT, REPETITION_SPAN_LIMIT,
-    ROW_LIMIT, SPAN_LIMIT, STREAMS, WAITING_LIMIT,
+    EARLIER_LAST_TIME, FIRST_COLOURED, LAST_COLOUR, LAST_COUNT, LAST_KIND, LAST_TIME, NEWEST_EDITION, NO_LIMIT,
+    REPETITION_SPAN_LIMIT, ROW_LIMIT, SPAN_LIMIT, STREAMS, WAITING_LIMIT,
 };
 pub use meets::meets;
 pub use monitor::{Monitor, Verdict};
@@ -49,9 +49,12 @@ pub use open::open;
 pub use page::{page_of, page_text};
 pub use questions::{Answer, Refusal};
 pub use recording::{read_recording, recording_bytes};
-pub use report::{program_output, report, report_of, report_text};
-pub use stamps::{Stamped, Stamps, stamped};
+pub use report::{program_output, program_output_up_to, report, report_of, report_text, report_text_up_to};
+pub use stamps::{Stamped, Stamps, stamped, stamped_up_to};
 pub use steps::{Events, History, Step};
-pub use stretches::{RECORD_LIMIT, Stretch, first_breaking, shortest_stretch};
-pub use table::{read_table, refused_row, table_bytes, write_table};
+pub use stretches::{RECORD_LIMIT, Stretch, first_breaking, shortest_stretch, shortest_stretch_up_to};
+pub use table::{
+    edition_of, read_table, read_table_up_to, refused_row, refused_row_in, table_bytes, table_bytes_in, write_table,
+    write_table_in,
+};
 pub use types::{Constraint, TYPES};

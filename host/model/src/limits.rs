@@ -16,6 +16,8 @@ pub const EARLIER_LAST_TIME: u64 = (1 << 56) - 1;
 pub const LAST_COUNT: u64 = u64::MAX;
 /// The mark for no upper limit, in Delay, Repeat and Sporadic (§4.7).
 pub const NO_LIMIT: u64 = u64::MAX;
+/// The newest edition of the table (§16.1).
+pub const NEWEST_EDITION: u8 = 2;
 /// How many rows a table has at most (§4.2).
 pub const ROW_LIMIT: usize = 32;
 /// How large spans and maxima are at most (§4.6).

@@ -1,6 +1,6 @@
 //! The monitor as the contract defines it: a table, and the list of accepted steps.
 
-use crate::limits::WAITING_LIMIT;
+use crate::limits::{NEWEST_EDITION, WAITING_LIMIT};
 use crate::open::open;
 use crate::questions::{Answer, ask, rows_questions, step_questions};
 use crate::steps::{History, Step};
@@ -43,7 +43,7 @@ pub struct Monitor {
 impl Monitor {
     /// A fresh monitor over a table that is accepted (§1.6, §3.2), or the refusal that questions 3 to 7 give.
     pub fn fresh(rows: &[Constraint]) -> Result<Monitor, u8> {
-        rows_questions(rows)?;
+        rows_questions(NEWEST_EDITION, rows)?;
         let (rows, broken) = (rows.to_vec(), vec![None; rows.len()]);
         Ok(Monitor { rows, steps: Vec::new(), recorded: History::default(), broken, may: false })
     }

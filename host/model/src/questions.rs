@@ -19,12 +19,12 @@ pub fn ask(number: u8, yes: bool) -> Answer {
     if yes { Ok(()) } else { Err(number) }
 }
 
-/// Questions 3 to 7 and 18, row by row, as fresh and the table writer put them (§9.7).
-pub fn rows_questions(rows: &[Constraint]) -> Answer {
+/// Questions 3 to 7 and 18, row by row, as fresh and the table writer put them (§9.7), of a table of this edition (§16.4).
+pub fn rows_questions(edition: u8, rows: &[Constraint]) -> Answer {
     for (before, row) in rows.iter().enumerate() {
         ask(3, before < ROW_LIMIT)?;
         // the type of a row is known, and it has no length
-        ask(4, row.fields().iter().all(Field::number_of_kinds_fits))?;
+        ask(4, row.edition() <= edition && row.fields().iter().all(Field::number_of_kinds_fits))?;
         fields_questions(row)?;
     }
     Ok(())

@@ -1,9 +1,10 @@
 //! The report and what the program prints (§7.3 to §7.10).
 
+use crate::limits::NEWEST_EDITION;
 use crate::monitor::Monitor;
 use crate::questions::{Refusal, ask};
 use crate::recording::read_recording;
-use crate::table::read_table;
+use crate::table::read_table_up_to;
 
 /// How many bytes the program's table has at most (§8.17).
 pub const TABLE_SIZE_LIMIT: usize = 2_048;
@@ -24,7 +25,13 @@ pub fn report(table: &[u8], recording: &[u8], buffer: &mut [u8]) -> usize {
 
 /// The report's text: what the rows read at the close (§7.4), or the refusal (§7.5).
 pub fn report_text(table: &[u8], recording: &[u8]) -> String {
-    closed_monitor(table, recording).map_or_else(|refusal| refused_text(&refusal), |monitor| closed_text(&monitor))
+    report_text_up_to(NEWEST_EDITION, table, recording)
+}
+
+/// The same of tables up to an edition (§16.3).
+pub fn report_text_up_to(newest: u8, table: &[u8], recording: &[u8]) -> String {
+    let closed = closed_monitor(newest, table, recording);
+    closed.map_or_else(|refusal| refused_text(&refusal), |monitor| closed_text(&monitor))
 }
 
 /// The report of a monitor once it is closed (§7.4); nothing before.
@@ -34,16 +41,21 @@ pub fn report_of(monitor: &Monitor) -> Option<String> {
 
 /// What the program prints for two files: a report, or the refusal of a file that is too large (§9.9).
 pub fn program_output(table: &[u8], recording: &[u8]) -> String {
+    program_output_up_to(NEWEST_EDITION, table, recording)
+}
+
+/// The same of tables up to an edition (§16.3).
+pub fn program_output_up_to(newest: u8, table: &[u8], recording: &[u8]) -> String {
     let fit = table.len() <= TABLE_SIZE_LIMIT && recording.len() <= RECORDING_SIZE_LIMIT;
     match ask(17, fit) {
-        Ok(()) => report_text(table, recording),
+        Ok(()) => report_text_up_to(newest, table, recording),
         Err(number) => refused_text(&Refusal { number, place: 0 }),
     }
 }
 
 /// The monitor over the table after all records and the close.
-fn closed_monitor(table: &[u8], recording: &[u8]) -> Result<Monitor, Refusal> {
-    let rows = read_table(table)?;
+fn closed_monitor(newest: u8, table: &[u8], recording: &[u8]) -> Result<Monitor, Refusal> {
+    let rows = read_table_up_to(newest, table)?;
     let fresh = Monitor::fresh(&rows).expect("rows that have passed questions 3 to 7");
     let mut monitor = read_recording(fresh, recording)?;
     monitor.close().expect("a recording not yet closed");

@@ -1,12 +1,12 @@
 //! Stamps known within a range (section 12): what a Repeat row of span 1 reads where each stamp may be late.
 
-use crate::limits::{LAST_TIME, NO_LIMIT};
+use crate::limits::{LAST_TIME, NEWEST_EDITION, NO_LIMIT};
 use crate::meets::{apart, not_later};
 use crate::monitor::Monitor;
 use crate::questions::{Refusal, ask};
 use crate::recording::read_recording;
 use crate::steps::Events;
-use crate::table::read_table;
+use crate::table::read_table_up_to;
 use crate::types::{Constraint, Repeat};
 
 /// The three words (§12.3).
@@ -29,7 +29,12 @@ pub struct Stamps {
 
 /// The answer for a row of a table and a recording, with the questions in their order (§12.5).
 pub fn stamped(table: &[u8], recording: &[u8], row: u64, late: u64) -> Result<Stamped, Refusal> {
-    let rows = read_table(table)?;
+    stamped_up_to(NEWEST_EDITION, table, recording, row, late)
+}
+
+/// The same of tables up to an edition (§16.3).
+pub fn stamped_up_to(newest: u8, table: &[u8], recording: &[u8], row: u64, late: u64) -> Result<Stamped, Refusal> {
+    let rows = read_table_up_to(newest, table)?;
     // over no rows, so that nothing can wait and 12 is never the answer
     let taken = read_recording(Monitor::fresh(&[]).expect("a table of no rows"), recording)?;
     let refused = |number| Refusal { number, place: 0 };

@@ -1,10 +1,11 @@
 //! The shortest stretch of consecutive records that breaks a row (section 14): every stretch tried, each by a monitor of its own.
 
+use crate::limits::NEWEST_EDITION;
 use crate::monitor::{Monitor, Verdict};
 use crate::questions::{Refusal, ask};
 use crate::recording::read_recording;
 use crate::steps::Step;
-use crate::table::read_table;
+use crate::table::read_table_up_to;
 use crate::types::Constraint;
 
 /// How many records a recording may have (§14.1).
@@ -20,7 +21,12 @@ pub struct Stretch {
 
 /// The answer for a row of a table and a recording, with the questions in their order (§14.5).
 pub fn shortest_stretch(table: &[u8], recording: &[u8], row: u64) -> Result<Stretch, Refusal> {
-    let rows = read_table(table)?;
+    shortest_stretch_up_to(NEWEST_EDITION, table, recording, row)
+}
+
+/// The same of tables up to an edition (§16.3).
+pub fn shortest_stretch_up_to(newest: u8, table: &[u8], recording: &[u8], row: u64) -> Result<Stretch, Refusal> {
+    let rows = read_table_up_to(newest, table)?;
     // over no rows, so that nothing can wait and 12 is never the answer
     let taken = read_recording(Monitor::fresh(&[]).expect("a table of no rows"), recording)?;
     let refused = |number| Refusal { number, place: 0 };

@@ -1,6 +1,9 @@
-//! The table's bytes (§4.1 to §4.7) and the table's questions (§9.3).
+//! The table's bytes (§4.1 to §4.7) and the table's questions (§9.3), in each edition (§16).
+//!
+//! The newest edition that a call takes is 1 for the calls of the first edition and 2 for their second forms. The functions that do
+//! not say it are the second forms, on tables of the edition that their rows need.
 
-use crate::limits::ROW_LIMIT;
+use crate::limits::{NEWEST_EDITION, ROW_LIMIT};
 use crate::questions::{Refusal, ask, fields_questions, rows_questions};
 use crate::types::{Constraint, Field, Given};
 
@@ -16,48 +19,74 @@ pub(crate) fn with_length(body: &[u8]) -> Vec<u8> {
     [&length.to_be_bytes(), body].concat()
 }
 
-/// The table (§4.2) of any rows, no question put.
-pub fn table_bytes(rows: &[Constraint]) -> Vec<u8> {
-    std::iter::once(1).chain(rows.iter().flat_map(row_bytes)).collect()
+/// The table of any rows in an edition (§4.2, §16.1), no question put.
+pub fn table_bytes_in(edition: u8, rows: &[Constraint]) -> Vec<u8> {
+    std::iter::once(edition).chain(rows.iter().flat_map(row_bytes)).collect()
 }
 
-/// Writes the table and answers the number of bytes written, or the number of the refusal: questions 3 to 7 and 18, then 16
-/// (§9.7, §9.8).
-pub fn write_table(rows: &[Constraint], buffer: &mut [u8]) -> Result<usize, u8> {
-    rows_questions(rows)?;
-    let bytes = table_bytes(rows);
+/// The same in the edition that the rows need.
+pub fn table_bytes(rows: &[Constraint]) -> Vec<u8> {
+    table_bytes_in(edition_of(rows), rows)
+}
+
+/// The first edition that has the types of all rows (§16.2).
+pub fn edition_of(rows: &[Constraint]) -> u8 {
+    rows.iter().map(Constraint::edition).max().unwrap_or(1)
+}
+
+/// Writes the table in an edition and answers the number of bytes written, or the number of the refusal: questions 3 to 7 and 18,
+/// then 16 (§9.7, §9.8, §16.4).
+pub fn write_table_in(edition: u8, rows: &[Constraint], buffer: &mut [u8]) -> Result<usize, u8> {
+    rows_questions(edition, rows)?;
+    let bytes = table_bytes_in(edition, rows);
     ask(16, bytes.len() <= buffer.len())?;
     buffer[..bytes.len()].copy_from_slice(&bytes);
     Ok(bytes.len())
 }
 
-/// The number of the first row that is refused, as the writer puts its questions row by row (§11.5).
-pub fn refused_row(rows: &[Constraint]) -> Option<usize> {
-    (0..rows.len()).find(|row| rows_questions(&rows[..=*row]).is_err())
+/// The same in the edition that the rows need.
+pub fn write_table(rows: &[Constraint], buffer: &mut [u8]) -> Result<usize, u8> {
+    write_table_in(edition_of(rows), rows, buffer)
 }
 
-/// Reads a table: question 1 first, then row by row (§9.3).
-pub fn read_table(bytes: &[u8]) -> Result<Vec<Constraint>, Refusal> {
-    ask(1, bytes.first() == Some(&1)).map_err(|number| Refusal { number, place: 0 })?;
+/// The number of the first row that is refused, as the writer of an edition puts its questions row by row (§11.5).
+pub fn refused_row_in(edition: u8, rows: &[Constraint]) -> Option<usize> {
+    (0..rows.len()).find(|row| rows_questions(edition, &rows[..=*row]).is_err())
+}
+
+/// The same in the edition that the rows need.
+pub fn refused_row(rows: &[Constraint]) -> Option<usize> {
+    refused_row_in(edition_of(rows), rows)
+}
+
+/// Reads a table of an edition up to the newest that is taken: question 1 first, then row by row (§9.3, §16.3).
+pub fn read_table_up_to(newest: u8, bytes: &[u8]) -> Result<Vec<Constraint>, Refusal> {
+    let edition = bytes.first().copied().unwrap_or(0);
+    ask(1, (1..=newest).contains(&edition)).map_err(|number| Refusal { number, place: 0 })?;
     let mut rows = Vec::new();
     let mut place = 1;
     while place < bytes.len() {
-        let (row, size) = read_row(&bytes[place..], rows.len()).map_err(|number| Refusal { number, place })?;
+        let (row, size) = read_row(edition, &bytes[place..], rows.len()).map_err(|number| Refusal { number, place })?;
         rows.push(row);
         place += size;
     }
     Ok(rows)
 }
 
+/// The same up to the newest edition of all.
+pub fn read_table(bytes: &[u8]) -> Result<Vec<Constraint>, Refusal> {
+    read_table_up_to(NEWEST_EDITION, bytes)
+}
+
 /// Reads the row at the start of the bytes, with so many rows before it; gives it and the number of bytes it takes.
-fn read_row(bytes: &[u8], before: usize) -> Result<(Constraint, usize), u8> {
+fn read_row(edition: u8, bytes: &[u8], before: usize) -> Result<(Constraint, usize), u8> {
     let body = body_at_start(bytes);
     // §8.2
     ask(2, body.is_some())?;
     let body = body.unwrap_or(&[]);
     // §8.3
     ask(3, before < ROW_LIMIT)?;
-    let row = row_of(body).ok_or(4)?;
+    let row = row_of(body).filter(|row| row.edition() <= edition).ok_or(4)?;
     fields_questions(&row)?;
     Ok((row, 2 + body.len()))
 }
@@ -68,7 +97,7 @@ pub(crate) fn body_at_start(bytes: &[u8]) -> Option<&[u8]> {
     rest.get(..usize::from(u16::from_be_bytes(*length)))
 }
 
-/// Question 4 (§8.4): the row that a body stands for, if it is one of a type's, neither shorter nor longer.
+/// Question 4 (§8.4) but for the edition: the row that a body stands for, if it is one of a type's, neither shorter nor longer.
 fn row_of(body: &[u8]) -> Option<Constraint> {
     let (number, mut left) = body.split_first()?;
     let row = Constraint::read(*number, &mut left)?;

@@ -230,7 +230,7 @@ impl Field {
 
 /// Makes of the list of types, by number, what has a case for each.
 macro_rules! row_types {
-    ($($number:literal => $name:ident,)*) => {
+    ($($number:literal => $name:ident from $edition:literal,)*) => {
         /// A row of a table: its type and fields. Any values can stand in the fields; the questions say which are accepted.
         ///
         /// Rows with the same type and fields are the same (§4.8).
@@ -246,6 +246,11 @@ macro_rules! row_types {
             /// The number of its type (§4.5).
             pub fn type_byte(&self) -> u8 {
                 match self { $(Constraint::$name(_) => $number,)* }
+            }
+
+            /// The first edition of the table that has its type (§16.2).
+            pub fn edition(&self) -> u8 {
+                match self { $(Constraint::$name(_) => $edition,)* }
             }
 
             /// The name of its type in TADL2, without "Constraint".
@@ -295,16 +300,16 @@ macro_rules! row_types {
 
 row_types! {
     // Made by release/row-types.py, to the end of the list.
-    1 => Delay,
-    2 => StrongDelay,
-    3 => Repeat,
-    4 => Sporadic,
-    5 => Burst,
-    6 => Order,
-    7 => StrongSynchronization,
-    8 => ExecutionTime,
-    9 => Reaction,
-    10 => Repetition,
+    1 => Delay from 1,
+    2 => StrongDelay from 1,
+    3 => Repeat from 1,
+    4 => Sporadic from 1,
+    5 => Burst from 1,
+    6 => Order from 1,
+    7 => StrongSynchronization from 1,
+    8 => ExecutionTime from 1,
+    9 => Reaction from 1,
+    10 => Repetition from 1,
 }
 
 impl Constraint {

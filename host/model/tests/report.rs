@@ -6,7 +6,10 @@ use common::{delay, fresh, order, steps};
 use model::examples::{RECORDING, REPORT, TABLE};
 use model::recording::read_record;
 use model::report::{RECORDING_SIZE_LIMIT, TABLE_SIZE_LIMIT};
-use model::{LAST_TIME, Step, program_output, read_recording, recording_bytes, report, report_text, table_bytes};
+use model::{
+    LAST_TIME, Step, program_output, read_recording, recording_bytes, report, report_text, report_text_up_to,
+    table_bytes,
+};
 
 #[test]
 fn the_contracts_file() {
@@ -40,7 +43,8 @@ fn kept_rows_and_no_rows() {
 #[test]
 fn refusals_with_their_places() {
     let text = |table: &[u8], recording: &[u8]| report_text(table, recording);
-    assert_eq!(text(&[2], &[]), "refused 1 0\n");
+    assert_eq!((text(&[3], &[]), report_text_up_to(1, &[2], &[])), ("refused 1 0\n".into(), "refused 1 0\n".into()));
+    assert_eq!(text(&[2], &[1]), "closed 1\n");
     assert_eq!(text(&TABLE[..21], &[]), "refused 2 1\n");
     assert_eq!(text(&table_bytes(&[order(), delay(3, 2)]), &[]), "refused 7 6\n");
     assert_eq!(text(&TABLE, &[]), "refused 13 0\n");

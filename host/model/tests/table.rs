@@ -7,9 +7,12 @@ use common::{
 };
 use model::random::Random;
 use model::random::seen::Seen;
-use model::random::tables::{any_table, damaged_rows, damaged_table};
+use model::random::tables::{Scale, any_table, damaged_rows, damaged_table, row_of_type};
 use model::types::{Delay, ExecutionTime, Order, Reaction, Repeat, StrongSynchronization};
-use model::{Constraint, LAST_TIME, Monitor, Refusal, read_table, table_bytes, write_table};
+use model::{
+    Constraint, LAST_TIME, Monitor, NEWEST_EDITION, Refusal, TYPES, edition_of, read_table, read_table_up_to,
+    table_bytes, table_bytes_in, write_table, write_table_in,
+};
 
 /// The bytes of a text in hexadecimal.
 fn hex(text: &str) -> Vec<u8> {
@@ -66,7 +69,7 @@ fn no_rows_and_all_rows() {
 
 #[test]
 fn version_and_whole_rows() {
-    assert_eq!((refused(&[]), refused(&[0]), refused(&[2, 0, 3])), ((1, 0), (1, 0), (1, 0)));
+    assert_eq!((refused(&[]), refused(&[0]), refused(&[3, 0, 3])), ((1, 0), (1, 0), (1, 0)));
     let bytes = table_bytes(&[order(), order()]);
     assert_eq!((refused(&bytes[..7]), refused(&bytes[..8]), refused(&bytes[..10])), ((2, 6), (2, 6), (2, 6)));
     assert_eq!(refused(&hex("01 FFFF 06 00 01")), (2, 1));
@@ -176,6 +179,29 @@ fn writer_questions_in_order() {
     assert_eq!(write_table(&[order(), order(), order()], &mut buffer), Ok(16));
 }
 
+/// The version byte is the edition, and a type is known in the first edition that has it and in later ones (§16.1 to §16.5).
+#[test]
+fn editions() {
+    let mut random = Random::new(13);
+    for version in 0..=255 {
+        let taken = |newest: u8| read_table_up_to(newest, &[version, 0, 3, 6, 0, 1]).is_ok();
+        assert_eq!((taken(1), taken(2)), (version == 1, version == 1 || version == 2), "{version}");
+    }
+    for type_byte in TYPES {
+        let row = row_of_type(&mut random, type_byte, Scale::Small, &[0, 1, 2, 3]);
+        let rows = [order(), row.clone()];
+        assert_eq!(row.edition(), if type_byte <= 10 { 1 } else { 2 });
+        assert_eq!((edition_of(&rows), table_bytes(&rows)[0]), (row.edition(), row.edition()));
+        for edition in 1..=NEWEST_EDITION {
+            let bytes = table_bytes_in(edition, &rows);
+            let refusal = Refusal { number: 4, place: 6 };
+            let known = row.edition() <= edition;
+            assert_eq!(read_table(&bytes), if known { Ok(rows.to_vec()) } else { Err(refusal) });
+            assert_eq!(write_table_in(edition, &rows, &mut [0; 99]), if known { Ok(bytes.len()) } else { Err(4) });
+        }
+    }
+}
+
 #[test]
 fn what_is_written_is_read_and_what_is_read_is_written() {
     let mut random = Random::new(11);
@@ -187,7 +213,7 @@ fn what_is_written_is_read_and_what_is_read_is_written() {
         assert_eq!(read_table(&buffer[..size]), Ok(rows));
         let bytes = damaged_table(&mut random);
         match read_table(&bytes) {
-            Ok(rows) => assert_eq!(table_bytes(&rows), bytes),
+            Ok(rows) => assert_eq!(table_bytes_in(bytes[0], &rows), bytes),
             Err(refusal) => seen.refusal(refusal.number),
         }
         let rows = damaged_rows(&mut random);

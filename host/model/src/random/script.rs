@@ -6,7 +6,7 @@ use super::calls::calls;
 use super::recordings::{damaged_recording, recording};
 use super::tables::{any_table, damaged_rows, damaged_table};
 use crate::types::repeat;
-use crate::{Constraint, LAST_TIME, NO_LIMIT, Step, recording_bytes, table_bytes};
+use crate::{Constraint, LAST_TIME, NO_LIMIT, Step, edition_of, recording_bytes, table_bytes, table_bytes_in};
 
 /// Bytes in hexadecimal; "-" where there are none.
 fn hex(bytes: &[u8]) -> String {
@@ -23,9 +23,21 @@ fn step_line(step: Step) -> String {
     }
 }
 
+/// The form of a call on a table, the one for both editions or the one for the first.
+fn any_form(random: &mut Random) -> &'static str {
+    if random.chance(50) { "" } else { "_2" }
+}
+
+/// A table of rows in an edition that has their types, and the form of a call that takes it.
+fn in_an_edition(random: &mut Random, rows: &[Constraint]) -> (Vec<u8>, &'static str) {
+    let edition = edition_of(rows).max(1 + random.below(2) as u8);
+    (table_bytes_in(edition, rows), if edition == 1 { any_form(random) } else { "_2" })
+}
+
 /// A fresh monitor and calls on it, one in seven a withdrawal, with a page now and then.
 fn put_list(random: &mut Random, rows: &[Constraint], script: &mut Vec<String>) {
-    script.push(format!("fresh {}", hex(&table_bytes(rows))));
+    let (table, form) = in_an_edition(random, rows);
+    script.push(format!("fresh{form} {}", hex(&table)));
     let number = if random.chance(85) { 30 + random.place(90) } else { 250 };
     for step in calls(random, rows, number) {
         script.push(step_line(step));
@@ -36,22 +48,22 @@ fn put_list(random: &mut Random, rows: &[Constraint], script: &mut Vec<String>) 
             script.push(format!("page {}", random.place(2_600)));
         }
     }
-    script.push(format!("fresh {}", hex(&damaged_table(random))));
+    script.push(format!("fresh{} {}", any_form(random), hex(&damaged_table(random))));
 }
 
 /// Reports, and tables made of rows, accepted and refused, in buffers long enough and too short.
 fn put_texts(random: &mut Random, rows: &[Constraint], script: &mut Vec<String>) {
-    let table = if random.chance(80) { table_bytes(rows) } else { damaged_table(random) };
+    let (table, _) = if random.chance(80) { in_an_edition(random, rows) } else { (damaged_table(random), "") };
     let records = random.place(60);
     let taken =
         if random.chance(70) { recording(random, rows, records) } else { damaged_recording(random, rows, records) };
     for call in ["report", "report_on"] {
         let room = if random.chance(80) { 1_024 } else { random.place(300) };
-        script.push(format!("{call} {} {} {room}", hex(&table), hex(&taken)));
+        script.push(format!("{call}{} {} {} {room}", any_form(random), hex(&table), hex(&taken)));
     }
     let rows = if random.chance(50) { any_table(random) } else { damaged_rows(random) };
     let bodies: Vec<u8> = rows.iter().flat_map(raw).collect();
-    script.push(format!("table {} {}", hex(&bodies), random.place(1_300)));
+    script.push(format!("table{} {} {}", any_form(random), hex(&bodies), random.place(1_300)));
 }
 
 /// The 34 bytes of a row for the table writer: its body, and zeros behind it.
@@ -92,11 +104,18 @@ fn put_searches(random: &mut Random, rows: &[Constraint], script: &mut Vec<Strin
     let span = if random.chance(90) { 1 } else { 2 };
     let row = table_bytes(&[repeat(span, lower, upper)]);
     let late = if random.chance(95) { random.below(7) } else { LAST_TIME + random.below(2) };
-    script.push(format!("stamps {} {} {} {late}", hex(&row), hex(&events(random, &[0, 0, 1], 9)), random.below(9) / 8));
+    script.push(format!(
+        "stamps{} {} {} {} {late}",
+        any_form(random),
+        hex(&row),
+        hex(&events(random, &[0, 0, 1], 9)),
+        random.below(9) / 8
+    ));
     let records = random.place(40);
     let searched = recording(random, rows, records);
-    script.push(format!("stretch {} {} {}", hex(&table_bytes(rows)), hex(&searched), random.place(rows.len() + 1)));
-    script.push(format!("stretch {} {} 0", hex(&row), hex(&damaged_recording(random, rows, 6))));
+    let (table, form) = in_an_edition(random, rows);
+    script.push(format!("stretch{form} {} {} {}", hex(&table), hex(&searched), random.place(rows.len() + 1)));
+    script.push(format!("stretch{} {} {} 0", any_form(random), hex(&row), hex(&damaged_recording(random, rows, 6))));
 }
 
 /// So many times a list of calls on a monitor with withdrawals and pages among them, and reports, a table, joins, late stamps

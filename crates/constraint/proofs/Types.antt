@@ -11,6 +11,7 @@ pub mod StrongSynchronization
 pub mod ExecutionTime
 pub mod Reaction
 pub mod Repetition
+pub mod Synchronization
 use Prim.Native.Nat.{ℕ, zero, suc, _+_, _-_, _*_, _≤_, _<_}
 use mathlib.Core.Path.{_≡_, refl, sym, ap, ap₂, subst⁻¹, _∙_}
 use mathlib.Core.Bool.{Bool, true, false, cond}
@@ -42,7 +43,8 @@ use Rattle.constraint.proofs.Types.StrongSynchronization.{lawfulStrongS
 use Rattle.constraint.proofs.Types.ExecutionTime.{lawfulExecutionTime}
 use Rattle.constraint.proofs.Types.Reaction.{lawfulReaction}
 use Rattle.constraint.proofs.Types.Repetition.{lawfulRepetition}
-use Rattle.constraint.specs.Types.{strongSynchronizationRead}
+use Rattle.constraint.proofs.Types.Synchronization.{lawfulSynchronization2, lawfulSynchronization3, lawfulSynchronization4}
+use Rattle.constraint.specs.Types.{strongSynchronizationRead, synchronizationRead}
 
 -- ---- the definitions
 
@@ -60,6 +62,9 @@ lawful (Constraint.StrongSynchronization4 a b c d x) = lawfulStrongSynchronizati
 lawful (Constraint.ExecutionTime a b c d x y) = lawfulExecutionTime a b c d x y
 lawful (Constraint.Reaction a b x y) = lawfulReaction a b x y
 lawful (Constraint.Repetition a b x y z) = lawfulRepetition a b x y z
+lawful (Constraint.Synchronization2 a b x) = lawfulSynchronization2 a b x
+lawful (Constraint.Synchronization3 a b c x) = lawfulSynchronization3 a b c x
+lawful (Constraint.Synchronization4 a b c d x) = lawfulSynchronization4 a b c d x
 
 -- ---- from a row
 
@@ -90,7 +95,7 @@ pub record Regular (c : Constraint) : Type 0 where
 
 pub regular : (c : Constraint) → Regular c
 -- Made by release/row-types.py, to the end of the list.
-unfolding rowRead strongSynchronizationRead rowBody fieldsBytes timesBytes bytesOf
+unfolding rowRead strongSynchronizationRead synchronizationRead rowBody fieldsBytes timesBytes bytesOf
 regular (Constraint.Delay a b x y) = record { again = λ more later. refl; parts = refl; sized = omega arith; uncoloured = λ e. tt }
 regular (Constraint.StrongDelay a b x y) = record { again = λ more later. refl; parts = refl; sized = omega arith; uncoloured = λ e. tt }
 regular (Constraint.Repeat a b x y) = record { again = λ more later. refl; parts = refl; sized = omega arith; uncoloured = λ e. tt }
@@ -103,6 +108,9 @@ regular (Constraint.StrongSynchronization4 a b c d x) = record { again = λ more
 regular (Constraint.ExecutionTime a b c d x y) = record { again = λ more later. refl; parts = refl; sized = omega arith; uncoloured = λ e. tt }
 regular (Constraint.Reaction a b x y) = record { again = λ more later. refl; parts = refl; sized = omega arith; uncoloured = λ e. absurd (e refl) }
 regular (Constraint.Repetition a b x y z) = record { again = λ more later. refl; parts = refl; sized = omega arith; uncoloured = λ e. tt }
+regular (Constraint.Synchronization2 a b x) = record { again = λ more later. refl; parts = refl; sized = omega arith; uncoloured = λ e. tt }
+regular (Constraint.Synchronization3 a b c x) = record { again = λ more later. refl; parts = refl; sized = omega arith; uncoloured = λ e. tt }
+regular (Constraint.Synchronization4 a b c d x) = record { again = λ more later. refl; parts = refl; sized = omega arith; uncoloured = λ e. tt }
 
 -- so the numbers of a row are read as the row
 pub numbers-read : (c : Constraint) (f : Fields) → HoldsRow c f → rowRead (f .line .form) (f .bytes) (f .times) ≡ c
@@ -120,10 +128,21 @@ numbers-read c f holds =
 
 -- a number that is no other type's is read as a StrongSynchronization
 pub read-group : (t : ℕ) (b x : List ℕ) → ¬ (t ≡ 1) → ¬ (t ≡ 2) → ¬ (t ≡ 3) → ¬ (t ≡ 4) → ¬ (t ≡ 5) → ¬ (t ≡ 6) → ¬ (t ≡ 8) → ¬ (t ≡ 9) → ¬ (t ≡ 10)
-    → rowRead t b x ≡ strongSynchronizationRead b (at x 0)
+    → ¬ (t ≡ 11) → rowRead t b x ≡ strongSynchronizationRead b (at x 0)
 unfolding rowRead
-read-group t b x n1 n2 n3 n4 n5 n6 n8 n9 n10 =
-    rw (ne-eqb t 1 n1, ne-eqb t 2 n2, ne-eqb t 3 n3, ne-eqb t 4 n4, ne-eqb t 5 n5, ne-eqb t 6 n6, ne-eqb t 8 n8, ne-eqb t 9 n9, ne-eqb t 10 n10)
+read-group t b x n1 n2 n3 n4 n5 n6 n8 n9 n10 n11 =
+    rw (
+      ne-eqb t 1 n1,
+      ne-eqb t 2 n2,
+      ne-eqb t 3 n3,
+      ne-eqb t 4 n4,
+      ne-eqb t 5 n5,
+      ne-eqb t 6 n6,
+      ne-eqb t 8 n8,
+      ne-eqb t 9 n9,
+      ne-eqb t 10 n10,
+      ne-eqb t 11 n11,
+    )
 
 -- End of what is made.
 
@@ -156,7 +175,7 @@ last-listed edition = omega (arith, at-most (length lengths - 1) lastTypes (omeg
 
 -- the list of lengths, where it has no entry, and for every type that has no n
 pub length-unknown : (t n : ℕ) → length lengths ≤ t → lengthOf t n ≡ 0
-length-unknown t n past = rw (List·getD-eq-default lengths 0 {n = t} past, ne-eqb t 7 (λ e. omega arith))
+length-unknown t n past = rw (List·getD-eq-default lengths 0 {n = t} past, ne-eqb t 7 (λ e. omega arith), ne-eqb t 11 (λ e. omega arith))
 
 pub length-plain : (t n : ℕ) → takesCount t ≡ false → lengthOf t n ≡ at lengths t
 length-plain t n other = rw other (add-zero (at lengths t))
@@ -202,13 +221,22 @@ module _ (b0 b1 b2 b3 b4 x0 x1 x2 x3 : ℕ) where
       (λ n. rw n (record { typed = refl; bytes = refl; times = refl; long = refl }))
       (λ n. rw n (record { typed = refl; bytes = refl; times = refl; long = refl }))
 
+  -- a Synchronization, by its n
+  synchronization-back : (2 ≤ b0) × (b0 ≤ 4) → Back 11
+  unfolding rowRead synchronizationRead
+  synchronization-back known =
+      each-then (λ n. b0 ≡ n → Back 11) (Back 11) 2 3 (λ each. each b0 (known .0) (omega (arith, known .1)) refl)
+      (λ n. rw n (record { typed = refl; bytes = refl; times = refl; long = refl }))
+      (λ n. rw n (record { typed = refl; bytes = refl; times = refl; long = refl }))
+      (λ n. rw n (record { typed = refl; bytes = refl; times = refl; long = refl }))
+
   -- End of what is made.
 
   pub read-back : (t : ℕ) → (1 ≤ t) × (t < length lengths) → (takesCount t ≡ true → (2 ≤ b0) × (b0 ≤ 4)) → Back t
   unfolding rowRead
   read-back t known several =
       -- Made by release/row-types.py, to the end of the list.
-      each-then (λ n. t ≡ n → Back n) (Back t) 1 10 (λ each. each t (known .0) (omega (arith, known .1)) refl)
+      each-then (λ n. t ≡ n → Back n) (Back t) 1 11 (λ each. each t (known .0) (omega (arith, known .1)) refl)
       (λ n. record { typed = refl; bytes = refl; times = refl; long = refl })
       (λ n. record { typed = refl; bytes = refl; times = refl; long = refl })
       (λ n. record { typed = refl; bytes = refl; times = refl; long = refl })
@@ -219,3 +247,4 @@ module _ (b0 b1 b2 b3 b4 x0 x1 x2 x3 : ℕ) where
       (λ n. record { typed = refl; bytes = refl; times = refl; long = refl })
       (λ n. record { typed = refl; bytes = refl; times = refl; long = refl })
       (λ n. record { typed = refl; bytes = refl; times = refl; long = refl })
+      (λ n. synchronization-back (several (ap takesCount n)))

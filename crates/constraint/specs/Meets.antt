@@ -11,7 +11,7 @@ use Rattle.constraint.specs.Steps.{Step, at, times, own, clock}
 use Rattle.constraint.specs.declared.Constraint.{Constraint}
 use Rattle.constraint.specs.declared.Constraint.the-variants.{Delay, StrongDelay, Repeat, Sporadic, Burst, Order, StrongSynchronization2}
 use Rattle.constraint.specs.declared.Constraint.the-variants.{StrongSynchronization3, StrongSynchronization4, ExecutionTime, Reaction}
-use Rattle.constraint.specs.declared.Constraint.the-variants.{Repetition}
+use Rattle.constraint.specs.declared.Constraint.the-variants.{Repetition, Synchronization2, Synchronization3, Synchronization4}
 
 -- §5.2; 01, row 2: y is lower to upper after x, both ends included
 abbrev pub Between : ℕ → ℕ → ℕ → ℕ → Type 0
@@ -136,3 +136,6 @@ Meets (ExecutionTime start stop preempt resume lower upper) steps =
 Meets (Reaction stimulus response minimum maximum) steps =
     (colour : ℕ) → colour ≤ lastColour → MeetsReaction minimum maximum (times (stream stimulus colour) steps) (times (stream response colour) steps)
 Meets (Repetition event span lower upper jitter) steps = MeetsRepetition span lower upper jitter (times event steps)
+Meets (Synchronization2 a b tolerance) steps = MeetsSynchronization (a ∷ b ∷ []) tolerance steps
+Meets (Synchronization3 a b c tolerance) steps = MeetsSynchronization (a ∷ b ∷ c ∷ []) tolerance steps
+Meets (Synchronization4 a b c d tolerance) steps = MeetsSynchronization (a ∷ b ∷ c ∷ d ∷ []) tolerance steps

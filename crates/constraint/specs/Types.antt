@@ -1,7 +1,7 @@
 -- The table of types (§4.4 to §4.7; 01, table): the types, their fields in order, and what each field says, and back from the values to the row
 -- (`regular` and `read-back`: each way is the other's inverse). What is asked of a row, its bytes and its numbers in a monitor are read off it.
 use Prim.Native.Nat.{ℕ, _+_}
-use mathlib.Core.Bool.{Bool, cond}
+use mathlib.Core.Bool.{Bool, _||_, cond}
 use mathlib.Core.List.{List, [], _∷_}
 use lib.Dec.{eqb}
 use Rattle.constraint.specs.Limits.{spanLimit, repetitionSpanLimit}
@@ -9,7 +9,7 @@ use Rattle.constraint.specs.Steps.{at}
 use Rattle.constraint.specs.declared.Constraint.{Constraint}
 use Rattle.constraint.specs.declared.Constraint.the-variants.{Delay, StrongDelay, Repeat, Sporadic, Burst, Order, StrongSynchronization2}
 use Rattle.constraint.specs.declared.Constraint.the-variants.{StrongSynchronization3, StrongSynchronization4, ExecutionTime, Reaction}
-use Rattle.constraint.specs.declared.Constraint.the-variants.{Repetition}
+use Rattle.constraint.specs.declared.Constraint.the-variants.{Repetition, Synchronization2, Synchronization3, Synchronization4}
 
 -- §4.4, §4.6; 01, table; CR 6, 10: what a byte says: a kind is a plain one or a coloured one; a span or maximum has its own limit
 pub data ByteRole : Type 0 where
@@ -56,6 +56,10 @@ typeLine (ExecutionTime start stop preempt resume low high) =
 typeLine (Reaction stimulus response low high) = (9, byte coloured stimulus ∷ byte coloured response ∷ time lower low ∷ time upper high ∷ [])
 typeLine (Repetition event number low high late) =
     (10, byte kind event ∷ byte (span repetitionSpanLimit) number ∷ time lower low ∷ time upper high ∷ time (plain jitter) late ∷ [])
+typeLine (Synchronization2 a b apart) = (11, byte count 2 ∷ byte kind a ∷ byte kind b ∷ time (plain tolerance) apart ∷ [])
+typeLine (Synchronization3 a b c apart) = (11, byte count 3 ∷ byte kind a ∷ byte kind b ∷ byte kind c ∷ time (plain tolerance) apart ∷ [])
+typeLine (Synchronization4 a b c d apart) =
+    (11, byte count 4 ∷ byte kind a ∷ byte kind b ∷ byte kind c ∷ byte kind d ∷ time (plain tolerance) apart ∷ [])
 
 -- §4.5; 01, table: the number of the type
 abbrev pub typeOf : Constraint → ℕ
@@ -74,6 +78,13 @@ strongSynchronizationRead b apart =
     (cond (eqb (at b 0) 3) (StrongSynchronization3 (at b 1) (at b 2) (at b 3) apart)
     (StrongSynchronization4 (at b 1) (at b 2) (at b 3) (at b 4) apart))
 
+-- §4.5; 01, table: the Synchronization of as many kinds as its first byte says
+unfoldable pub synchronizationRead : List ℕ → ℕ → Constraint
+synchronizationRead b apart =
+    cond (eqb (at b 0) 2) (Synchronization2 (at b 1) (at b 2) apart)
+    (cond (eqb (at b 0) 3) (Synchronization3 (at b 1) (at b 2) (at b 3) apart)
+    (Synchronization4 (at b 1) (at b 2) (at b 3) (at b 4) apart))
+
 -- End of what is made.
 
 -- §4.5; 01, table; CR 2, 6, 10: back: the row of a type's number, of the values b of its fields of one byte, and of its times x
@@ -89,15 +100,16 @@ rowRead t b x =
     (cond (eqb t 8) (ExecutionTime (at b 0) (at b 1) (at b 2) (at b 3) (at x 0) (at x 1))
     (cond (eqb t 9) (Reaction (at b 0) (at b 1) (at x 0) (at x 1))
     (cond (eqb t 10) (Repetition (at b 0) (at b 1) (at x 0) (at x 1) (at x 2))
-    (strongSynchronizationRead b (at x 0))))))))))
+    (cond (eqb t 11) (synchronizationRead b (at x 0))
+    (strongSynchronizationRead b (at x 0)))))))))))
 
 -- §4.5; 01, table; CR 2, 6, 10: the lengths, by the type byte; to a type's with an n its n is added
 abbrev pub lengths : List ℕ
-lengths = 0 ∷ 19 ∷ 19 ∷ 19 ∷ 34 ∷ 19 ∷ 3 ∷ 10 ∷ 21 ∷ 19 ∷ 27 ∷ []
+lengths = 0 ∷ 19 ∷ 19 ∷ 19 ∷ 34 ∷ 19 ∷ 3 ∷ 10 ∷ 21 ∷ 19 ∷ 27 ∷ 10 ∷ []
 
 -- §4.2; 01, table: the last type of each edition of the table, by its version byte; no other number is an edition's
 abbrev pub lastTypes : List ℕ
-lastTypes = 0 ∷ 10 ∷ 10 ∷ []
+lastTypes = 0 ∷ 10 ∷ 11 ∷ []
 
 -- §4.2; 01, table: the last type of an edition; 0, which is no type's, where there is no such edition
 abbrev pub lastType : ℕ → ℕ
@@ -105,7 +117,7 @@ lastType edition = at lastTypes edition
 
 -- §4.5; 01, table: the types whose first field is n, the number of the kinds behind it
 abbrev pub takesCount : ℕ → Bool
-takesCount t = eqb t 7
+takesCount t = eqb t 7 || eqb t 11
 
 -- §4.5; 01, table: the length of a type, and of its n where it has one
 abbrev pub lengthOf : ℕ → ℕ → ℕ
@@ -140,4 +152,6 @@ typeNames =
     ∷ (82 ∷ 101 ∷ 97 ∷ 99 ∷ 116 ∷ 105 ∷ 111 ∷ 110 ∷ [])
     -- 10 Repetition
     ∷ (82 ∷ 101 ∷ 112 ∷ 101 ∷ 116 ∷ 105 ∷ 116 ∷ 105 ∷ 111 ∷ 110 ∷ [])
+    -- 11 Synchronization
+    ∷ (83 ∷ 121 ∷ 110 ∷ 99 ∷ 104 ∷ 114 ∷ 111 ∷ 110 ∷ 105 ∷ 122 ∷ 97 ∷ 116 ∷ 105 ∷ 111 ∷ 110 ∷ [])
     ∷ []

@@ -9,7 +9,7 @@ use Rattle.constraint.specs.Steps.{Step, times}
 use Rattle.constraint.specs.declared.Constraint.{Constraint}
 use Rattle.constraint.specs.declared.Constraint.the-variants.{Delay, StrongDelay, Repeat, Sporadic, Burst, Order, StrongSynchronization2}
 use Rattle.constraint.specs.declared.Constraint.the-variants.{StrongSynchronization3, StrongSynchronization4, ExecutionTime, Reaction}
-use Rattle.constraint.specs.declared.Constraint.the-variants.{Repetition}
+use Rattle.constraint.specs.declared.Constraint.the-variants.{Repetition, Synchronization2, Synchronization3, Synchronization4}
 
 -- §6.1: the test that t is lower to upper after s, where upper may be the mark: it says what `Apart` says (`answered-true`, `answered-by`)
 abbrev pub inInterval : ℕ → ℕ → ℕ → ℕ → Bool
@@ -55,3 +55,6 @@ waiting (Order source target) steps = 0
 waiting (ExecutionTime start stop preempt resume lower upper) steps = 0
 waiting (Reaction stimulus response minimum maximum) steps = 0
 waiting (Repetition event span lower upper jitter) steps = 0
+waiting (Synchronization2 first second tolerance) steps = 0
+waiting (Synchronization3 first second third tolerance) steps = 0
+waiting (Synchronization4 first second third fourth tolerance) steps = 0

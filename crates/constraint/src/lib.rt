@@ -18,7 +18,7 @@ ghost use mathlib.Core.Path.{_≡_};
 ghost use mathlib.Core.List.{[]};
 ghost use Rattle.constraint.specs.Questions.{Judged};
 ghost use Rattle.constraint.specs.Accepted.{rowQuestions, rowQuestionsIn, rowsQuestions};
-ghost use Rattle.constraint.specs.Types.{strongSynchronizationRead, rowRead, lengthOf, lastType, takesCount};
+ghost use Rattle.constraint.specs.Types.{strongSynchronizationRead, synchronizationRead, rowRead, lengthOf, lastType, takesCount};
 ghost use Rattle.constraint.specs.Records.{rowsOf, tableOf, Adds, HoldsRow};
 
 // The largest kind of event.
@@ -120,6 +120,24 @@ pub enum Constraint {
         lower: u64,
         upper: u64,
         jitter: u64,
+    },
+    Synchronization2 {
+        first: u8,
+        second: u8,
+        tolerance: u64,
+    },
+    Synchronization3 {
+        first: u8,
+        second: u8,
+        third: u8,
+        tolerance: u64,
+    },
+    Synchronization4 {
+        first: u8,
+        second: u8,
+        third: u8,
+        fourth: u8,
+        tolerance: u64,
     },
 }
 
@@ -259,13 +277,31 @@ const REPETITION: Line = Line {
     times: [LOWER, UPPER, JITTER, 0],
 };
 
+const SYNCHRONIZATION_2: Line = Line {
+    form: 11,
+    bytes: [COUNT, KIND, KIND, 0, 0],
+    times: [TOLERANCE, 0, 0, 0],
+};
+
+const SYNCHRONIZATION_3: Line = Line {
+    form: 11,
+    bytes: [COUNT, KIND, KIND, KIND, 0],
+    times: [TOLERANCE, 0, 0, 0],
+};
+
+const SYNCHRONIZATION_4: Line = Line {
+    form: 11,
+    bytes: [COUNT, KIND, KIND, KIND, KIND],
+    times: [TOLERANCE, 0, 0, 0],
+};
+
 // End of what is made.
 
 // The length expected for each type, by the type byte; to a type's with an n its n is added.
-const LENGTHS: [usize; 11] = [0, 19, 19, 19, 34, 19, 3, 10, 21, 19, 27];
+const LENGTHS: [usize; 12] = [0, 19, 19, 19, 34, 19, 3, 10, 21, 19, 27, 10];
 
 // The last type of each edition of the table, by its version byte.
-const LAST_TYPES: [u8; 3] = [0, 10, 10];
+const LAST_TYPES: [u8; 3] = [0, 10, 11];
 
 // The last type of an edition; 0 if there is no such edition.
 pub fn last_type(edition: u8) -> u8
@@ -282,7 +318,7 @@ pub fn last_type(edition: u8) -> u8
 pub fn takes_count(form: u8) -> bool
     ensures { λ r. ⌜ r ≡ takesCount form ⌝ }
 {
-    form == 7
+    form == 7 || form == 11
 }
 
 // The length expected of a row of a type, with the byte behind it, which is the n of a type that has one; 0 if there is no such type.
@@ -323,6 +359,37 @@ fn strong_synchronization_read(bytes: [u8; 5], tolerance: u64) -> Constraint
             tolerance,
         },
         _ => Constraint::StrongSynchronization4 {
+            first,
+            second,
+            third,
+            fourth,
+            tolerance,
+        },
+    }
+}
+
+// The Synchronization of as many kinds as its first byte says.
+fn synchronization_read(bytes: [u8; 5], tolerance: u64) -> Constraint
+    ensures { λ r. ⌜ r ≡ synchronizationRead bytes tolerance ⌝ }
+{
+    let n = bytes[0];
+    let first = bytes[1];
+    let second = bytes[2];
+    let third = bytes[3];
+    let fourth = bytes[4];
+    match n {
+        2 => Constraint::Synchronization2 {
+            first,
+            second,
+            tolerance,
+        },
+        3 => Constraint::Synchronization3 {
+            first,
+            second,
+            third,
+            tolerance,
+        },
+        _ => Constraint::Synchronization4 {
             first,
             second,
             third,
@@ -405,6 +472,7 @@ impl Constraint {
                 upper: time1,
                 jitter: time2,
             },
+            11 => synchronization_read(bytes, time0),
             _ => strong_synchronization_read(bytes, time0),
         }
     }
@@ -521,6 +589,36 @@ impl Constraint {
                 REPETITION,
                 [event, span, 0, 0, 0],
                 [lower, upper, jitter, 0],
+            ),
+            Constraint::Synchronization2 {
+                first,
+                second,
+                tolerance,
+            } => Fields::new(
+                SYNCHRONIZATION_2,
+                [2, first, second, 0, 0],
+                [tolerance, 0, 0, 0],
+            ),
+            Constraint::Synchronization3 {
+                first,
+                second,
+                third,
+                tolerance,
+            } => Fields::new(
+                SYNCHRONIZATION_3,
+                [3, first, second, third, 0],
+                [tolerance, 0, 0, 0],
+            ),
+            Constraint::Synchronization4 {
+                first,
+                second,
+                third,
+                fourth,
+                tolerance,
+            } => Fields::new(
+                SYNCHRONIZATION_4,
+                [4, first, second, third, fourth],
+                [tolerance, 0, 0, 0],
             ),
         }
     }

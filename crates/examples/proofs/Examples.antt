@@ -35,6 +35,7 @@ use Rattle.groups.specs.StrongSynchronization.{decideStrongSynchronization}
 use Rattle.phases.specs.ExecutionTime.{whileIdle, whileRunning, whilePreempted, decideExecutionTime}
 use Rattle.chains.specs.Reaction.{dueBut, decideReaction}
 use Rattle.repetition.specs.Repetition.{placed, decideRepetition}
+use Rattle.groups.specs.Synchronization.{decideSynchronization}
 use Rattle.examples.specs.Vectors.{unlimited-delays, silences, execution-times, repetitions, long-clocks, reactions}
 
 -- ---- what the machine computes
@@ -107,6 +108,7 @@ unfolding allCompute computes playOf sameAnswers isVerdict play rowOf brokenRow 
     movesBy stepPlace savedBy backRow rowWithout keptWithout monitorOf mapFirst zipFirst anyFirst takenCall stepOf withdrawn withdrawOf verdictOf
     answeredBy decideDelay sourceStrongDelay targetStrongDelay decideStrongDelay decideRepeat laterSporadic decideSporadic changesTo decideOrder
     decideStrongSynchronization whileIdle whileRunning whilePreempted decideExecutionTime dueBut decideReaction placed decideRepetition
+    decideSynchronization
 all-computed = (refl, refl, refl, refl, refl, refl, refl)
 
 -- End of what is made.

@@ -1,5 +1,5 @@
 -- Further examples that the contract shows beside its clauses, of Delays without an upper limit, of signals that stop, of ExecutionTime, of
--- Reaction, of Repetition and of long clocks: calls that are all taken, and what the row reads after them.
+-- Reaction, of Repetition, of Synchronization and of long clocks: calls that are all taken, and what the row reads after them.
 use Prim.Native.Nat.{ℕ, zero, suc, _+_, _-_, _^_}
 use mathlib.Core.List.{List, [], _∷_, _++_}
 use lib.ListN.{replicate}
@@ -11,6 +11,7 @@ use Rattle.constraint.specs.declared.Call.{Call}
 use Rattle.constraint.specs.declared.Call.the-variants.{Event, ColouredEvent, Tick, Close}
 use Rattle.constraint.specs.declared.Constraint.{Constraint}
 use Rattle.constraint.specs.declared.Constraint.the-variants.{Delay, Repeat, Sporadic, Burst, ExecutionTime, Reaction, Repetition}
+use Rattle.constraint.specs.declared.Constraint.the-variants.{Synchronization2, Synchronization3, Synchronization4}
 use Rattle.constraint.specs.declared.Verdict.the-variants.{Open, Kept, Broken}
 
 -- §5.1.6, §5.1.7; CR 1: Delays without an upper limit
@@ -220,4 +221,39 @@ reactions =
     ∷ reads (Reaction 48 49 1 3) (ColouredEvent 49 0 5 ∷ ColouredEvent 48 0 5 ∷ []) (Broken 2)
     -- colours do not disturb each other
     ∷ reads (Reaction 48 49 4 6) (ColouredEvent 48 0 10 ∷ ColouredEvent 48 1 11 ∷ ColouredEvent 49 1 15 ∷ ColouredEvent 49 0 16 ∷ Close ∷ []) Kept
+    ∷ []
+
+-- §5.11 to §5.11.6: Synchronizations
+abbrev pub synchronizations : List Example
+synchronizations =
+    -- both kinds within tolerance, in either order; a kind that has two in a window; one event that serves two windows
+    reads (Synchronization2 0 1 2) (Event 0 5 ∷ Event 1 7 ∷ Close ∷ []) Kept
+    ∷ reads (Synchronization2 0 1 2) (Event 0 5 ∷ Event 0 6 ∷ Event 1 7 ∷ Close ∷ []) Kept
+    ∷ reads (Synchronization2 0 1 2) (Event 0 5 ∷ Event 1 7 ∷ Event 0 9 ∷ Close ∷ []) Kept
+    -- an event soon after a full window is met by a window that ends with it; a later one is owed a window of its own
+    ∷ reads (Synchronization2 0 1 2) (Event 0 5 ∷ Event 1 7 ∷ Event 0 10 ∷ Tick 12 ∷ []) Open
+    ∷ reads (Synchronization2 0 1 2) (Event 0 5 ∷ Event 1 7 ∷ Event 0 10 ∷ Tick 12 ∷ Tick 13 ∷ []) (Broken 5)
+    -- the last moment and the one after it
+    ∷ reads (Synchronization2 0 1 2) (Event 0 5 ∷ Tick 7 ∷ []) Open
+    ∷ reads (Synchronization2 0 1 2) (Event 0 5 ∷ Tick 8 ∷ []) (Broken 2)
+    -- the close, with an event in no full window and with no events
+    ∷ reads (Synchronization2 0 1 2) (Event 0 5 ∷ Close ∷ []) (Broken 2)
+    ∷ reads (Synchronization2 0 1 2) (Tick 9 ∷ Close ∷ []) Kept
+    -- tolerance 0: all kinds at the same times
+    ∷ reads (Synchronization2 0 1 0) (Event 1 5 ∷ Event 0 5 ∷ Close ∷ []) Kept
+    ∷ reads (Synchronization2 0 1 0) (Event 0 5 ∷ Tick 6 ∷ []) (Broken 2)
+    -- three kinds and four
+    ∷ reads (Synchronization3 0 1 2 2) (Event 0 5 ∷ Event 1 6 ∷ Event 2 7 ∷ Event 0 8 ∷ Close ∷ []) Kept
+    ∷ reads (Synchronization3 0 1 2 2) (Event 0 5 ∷ Event 1 6 ∷ Event 2 7 ∷ Event 0 9 ∷ Close ∷ []) (Broken 5)
+    ∷ reads (Synchronization3 0 1 2 2) (Event 0 5 ∷ Event 1 6 ∷ Event 2 7 ∷ Event 0 9 ∷ Event 1 9 ∷ Close ∷ []) Kept
+    ∷ reads (Synchronization4 0 1 2 3 2) (Event 3 5 ∷ Event 2 6 ∷ Event 1 6 ∷ Event 0 7 ∷ Close ∷ []) Kept
+    ∷ reads (Synchronization4 0 1 2 3 2) (Event 3 5 ∷ Event 2 6 ∷ Event 1 6 ∷ Event 9 8 ∷ []) (Broken 4)
+    -- as many events as come: nothing waits, and the oldest of them counts
+    ∷ reads (Synchronization2 0 1 1000) (sources 200 1) Open
+    ∷ reads (Synchronization2 0 1 1000) (sources 200 1 ++ (Event 1 201 ∷ Close ∷ [])) Kept
+    ∷ reads (Synchronization2 0 1 1000) (sources 200 1 ++ (Tick 1001 ∷ [])) Open
+    ∷ reads (Synchronization2 0 1 1000) (sources 200 1 ++ (Tick 1001 ∷ Tick 1002 ∷ [])) (Broken 202)
+    -- the last time
+    ∷ reads (Synchronization2 0 1 lastTime) (Event 0 0 ∷ Event 1 lastTime ∷ Close ∷ []) Kept
+    ∷ reads (Synchronization2 0 1 lastTime) (Event 0 0 ∷ Tick lastTime ∷ []) Open
     ∷ []

@@ -20,7 +20,7 @@ const GROUP: usize = 16;
 const HYPHENS: [u8; 73] =
     *b"------------------------------------------------------------------------\n";
 // The names by the number of the type, as release/row-types.py makes them, left-aligned in 24. 0 is no type's number.
-const NAMES: [[u8; 24]; 11] = [
+const NAMES: [[u8; 24]; 12] = [
     *b"Unknown                 ",
     *b"Delay                   ",
     *b"StrongDelay             ",
@@ -32,6 +32,7 @@ const NAMES: [[u8; 24]; 11] = [
     *b"ExecutionTime           ",
     *b"Reaction                ",
     *b"Repetition              ",
+    *b"Synchronization         ",
 ];
 
 // What a page and a report say of a monitor.

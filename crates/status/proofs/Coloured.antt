@@ -12,6 +12,7 @@ use Rattle.constraint.specs.declared.Call.{Call}
 use Rattle.constraint.specs.declared.Constraint.{Constraint}
 use Rattle.constraint.specs.declared.Constraint.the-variants.{Delay, StrongDelay, Repeat, Sporadic, Burst, Order, StrongSynchronization2}
 use Rattle.constraint.specs.declared.Constraint.the-variants.{StrongSynchronization3, StrongSynchronization4, ExecutionTime, Reaction, Repetition}
+use Rattle.constraint.specs.declared.Constraint.the-variants.{Synchronization2, Synchronization3, Synchronization4}
 use Rattle.constraint.proofs.Streams.{streams}
 use Rattle.constraint.proofs.History.{own-other}
 use Rattle.constraint.proofs.Continuations.{open-before}
@@ -54,6 +55,9 @@ module _ (s t : ℕ) (late : firstColoured ≤ s) (steps : List Step) where
   coloured-waits (ExecutionTime a b c d x y) k = refl
   coloured-waits (Reaction a b x y) k = refl
   coloured-waits (Repetition a b x y z) k = refl
+  coloured-waits (Synchronization2 a b x) k = refl
+  coloured-waits (Synchronization3 a b c x) k = refl
+  coloured-waits (Synchronization4 a b c d x) k = refl
 
 -- ---- so it is never why an event is refused
 

@@ -10,6 +10,7 @@ use Rattle.constraint.specs.Continuation.{Continues, stop, Open}
 use Rattle.constraint.specs.Waiting.{waiting}
 use Rattle.constraint.specs.Accepted.{kinds, KindsFit}
 use Rattle.constraint.specs.declared.Constraint.{Constraint}
+use Rattle.constraint.specs.declared.Constraint.the-variants.{Synchronization2, Synchronization3, Synchronization4}
 use Rattle.constraint.proofs.Streams.{streams}
 use Rattle.constraint.proofs.Lists.{split, at-left, at-right, at-next}
 use Rattle.constraint.proofs.Counting.{nextFree, next-above, next-least, next-snoc}
@@ -25,7 +26,7 @@ use Rattle.machine.specs.Words.{countsKept}
 use Rattle.machine.specs.declared.Rule.{Rule}
 use Rattle.machine.specs.declared.Marks.{Marks}
 use Rattle.machine.specs.declared.Change.{Change}
-use Rattle.machine.proofs.Exact.{OfStream, Starts, GoesOn, Waits, ByOutcome, Exact}
+use Rattle.machine.proofs.Exact.{Sound, OfStream, Starts, GoesOn, Waits, ByOutcome, Exact}
 use Rattle.machine.proofs.FitsRow.{FitsRow, Steady, keeping-counts, steady-by, steady-drop, fits-steady}
 use Rattle.machine.proofs.SeveralKinds.{kinds-small, kinds-stream, kinds-apart, by-place}
 use Rattle.machine.proofs.Oldest.{due-passed}
@@ -278,13 +279,13 @@ module _ (ks : List ℕ) (fit : KindsFit ks) (tolerance now u : ℕ) (begun : u 
 
 -- ---- a row of a list of kinds: its rule, its definition and what waits are those of the list
 
-pub record Synchronized (c : Constraint) : Type 1 where
-  pub names : Names (ruleOf c) (kinds c)
-  pub streams-are : streams c ≡ kinds c
-  pub no-words : startWords (ruleOf c) ≡ []
-  pub meets : (steps : List Step) → Meets c steps ≡ MeetsSynchronization (kinds c) (ruleOf c .upper) steps
-  pub waits-in : waitsIn (ruleOf c .form) ≡ false
-  pub waits : (steps : List Step) → waiting c steps ≡ 0
+record Synchronized (c : Constraint) : Type 1 where
+  names : Names (ruleOf c) (kinds c)
+  streams-are : streams c ≡ kinds c
+  no-words : startWords (ruleOf c) ≡ []
+  meets : (steps : List Step) → Meets c steps ≡ MeetsSynchronization (kinds c) (ruleOf c .upper) steps
+  waits-in : waitsIn (ruleOf c .form) ≡ false
+  waits : (steps : List Step) → waiting c steps ≡ 0
 
 module _ (c : Constraint) (s : Synchronized c) where
   abbrev tolerance : ℕ
@@ -408,7 +409,7 @@ module _ (c : Constraint) (s : Synchronized c) where
 
   -- ---- Exact
 
-  pub exact-synchronized : Exact c (decideSynchronization (ruleOf c))
+  exact-synchronized : Exact c (decideSynchronization (ruleOf c))
   exact-synchronized =
       record {
         Live = Live;
@@ -423,6 +424,45 @@ module _ (c : Constraint) (s : Synchronized c) where
         is-kept = λ past live in-time. live-kept _ _ _ live;
         not-kept = λ past live. live-not-kept _ _ _ live;
       }
+
+pub exactSynchronization2 : (a b tolerance : ℕ) → Sound (Synchronization2 a b tolerance)
+    → Exact (Synchronization2 a b tolerance) (decideSynchronization (ruleOf (Synchronization2 a b tolerance)))
+unfolding Meets waiting
+exactSynchronization2 a b tolerance sound =
+    exact-synchronized (Synchronization2 a b tolerance) (record {
+      names = record { fit = sound .kinds-fit; several = omega arith; absent = 2; padded = refl };
+      streams-are = refl;
+      no-words = refl;
+      meets = λ steps. refl;
+      waits-in = refl;
+      waits = λ steps. refl;
+    })
+
+pub exactSynchronization3 : (a b c tolerance : ℕ) → Sound (Synchronization3 a b c tolerance)
+    → Exact (Synchronization3 a b c tolerance) (decideSynchronization (ruleOf (Synchronization3 a b c tolerance)))
+unfolding Meets waiting
+exactSynchronization3 a b c tolerance sound =
+    exact-synchronized (Synchronization3 a b c tolerance) (record {
+      names = record { fit = sound .kinds-fit; several = omega arith; absent = 1; padded = refl };
+      streams-are = refl;
+      no-words = refl;
+      meets = λ steps. refl;
+      waits-in = refl;
+      waits = λ steps. refl;
+    })
+
+pub exactSynchronization4 : (a b c d tolerance : ℕ) → Sound (Synchronization4 a b c d tolerance)
+    → Exact (Synchronization4 a b c d tolerance) (decideSynchronization (ruleOf (Synchronization4 a b c d tolerance)))
+unfolding Meets waiting
+exactSynchronization4 a b c d tolerance sound =
+    exact-synchronized (Synchronization4 a b c d tolerance) (record {
+      names = record { fit = sound .kinds-fit; several = omega arith; absent = 0; padded = refl };
+      streams-are = refl;
+      no-words = refl;
+      meets = λ steps. refl;
+      waits-in = refl;
+      waits = λ steps. refl;
+    })
 
 -- ---- In a row
 

@@ -22,6 +22,9 @@ fields-spec =
     (λ c. c .match .keys10) free
     (λ c. c .match .keys11) free
     (λ c. c .match .keys12) free
+    (λ c. c .match .keys13) free
+    (λ c. c .match .keys14) free
+    (λ c. c .match .keys15) free
     (λ c. rw (c .before .before .self .given .1, c .new .ensures) (record { typed = refl; all = refl; bytes = refl; times = refl }))
     (λ c. rw (c .before .before .self2 .given .1, c .new2 .ensures) (record { typed = refl; all = refl; bytes = refl; times = refl }))
     (λ c. rw (c .before .before .self3 .given .1, c .new3 .ensures) (record { typed = refl; all = refl; bytes = refl; times = refl }))
@@ -33,4 +36,7 @@ fields-spec =
     (λ c. rw (c .before .before .self9 .given .1, c .new9 .ensures) (record { typed = refl; all = refl; bytes = refl; times = refl }))
     (λ c. rw (c .before .before .self10 .given .1, c .new10 .ensures) (record { typed = refl; all = refl; bytes = refl; times = refl }))
     (λ c. rw (c .before .before .self11 .given .1, c .new11 .ensures) (record { typed = refl; all = refl; bytes = refl; times = refl }))
-    (λ c. rw (c .before .before .self12 .given .1, c .new12 .ensures) (record { typed = refl; all = refl; bytes = refl; times = refl })))
+    (λ c. rw (c .before .before .self12 .given .1, c .new12 .ensures) (record { typed = refl; all = refl; bytes = refl; times = refl }))
+    (λ c. rw (c .before .before .self13 .given .1, c .new13 .ensures) (record { typed = refl; all = refl; bytes = refl; times = refl }))
+    (λ c. rw (c .before .before .self14 .given .1, c .new14 .ensures) (record { typed = refl; all = refl; bytes = refl; times = refl }))
+    (λ c. rw (c .before .before .self15 .given .1, c .new15 .ensures) (record { typed = refl; all = refl; bytes = refl; times = refl })))

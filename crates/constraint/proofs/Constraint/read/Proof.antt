@@ -7,13 +7,14 @@ use Rattle.constraint.proofs.Types.{read-group}
 use Rattle.constraint.proofs.Constraint.read.Statement.{statement}
 use Rattle.constraint.proofs.Constraint.read.Tie as tie
 
-returns-10 : tie.Need-returns-10
-returns-10 c =
+returns-11 : tie.Need-returns-11
+returns-11 c =
     let other = c .before .match .rest in
     let a = c .before .before .args in
     c .strong-synchronization-read .ensures
-    ∙ sym (read-group (a .form) (a .t2) (a .t3) (other .0 .0 .0 .0 .0 .0 .0 .0 .1) (other .0 .0 .0 .0 .0 .0 .0 .1) (other .0 .0 .0 .0 .0 .0 .1)
-    (other .0 .0 .0 .0 .0 .1) (other .0 .0 .0 .0 .1) (other .0 .0 .0 .1) (other .0 .0 .1) (other .0 .1) (other .1))
+    ∙ sym (read-group (a .form) (a .t2) (a .t3) (other .0 .0 .0 .0 .0 .0 .0 .0 .0 .1) (other .0 .0 .0 .0 .0 .0 .0 .0 .1)
+    (other .0 .0 .0 .0 .0 .0 .0 .1) (other .0 .0 .0 .0 .0 .0 .1) (other .0 .0 .0 .0 .0 .1) (other .0 .0 .0 .0 .1) (other .0 .0 .0 .1) (other .0 .0 .1)
+    (other .0 .1) (other .1))
 
 pub read-spec : {M : Type 1} → statement M
 unfolding rowRead
@@ -29,6 +30,7 @@ read-spec =
     (λ c. search needs)
     (λ c. search needs)
     free
+    free
     (λ c. rw (c .match .keys1))
     (λ c. rw (c .match .keys2))
     (λ c. rw (c .match .keys3))
@@ -38,4 +40,5 @@ read-spec =
     (λ c. rw (c .match .keys7))
     (λ c. rw (c .match .keys8))
     (λ c. rw (c .match .keys9))
-    returns-10)
+    (λ c. c .synchronization-read .ensures ∙ rw (c .before .match .keys10))
+    returns-11)

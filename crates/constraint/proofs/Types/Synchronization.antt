@@ -1,0 +1,102 @@
+-- A Synchronization looks at the times of each of its kinds, and nothing waits in it.
+use Prim.Native.Nat.{ℕ, zero, suc, _<_}
+use native.Mathlib.Omega.{arith}
+use mathlib.Core.Path.{_≡_, refl, ap}
+use mathlib.Core.List.{List, [], _∷_}
+use lib.ListN.{length}
+use Rattle.constraint.specs.Steps.{Step, event, at, times}
+use Rattle.constraint.specs.Meets.{Recorded, Meets, MeetsSynchronization}
+use Rattle.constraint.specs.Waiting.{waiting}
+use Rattle.constraint.specs.declared.Constraint.the-variants.{Synchronization2, Synchronization3, Synchronization4}
+use Rattle.constraint.proofs.Lawful.{SameTimes, Lawful, Contingent}
+
+windows-same : (ks : List ℕ) (tolerance : ℕ) (a b : List Step) → SameTimes ks a b → MeetsSynchronization ks tolerance a
+    → MeetsSynchronization ks tolerance b
+unfolding MeetsSynchronization
+windows-same ks tolerance a b same m j s h there =
+    let (x, within, full) = m j s h (rw (same j h) there) in
+    (x, within, λ k g. let (r, other, near) = full k g in (r, rw (← same k g) other, near))
+
+pub lawfulSynchronization2 : (x y tolerance : ℕ) → Lawful (Synchronization2 x y tolerance)
+unfolding Meets waiting
+lawfulSynchronization2 x y tolerance =
+    let ks = x ∷ y ∷ [] in
+    record { same = λ a b in-order same earlier m. windows-same ks tolerance a b same m; waits-same = λ a b same. refl }
+
+pub lawfulSynchronization3 : (x y z tolerance : ℕ) → Lawful (Synchronization3 x y z tolerance)
+unfolding Meets waiting
+lawfulSynchronization3 x y z tolerance =
+    let ks = x ∷ y ∷ z ∷ [] in
+    record { same = λ a b in-order same earlier m. windows-same ks tolerance a b same m; waits-same = λ a b same. refl }
+
+pub lawfulSynchronization4 : (x y z w tolerance : ℕ) → Lawful (Synchronization4 x y z w tolerance)
+unfolding Meets waiting
+lawfulSynchronization4 x y z w tolerance =
+    let ks = x ∷ y ∷ z ∷ w ∷ [] in
+    record { same = λ a b in-order same earlier m. windows-same ks tolerance a b same m; waits-same = λ a b same. refl }
+
+-- kinds that have one event each, all at the same time: the window begins there
+windows-alike : (ks : List ℕ) (tolerance t : ℕ) (steps : List Step) → ((j : ℕ) → j < length ks → times (at ks j) steps ≡ t ∷ [])
+    → MeetsSynchronization ks tolerance steps
+unfolding MeetsSynchronization
+windows-alike ks tolerance t steps alike j s h there =
+    let same = only (rw (alike j h) at there) in
+    (t, (omega arith, omega arith), λ k g. (t, rw (alike k g) (0, omega arith, refl), (omega arith, omega arith)))
+  where
+    only : (i : ℕ) × (i < length (t ∷ [])) × (at (t ∷ []) i ≡ s) → t ≡ s
+    only (zero, l, e) = e
+    only (suc i, l, e) = absurd (omega arith)
+
+-- a kind that has no event misses it where another has one
+windows-lack : (ks : List ℕ) (tolerance j k s : ℕ) (steps : List Step) → j < length ks → k < length ks → Recorded ks steps j s
+    → times (at ks k) steps ≡ [] → ¬ MeetsSynchronization ks tolerance steps
+unfolding MeetsSynchronization
+windows-lack ks tolerance j k s steps h g there none meets =
+    let (x, within, full) = meets j s h there in
+    let (r, (i, l, e), near) = full k g in
+    omega (arith, ap length none)
+
+pub window2-contingent : Contingent (Synchronization2 0 1 2) (event 0 5 ∷ event 1 5 ∷ []) (event 0 5 ∷ [])
+unfolding Meets times
+window2-contingent =
+    record {
+      can-be-met = windows-alike (0 ∷ 1 ∷ []) 2 5 (event 0 5 ∷ event 1 5 ∷ []) alike;
+      can-be-missed = windows-lack (0 ∷ 1 ∷ []) 2 0 1 5 (event 0 5 ∷ []) (omega arith) (omega arith) (0, omega arith, refl) refl;
+    }
+  where
+    alike : (j : ℕ) → j < 2 → times (at (0 ∷ 1 ∷ []) j) (event 0 5 ∷ event 1 5 ∷ []) ≡ 5 ∷ []
+    alike zero h = refl
+    alike (suc zero) h = refl
+    alike (suc (suc j)) h = absurd (omega arith)
+
+pub window3-contingent : Contingent (Synchronization3 0 1 2 2) (event 0 5 ∷ event 1 5 ∷ event 2 5 ∷ []) (event 0 5 ∷ event 1 5 ∷ [])
+unfolding Meets times
+window3-contingent =
+    record {
+      can-be-met = windows-alike (0 ∷ 1 ∷ 2 ∷ []) 2 5 (event 0 5 ∷ event 1 5 ∷ event 2 5 ∷ []) alike;
+      can-be-missed =
+          windows-lack (0 ∷ 1 ∷ 2 ∷ []) 2 0 2 5 (event 0 5 ∷ event 1 5 ∷ []) (omega arith) (omega arith) (0, omega arith, refl) refl;
+    }
+  where
+    alike : (j : ℕ) → j < 3 → times (at (0 ∷ 1 ∷ 2 ∷ []) j) (event 0 5 ∷ event 1 5 ∷ event 2 5 ∷ []) ≡ 5 ∷ []
+    alike zero h = refl
+    alike (suc zero) h = refl
+    alike (suc (suc zero)) h = refl
+    alike (suc (suc (suc j))) h = absurd (omega arith)
+
+pub window4-contingent : Contingent (Synchronization4 0 1 2 3 2) (event 0 5 ∷ event 1 5 ∷ event 2 5 ∷ event 3 5 ∷ [])
+    (event 0 5 ∷ event 1 5 ∷ event 2 5 ∷ [])
+unfolding Meets times
+window4-contingent =
+    record {
+      can-be-met = windows-alike (0 ∷ 1 ∷ 2 ∷ 3 ∷ []) 2 5 (event 0 5 ∷ event 1 5 ∷ event 2 5 ∷ event 3 5 ∷ []) alike;
+      can-be-missed =
+          windows-lack (0 ∷ 1 ∷ 2 ∷ 3 ∷ []) 2 0 3 5 (event 0 5 ∷ event 1 5 ∷ event 2 5 ∷ []) (omega arith) (omega arith) (0, omega arith, refl) refl;
+    }
+  where
+    alike : (j : ℕ) → j < 4 → times (at (0 ∷ 1 ∷ 2 ∷ 3 ∷ []) j) (event 0 5 ∷ event 1 5 ∷ event 2 5 ∷ event 3 5 ∷ []) ≡ 5 ∷ []
+    alike zero h = refl
+    alike (suc zero) h = refl
+    alike (suc (suc zero)) h = refl
+    alike (suc (suc (suc zero))) h = refl
+    alike (suc (suc (suc (suc j)))) h = absurd (omega arith)

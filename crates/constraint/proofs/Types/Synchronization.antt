@@ -1,11 +1,13 @@
 -- A Synchronization looks at the times of each of its kinds, and nothing waits in it.
-use Prim.Native.Nat.{ℕ, zero, suc, _<_}
+use Prim.Native.Nat.{ℕ, zero, suc, _≤_, _<_}
+use native.Mathlib.Decide.{decLt, ℕ-discrete}
 use native.Mathlib.Omega.{arith}
 use mathlib.Core.Path.{_≡_, refl, ap}
 use mathlib.Core.List.{List, [], _∷_}
+use mathlib.Core.Logic.{by-cases}
 use lib.ListN.{length}
 use Rattle.constraint.specs.Steps.{Step, event, at, times}
-use Rattle.constraint.specs.Meets.{Recorded, Meets, MeetsSynchronization}
+use Rattle.constraint.specs.Meets.{Recorded, Meets, MeetsStrongSynchronization, MeetsSynchronization}
 use Rattle.constraint.specs.Waiting.{waiting}
 use Rattle.constraint.specs.declared.Constraint.the-variants.{Synchronization2, Synchronization3, Synchronization4}
 use Rattle.constraint.proofs.Lawful.{SameTimes, Lawful, Contingent}
@@ -34,6 +36,32 @@ unfolding Meets waiting
 lawfulSynchronization4 x y z w tolerance =
     let ks = x ∷ y ∷ z ∷ w ∷ [] in
     record { same = λ a b in-order same earlier m. windows-same ks tolerance a b same m; waits-same = λ a b same. refl }
+
+-- the place of the least of n numbers
+least-place : (n : ℕ) (f : ℕ → ℕ) → 0 < n → (m : ℕ) × (m < n) × ((k : ℕ) → k < n → f m ≤ f k)
+least-place zero f some = absurd (omega arith)
+least-place (suc zero) f some = (0, omega arith, λ k h. rw (none k h) (omega arith))
+  where
+    none : (k : ℕ) → k < 1 → k ≡ 0
+    none k h = omega arith
+least-place (suc (suc n)) f some =
+    let (m, h, least) = least-place (suc n) f (omega arith) in
+    by-cases (decLt (f (suc n)) (f m))
+    (λ less. (suc n, omega arith, λ k l. by-cases (ℕ-discrete k (suc n)) (λ e. rw e (omega arith)) (λ e. omega (arith, least k (omega arith)))))
+    (λ more. (m, omega arith, λ k l. by-cases (ℕ-discrete k (suc n)) (λ e. rw e (omega arith)) (λ e. least k (omega arith))))
+
+-- what meets a StrongSynchronization meets a Synchronization of the same kinds: the events of one place are in the window that the first begins
+pub strong-windows : (ks : List ℕ) (tolerance : ℕ) (steps : List Step) → MeetsStrongSynchronization ks tolerance steps
+    → MeetsSynchronization ks tolerance steps
+unfolding MeetsStrongSynchronization MeetsSynchronization
+strong-windows ks tolerance steps meets j s h (i, l, e) =
+    let (m, g, least) = least-place (length ks) (λ k. at (times (at ks k) steps) i) (omega arith) in
+    let place : (k : ℕ) → k < length ks → i < length (times (at ks k) steps) = λ k q. omega (arith, meets j k h q .0) in
+    (
+      at (times (at ks m) steps) i,
+      (omega (arith, least j h), omega (arith, meets j m h g .1 i l)),
+      λ k q. (at (times (at ks k) steps) i, (i, place k q, refl), (omega (arith, least k q), meets k m q g .1 i (place k q))),
+    )
 
 -- kinds that have one event each, all at the same time: the window begins there
 windows-alike : (ks : List ℕ) (tolerance t : ℕ) (steps : List Step) → ((j : ℕ) → j < length ks → times (at ks j) steps ≡ t ∷ [])

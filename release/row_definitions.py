@@ -304,7 +304,8 @@ def law_modules():
 def law_names():
     """The laws of the types, from their files."""
     laws = {row_type.name: [f"lawful{one.name}" for one in variants_of(row_type)] for row_type in TYPES}
-    return "".join(listed_names(f"use Rattle.constraint.proofs.Types.{name}.{{", found) for name, found in laws.items()) + listed_names("use Rattle.constraint.specs.Types.{", map(group_name, COUNTED))
+    lines = [listed_names(f"use Rattle.constraint.proofs.Types.{name}.{{", found) for name, found in laws.items()]
+    return "".join(lines) + listed_names("use Rattle.constraint.specs.Types.{", map(group_name, COUNTED))
 
 
 def lawful():

@@ -8,9 +8,9 @@ from row_list import END, LISTED, MADE, ROOT, TYPES, length, one, snake, text_of
 
 #: The kinds of a type that has an n: how many there may be, and their names.
 NUMBERS, KINDS = (2, 3, 4), ("first", "second", "third", "fourth")
-#: A role of a field of one byte, as the definitions and the code name it; `n` is the number of kinds.
-BYTE_ROLES = {"kind": ("kind", "KIND"), "coloured": ("coloured", "COLOURED"), "n": ("count", "COUNT"),
-              "count": ("(span spanLimit)", "SPAN_LIMIT"), "few": ("(span repetitionSpanLimit)", "REPETITION_SPAN_LIMIT")}
+#: A role of a field of one byte, as the definitions and the code name it.
+BYTE_ROLES = {"kind": ("kind", "KIND"), "coloured": ("coloured", "COLOURED"), "count": ("(span spanLimit)", "SPAN_LIMIT"),
+              "few": ("(span repetitionSpanLimit)", "REPETITION_SPAN_LIMIT")}
 #: A role of a time, and what stands for its value in the definitions, where the role's name is taken.
 TIME_ROLES = {"lower": ("lower", "LOWER", "low"), "upper": ("upper", "UPPER", "high"),
               "upper-or-none": ("upper-or-none", "UPPER_OR_NONE", "high"), "jitter": ("(plain jitter)", "JITTER", "late"),

@@ -491,10 +491,11 @@ def examples_hold():
 
 
 def reading_rows():
-    """The rows of the guide for the types of later editions: definition, examples, exactness and function."""
+    """The rows of the guide for the types of later editions: definition, examples, what is shown of it, exactness and function."""
     def row(row_type):
         laws = [name for path in ROOT.glob(f"crates/*/proofs/Laws/{row_type.name}.antt")
                 for name in re.findall(rf"^pub (exact{row_type.name}\d?) :", path.read_text(encoding="utf-8"), re.M)]
+        laws += re.findall(r"^pub (?!lawful)(\S+) :", text_of(f"crates/constraint/proofs/Types/{row_type.name}.antt"), re.M)
         lists = [name for clauses, name in example_lists() if re.match(rf"§5\.{row_type.number}\b", clauses)]
         cells = [f"Meets{row_type.name}", *lists], [*laws, *(f"{name}-hold" for name in lists)], [f"{snake(row_type)}::apply"]
         return f"| §5.{row_type.number} | {' | '.join(', '.join(f'[`{name}`]' for name in cell) for cell in cells)} |\n"

@@ -36,7 +36,7 @@ use Rattle.phases.specs.ExecutionTime.{whileIdle, whileRunning, whilePreempted,
 use Rattle.chains.specs.Reaction.{dueBut, decideReaction}
 use Rattle.repetition.specs.Repetition.{placed, decideRepetition}
 use Rattle.groups.specs.Synchronization.{decideSynchronization}
-use Rattle.examples.specs.Vectors.{unlimited-delays, silences, execution-times, repetitions, long-clocks, reactions}
+use Rattle.examples.specs.Vectors.{unlimited-delays, silences, execution-times, repetitions, long-clocks, reactions, synchronizations}
 
 -- ---- what the machine computes
 
@@ -104,12 +104,13 @@ allCompute (e ∷ later) = computes e && allCompute later
 
 all-computed : (allCompute examples ≡ true) × (allCompute unlimited-delays ≡ true) × (allCompute silences ≡ true)
     × (allCompute execution-times ≡ true) × (allCompute repetitions ≡ true) × (allCompute long-clocks ≡ true) × (allCompute reactions ≡ true)
+    × (allCompute synchronizations ≡ true)
 unfolding allCompute computes playOf sameAnswers isVerdict play rowOf brokenRow applied changedRow rowStep rowVerdict ring pushRing putRing putBack
     movesBy stepPlace savedBy backRow rowWithout keptWithout monitorOf mapFirst zipFirst anyFirst takenCall stepOf withdrawn withdrawOf verdictOf
     answeredBy decideDelay sourceStrongDelay targetStrongDelay decideStrongDelay decideRepeat laterSporadic decideSporadic changesTo decideOrder
     decideStrongSynchronization whileIdle whileRunning whilePreempted decideExecutionTime dueBut decideReaction placed decideRepetition
     decideSynchronization
-all-computed = (refl, refl, refl, refl, refl, refl, refl)
+all-computed = (refl, refl, refl, refl, refl, refl, refl, refl)
 
 -- End of what is made.
 
@@ -165,6 +166,10 @@ long-clocks-hold = all-read long-clocks (all-computed .5)
 -- §5.9.1 to §5.9.7
 pub reactions-hold : AllRead reactions
 reactions-hold = all-read reactions (all-computed .6)
+
+-- §5.11 to §5.11.6
+pub synchronizations-hold : AllRead synchronizations
+synchronizations-hold = all-read synchronizations (all-computed .7)
 
 -- ---- a table of two rows
 

@@ -20,6 +20,7 @@ sys.path.insert(0, str(ROOT / "python"))
 from delkuthi.fields import MOST, SIZES
 from delkuthi.rowtypes import TYPES
 from delkuthi.text import form_lines
+import row_machines
 
 
 def text_of(path):
@@ -281,6 +282,7 @@ PARTS = (
     ("host/model/src/types.rs", f"// {MADE}\n\n", f"\n// {END}\n", model_modules),
     ("host/model/src/types.rs", f"row_types! {{\n    // {LISTED}\n", "}\n", model_list),
 )
+PARTS += row_machines.PARTS
 
 
 # The roles that have another name in the model.
@@ -305,10 +307,10 @@ def main():
     if [row_type.number for row_type in TYPES] != list(range(1, len(TYPES) + 1)):
         wrong.append("python/delkuthi/rowtypes: the numbers of the types are not 1, 2, 3 and so on")
     for path, first, last, make in PARTS:
-        before, begin, rest = text_of(path).partition(first)
-        part, end, after = rest.partition(last)
+        before, begin, rest = text_of(path).partition(first) if first else ("", "", text_of(path))
+        part, end, after = rest.partition(last) if last else (rest, "", "")
         made = make()
-        if not begin or not end or first in rest:
+        if begin != first or end != last or first and first in rest:
             wrong.append(f"{path}: there is no part, or several, from {first.strip()!r} to {last.strip()!r}")
         elif part != made and sys.argv[1:]:
             (ROOT / path).write_text(before + begin + made + end + after, encoding="utf-8")

@@ -64,6 +64,8 @@ class RowType:
     instance: tuple[str, int | str] = field(compare=False)
     #: Whether something waits in such a row.
     waits: bool = field(default=False, compare=False)
+    #: How many words such a row has from the start, each 0.
+    words: int = field(default=0, compare=False)
     parts: tuple[str | Field, ...] = field(init=False, compare=False)
 
     def __post_init__(self) -> None:

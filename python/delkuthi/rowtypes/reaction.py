@@ -122,5 +122,5 @@ TYPE = RowType(
         second `ask/1` finds the answer to the first, which came long before it. Give each request a colour of its own, 0 to 7, or
         take a Delay or a StrongDelay, where each request has its own answer.""",
     measures="latency: from each stimulus to the first response of its colour in the whole recording", each="each stimulus",
-    reason=reason, windows=windows, measuring=Reactions, instance=("stimulus", 0),
+    reason=reason, windows=windows, measuring=Reactions, instance=("stimulus", 0), words=16,
 )

@@ -69,6 +69,8 @@ class RowType:
     example: tuple[str, str, dict[str, str]] = field(default=("", "", {}), compare=False)
     #: The first edition of the table that has the type: the least version byte of a table with such a row.
     edition: int = field(default=1, compare=False)
+    #: How many words such a row has from the start, each 0.
+    words: int = field(default=0, compare=False)
     parts: tuple[str | Field, ...] = field(init=False, compare=False)
 
     def __post_init__(self) -> None:

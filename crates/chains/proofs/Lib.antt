@@ -1,3 +1,2 @@
--- Why the machine of rows of coloured kinds is exact, and which marks it leaves 0.
+-- Why the machine of rows of coloured kinds is exact, and fits a row.
 pub mod Laws
-pub mod Unused

@@ -12,6 +12,8 @@ use Rattle.machine.specs.Parts.{plus, continuesWith, breaking}
 use Rattle.machine.specs.declared.Rule.{Rule}
 use Rattle.machine.specs.declared.Marks.{Marks}
 use Rattle.machine.specs.declared.Change.{Change}
+use Rattle.machine.specs.Words.{noneKept}
+use Rattle.machine.specs.Machine.{Machine, fillsNever, noneTaken}
 use Rattle.chains.specs.declared.reaction.Pair.{Pair}
 
 -- the words of a colour that goes on, and of one that breaks the row
@@ -61,3 +63,6 @@ decideReaction rule marks words s t =
     let high = getD words (2 * colour + 1) 0 in
     paired marks words colour
     (cond (eqb (kindOf s) (rule .first)) (afterStimulus (rule .lower) (rule .upper) low high t) (afterResponse low high t))
+
+abbrev pub machineReaction : Machine
+machineReaction = record { keeps = noneKept; decide = decideReaction; fills = fillsNever; taken = noneTaken }

@@ -2,7 +2,7 @@
 -- after the other among the entries, where there is room for them, and nothing waits in a row but the words that a Reaction has from the start.
 use Rattle.constraint.proofs.Library.{ℕ, zero, suc, _+_, _-_, _%_, _<_, _≤_, mod-eq-of-lt, arith, _≡_, refl, sym, ap, ap₂, subst, subst₂, _∙_, Bool}
 use Rattle.constraint.proofs.Library.{true, false, cond, List, [], _∷_, _++_, map, length, getD, set, take, replicate, length-append}
-use Rattle.constraint.proofs.Library.{length-replicate, length-map, List·getD-append, take-at, take-suc, take-length, getD-append-add, getD-at, eqb}
+use Rattle.constraint.proofs.Library.{length-replicate, length-map, List·getD-append, take-at, take-suc, take-length, getD-append-add, getD-at}
 use Rattle.constraint.proofs.Library.{ltb, ltb-true, ltb-false}
 use Rattle.constraint.specs.Limits.{rowLimit, waitingLimit}
 use Rattle.constraint.specs.Accepted.{Accepted}
@@ -13,6 +13,7 @@ use Rattle.constraint.specs.declared.Constraint.{Constraint}
 use Rattle.constraint.proofs.Lists.{split, Each, each-none, each-cons, each-append}
 use Rattle.machine.specs.Rule as Rules
 use Rattle.machine.specs.declared.Rule.{Rule}
+use Rattle.machine.proofs.FitsRow.{words-few}
 use Rattle.row.specs.Machine.{rowOf, concerns, noEvent}
 use Rattle.row.specs.Undo.{noBefore}
 use Rattle.row.specs.Stored.{RestZero}
@@ -171,10 +172,7 @@ none-ticks rows accepted i there =
     ap (λ (r : Row). concerns (r .rule) noEvent) (row-is rows i) ∙ ap (λ (rule : Rule). concerns rule noEvent) (rule-is (getD rows i filler))
     ∙ concerns-none (getD rows i filler) (row-sound rows (accepted-sound 0 rows accepted .0) i there .kinds-fit)
 
--- nothing waits but the words of a Reaction
-words-few : (rule : Rule) → Rules.wordsOf rule ≤ waitingLimit
-words-few rule = split (eqb (rule .form) 9) (λ b. cond b 16 0 ≤ waitingLimit) (λ _. omega arith) (λ _. omega arith)
-
+-- nothing waits but the words that a row has from the start
 row-few : (c : Constraint) → rowOf c .now .len ≤ waitingLimit
 unfolding rowOf
 row-few c = words-few (Rules.ruleOf c)

@@ -15,6 +15,8 @@ use Rattle.machine.specs.declared.Rule.{Rule}
 use Rattle.machine.specs.declared.Marks.{Marks}
 use Rattle.machine.specs.declared.State.{State}
 use Rattle.machine.specs.declared.Change.{Change}
+use Rattle.machine.specs.Words.{countsKept}
+use Rattle.machine.specs.Machine.{Machine, eachTaken}
 
 -- how many of the groups have an event of the kind
 abbrev pub countOf : Rule → Marks → ℕ → ℕ
@@ -68,3 +70,7 @@ decideStrongSynchronization rule marks times kind t =
     cond (ltb (countOf rule marks kind) (length times))
     (cond (complete rule now) (waits (rule .upper) times (Drop 1) (withoutOldest now)) (waits (rule .upper) times (Drop 0) now))
     (waits (rule .upper) times (Push 0 t) now)
+
+abbrev pub machineStrongSynchronization : Machine
+machineStrongSynchronization =
+    record { keeps = countsKept; decide = decideStrongSynchronization; fills = fillsStrongSynchronization; taken = eachTaken }

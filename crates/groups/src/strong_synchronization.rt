@@ -6,7 +6,6 @@ use machine::words;
 use queue::SIZE;
 use queue::minus;
 ghost use mathlib.Core.Path.{_≡_};
-ghost use Prim.Native.Nat.{ℕ};
 ghost use Rattle.machine.specs.Words.{ruleAt, marksAt, askedOf, countsKept, Applies};
 ghost use Rattle.groups.specs.StrongSynchronization.{fillsStrongSynchronization, countOf, oneMore, counted, has, complete, withoutOldest};
 ghost use Rattle.groups.specs.StrongSynchronization.{MarksBecome, decideStrongSynchronization};
@@ -93,13 +92,13 @@ fn forget(w: &mut [u64; SIZE])
 }
 
 // Whether an event begins one more group, where there is no room.
-pub fn fills(w: &[u64; SIZE], kind: u64) -> bool
-    ensures { λ r. ⌜ ((t : ℕ) → r ≡ askedOf fillsStrongSynchronization (now (w .entry)) kind t) ⌝ }
+pub fn fills(w: &[u64; SIZE], stream: u64, t: u64) -> bool
+    ensures { λ r. ⌜ r ≡ askedOf fillsStrongSynchronization (now (w .entry)) stream t ⌝ }
 {
     if w[words::LEN] < SIZE as u64 {
         return false;
     }
-    if count_at(w, kind) < w[words::LEN] {
+    if count_at(w, stream) < w[words::LEN] {
         return false;
     }
     true

@@ -1,11 +1,12 @@
 -- What a row asks of a machine beside that it is exact: its words keep all that a step changes, and how many times it keeps tells when an event
 -- would let more wait than its 64 places hold. What several types share in proving it goes by the edit of a change.
-use Rattle.constraint.proofs.Library.{ℕ, _+_, _-_, _<_, _≤_, arith, _≡_, refl, sym, Bool, true, false, cond, List, [], _∷_, _++_, ltb, length, set, drop}
-use Rattle.constraint.proofs.Library.{length-append, length-drop, length-set, lt-ltb, le-ltb, ltb-true, ltb-false}
+use Rattle.constraint.proofs.Library.{ℕ, _+_, _-_, _<_, _≤_, arith, _≡_, refl, sym, Bool, true, false, cond, List, [], _∷_, _++_, ltb, length, set}
+use Rattle.constraint.proofs.Library.{drop, length-append, length-drop, length-set, lt-ltb, le-ltb, ltb-true, ltb-false, eqb}
 use Rattle.constraint.specs.Limits.{waitingLimit}
 use Rattle.constraint.proofs.Lists.{split}
 use Rattle.queue.specs.Ring.{changed}
 use Rattle.queue.specs.declared.Edit.the-variants.{Drop, Store}
+use Rattle.machine.specs.Rule.{wordsOf}
 use Rattle.machine.specs.Parts.{noMarks, continuesWith, breaking}
 use Rattle.machine.specs.Words.{noneKept, lastKept, firstThreeKept, countsKept}
 use Rattle.machine.specs.Machine.{Machine, fillsNever, noneTaken, eachTaken, noMachine}
@@ -161,3 +162,12 @@ free-first n l b = rw (lt-ltb n 64 l)
 -- and one before it
 pub free-second : (n : ℕ) → n < 64 → (b c : Bool) → cond b (cond (ltb n waitingLimit) false c) false ≡ false
 free-second n l b c = rw (lt-ltb n 64 l) (neither b)
+
+-- ---- the words that a row has from the start
+
+few-by : (b : Bool) (n m : ℕ) → n ≤ waitingLimit → m ≤ waitingLimit → cond b n m ≤ waitingLimit
+few-by true n m p q = p
+few-by false n m p q = q
+
+pub words-few : (rule : Rule) → wordsOf rule ≤ waitingLimit
+words-few rule = few-by (eqb (rule .form) 9) 16 _ (omega arith) (omega arith)

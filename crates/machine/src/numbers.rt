@@ -127,9 +127,13 @@ pub fn rule_of(c: Constraint) -> Rule
     with_bytes(timed, byte_roles, bytes)
 }
 
-// How many words a row has from the start, each 0: a Reaction has two for each colour.
+// How many words a row has from the start, each 0.
 pub fn words_of(rule: Rule) -> usize
     ensures { λ r. ⌜ r ≡ wordsOf rule ⌝ }
 {
-    if rule.form == 9 { 16 } else { 0 }
+    // Made by release/row-types.py, to the end of the list.
+    if rule.form == 9 {
+        return 16;
+    }
+    0
 }

@@ -1,3 +1,2 @@
--- Why the machines of rows of a source kind and a target kind are exact, and which marks they leave 0.
+-- Why the machines of rows of a source kind and a target kind are exact, and fit a row.
 pub mod Laws
-pub mod Unused

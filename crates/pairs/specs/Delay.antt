@@ -6,6 +6,8 @@ use lib.Dec.{leb, ltb, eqb}
 use Rattle.constraint.specs.Limits.{waitingLimit}
 use Rattle.queue.specs.declared.Edit.the-variants.{Drop, Push}
 use Rattle.machine.specs.Parts.{plus, withLast, waits}
+use Rattle.machine.specs.Words.{lastKept}
+use Rattle.machine.specs.Machine.{Machine, eachTaken}
 use Rattle.machine.specs.declared.Rule.{Rule}
 use Rattle.machine.specs.declared.Marks.{Marks}
 use Rattle.machine.specs.declared.Change.{Change}
@@ -29,3 +31,6 @@ unfoldable pub decideDelay : Rule → Marks → List ℕ → ℕ → ℕ → Cha
 decideDelay rule marks times kind t =
     cond (eqb kind (rule .first)) (waits (rule .upper) times (cond (answeredAtOnce (rule .lower) (marks .last) t) (Drop 0) (Push 0 t)) marks)
     (waits (rule .upper) times (Drop (answeredBy (rule .lower) t times)) (withLast marks (plus t 1)))
+
+abbrev pub machineDelay : Machine
+machineDelay = record { keeps = lastKept; decide = decideDelay; fills = fillsDelay; taken = eachTaken }

@@ -8,7 +8,8 @@ use Rattle.constraint.specs.Limits.{noLimit}
 use Rattle.queue.specs.Ring.{ringOf}
 use Rattle.queue.specs.declared.Edit.the-variants.{Drop}
 use Rattle.machine.specs.Parts.{plus, marksOf, earlyOf, withLast, continuesWith}
-use Rattle.machine.specs.Words.{goingOn}
+use Rattle.machine.specs.Words.{goingOn, firstThreeKept}
+use Rattle.machine.specs.Machine.{Machine, fillsNever, noneTaken}
 use Rattle.machine.specs.declared.Rule.{Rule}
 use Rattle.machine.specs.declared.Marks.{Marks}
 use Rattle.machine.specs.declared.State.{State}
@@ -40,3 +41,6 @@ decideOrder rule marks times kind t =
     cond (eqb kind (rule .first))
     (cond (eqb (earlyOf marks) 0) (changesTo (withAhead marks (plus (aheadOf marks) 1))) (changesTo (withLast marks 0)))
     (cond (eqb (aheadOf marks) 0) (changesTo (withLast marks (plus t 1))) (changesTo (withAhead marks (aheadOf marks - 1))))
+
+abbrev pub machineOrder : Machine
+machineOrder = record { keeps = firstThreeKept; decide = decideOrder; fills = fillsNever; taken = noneTaken }

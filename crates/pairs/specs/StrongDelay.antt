@@ -7,6 +7,8 @@ use lib.Dec.{leb, ltb, eqb}
 use Rattle.constraint.specs.Limits.{waitingLimit}
 use Rattle.queue.specs.declared.Edit.the-variants.{Drop, Push}
 use Rattle.machine.specs.Parts.{plus, earlyOf, withLast, continuesWith, breaking, waits, front, none-left}
+use Rattle.machine.specs.Words.{lastKept}
+use Rattle.machine.specs.Machine.{Machine, eachTaken}
 use Rattle.machine.specs.declared.Rule.{Rule}
 use Rattle.machine.specs.declared.Marks.{Marks}
 use Rattle.machine.specs.declared.Change.{Change}
@@ -28,3 +30,6 @@ targetStrongDelay rule marks times t =
 unfoldable pub decideStrongDelay : Rule → Marks → List ℕ → ℕ → ℕ → Change
 decideStrongDelay rule marks times kind t =
     cond (eqb kind (rule .first)) (sourceStrongDelay rule marks times t) (targetStrongDelay rule marks times t)
+
+abbrev pub machineStrongDelay : Machine
+machineStrongDelay = record { keeps = lastKept; decide = decideStrongDelay; fills = fillsStrongDelay; taken = eachTaken }

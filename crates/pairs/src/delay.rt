@@ -30,10 +30,10 @@ pub fn apply(row: &mut [[u64; SIZE]; 2], stream: u64, t: u64, number: u64)
 }
 
 // Whether an event lets one more wait, where there is no room.
-pub fn fills(w: &[u64; SIZE], kind: u64, t: u64) -> bool
-    ensures { λ r. ⌜ r ≡ askedOf fillsDelay (now (w .entry)) kind t ⌝ }
+pub fn fills(w: &[u64; SIZE], stream: u64, t: u64) -> bool
+    ensures { λ r. ⌜ r ≡ askedOf fillsDelay (now (w .entry)) stream t ⌝ }
 {
-    if kind != w[words::FIRST] {
+    if stream != w[words::FIRST] {
         return false;
     }
     if w[words::LEN] < SIZE as u64 {

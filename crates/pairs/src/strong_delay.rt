@@ -4,7 +4,6 @@ use machine::parts;
 use machine::words;
 use queue::SIZE;
 ghost use mathlib.Core.Path.{_≡_};
-ghost use Prim.Native.Nat.{ℕ};
 ghost use Rattle.machine.specs.Words.{askedOf, lastKept, Applies};
 ghost use Rattle.pairs.specs.StrongDelay.{fillsStrongDelay, decideStrongDelay};
 
@@ -46,10 +45,10 @@ pub fn apply(row: &mut [[u64; SIZE]; 2], stream: u64, t: u64, number: u64)
 }
 
 // Whether an event lets one more wait, where there is no room.
-pub fn fills(w: &[u64; SIZE], kind: u64) -> bool
-    ensures { λ r. ⌜ ((t : ℕ) → r ≡ askedOf fillsStrongDelay (now (w .entry)) kind t) ⌝ }
+pub fn fills(w: &[u64; SIZE], stream: u64, t: u64) -> bool
+    ensures { λ r. ⌜ r ≡ askedOf fillsStrongDelay (now (w .entry)) stream t ⌝ }
 {
-    if kind != w[words::FIRST] {
+    if stream != w[words::FIRST] {
         return false;
     }
     if w[words::LEN] < SIZE as u64 {

@@ -11,6 +11,8 @@ use Rattle.machine.specs.Parts.{plus, marksOf, continuesWith, breaking}
 use Rattle.machine.specs.declared.Rule.{Rule}
 use Rattle.machine.specs.declared.Marks.{Marks}
 use Rattle.machine.specs.declared.Change.{Change}
+use Rattle.machine.specs.Words.{firstThreeKept}
+use Rattle.machine.specs.Machine.{Machine, fillsNever, noneTaken}
 
 -- the phase, and how long the execution begun has run up to the last event
 abbrev pub phaseOf : Marks → ℕ
@@ -59,3 +61,6 @@ decideExecutionTime rule marks times kind t =
     (cond (eqb (phaseOf marks) 0) (whileIdle rule marks kind t)
     (cond (eqb (phaseOf marks) 1) (whileRunning rule marks kind t)
     (whilePreempted rule marks kind t)))
+
+abbrev pub machineExecutionTime : Machine
+machineExecutionTime = record { keeps = firstThreeKept; decide = decideExecutionTime; fills = fillsNever; taken = noneTaken }

@@ -10,6 +10,8 @@ use Rattle.machine.specs.Parts.{plus, farEnough, marksOf, continuesWith, breaki
 use Rattle.machine.specs.declared.Rule.{Rule}
 use Rattle.machine.specs.declared.Marks.{Marks}
 use Rattle.machine.specs.declared.Change.{Change}
+use Rattle.machine.specs.Words.{firstThreeKept}
+use Rattle.machine.specs.Machine.{Machine, fillsNever, noneTaken}
 
 -- where the last hidden point can be: from low to high
 abbrev pub lowOf : Marks → ℕ
@@ -46,3 +48,6 @@ laterSporadic rule marks t =
 unfoldable pub decideSporadic : Rule → Marks → List ℕ → ℕ → ℕ → Change
 decideSporadic rule marks times kind t =
     cond (eqb (marks .last) 0) (pointAt rule marks t (t - rule .jitter) t) (laterSporadic rule marks t)
+
+abbrev pub machineSporadic : Machine
+machineSporadic = record { keeps = firstThreeKept; decide = decideSporadic; fills = fillsNever; taken = noneTaken }

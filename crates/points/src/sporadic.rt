@@ -8,7 +8,7 @@ use queue::minus;
 ghost use mathlib.Core.Path.{_≡_};
 ghost use mathlib.Core.Bool.{cond};
 ghost use lib.Dec.{eqb};
-ghost use Prim.Native.Nat.{ℕ, min};
+ghost use Prim.Native.Nat.{min};
 ghost use Rattle.constraint.specs.Limits.{noLimit};
 ghost use Rattle.machine.specs.Parts.{plus};
 ghost use Rattle.machine.specs.Words.{firstThreeKept, Makes, Applies};
@@ -20,8 +20,8 @@ const LOW: usize = words::ONE;
 const HIGH: usize = words::TWO;
 
 // What an event makes of the row, where it lies.
-pub fn apply(row: &mut [[u64; SIZE]; 2], t: u64, number: u64)
-    ensures { λ _. ⌜ ((stream : ℕ) → Applies firstThreeKept decideSporadic (now (row .entry)) stream t number (now (row .exit))) ⌝ }
+pub fn apply(row: &mut [[u64; SIZE]; 2], stream: u64, t: u64, number: u64)
+    ensures { λ _. ⌜ Applies firstThreeKept decideSporadic (now (row .entry)) stream t number (now (row .exit)) ⌝ }
 {
     let upper = row[1][words::UPPER];
     let near = minus(t, row[1][words::JITTER]);

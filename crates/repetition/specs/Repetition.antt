@@ -12,6 +12,8 @@ use Rattle.machine.specs.Parts.{plus, front, continuesWith, breaking}
 use Rattle.machine.specs.declared.Rule.{Rule}
 use Rattle.machine.specs.declared.Marks.{Marks}
 use Rattle.machine.specs.declared.Change.{Change}
+use Rattle.machine.specs.Words.{noneKept}
+use Rattle.machine.specs.Machine.{Machine}
 
 -- how many points the numbers are about
 abbrev pub points : List ℕ → ℕ
@@ -50,3 +52,10 @@ fillsRepetition rule marks len kind t = ltb (len / 2) (rule .span)
 unfoldable pub decideRepetition : Rule → Marks → List ℕ → ℕ → ℕ → Change
 decideRepetition rule marks times kind t =
     placed rule marks (points times) (lowestPoint rule (points times) (front times) t) (highestPoint rule (points times) (firstHigh times t) t)
+
+-- where the points of a span find no room, a place is taken for each number, and all are where two more find none; else none is
+abbrev pub takenRepetition : ℕ → ℕ → ℕ
+takenRepetition span len = cond (ltb 31 span) (cond (ltb len 63) len 64) 0
+
+abbrev pub machineRepetition : Machine
+machineRepetition = record { keeps = noneKept; decide = decideRepetition; fills = fillsRepetition; taken = takenRepetition }

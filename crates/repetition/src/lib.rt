@@ -7,15 +7,14 @@ use queue::SIZE;
 use queue::minus;
 use queue::time_at;
 ghost use mathlib.Core.Path.{_≡_};
-ghost use Prim.Native.Nat.{ℕ};
 ghost use Rattle.queue.specs.Ring.{ring};
 ghost use Rattle.machine.specs.Words.{noneKept, askedOf, Applies};
-ghost use Rattle.repetition.specs.Repetition.{fillsRepetition, firstHigh, decideRepetition};
+ghost use Rattle.repetition.specs.Repetition.{fillsRepetition, takenRepetition, firstHigh, decideRepetition};
 
 // What an event makes of the row, where it lies. Its point comes at most upper behind the oldest that is kept, less one place for each point that is
 // still to come before the span is over; one of the first span is tied to no earlier one from below; with a later one the oldest leaves.
-pub fn apply(row: &mut [[u64; SIZE]; 2], t: u64, number: u64)
-    ensures { λ _. ⌜ ((stream : ℕ) → Applies noneKept decideRepetition (now (row .entry)) stream t number (now (row .exit))) ⌝ }
+pub fn apply(row: &mut [[u64; SIZE]; 2], stream: u64, t: u64, number: u64)
+    ensures { λ _. ⌜ Applies noneKept decideRepetition (now (row .entry)) stream t number (now (row .exit)) ⌝ }
 {
     let head = row[1][words::HEAD] as usize;
     let len = row[1][words::LEN] as usize;
@@ -41,10 +40,20 @@ pub fn apply(row: &mut [[u64; SIZE]; 2], t: u64, number: u64)
 }
 
 // Whether an event lets two more numbers come, where there is no room for two.
-pub fn fills(w: &[u64; SIZE]) -> bool
-    ensures { λ r. ⌜ ((kind t : ℕ) → r ≡ askedOf fillsRepetition (now (w .entry)) kind t) ⌝ }
+pub fn fills(w: &[u64; SIZE], stream: u64, t: u64) -> bool
+    ensures { λ r. ⌜ r ≡ askedOf fillsRepetition (now (w .entry)) stream t ⌝ }
 {
     w[words::LEN] / 2 < w[words::SPAN]
+}
+
+// How many places are taken where so many numbers are kept: none where the points of a span find room.
+pub fn taken(span: u64, len: u64) -> u64
+    ensures { λ r. ⌜ r ≡ takenRepetition span len ⌝ }
+{
+    if 31 < span {
+        return if len < 63 { len } else { SIZE as u64 };
+    }
+    0
 }
 
 // The last place where the oldest point can be; t where there is none.

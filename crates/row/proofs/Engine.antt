@@ -1,21 +1,40 @@
 -- Every row type is exact: by the type, what its own laws prove.
 use Rattle.constraint.specs.declared.Constraint.{Constraint}
-use Rattle.constraint.specs.declared.Constraint.the-variants.{Delay, StrongDelay, Repeat, Sporadic, Burst, Order}
-use Rattle.constraint.specs.declared.Constraint.the-variants.{StrongSynchronization2, StrongSynchronization3, StrongSynchronization4, ExecutionTime}
-use Rattle.constraint.specs.declared.Constraint.the-variants.{Reaction, Repetition}
+use Rattle.row.proofs.Exact.{Sound, Exact}
+-- Made by release/row-types.py.
+use Rattle.constraint.specs.declared.Constraint.the-variants.{Delay}
+use Rattle.constraint.specs.declared.Constraint.the-variants.{StrongDelay}
+use Rattle.constraint.specs.declared.Constraint.the-variants.{Repeat}
+use Rattle.constraint.specs.declared.Constraint.the-variants.{Sporadic}
+use Rattle.constraint.specs.declared.Constraint.the-variants.{Burst}
+use Rattle.constraint.specs.declared.Constraint.the-variants.{Order}
+use Rattle.constraint.specs.declared.Constraint.the-variants.{StrongSynchronization2}
+use Rattle.constraint.specs.declared.Constraint.the-variants.{StrongSynchronization3}
+use Rattle.constraint.specs.declared.Constraint.the-variants.{StrongSynchronization4}
+use Rattle.constraint.specs.declared.Constraint.the-variants.{ExecutionTime}
+use Rattle.constraint.specs.declared.Constraint.the-variants.{Reaction}
+use Rattle.constraint.specs.declared.Constraint.the-variants.{Repetition}
+use Rattle.constraint.specs.declared.Constraint.the-variants.{Synchronization2}
+use Rattle.constraint.specs.declared.Constraint.the-variants.{Synchronization3}
+use Rattle.constraint.specs.declared.Constraint.the-variants.{Synchronization4}
 use Rattle.pairs.proofs.Laws.Delay.{exactDelay}
 use Rattle.pairs.proofs.Laws.StrongDelay.{exactStrongDelay}
-use Rattle.pairs.proofs.Laws.Order.{exactOrder}
 use Rattle.spans.proofs.Laws.Repeat.{exactRepeat}
-use Rattle.spans.proofs.Laws.Burst.{exactBurst}
 use Rattle.points.proofs.Laws.Sporadic.{exactSporadic}
-use Rattle.groups.proofs.Laws.StrongSynchronization.{exactStrongSynchronization2, exactStrongSynchronization3, exactStrongSynchronization4}
+use Rattle.spans.proofs.Laws.Burst.{exactBurst}
+use Rattle.pairs.proofs.Laws.Order.{exactOrder}
+use Rattle.groups.proofs.Laws.StrongSynchronization.{exactStrongSynchronization2}
+use Rattle.groups.proofs.Laws.StrongSynchronization.{exactStrongSynchronization3}
+use Rattle.groups.proofs.Laws.StrongSynchronization.{exactStrongSynchronization4}
 use Rattle.phases.proofs.Laws.ExecutionTime.{exactExecutionTime}
 use Rattle.chains.proofs.Laws.Reaction.{exactReaction}
 use Rattle.repetition.proofs.Laws.Repetition.{exactRepetition}
-use Rattle.row.proofs.Exact.{Sound, Exact}
+use Rattle.groups.proofs.Laws.Synchronization.{exactSynchronization2}
+use Rattle.groups.proofs.Laws.Synchronization.{exactSynchronization3}
+use Rattle.groups.proofs.Laws.Synchronization.{exactSynchronization4}
 
 pub engine : (c : Constraint) → Sound c → Exact c
+-- Made by release/row-types.py, to the end of the file.
 engine (Delay source target lower upper) = exactDelay source target lower upper
 engine (StrongDelay source target lower upper) = exactStrongDelay source target lower upper
 engine (Repeat event span lower upper) = exactRepeat event span lower upper
@@ -28,3 +47,6 @@ engine (StrongSynchronization4 first second third fourth tolerance) = exactStron
 engine (ExecutionTime start stop preempt resume lower upper) = exactExecutionTime start stop preempt resume lower upper
 engine (Reaction stimulus response minimum maximum) = exactReaction stimulus response minimum maximum
 engine (Repetition event span lower upper jitter) = exactRepetition event span lower upper jitter
+engine (Synchronization2 first second tolerance) = exactSynchronization2 first second tolerance
+engine (Synchronization3 first second third tolerance) = exactSynchronization3 first second third tolerance
+engine (Synchronization4 first second third fourth tolerance) = exactSynchronization4 first second third fourth tolerance

@@ -1,73 +1,25 @@
 -- What a row's words keep by an event is all that the row was, where what its type never stores is 0; and that stays so: a type changes only marks
 -- that it keeps, and a row that breaks or begins has none.
-use Rattle.constraint.proofs.Library.{ℕ, arith, _≡_, refl, sym, ap, _∙_, true, false, cond, List, ltb, eqb, ltb-false, eqb-true}
+use Rattle.constraint.proofs.Library.{ℕ, arith, _≡_, refl, sym, ap, _∙_, true, false, cond, ltb, eqb, ltb-false, eqb-true}
 use Rattle.constraint.specs.declared.Constraint.{Constraint}
 use Rattle.constraint.proofs.Lists.{split, both}
 use Rattle.queue.specs.Ring.{timeAt, secondAt}
 use Rattle.machine.specs.Parts.{noMarks}
 use Rattle.machine.specs.Rule.{ruleOf}
-use Rattle.machine.specs.Words.{noneKept, lastKept, firstThreeKept, countsKept}
-use Rattle.machine.specs.declared.Marks.{Marks}
-use Rattle.machine.specs.declared.Rule.{Rule}
 use Rattle.machine.specs.declared.State.{State}
-use Rattle.pairs.specs.Delay.{decideDelay}
-use Rattle.pairs.specs.StrongDelay.{decideStrongDelay}
-use Rattle.pairs.specs.Order.{decideOrder}
-use Rattle.pairs.proofs.Unused.{unused-delay, unused-strong-delay, unused-order}
-use Rattle.spans.specs.Repeat.{decideRepeat}
-use Rattle.spans.proofs.Unused.{unused-repeat}
-use Rattle.points.specs.Sporadic.{decideSporadic}
-use Rattle.points.proofs.Unused.{unused-sporadic}
-use Rattle.groups.specs.StrongSynchronization.{decideStrongSynchronization}
-use Rattle.groups.proofs.Unused.{unused-strong-synchronization}
-use Rattle.phases.specs.ExecutionTime.{decideExecutionTime}
-use Rattle.phases.proofs.Unused.{unused-execution-time}
-use Rattle.chains.specs.Reaction.{decideReaction}
-use Rattle.chains.proofs.Unused.{unused-reaction}
-use Rattle.repetition.specs.Repetition.{decideRepetition}
-use Rattle.repetition.proofs.Unused.{unused-repetition}
 use Rattle.row.specs.declared.Before.{Before}
 use Rattle.row.specs.declared.Occurrence.{Occurrence}
 use Rattle.row.specs.declared.Row.{Row}
-use Rattle.row.specs.Machine.{decide, decideNone, concerns, rowFrom, rowOf, itemsOf, brokenState, brokenRow, applied}
+use Rattle.row.specs.Machine.{concerns, rowFrom, rowOf, itemsOf, brokenState, brokenRow, applied}
 use Rattle.row.specs.Undo.{noBefore, savedAt, backRow, rowWithout, keptWithout}
 use Rattle.row.specs.Apart.{endsBy, endedState, changeBy, withChange, heardRow, writesAt, heardBefore}
 use Rattle.row.specs.Stored.{keptMarks, keptAtPlace, heardKeeps, eventRow, eventSaves, eventKeeps, endedRow, endedSaves, Unused, RestZero}
-use Rattle.row.proofs.Dispatch.{chosen-both}
+use Rattle.row.proofs.Machines.{fits}
 
 -- ---- the marks that a type keeps
 
-abbrev Keeping : Type 0
-Keeping = Marks → Marks → Marks
-
--- what holds of each type's holds of the one that is chosen
-of-each : (Q : Keeping → Type 0) (form : ℕ) → Q lastKept → Q firstThreeKept → Q noneKept → Q countsKept → Q (keptMarks form)
-of-each Q form last three none counts =
-    chosen-both form _ _ _ _ _ _ _ _ _ _ lastKept lastKept lastKept firstThreeKept firstThreeKept countsKept firstThreeKept noneKept noneKept noneKept
-    (λ keeps _. Q keeps) last last last three three counts three none none none
-
--- marks of the past in which only kept ones are above 0 make no difference
-over-past : (form : ℕ) (marks past : Marks) → keptMarks form marks (keptMarks form past noMarks) ≡ keptMarks form marks noMarks
-over-past form marks past = of-each (λ keeps. keeps marks (keeps past noMarks) ≡ keeps marks noMarks) form refl refl refl refl
-
--- the state's own marks as those of the past
-over-own : (form : ℕ) (marks : Marks) → keptMarks form marks marks ≡ marks
-over-own form marks = of-each (λ keeps. keeps marks marks ≡ marks) form refl refl refl refl
-
 none-unused : (form : ℕ) → Unused form noMarks
-none-unused form = of-each (λ keeps. keeps noMarks noMarks ≡ noMarks) form refl refl refl refl
-
--- a type changes only marks that it keeps
-stays-unused : (rule : Rule) (marks : Marks) (times : List ℕ) (s t : ℕ) → Unused (rule .form) marks
-    → Unused (rule .form) (decide rule marks times s t .marks)
-stays-unused rule marks times s t =
-    chosen-both (rule .form) lastKept lastKept lastKept firstThreeKept firstThreeKept countsKept firstThreeKept noneKept noneKept noneKept
-    (decideDelay rule) (decideStrongDelay rule) (decideRepeat rule) (decideSporadic rule) (decideOrder rule)
-    (decideStrongSynchronization rule) (decideExecutionTime rule) (decideReaction rule) (decideRepetition rule) decideNone
-    (λ keeps machine. keeps marks noMarks ≡ marks → keeps (machine marks times s t .marks) noMarks ≡ machine marks times s t .marks)
-    (unused-delay rule marks times s t) (unused-strong-delay rule marks times s t) (unused-repeat rule marks times s t)
-    (unused-sporadic rule marks times s t) (unused-order rule marks times s t) (unused-strong-synchronization rule marks times s t)
-    (unused-execution-time rule marks times s t) (unused-reaction rule marks times s t) (unused-repetition rule marks times s t) (λ _. refl)
+none-unused form = fits form .keeping .over-own noMarks
 
 -- ---- where the words keep all that the row was
 
@@ -79,7 +31,7 @@ module _ (r : Row) (b : Before) where
   -- so where what it was is what it is
   pub keeps-own : b .state ≡ r .now → KeepsWhole
   keeps-own same = (
-    ap (λ (x : State). keptMarks (r .rule .form) (r .now .marks) (x .marks)) same ∙ over-own (r .rule .form) (r .now .marks),
+    ap (λ (x : State). keptMarks (r .rule .form) (r .now .marks) (x .marks)) same ∙ fits (r .rule .form) .keeping .over-own (r .now .marks),
     ap (λ (x : State). x .broken) same,
   )
 
@@ -118,8 +70,8 @@ module _ (r : Row) (b : Before) where
     where
       marks : keptMarks (r .rule .form) (r .now .marks) (b .state .marks) ≡ r .now .marks
       marks =
-          ap (keptMarks (r .rule .form) (r .now .marks)) (sym (f .past-unused)) ∙ over-past (r .rule .form) (r .now .marks) (b .state .marks)
-          ∙ f .now-unused
+          ap (keptMarks (r .rule .form) (r .now .marks)) (sym (f .past-unused))
+          ∙ fits (r .rule .form) .keeping .over-past (r .now .marks) (b .state .marks) ∙ f .now-unused
 
   -- ---- it stays so
 
@@ -131,7 +83,7 @@ module _ (r : Row) (b : Before) where
       (λ _. record { now-unused = none-unused (r .rule .form); past-unused = f .now-unused; past-open = is-open })
       (λ _.
       record {
-        now-unused = stays-unused (r .rule) (r .now .marks) (itemsOf r) (o .stream) (o .time) (f .now-unused);
+        now-unused = fits (r .rule .form) .unkept (r .rule) (r .now .marks) (itemsOf r) (o .stream) (o .time) (f .now-unused);
         past-unused = f .now-unused;
         past-open = is-open;
       })

@@ -5,9 +5,9 @@ pub mod OwnKinds
 pub mod Steps
 pub mod Independent
 pub mod Undo
+mod Machines
 pub mod Crowding
 pub mod Apart
 pub mod Filling
-mod Dispatch
 pub mod Laid
 pub mod Kept

@@ -18,10 +18,11 @@ use Rattle.constraint.proofs.Continuations.{meets-same, continues-closed, open-
 use Rattle.constraint.proofs.Verdicts.{broken-now, broken-later, broken-shut, open-of-meets}
 use Rattle.queue.specs.Ring.{ringOf, ring, items, changed, edited}
 use Rattle.queue.proofs.Laws.{ring-length, ring-zeros, items-edited, times-edited}
-use Rattle.machine.specs.Rule.{ruleOf, waitsIn, wordsOf}
+use Rattle.machine.specs.Rule.{ruleOf, waitsIn}
 use Rattle.machine.specs.declared.Rule.{Rule}
 use Rattle.machine.specs.declared.Change.{Change}
 use Rattle.machine.specs.declared.State.{State}
+use Rattle.machine.proofs.FitsRow.{words-few}
 use Rattle.row.specs.Machine.{decide, rowFrom, itemsOf, mark, rowOf, brokenRow, applied, stays, crowding, changedRow}
 use Rattle.row.specs.Machine.{noEvent, eventAt, tickAt, closeAt, rowStep, rowVerdict}
 use Rattle.row.specs.declared.Occurrence.{Occurrence}
@@ -80,10 +81,6 @@ waits-many true many w = omega arith
 waits-many false many w = absurd (omega (arith, w .1))
 
 -- ---- Start
-
--- a row has at most 16 words from the start
-words-few : (rule : Rule) → wordsOf rule ≤ waitingLimit
-words-few rule = split (eqb (rule .form) 9) (λ x. cond x 16 0 ≤ waitingLimit) (λ e. omega arith) (λ e. omega arith)
 
 pub fits-start : (c : Constraint) (exact : Exact c) → Fits c exact [] (rowOf c)
 unfolding rowOf clockFrom closed

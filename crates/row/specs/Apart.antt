@@ -1,43 +1,24 @@
 -- The step of a row taken apart, as a monitor that is lent takes it: whether an event crowds a row, what the clock or the close alone makes of a
 -- row, and what an event makes of a row that it concerns.
 use Prim.Native.Nat.{ℕ}
-use mathlib.Core.Bool.{Bool, true, false, cond, _&&_, _||_}
+use mathlib.Core.Bool.{Bool, true, false, cond, _&&_}
 use lib.Dec.{ltb, eqb}
 use Rattle.queue.specs.Ring.{ringOf, editPlace}
 use Rattle.machine.specs.declared.Rule.{Rule}
 use Rattle.machine.specs.declared.Marks.{Marks}
 use Rattle.machine.specs.declared.State.{State}
 use Rattle.machine.specs.declared.Change.{Change}
-use Rattle.pairs.specs.Delay.{fillsDelay}
-use Rattle.pairs.specs.StrongDelay.{fillsStrongDelay}
-use Rattle.spans.specs.Repeat.{fillsRepeat}
-use Rattle.groups.specs.StrongSynchronization.{fillsStrongSynchronization}
-use Rattle.repetition.specs.Repetition.{fillsRepetition}
 use Rattle.row.specs.declared.Before.{Before}
 use Rattle.row.specs.declared.Occurrence.{Occurrence}
 use Rattle.row.specs.declared.Row.{Row}
-use Rattle.row.specs.Machine.{decide, concerns, itemsOf, brokenState, brokenRow, applied}
+use Rattle.row.specs.Machine.{machineOf, decide, concerns, itemsOf, brokenState, brokenRow, applied}
 use Rattle.row.specs.Undo.{savedAt}
 
 -- ---- the question for 64 (§8.12)
 
--- a type in which no event lets more wait, and a number that is no type's
-abbrev pub fillsNever : Marks → ℕ → ℕ → ℕ → Bool
-fillsNever marks len s t = false
-
 -- an event of one of the row's streams lets more wait than there is room for, 63 or 64 waiting: by the number of the row's type
 abbrev pub fills : Rule → Marks → ℕ → ℕ → ℕ → Bool
-fills rule =
-    cond (eqb (rule .form) 1) (fillsDelay rule)
-    (cond (eqb (rule .form) 2) (fillsStrongDelay rule)
-    (cond (eqb (rule .form) 3 || eqb (rule .form) 5) (fillsRepeat rule)
-    (cond (eqb (rule .form) 4) fillsNever
-    (cond (eqb (rule .form) 6) fillsNever
-    (cond (eqb (rule .form) 7) (fillsStrongSynchronization rule)
-    (cond (eqb (rule .form) 8) fillsNever
-    (cond (eqb (rule .form) 9) fillsNever
-    (cond (eqb (rule .form) 10) (fillsRepetition rule)
-    fillsNever))))))))
+fills rule = machineOf (rule .form) .fills rule
 
 -- an event of one of the row's streams crowds it, where at most 64 wait
 unfoldable pub fullFor : Rule → State → ℕ → ℕ → Bool

@@ -1,8 +1,8 @@
 -- The machine of a row of any type: what a step makes of it.
 use Prim.Native.Nat.{ℕ}
-use mathlib.Core.Bool.{Bool, true, false, cond, _&&_, _||_}
+use mathlib.Core.Bool.{Bool, true, false, cond, _&&_}
 use mathlib.Core.List.{List, [], _∷_}
-use lib.ListN.{length, replicate}
+use lib.ListN.{length, replicate, getD}
 use lib.Dec.{ltb, eqb}
 use Rattle.constraint.specs.Limits.{noLimit, waitingLimit, streamCount}
 use Rattle.constraint.specs.Streams.{kindOf}
@@ -11,41 +11,51 @@ use Rattle.constraint.specs.declared.Constraint.{Constraint}
 use Rattle.constraint.specs.declared.Verdict.{Verdict}
 use Rattle.queue.specs.Ring.{Ring, ringOf, ring, changed, edited}
 use Rattle.machine.specs.Rule.{ruleOf, wordsOf}
-use Rattle.machine.specs.Parts.{noMarks, breaking}
+use Rattle.machine.specs.Parts.{noMarks}
 use Rattle.machine.specs.declared.Rule.{Rule}
 use Rattle.machine.specs.declared.Marks.{Marks}
 use Rattle.machine.specs.declared.Change.{Change}
 use Rattle.machine.specs.declared.State.{State}
-use Rattle.pairs.specs.Delay.{decideDelay}
-use Rattle.pairs.specs.StrongDelay.{decideStrongDelay}
-use Rattle.pairs.specs.Order.{decideOrder}
-use Rattle.spans.specs.Repeat.{decideRepeat}
-use Rattle.points.specs.Sporadic.{decideSporadic}
-use Rattle.groups.specs.StrongSynchronization.{decideStrongSynchronization}
-use Rattle.phases.specs.ExecutionTime.{decideExecutionTime}
-use Rattle.chains.specs.Reaction.{decideReaction}
-use Rattle.repetition.specs.Repetition.{decideRepetition}
+use Rattle.machine.specs.Machine.{Machine, noMachine}
 use Rattle.row.specs.declared.Occurrence.{Occurrence}
 use Rattle.row.specs.declared.Row.{Row}
 use Rattle.row.specs.declared.RowStep.{RowStep}
+-- Made by release/row-types.py.
+use Rattle.pairs.specs.Delay.{machineDelay}
+use Rattle.pairs.specs.StrongDelay.{machineStrongDelay}
+use Rattle.spans.specs.Repeat.{machineRepeat}
+use Rattle.points.specs.Sporadic.{machineSporadic}
+use Rattle.pairs.specs.Order.{machineOrder}
+use Rattle.groups.specs.StrongSynchronization.{machineStrongSynchronization}
+use Rattle.phases.specs.ExecutionTime.{machineExecutionTime}
+use Rattle.chains.specs.Reaction.{machineReaction}
+use Rattle.repetition.specs.Repetition.{machineRepetition}
+use Rattle.groups.specs.Synchronization.{machineSynchronization}
 
--- a number that is no type's: the row breaks at its first event
-abbrev pub decideNone : Marks → List ℕ → ℕ → ℕ → Change
-decideNone marks times s t = breaking
+-- the machines by the numbers of their types; 0 is no type's
+abbrev pub machines : List Machine
+machines =
+    noMachine
+    ∷ machineDelay
+    ∷ machineStrongDelay
+    ∷ machineRepeat
+    ∷ machineSporadic
+    ∷ machineRepeat
+    ∷ machineOrder
+    ∷ machineStrongSynchronization
+    ∷ machineExecutionTime
+    ∷ machineReaction
+    ∷ machineRepetition
+    ∷ machineSynchronization
+    ∷ []
+
+-- a row of a number that is no type's breaks at its first event
+abbrev pub machineOf : ℕ → Machine
+machineOf form = getD machines form noMachine
 
 -- what an event of one of the row's streams makes of it, by the number of its type, the clock not being past its due time
 abbrev pub decide : Rule → Marks → List ℕ → ℕ → ℕ → Change
-decide rule =
-    cond (eqb (rule .form) 1) (decideDelay rule)
-    (cond (eqb (rule .form) 2) (decideStrongDelay rule)
-    (cond (eqb (rule .form) 3 || eqb (rule .form) 5) (decideRepeat rule)
-    (cond (eqb (rule .form) 4) (decideSporadic rule)
-    (cond (eqb (rule .form) 6) (decideOrder rule)
-    (cond (eqb (rule .form) 7) (decideStrongSynchronization rule)
-    (cond (eqb (rule .form) 8) (decideExecutionTime rule)
-    (cond (eqb (rule .form) 9) (decideReaction rule)
-    (cond (eqb (rule .form) 10) (decideRepetition rule)
-    decideNone))))))))
+decide rule = machineOf (rule .form) .decide rule
 
 -- the event is of one of the row's kinds
 abbrev pub concerns : Rule → ℕ → Bool

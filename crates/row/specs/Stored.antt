@@ -1,7 +1,7 @@
 -- A row where it lies: the words that it is, with what is kept of it, and what a step, a withdrawal and a fresh start make of them.
 use Prim.Native.Nat.{ℕ, _-_, min}
 use mathlib.Core.Path.{_≡_}
-use mathlib.Core.Bool.{cond, _||_}
+use mathlib.Core.Bool.{cond}
 use mathlib.Core.List.{List}
 use lib.ListN.{getD}
 use lib.Dec.{eqb, ltb}
@@ -10,11 +10,11 @@ use Rattle.machine.specs.Parts.{noMarks}
 use Rattle.machine.specs.declared.Marks.{Marks}
 use Rattle.machine.specs.declared.Rule.{Rule}
 use Rattle.machine.specs.declared.State.{State}
-use Rattle.machine.specs.Words.{Past, rowWords, marksAt, changedWords, noneKept, lastKept, firstThreeKept, countsKept}
+use Rattle.machine.specs.Words.{Past, rowWords, marksAt, changedWords}
 use Rattle.row.specs.declared.Before.{Before}
 use Rattle.row.specs.declared.Occurrence.{Occurrence}
 use Rattle.row.specs.declared.Row.{Row}
-use Rattle.row.specs.Machine.{decide, concerns, rowFrom, eventAt}
+use Rattle.row.specs.Machine.{machineOf, decide, concerns, rowFrom, eventAt}
 use Rattle.row.specs.Undo.{noBefore, savedAt}
 use Rattle.row.specs.Apart.{endsBy, endedState, changeBy, heardRow, writesAt, heardBefore}
 
@@ -46,17 +46,7 @@ eventSaves o number r b = cond (eqb (r .now .broken) 0) (heardBefore r o number)
 
 -- the marks of the past, by the number of the type: those that it keeps are the state's
 abbrev pub keptMarks : ℕ → Marks → Marks → Marks
-keptMarks form =
-    cond (eqb form 1) lastKept
-    (cond (eqb form 2) lastKept
-    (cond (eqb form 3 || eqb form 5) lastKept
-    (cond (eqb form 4) firstThreeKept
-    (cond (eqb form 6) firstThreeKept
-    (cond (eqb form 7) countsKept
-    (cond (eqb form 8) firstThreeKept
-    (cond (eqb form 9) noneKept
-    (cond (eqb form 10) noneKept
-    noneKept))))))))
+keptMarks form = machineOf form .keeps
 
 -- what is kept of a row that goes on, by an event that writes at a place
 abbrev pub keptAtPlace : Row → Before → ℕ → ℕ → Before
@@ -113,22 +103,8 @@ stepKeeps o number r b =
 -- ---- how full it is
 
 -- how many of its 64 places are taken in a row of a type and a span that keeps so many times: none where no event can let too many wait
-abbrev pub beyond : ℕ → ℕ → ℕ → ℕ
-beyond limit span taken = cond (ltb limit span) taken 0
-
--- two more words find no room where 63 are kept
-abbrev pub filledInTwos : ℕ → ℕ
-filledInTwos len = cond (ltb len 63) len 64
-
 abbrev pub filledBy : ℕ → ℕ → ℕ → ℕ
-filledBy form span len =
-    cond (eqb form 1) len
-    (cond (eqb form 2) len
-    (cond (eqb form 7) len
-    (cond (eqb form 3) (beyond 64 span len)
-    (cond (eqb form 5) (beyond 64 span len)
-    (cond (eqb form 10) (beyond 31 span (filledInTwos len))
-    0)))))
+filledBy form = machineOf form .taken
 
 -- now, or before its last step: the larger number
 abbrev pub larger : ℕ → ℕ → ℕ

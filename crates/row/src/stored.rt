@@ -3,10 +3,8 @@ use crate::Before;
 use crate::Occurrence;
 use crate::Row;
 use crate::concerns;
-use chains::reaction;
 use constraint::Constraint;
 use constraint::WAITING_LIMIT;
-use groups::strong_synchronization;
 use machine::Marks;
 use machine::Rule;
 use machine::State;
@@ -14,15 +12,20 @@ use machine::parts::smaller;
 use machine::words;
 use machine::words::marks_at;
 use machine::words::rule_at;
+use queue::SIZE;
+use queue::minus;
+use queue::put_back;
+// Made by release/row-types.py.
+use chains::reaction;
+use groups::strong_synchronization;
+use groups::synchronization;
 use pairs::delay;
 use pairs::order;
 use pairs::strong_delay;
 use phases::execution_time;
 use points::sporadic;
-use queue::SIZE;
-use queue::minus;
-use queue::put_back;
 use spans::repeat;
+// End of what is made.
 ghost use Prim.Native.Nat.{ℕ};
 ghost use mathlib.Core.Path.{_≡_};
 ghost use lib.ListN.{replicate};
@@ -35,7 +38,7 @@ ghost use Rattle.row.specs.Machine.{eventAt, rowOf, rowStep};
 ghost use Rattle.row.specs.declared.Before.{Before};
 ghost use Rattle.row.specs.declared.Row.{Row};
 ghost use Rattle.row.specs.Stored.{pastOf, wordsOf, eventRow, eventKeeps, endedRow, endedSaves, stepKeeps, Changes};
-ghost use Rattle.row.specs.Stored.{larger, beyond, filledInTwos, filledBy, filledIn, roomIn, Becomes, stateAt, nothing};
+ghost use Rattle.row.specs.Stored.{larger, filledBy, filledIn, roomIn, Becomes, stateAt, nothing};
 
 // A row with fewer waiting has room for two more words.
 const ROOMY: usize = WAITING_LIMIT - 1;
@@ -60,15 +63,17 @@ fn change(row: &mut [[u64; SIZE]; 2], stream: u64, t: u64, number: u64)
 {
     let form = row[1][words::FORM];
     match form {
+        // Made by release/row-types.py, to the end of the list.
         1 => delay::apply(row, stream, t, number),
         2 => strong_delay::apply(row, stream, t, number),
-        3 | 5 => repeat::apply(row, t, number),
-        4 => sporadic::apply(row, t, number),
+        3 | 5 => repeat::apply(row, stream, t, number),
+        4 => sporadic::apply(row, stream, t, number),
         6 => order::apply(row, stream, t, number),
         7 => strong_synchronization::apply(row, stream, t, number),
         8 => execution_time::apply(row, stream, t, number),
         9 => reaction::apply(row, stream, t, number),
-        10 => repetition::apply(row, t, number),
+        10 => repetition::apply(row, stream, t, number),
+        11 => synchronization::apply(row, stream, t, number),
         _ => words::break_at(row, number),
     }
 }
@@ -263,15 +268,17 @@ fn fills(w: &[u64; SIZE], stream: u64, t: u64) -> bool
 {
     let form = w[words::FORM];
     match form {
+        // Made by release/row-types.py, to the end of the list.
         1 => delay::fills(w, stream, t),
-        2 => strong_delay::fills(w, stream),
-        3 | 5 => repeat::fills(w, t),
+        2 => strong_delay::fills(w, stream, t),
+        3 | 5 => repeat::fills(w, stream, t),
         4 => false,
         6 => false,
-        7 => strong_synchronization::fills(w, stream),
+        7 => strong_synchronization::fills(w, stream, t),
         8 => false,
         9 => false,
-        10 => repetition::fills(w),
+        10 => repetition::fills(w, stream, t),
+        11 => false,
         _ => false,
     }
 }
@@ -340,43 +347,24 @@ pub fn larger(a: u64, b: u64) -> u64
     if a < b { b } else { a }
 }
 
-// A number where the span is beyond a limit, else 0.
-fn beyond(limit: u64, span: u64, taken: u64) -> u64
-    ensures { λ r. ⌜ r ≡ beyond limit span taken ⌝ }
-{
-    if limit < span { taken } else { 0 }
-}
-
-// The same where words come in twos.
-fn filled_in_twos(len: u64) -> u64
-    ensures { λ r. ⌜ r ≡ filledInTwos len ⌝ }
-{
-    if len < 63 { len } else { 64 }
-}
-
 // How many places are taken in a row of a type and a span that keeps so many times.
 fn filled_by(form: u64, span: u64, len: u64) -> u64
     ensures { λ r. ⌜ r ≡ filledBy form span len ⌝ }
 {
-    if form == 1 {
-        return len;
+    match form {
+        // Made by release/row-types.py, to the end of the list.
+        1 => len,
+        2 => len,
+        3 | 5 => repeat::taken(span, len),
+        4 => 0,
+        6 => 0,
+        7 => len,
+        8 => 0,
+        9 => 0,
+        10 => repetition::taken(span, len),
+        11 => 0,
+        _ => 0,
     }
-    if form == 2 {
-        return len;
-    }
-    if form == 7 {
-        return len;
-    }
-    if form == 3 {
-        return beyond(64, span, len);
-    }
-    if form == 5 {
-        return beyond(64, span, len);
-    }
-    if form == 10 {
-        return beyond(31, span, filled_in_twos(len));
-    }
-    0
 }
 
 // How many places are taken in the row, now or before its last step.

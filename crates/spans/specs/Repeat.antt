@@ -11,6 +11,8 @@ use Rattle.machine.specs.Parts.{plus, farEnough, withLast, continuesWith, break
 use Rattle.machine.specs.declared.Rule.{Rule}
 use Rattle.machine.specs.declared.Marks.{Marks}
 use Rattle.machine.specs.declared.Change.{Change}
+use Rattle.machine.specs.Words.{lastKept}
+use Rattle.machine.specs.Machine.{Machine}
 
 -- t is at least lower after the first of span events before it, where there are so many
 abbrev pub spanReached : Rule → List ℕ → ℕ → Bool
@@ -34,3 +36,10 @@ decideRepeat rule marks times kind t =
     cond (farEnough (rule .minimum) (marks .last) t && spanReached rule times t)
     (continuesWith (Push (leaving rule (length times)) t) (withLast marks (plus t 1)) (dueWith rule times t) true)
     breaking
+
+-- a place is taken for each time where the span is longer than there are places, else none
+abbrev pub takenRepeat : ℕ → ℕ → ℕ
+takenRepeat span len = cond (ltb 64 span) len 0
+
+abbrev pub machineRepeat : Machine
+machineRepeat = record { keeps = lastKept; decide = decideRepeat; fills = fillsRepeat; taken = takenRepeat }

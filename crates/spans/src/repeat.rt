@@ -4,13 +4,12 @@ use machine::parts;
 use machine::words;
 use queue::SIZE;
 ghost use mathlib.Core.Path.{_≡_};
-ghost use Prim.Native.Nat.{ℕ};
 ghost use Rattle.machine.specs.Words.{askedOf, lastKept, Applies};
-ghost use Rattle.spans.specs.Repeat.{fillsRepeat, decideRepeat};
+ghost use Rattle.spans.specs.Repeat.{fillsRepeat, takenRepeat, decideRepeat};
 
 // What an event makes of the row, where it lies.
-pub fn apply(row: &mut [[u64; SIZE]; 2], t: u64, number: u64)
-    ensures { λ _. ⌜ ((stream : ℕ) → Applies lastKept decideRepeat (now (row .entry)) stream t number (now (row .exit))) ⌝ }
+pub fn apply(row: &mut [[u64; SIZE]; 2], stream: u64, t: u64, number: u64)
+    ensures { λ _. ⌜ Applies lastKept decideRepeat (now (row .entry)) stream t number (now (row .exit)) ⌝ }
 {
     if !parts::far_enough(row[1][words::MINIMUM], row[1][words::LAST], t) {
         words::break_at(row, number);
@@ -33,8 +32,8 @@ pub fn apply(row: &mut [[u64; SIZE]; 2], t: u64, number: u64)
 }
 
 // Whether an event lets one more be kept, where there is no room.
-pub fn fills(w: &[u64; SIZE], t: u64) -> bool
-    ensures { λ r. ⌜ ((kind : ℕ) → r ≡ askedOf fillsRepeat (now (w .entry)) kind t) ⌝ }
+pub fn fills(w: &[u64; SIZE], stream: u64, t: u64) -> bool
+    ensures { λ r. ⌜ r ≡ askedOf fillsRepeat (now (w .entry)) stream t ⌝ }
 {
     if w[words::SPAN] <= w[words::LEN] {
         return false;
@@ -43,4 +42,11 @@ pub fn fills(w: &[u64; SIZE], t: u64) -> bool
         return false;
     }
     parts::far_enough(w[words::MINIMUM], w[words::LAST], t)
+}
+
+// How many places are taken where so many times are kept: none where the span is not longer than there are places.
+pub fn taken(span: u64, len: u64) -> u64
+    ensures { λ r. ⌜ r ≡ takenRepeat span len ⌝ }
+{
+    if (SIZE as u64) < span { len } else { 0 }
 }

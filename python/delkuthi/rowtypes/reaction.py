@@ -122,7 +122,7 @@ TYPE = RowType(
         second `ask/1` finds the answer to the first, which came long before it. Give each request a colour of its own, 0 to 7, or
         take a Delay or a StrongDelay, where each request has its own answer.""",
     measures="latency: from each stimulus to the first response of its colour in the whole recording", each="each stimulus",
-    reason=reason, windows=windows, measuring=Reactions, instance=("stimulus", 0),
+    reason=reason, windows=windows, measuring=Reactions, instance=("stimulus", 0), words=16,
     example=("chain", "ask -> answer, 3 ms .. 8 ms",
              {"ask": "10/1 30/2 60/1", "answer": "15/1 36/2 66/1"}),
 )

@@ -1,10 +1,10 @@
 -- A Reaction is exact: the colours do not disturb each other, and where each that waits still has a time left, the one with the first last
 -- moment can be answered then, which leaves one fewer that waits.
 use Rattle.constraint.proofs.Library.{ℕ, zero, suc, _+_, _-_, _*_, _%_, _≤_, _<_, decLt, ℕ-discrete, arith, _≡_, refl, sym, ap, _∙_, subst, subst₂}
-use Rattle.constraint.proofs.Library.{Bool, true, false, cond, List, [], _∷_, _++_, append-assoc, by-cases, length, replicate, eqb, eqb-true}
+use Rattle.constraint.proofs.Library.{Bool, true, false, cond, List, [], _∷_, _++_, append-assoc, by-cases, length, replicate, eqb, eqb-true, getD}
 use Rattle.constraint.proofs.Library.{eqb-false, eq-eqb, ne-eqb}
 use Rattle.constraint.specs.Limits.{lastKind, firstColoured, lastColour, lastTime, noLimit}
-use Rattle.constraint.specs.Streams.{stream}
+use Rattle.constraint.specs.Streams.{stream, kindOf}
 use Rattle.constraint.proofs.Streams.{colours, streams}
 use Rattle.constraint.specs.Steps.{Step, event, tick, at, times, own, clock, closed}
 use Rattle.constraint.specs.Meets.{Meets, MeetsReaction}
@@ -23,9 +23,11 @@ use Rattle.machine.specs.Parts.{continuesWith, breaking}
 use Rattle.queue.specs.declared.Edit.the-variants.{Store}
 use Rattle.machine.specs.declared.Marks.{Marks}
 use Rattle.machine.specs.declared.Rule.{Rule}
+use Rattle.machine.specs.Words.{noneKept}
 use Rattle.machine.proofs.Exact.{Sound, OfStream, Starts, GoesOn, ByOutcome, Exact}
 use Rattle.machine.proofs.SeveralKinds.{kinds-small, kinds-apart, by-place}
-use Rattle.chains.specs.Reaction.{latest, dueBut, afterStimulus, afterResponse, paired, decideReaction}
+use Rattle.machine.proofs.FitsRow.{FitsRow, Steady, keeping-none, steady-by, steady-breaking, steady-store, fits-steady}
+use Rattle.chains.specs.Reaction.{latest, dueBut, afterStimulus, afterResponse, paired, decideReaction, machineReaction}
 use Rattle.chains.specs.declared.reaction.Pair.{Pair}
 use Rattle.chains.proofs.Laws.Words.{lowOf, highOf, stored, dueOf, stored-whole, stored-low, stored-high, other-low, other-high}
 use Rattle.chains.proofs.Laws.Words.{due-stored, due-least, due-found, due-above, due-limit, waitingIn, waiting-few, waiting-fewer}
@@ -371,3 +373,19 @@ module _ (stimulus response minimum maximum : ℕ) (sound : Sound (Reaction stim
         is-kept = λ past live soon k. kept-met _ _ live k;
         not-kept = λ past live k. unkept-missed _ _ live k;
       }
+
+-- ---- In a row
+
+-- whatever the words of the event's colour become, they stand where they stood, and no mark changes
+steady-reaction : (rule : Rule) (m : Marks) (words : List ℕ) (s t : ℕ) → Steady noneKept m words (decideReaction rule m words s t)
+unfolding decideReaction
+steady-reaction rule m words s t =
+    let low = getD words (2 * (s % 8)) 0 in
+    let high = getD words (2 * (s % 8) + 1) 0 in
+    stored (cond (eqb (kindOf s) (rule .first)) (afterStimulus (rule .lower) (rule .upper) low high t) (afterResponse low high t))
+  where
+    stored : (pair : Pair) → Steady noneKept m words (paired m words (s % 8) pair)
+    stored pair = steady-by (pair .breaks) (steady-breaking keeping-none) (steady-store (2 * (s % 8)) (pair .low) (pair .high) (λ e. e))
+
+pub fitsReaction : FitsRow machineReaction
+fitsReaction = fits-steady keeping-none steady-reaction

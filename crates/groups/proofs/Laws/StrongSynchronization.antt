@@ -1,7 +1,8 @@
 -- StrongSynchronization: the first times of the groups begun and not complete, and each kind's count of them, are enough, since an event goes
 -- to the first group that lacks its kind and the oldest group is due first.
-use Rattle.constraint.proofs.Library.{ℕ, _≤_, _<_, arith, _≡_, refl, sym, _∙_, true, false, false≢true, List, [], _∷_, _++_}
-use Rattle.constraint.specs.Limits.{lastTime}
+use Rattle.constraint.proofs.Library.{ℕ, _≤_, _<_, arith, _≡_, refl, sym, _∙_, true, false, false≢true, List, [], _∷_, _++_, ap, cond, length}
+use Rattle.constraint.proofs.Library.{ltb}
+use Rattle.constraint.specs.Limits.{lastTime, waitingLimit}
 use Rattle.constraint.specs.Steps.{Step, event, tick, at, own, clock, closed}
 use Rattle.constraint.specs.Meets.{Meets, MeetsStrongSynchronization}
 use Rattle.constraint.specs.Continuation.{Open}
@@ -12,13 +13,20 @@ use Rattle.constraint.specs.declared.Constraint.{Constraint}
 use Rattle.constraint.specs.declared.Constraint.the-variants.{StrongSynchronization2, StrongSynchronization3, StrongSynchronization4}
 use Rattle.constraint.proofs.History.{Accepts, Past}
 use Rattle.constraint.proofs.Continuations.{SameTimes, same-times}
+use Rattle.constraint.proofs.Lists.{split}
 use Rattle.machine.specs.Rule.{ruleOf, waitsIn, startWords}
-use Rattle.machine.specs.Parts.{dueOldest, none-left}
+use Rattle.machine.specs.Parts.{dueOldest, none-left, waits}
 use Rattle.machine.specs.declared.Marks.{Marks}
+use Rattle.machine.specs.declared.Rule.{Rule}
+use Rattle.machine.specs.declared.Change.{Change}
+use Rattle.machine.specs.Words.{countsKept}
 use Rattle.machine.proofs.Exact.{Sound, OfStream, Starts, GoesOn, ByOutcome, Exact}
 use Rattle.machine.proofs.SeveralKinds.{by-place}
 use Rattle.machine.proofs.Oldest.{due-within, due-passed}
-use Rattle.groups.specs.StrongSynchronization.{decideStrongSynchronization}
+use Rattle.machine.proofs.FitsRow.{FitsRow, Unkept, keeping-counts, places-each, crowds-of, unkept-by, calm-by, neither, dropped, pushed, free-first}
+use Rattle.queue.specs.declared.Edit.the-variants.{Drop, Push}
+use Rattle.groups.specs.StrongSynchronization.{decideStrongSynchronization, countOf, withCounts, counted, complete, withoutOldest}
+use Rattle.groups.specs.StrongSynchronization.{fillsStrongSynchronization, machineStrongSynchronization}
 use Rattle.groups.proofs.Laws.Columns.{groups-same, behind-same, groups-late, groups-meet, completes, groups-wait, groups-left-over}
 use Rattle.groups.proofs.Laws.Counts.{Names}
 use Rattle.groups.proofs.Laws.LiveGroups.{LiveGroups, due, kept, live-none, event-does}
@@ -156,3 +164,41 @@ exactStrongSynchronization4 a b c d tolerance sound =
       waits-in = refl;
       waits = λ steps. refl;
     })
+
+-- ---- In a row
+
+-- an event changes the counts alone
+unkept-strong-synchronization : (rule : Rule) (m : Marks) (times : List ℕ) (kind t : ℕ) → Unkept countsKept m
+    → Unkept countsKept (decideStrongSynchronization rule m times kind t .marks)
+unfolding decideStrongSynchronization
+unkept-strong-synchronization rule m times kind t e =
+    let now : Marks = counted rule m kind in
+    unkept-by countsKept (ltb (countOf rule m kind) (length times)) _ (waits (rule .upper) times (Push 0 t) now)
+    (unkept-by countsKept (complete rule now) (waits (rule .upper) times (Drop 1) (withoutOldest now)) (waits (rule .upper) times (Drop 0) now)
+    (ap (withCounts _ _ _ _) e) (ap (withCounts _ _ _ _) e))
+    (ap (withCounts _ _ _ _) e)
+
+crowding-strong-synchronization : (rule : Rule) (marks : Marks) (times : List ℕ) (kind t : ℕ) → 63 ≤ length times → length times ≤ 64
+    → fillsStrongSynchronization rule marks (length times) kind t ≡ crowds-of (decideStrongSynchronization rule marks times kind t) times
+unfolding fillsStrongSynchronization decideStrongSynchronization
+crowding-strong-synchronization rule marks times kind t many few =
+    let now : Marks = counted rule marks kind in
+    let full : Change = waits (rule .upper) times (Drop 1) (withoutOldest now) in
+    let part : Change = waits (rule .upper) times (Drop 0) now in
+    split (ltb (countOf rule marks kind) (length times))
+    (λ b. cond (ltb (length times) waitingLimit) false (cond b false true)
+    ≡ crowds-of (cond b (cond (complete rule now) full part) (waits (rule .upper) times (Push 0 t) now)) times)
+    (λ _. neither (ltb (length times) waitingLimit)
+    ∙ sym (calm-by times (complete rule now) full part (dropped times 1 few) (dropped times 0 few)))
+    (λ _. sym (pushed times t))
+
+pub fitsStrongSynchronization : FitsRow machineStrongSynchronization
+unfolding fillsStrongSynchronization
+fitsStrongSynchronization =
+    record {
+      keeping = keeping-counts;
+      unkept = unkept-strong-synchronization;
+      crowding = crowding-strong-synchronization;
+      room = λ rule marks n s t many free. free-first n free (cond (ltb (countOf rule marks s) n) false true);
+      places = places-each;
+    }

@@ -2,8 +2,8 @@
 -- the oldest is the first that can no longer be answered.
 use Rattle.constraint.proofs.Library.{ℕ, suc, _+_, _≤_, _<_, arith, _≡_, refl, sym, ap, _∙_, Bool, true, false, cond, _&&_, _||_, or-true, true≢false}
 use Rattle.constraint.proofs.Library.{false≢true, List, [], _∷_, _++_, append-nil, inr, ⊎-elim, length, drop, leb, eqb, leb-true, leb-false, le-leb}
-use Rattle.constraint.proofs.Library.{lt-leb, eqb-true, eq-eqb, ne-eqb}
-use Rattle.constraint.specs.Limits.{lastTime, noLimit}
+use Rattle.constraint.proofs.Library.{lt-leb, eqb-true, eq-eqb, ne-eqb, ltb}
+use Rattle.constraint.specs.Limits.{lastTime, noLimit, waitingLimit}
 use Rattle.constraint.specs.Steps.{Step, tick, at, times, clock, closed}
 use Rattle.constraint.specs.Meets.{Meets, MeetsDelay}
 use Rattle.constraint.specs.Continuation.{Open}
@@ -16,12 +16,15 @@ use Rattle.constraint.proofs.History.{Accepts, Valid, valid-more, Past, past-of
 use Rattle.queue.specs.declared.Edit.the-variants.{Drop, Push}
 use Rattle.machine.specs.Rule.{ruleOf}
 use Rattle.machine.specs.Parts.{noMarks, plus, withLast, waits, dueOldest, none-left}
+use Rattle.machine.specs.Words.{lastKept}
 use Rattle.machine.specs.declared.Rule.{Rule}
 use Rattle.machine.specs.declared.Marks.{Marks}
+use Rattle.machine.specs.declared.Change.{Change}
 use Rattle.machine.proofs.Exact.{Sound, GoesOn, ByOutcome, Exact}
+use Rattle.machine.proofs.FitsRow.{FitsRow, Unkept, keeping-last, places-each, crowds-of, unkept-by, neither, dropped, pushed, free-second}
 use Rattle.machine.proofs.TwoKinds.{UpTo, Further, Lost, TwoKinds, OfTwoKinds, target-apart, pair-open, exactTwoKinds}
 use Rattle.machine.proofs.Oldest.{due-each, due-passed, due-pushed, due-dropped}
-use Rattle.pairs.specs.Delay.{answeredBy, answeredAtOnce, decideDelay}
+use Rattle.pairs.specs.Delay.{answeredBy, answeredAtOnce, fillsDelay, decideDelay, machineDelay}
 use Rattle.pairs.proofs.Laws.Answers.{answers, answers-count, answers-between, firstFree, answers-follow, answers-from-now}
 use Rattle.pairs.proofs.Laws.Unmet.{Answered, unmet, answered-true, answered-by, unmet-sources, unmet-targets, unmet-rising}
 use Rattle.pairs.proofs.Laws.Unmet.{unmet-unanswered, unmet-count, meets-unmet, unmet-meets}
@@ -280,3 +283,40 @@ module _ (source target lower : ℕ) (sound : Sound (Delay source target lower n
       → Open (Delay source target lower noLimit) (steps ++ (tick t ∷ []))
   unlimited-delay-waits {steps} {t} v a =
       unlimited-delay-open (past-of (valid-more (tick t) v a)) (closed-tick t steps ∙ a .not-closed)
+
+-- ---- In a row
+
+-- a source changes no mark, and a target the last time alone
+unkept-delay : (rule : Rule) (m : Marks) (times : List ℕ) (kind t : ℕ) → Unkept lastKept m → Unkept lastKept (decideDelay rule m times kind t .marks)
+unfolding decideDelay
+unkept-delay rule m times kind t e =
+    unkept-by lastKept (eqb kind (rule .first))
+    (waits (rule .upper) times (cond (answeredAtOnce (rule .lower) (m .last) t) (Drop 0) (Push 0 t)) m)
+    (waits (rule .upper) times (Drop (answeredBy (rule .lower) t times)) (withLast m (plus t 1)))
+    e (ap (λ (x : Marks). withLast x (plus t 1)) e)
+
+crowding-delay : (rule : Rule) (marks : Marks) (times : List ℕ) (kind t : ℕ) → 63 ≤ length times → length times ≤ 64
+    → fillsDelay rule marks (length times) kind t ≡ crowds-of (decideDelay rule marks times kind t) times
+unfolding fillsDelay decideDelay
+crowding-delay rule marks times kind t many few =
+    let once : Bool = answeredAtOnce (rule .lower) (marks .last) t in
+    let full : Bool → Bool = λ b. cond (ltb (length times) waitingLimit) false b in
+    let target : Change = waits (rule .upper) times (Drop (answeredBy (rule .lower) t times)) (withLast marks (plus t 1)) in
+    split (eqb kind (rule .first))
+    (λ a. cond a (full (cond once false true)) false
+    ≡ crowds-of (cond a (waits (rule .upper) times (cond once (Drop 0) (Push 0 t)) marks) target) times)
+    (λ _. split once
+    (λ b. full (cond b false true) ≡ crowds-of (waits (rule .upper) times (cond b (Drop 0) (Push 0 t)) marks) times)
+    (λ _. neither (ltb (length times) waitingLimit) ∙ sym (dropped times 0 few)) (λ _. sym (pushed times t)))
+    (λ _. sym (dropped times (answeredBy (rule .lower) t times) few))
+
+pub fitsDelay : FitsRow machineDelay
+unfolding fillsDelay
+fitsDelay =
+    record {
+      keeping = keeping-last;
+      unkept = unkept-delay;
+      crowding = crowding-delay;
+      room = λ rule marks n s t many free. free-second n free (eqb s (rule .first)) (cond (answeredAtOnce (rule .lower) (marks .last) t) false true);
+      places = places-each;
+    }

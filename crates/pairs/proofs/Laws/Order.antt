@@ -9,12 +9,14 @@ use Rattle.constraint.specs.declared.Constraint.the-variants.{Order}
 use Rattle.constraint.proofs.Lists.{split, both, Each, each-right, Rising, rising-by}
 use Rattle.machine.specs.Rule.{ruleOf}
 use Rattle.queue.specs.declared.Edit.the-variants.{Drop}
-use Rattle.machine.specs.Parts.{noMarks, plus, earlyOf, withLast, continuesWith}
+use Rattle.machine.specs.Parts.{noMarks, plus, earlyOf, withLast, continuesWith, marksOf}
 use Rattle.machine.specs.declared.Rule.{Rule}
 use Rattle.machine.specs.declared.Marks.{Marks}
+use Rattle.machine.specs.Words.{firstThreeKept}
 use Rattle.machine.proofs.Exact.{Sound, GoesOn, ByOutcome, Exact}
 use Rattle.machine.proofs.TwoKinds.{UpTo, Further, Lost, TwoKinds, target-apart, exactTwoKinds}
-use Rattle.pairs.specs.Order.{aheadOf, withAhead, changesTo, decideOrder}
+use Rattle.machine.proofs.FitsRow.{FitsRow, Steady, keeping-first-three, steady-by, steady-drop, fits-steady}
+use Rattle.pairs.specs.Order.{aheadOf, withAhead, changesTo, decideOrder, machineOrder}
 use Rattle.pairs.proofs.Laws.Answers.{firstFree}
 use Rattle.pairs.proofs.Laws.Paired.{Paired, Ahead, Pairing, dueEarly, due-ahead, due-beyond, pairing-start, beyond-each, source-waits}
 use Rattle.pairs.proofs.Laws.Paired.{source-partners, target-partners, target-beyond, beyond-late, beyond-open, ahead-open, ahead-count}
@@ -194,3 +196,21 @@ module _ (source target : ℕ) (sound : Sound (Order source target)) where
         waiting-is = λ steps. refl;
       })
       (decideOrder rule) order-laws
+
+-- ---- In a row
+
+-- no times are kept, and an event changes two marks
+steady-to : (last first : ℕ) (m : Marks) (times : List ℕ) → Steady firstThreeKept m times (changesTo (marksOf last first (m .second) m))
+unfolding changesTo
+steady-to last first m times =
+    steady-by (eqb last 0) (steady-drop 0 (ap (marksOf last first (m .second)))) (steady-drop 0 (ap (marksOf last first (m .second))))
+
+steady-order : (rule : Rule) (m : Marks) (times : List ℕ) (kind t : ℕ) → Steady firstThreeKept m times (decideOrder rule m times kind t)
+unfolding decideOrder
+steady-order rule m times kind t =
+    steady-by (eqb kind (rule .first))
+    (steady-by (eqb (earlyOf m) 0) (steady-to (m .last) (plus (aheadOf m) 1) m times) (steady-to 0 (m .first) m times))
+    (steady-by (eqb (aheadOf m) 0) (steady-to (plus t 1) (m .first) m times) (steady-to (m .last) (aheadOf m - 1) m times))
+
+pub fitsOrder : FitsRow machineOrder
+fitsOrder = fits-steady keeping-first-three steady-order

@@ -1,8 +1,8 @@
 -- StrongDelay is exact: the times that it keeps are just the sources beyond the number of targets, each pair is tested when its second event
 -- comes, and the oldest source that waits is the first that can no longer get its target.
 use Rattle.constraint.proofs.Library.{ℕ, _+_, _-_, _≤_, _<_, arith, _≡_, refl, subst, Bool, true, false, cond, _&&_, false≢true, List, [], _∷_, _++_}
-use Rattle.constraint.proofs.Library.{_⊎_, inl, inr, length, leb, eqb, leb-true, leb-false, eqb-true, eqb-false, eq-eqb, ne-eqb}
-use Rattle.constraint.specs.Limits.{lastTime}
+use Rattle.constraint.proofs.Library.{_⊎_, inl, inr, length, leb, eqb, leb-true, leb-false, eqb-true, eqb-false, eq-eqb, ne-eqb, sym, ap, _∙_, ltb}
+use Rattle.constraint.specs.Limits.{lastTime, waitingLimit}
 use Rattle.constraint.specs.Steps.{at}
 use Rattle.constraint.specs.Meets.{Between, Meets, MeetsStrongDelay}
 use Rattle.constraint.specs.Waiting.{waiting}
@@ -12,13 +12,16 @@ use Rattle.constraint.proofs.Lists.{split, both, Each, Rising, rising-across}
 use Rattle.constraint.proofs.Counting.{next-least}
 use Rattle.queue.specs.declared.Edit.the-variants.{Drop, Push}
 use Rattle.machine.specs.Rule.{ruleOf}
-use Rattle.machine.specs.Parts.{noMarks, plus, earlyOf, withLast, continuesWith, breaking, waits, dueOldest, none-left}
+use Rattle.machine.specs.Parts.{noMarks, plus, earlyOf, withLast, continuesWith, breaking, waits, dueOldest, none-left, front}
 use Rattle.machine.specs.declared.Rule.{Rule}
 use Rattle.machine.specs.declared.Marks.{Marks}
+use Rattle.machine.specs.Words.{lastKept}
 use Rattle.machine.proofs.Exact.{Sound, GoesOn, ByOutcome, Exact}
 use Rattle.machine.proofs.TwoKinds.{UpTo, Further, Lost, TwoKinds, target-apart, exactTwoKinds}
 use Rattle.machine.proofs.Oldest.{due-each, due-pushed, due-dropped}
-use Rattle.pairs.specs.StrongDelay.{sourceStrongDelay, targetStrongDelay, decideStrongDelay}
+use Rattle.machine.proofs.FitsRow.{FitsRow, Unkept, keeping-last, places-each, crowds-of, unkept-by, Calm, calm-by, neither, dropped, pushed}
+use Rattle.machine.proofs.FitsRow.{free-second}
+use Rattle.pairs.specs.StrongDelay.{sourceStrongDelay, targetStrongDelay, decideStrongDelay, fillsStrongDelay, machineStrongDelay}
 use Rattle.pairs.proofs.Laws.Paired.{Paired, Ahead, Pairing, dueEarly, due-ahead, due-beyond, pairing-start, beyond-each}
 use Rattle.pairs.proofs.Laws.Paired.{source-waits, source-partners, target-partners, target-beyond, target-misfits, ahead-rising}
 use Rattle.pairs.proofs.Laws.Paired.{waiting-late, beyond-late, beyond-misfits, beyond-open, ahead-open, pairing-waits, pairing-paired}
@@ -219,3 +222,50 @@ module _ (source target lower upper : ℕ) (sound : Sound (StrongDelay source ta
         waiting-is = λ steps. refl;
       })
       (decideStrongDelay rule) strong-delay-laws
+
+-- ---- In a row
+
+-- a target beyond is marked with its time, and a source takes the mark away
+unkept-strong-delay : (rule : Rule) (m : Marks) (times : List ℕ) (kind t : ℕ) → Unkept lastKept m
+    → Unkept lastKept (decideStrongDelay rule m times kind t .marks)
+unfolding decideStrongDelay sourceStrongDelay targetStrongDelay
+unkept-strong-delay rule m times kind t e =
+    unkept-by lastKept (eqb kind (rule .first)) (sourceStrongDelay rule m times t) (targetStrongDelay rule m times t)
+    (ap (λ (x : Marks). withLast x 0) e)
+    (unkept-by lastKept (none-left times) _ _
+    (unkept-by lastKept (eqb (rule .lower) 0) (continuesWith (Drop 0) (withLast m (plus t 1)) t false) breaking
+    (ap (λ (x : Marks). withLast x (plus t 1)) e) refl)
+    (unkept-by lastKept (leb (front times + rule .lower) t) (waits (rule .upper) times (Drop 1) m) breaking e refl))
+
+target-calm : (rule : Rule) (marks : Marks) (times : List ℕ) (t : ℕ) → length times ≤ 64 → Calm times (targetStrongDelay rule marks times t)
+unfolding targetStrongDelay
+target-calm rule marks times t few =
+    calm-by times (none-left times) (cond (eqb (rule .lower) 0) (continuesWith (Drop 0) (withLast marks (plus t 1)) t false) breaking)
+    (cond (leb (front times + rule .lower) t) (waits (rule .upper) times (Drop 1) marks) breaking)
+    (calm-by times (eqb (rule .lower) 0) (continuesWith (Drop 0) (withLast marks (plus t 1)) t false) breaking (dropped times 0 few) refl)
+    (calm-by times (leb (front times + rule .lower) t) (waits (rule .upper) times (Drop 1) marks) breaking (dropped times 1 few) refl)
+
+crowding-strong-delay : (rule : Rule) (marks : Marks) (times : List ℕ) (kind t : ℕ) → 63 ≤ length times → length times ≤ 64
+    → fillsStrongDelay rule marks (length times) kind t ≡ crowds-of (decideStrongDelay rule marks times kind t) times
+unfolding fillsStrongDelay decideStrongDelay sourceStrongDelay
+crowding-strong-delay rule marks times kind t many few =
+    let full : Bool → Bool = λ b. cond (ltb (length times) waitingLimit) false b in
+    split (eqb kind (rule .first))
+    (λ a. cond a (full (eqb (earlyOf marks) 0)) false
+    ≡ crowds-of (cond a (waits (rule .upper) times (cond (eqb (earlyOf marks) 0) (Push 0 t) (Drop 0)) (withLast marks 0))
+    (targetStrongDelay rule marks times t)) times)
+    (λ _. split (eqb (earlyOf marks) 0)
+    (λ b. full b ≡ crowds-of (waits (rule .upper) times (cond b (Push 0 t) (Drop 0)) (withLast marks 0)) times)
+    (λ _. sym (pushed times t)) (λ _. neither (ltb (length times) waitingLimit) ∙ sym (dropped times 0 few)))
+    (λ _. sym (target-calm rule marks times t few))
+
+pub fitsStrongDelay : FitsRow machineStrongDelay
+unfolding fillsStrongDelay
+fitsStrongDelay =
+    record {
+      keeping = keeping-last;
+      unkept = unkept-strong-delay;
+      crowding = crowding-strong-delay;
+      room = λ rule marks n s t many free. free-second n free (eqb s (rule .first)) (eqb (earlyOf marks) 0);
+      places = places-each;
+    }

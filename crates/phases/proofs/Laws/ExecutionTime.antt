@@ -2,6 +2,7 @@
 -- time, and while some time is left to run the shortest way out is a stop, after a resume where it is preempted.
 use Rattle.constraint.proofs.Library.{ℕ, _+_, _-_, _≤_, _<_, max, arith, _≡_, refl, sym, ap, _∙_, subst, Bool, true, false, cond, List, [], _∷_, _++_}
 use Rattle.constraint.proofs.Library.{append-nil, append-assoc, _↔_, inl, inr, length, ltb, eqb, eqb-true, eqb-false, ne-eqb, ltb-true, ltb-false}
+use Rattle.constraint.proofs.Library.{_&&_, leb}
 use Rattle.constraint.specs.Limits.{streamCount, lastTime, noLimit}
 use Rattle.constraint.specs.Steps.{Step, event, at, among, own, clock, closed}
 use Rattle.constraint.specs.Meets.{Meets}
@@ -14,14 +15,17 @@ use Rattle.constraint.proofs.Lists.{split, both}
 use Rattle.constraint.proofs.History.{Accepts, own-append, own-tick, clock-tick}
 use Rattle.constraint.proofs.Streams.{among-at}
 use Rattle.machine.specs.Rule.{ruleOf}
-use Rattle.machine.specs.Parts.{plus, breaking}
+use Rattle.machine.specs.Parts.{plus, breaking, marksOf, continuesWith}
 use Rattle.machine.specs.declared.Rule.{Rule}
 use Rattle.machine.specs.declared.Marks.{Marks}
 use Rattle.machine.specs.declared.Change.{Change}
+use Rattle.machine.specs.Words.{firstThreeKept}
 use Rattle.machine.proofs.Exact.{Sound, GoesOn, ByOutcome, outcome-map, Exact}
 use Rattle.machine.proofs.Tests.{Tells, holds, fails, tells-leb, tells-same, tells-and}
 use Rattle.machine.proofs.SeveralKinds.{kinds-stream, kinds-apart, by-place}
-use Rattle.phases.specs.ExecutionTime.{phaseOf, ranOf, ranTo, inPhase, idleFrom, runningFrom, preemptedFrom}
+use Rattle.machine.proofs.FitsRow.{FitsRow, Steady, keeping-first-three, steady-by, steady-breaking, steady-drop, fits-steady}
+use Rattle.queue.specs.declared.Edit.the-variants.{Drop}
+use Rattle.phases.specs.ExecutionTime.{phaseOf, ranOf, ranTo, inPhase, idleFrom, runningFrom, preemptedFrom, machineExecutionTime}
 use Rattle.phases.specs.ExecutionTime.{whileIdle, whileRunning, whilePreempted, decideExecutionTime}
 use Rattle.phases.proofs.Laws.Executions.{Phase, idle, runs, waits, ranBy, RisesFrom}
 use Rattle.phases.proofs.Laws.Executions as E
@@ -376,3 +380,26 @@ module _ (start stop preempt resume lower upper : ℕ) (sound : Sound (Execution
         is-kept = λ p live soon e. meets-of _ (told (at-close _ _ _ live) e);
         not-kept = λ p live e m. told-not (at-close _ _ _ live) e (of-meets _ m);
       }
+
+-- ---- In a row
+
+-- no times are kept, and an event that the row goes on with changes three marks
+steady-execution-time : (rule : Rule) (m : Marks) (times : List ℕ) (kind t : ℕ)
+    → Steady firstThreeKept m times (decideExecutionTime rule m times kind t)
+unfolding decideExecutionTime whileIdle whileRunning whilePreempted
+steady-execution-time rule m times kind t =
+    steady-by (ltb t (m .last)) breaks
+    (steady-by (eqb (phaseOf m) 0) (steady-by (eqb kind (rule .first) && ltb 0 (rule .upper)) (enters 1 0) breaks)
+    (steady-by (eqb (phaseOf m) 1)
+    (steady-by (eqb kind (rule .second) && leb (rule .lower) (ranTo m t)) (enters 0 0)
+    (steady-by (eqb kind (rule .third) && ltb (ranTo m t) (rule .upper)) (enters 2 (ranTo m t)) breaks))
+    (steady-by (eqb kind (rule .fourth)) (enters 1 (ranOf m)) breaks)))
+  where
+    breaks : Steady firstThreeKept m times breaking
+    breaks = steady-breaking keeping-first-three
+
+    enters : (phase ran : ℕ) {due : ℕ} {kept : Bool} → Steady firstThreeKept m times (continuesWith (Drop 0) (inPhase m phase t ran) due kept)
+    enters phase ran = steady-drop 0 (ap (marksOf (plus t 1) phase ran))
+
+pub fitsExecutionTime : FitsRow machineExecutionTime
+fitsExecutionTime = fits-steady keeping-first-three steady-execution-time

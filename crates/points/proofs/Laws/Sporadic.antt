@@ -2,7 +2,7 @@
 -- the last one before it, so the machine's test tells whether an event has a point; and the latest place allows the latest clock.
 use Rattle.constraint.proofs.Library.{ℕ, _+_, _-_, _≤_, _<_, min, arith, decLt, _≡_, refl, sym, ap, subst, _∙_, Bool, cond, List, [], _∷_, _++_, _⊎_}
 use Rattle.constraint.proofs.Library.{inl, inr, _↔_, ⊎-elim, by-cases, length, take, length-append, length-take, getD-take, eqb, eqb-true, eqb-false}
-use Rattle.constraint.proofs.Library.{ne-eqb}
+use Rattle.constraint.proofs.Library.{ne-eqb, _&&_, leb}
 use Rattle.constraint.specs.Limits.{lastTime, noLimit}
 use Rattle.constraint.specs.Steps.{Step, at, times, clock}
 use Rattle.constraint.specs.Meets.{Meets, Between, SpansApart, HiddenPoints, LastNotLater, MeetsSporadic, AtLeastApart}
@@ -14,15 +14,17 @@ use Rattle.constraint.proofs.Lists.{split, at-next, at-right, Each}
 use Rattle.constraint.proofs.History.{times-append}
 use Rattle.constraint.proofs.Continuations.{not-later-earlier, continues-late, continues-clock}
 use Rattle.machine.specs.Rule.{ruleOf}
-use Rattle.machine.specs.Parts.{noMarks, plus, breaking}
-use Rattle.points.specs.Sporadic.{lowOf, highOf, duePoint, pointAt, stride, lowest, highest, laterSporadic, decideSporadic}
+use Rattle.machine.specs.Parts.{noMarks, plus, breaking, farEnough, marksOf}
+use Rattle.points.specs.Sporadic.{lowOf, highOf, duePoint, pointAt, stride, lowest, highest, laterSporadic, decideSporadic, machineSporadic}
 use Rattle.machine.specs.declared.Rule.{Rule}
 use Rattle.machine.specs.declared.Marks.{Marks}
 use Rattle.machine.specs.declared.Change.{Change}
+use Rattle.machine.specs.Words.{firstThreeKept}
 use Rattle.machine.proofs.Exact.{Sound, Exact}
 use Rattle.machine.proofs.Tests.{Tells, holds, fails, tells-leb, tells-and}
 use Rattle.machine.proofs.OneKind.{Turns, exactOneKind}
 use Rattle.machine.proofs.Spans.{apart-first, apart-more, LastIs, last-none, last-new, last-zero, last-some, far-enough}
+use Rattle.machine.proofs.FitsRow.{FitsRow, Steady, keeping-first-three, steady-by, steady-breaking, steady-drop, fits-steady}
 use Rattle.points.proofs.Laws.Points.{points-none, points-first, NextPoint, points-more, points-near, points-next}
 
 abbrev pub PointsOf : Rule → List ℕ → List ℕ → Type 0
@@ -305,3 +307,16 @@ exactSporadic kind lower upper jitter minimum sound =
   where
     rule : Rule
     rule = ruleOf (Sporadic kind lower upper jitter minimum)
+
+-- ---- In a row
+
+-- no times are kept, and an event that the row goes on with changes three marks
+steady-sporadic : (rule : Rule) (m : Marks) (times : List ℕ) (kind t : ℕ) → Steady firstThreeKept m times (decideSporadic rule m times kind t)
+unfolding decideSporadic laterSporadic
+steady-sporadic rule m times kind t =
+    steady-by (eqb (m .last) 0) (steady-drop 0 (ap (marksOf (plus t 1) (t - rule .jitter) t)))
+    (steady-by (farEnough (rule .minimum) (m .last) t && (leb (stride (rule .lower)) (rule .upper) && leb (lowest rule m t) (highest rule m t)))
+    (steady-drop 0 (ap (marksOf (plus t 1) (lowest rule m t) (highest rule m t)))) (steady-breaking keeping-first-three))
+
+pub fitsSporadic : FitsRow machineSporadic
+fitsSporadic = fits-steady keeping-first-three steady-sporadic

@@ -1,7 +1,7 @@
 -- Repetition: what the row keeps tells the places of the next point, and where each event has one there are points. So the machine's test tells
 -- whether the events still have points, for every span by one argument.
 use Rattle.constraint.proofs.Library.{ℕ, _≤_, arith, _≡_, refl, ap, Bool, true, false, cond, List, [], _∷_, _++_, _↔_, length, take, ltb, ltb-true}
-use Rattle.constraint.proofs.Library.{ltb-false}
+use Rattle.constraint.proofs.Library.{ltb-false, _-_, _+_, _/_, _<_, sym, subst, drop, length-append, length-drop, lt-ltb, le-ltb}
 use Rattle.constraint.specs.Limits.{lastTime, noLimit}
 use Rattle.constraint.specs.Meets.{Meets, MeetsRepetition}
 use Rattle.constraint.specs.Waiting.{waiting}
@@ -14,11 +14,13 @@ use Rattle.machine.specs.Parts.{continuesWith, breaking}
 use Rattle.machine.specs.declared.Rule.{Rule}
 use Rattle.machine.specs.declared.Marks.{Marks}
 use Rattle.machine.specs.declared.Change.{Change}
+use Rattle.machine.specs.Words.{noneKept}
 use Rattle.machine.proofs.Exact.{Sound, Exact}
 use Rattle.machine.proofs.Tests.{Tells, holds, fails, tells-leb, tells-and}
 use Rattle.machine.proofs.OneKind.{Turns, exactOneKind}
+use Rattle.machine.proofs.FitsRow.{FitsRow, Unkept, Places, keeping-none, crowds-of, calm-by, unkept-by}
 use Rattle.points.proofs.Laws.Points.{points-first}
-use Rattle.repetition.specs.Repetition.{points, hasPlace, placed, decideRepetition}
+use Rattle.repetition.specs.Repetition.{points, hasPlace, placed, decideRepetition, fillsRepetition, takenRepetition, machineRepetition}
 use Rattle.repetition.proofs.Laws.Chains.{Fitting, keeps-more, keeps-says, next-breaks}
 use Rattle.repetition.proofs.Laws.Kept.{Asked, KeepsLast, last-none, kept-points, kept-few, newLow, newHigh, IsNext, is-next, newest-more}
 
@@ -148,3 +150,84 @@ exactRepetition kind span lower upper jitter sound =
 
     asked : Asked rule
     asked = record { positive = sound .in-range .0; given = sound .in-range .2 .1 .0; small-lower = sound .in-range .2 .0 }
+
+-- ---- In a row
+
+-- no mark changes, whatever the places of the new point
+unkept-placed : (rule : Rule) (m : Marks) (n low high : ℕ) → Unkept noneKept m → Unkept noneKept (placed rule m n low high .marks)
+unfolding placed
+unkept-placed rule m n low high e =
+    unkept-by noneKept (ltb n (rule .span)) (continuesWith (PushTwo 0 low high) m noLimit true)
+    (cond (hasPlace rule low high) (continuesWith (PushTwo 2 low high) m noLimit true) breaking) e
+    (unkept-by noneKept (hasPlace rule low high) (continuesWith (PushTwo 2 low high) m noLimit true) breaking e refl)
+
+unkept-repetition : (rule : Rule) (m : Marks) (times : List ℕ) (kind t : ℕ) → Unkept noneKept m
+    → Unkept noneKept (decideRepetition rule m times kind t .marks)
+unfolding decideRepetition
+unkept-repetition rule m times kind t e = unkept-placed rule m (points times) _ _ e
+
+crowding-repetition : (rule : Rule) (marks : Marks) (times : List ℕ) (kind t : ℕ) → 63 ≤ length times → length times ≤ 64
+    → fillsRepetition rule marks (length times) kind t ≡ crowds-of (decideRepetition rule marks times kind t) times
+unfolding fillsRepetition decideRepetition placed
+crowding-repetition rule marks times kind t many few = by-span _ _
+  where
+    two : (low high : ℕ) → ltb 64 (length (drop 0 times ++ (low ∷ high ∷ []))) ≡ true
+    two low high =
+        rw (length-append (drop 0 times) (low ∷ high ∷ []), length-drop 0 times) (lt-ltb 64 (length times - 0 + 2) (omega (arith, many)))
+
+    turned : (low high : ℕ) → ltb 64 (length (drop 2 times ++ (low ∷ high ∷ []))) ≡ false
+    turned low high =
+        rw (length-append (drop 2 times) (low ∷ high ∷ []), length-drop 2 times) (le-ltb 64 (length times - 2 + 2) (omega (arith, few, many)))
+
+    by-span : (low high : ℕ) → ltb (points times) (rule .span)
+        ≡ crowds-of (cond (ltb (points times) (rule .span)) (continuesWith (PushTwo 0 low high) marks noLimit true)
+        (cond (hasPlace rule low high) (continuesWith (PushTwo 2 low high) marks noLimit true) breaking)) times
+    by-span low high =
+        split (ltb (points times) (rule .span))
+        (λ b. b ≡ crowds-of (cond b (continuesWith (PushTwo 0 low high) marks noLimit true)
+        (cond (hasPlace rule low high) (continuesWith (PushTwo 2 low high) marks noLimit true) breaking)) times)
+        (λ _. sym (two low high))
+        (λ _. sym (calm-by times (hasPlace rule low high) (continuesWith (PushTwo 2 low high) marks noLimit true) breaking (turned low high) refl))
+
+room-repetition : (rule : Rule) (marks : Marks) (n s t : ℕ) → 63 ≤ n → takenRepetition (rule .span) n < 64
+    → fillsRepetition rule marks n s t ≡ false
+unfolding fillsRepetition
+room-repetition rule marks n s t many =
+    split (ltb 31 (rule .span)) (λ b. cond b (cond (ltb n 63) n 64) 0 < 64 → ltb (n / 2) (rule .span) ≡ false)
+    (λ _ l. absurd (full (subst (λ (k : ℕ). k < 64) (ap (λ (b : Bool). cond b n 64) (le-ltb n 63 many)) l)))
+    (λ e _. le-ltb (n / 2) (rule .span) (omega (arith, many, ltb-false 31 (rule .span) e)))
+  where
+    full : 64 < 64 → ⊥
+    full l = omega (arith, l)
+
+-- two more numbers find no room where 63 are kept
+in-twos : (n : ℕ) → (cond (ltb n 63) n 64 ≤ 64) × ((m : ℕ) → n ≤ m → cond (ltb n 63) n 64 ≤ cond (ltb m 63) m 64)
+in-twos n = (
+  few,
+  λ m l. split (ltb m 63) (λ b. ltb m 63 ≡ b → cond (ltb n 63) n 64 ≤ cond b m 64)
+      (λ _ e. subst (λ (b : Bool). cond b n 64 ≤ m) (sym (lt-ltb n 63 (omega (arith, ltb-true m 63 e, l)))) l) (λ _ _. few) refl,
+)
+  where
+    few : cond (ltb n 63) n 64 ≤ 64
+    few = split (ltb n 63) (λ b. ltb n 63 ≡ b → cond b n 64 ≤ 64) (λ _ e. omega (arith, ltb-true n 63 e)) (λ _ _. omega arith) refl
+
+places-repetition : Places takenRepetition
+places-repetition =
+    record {
+      rise = λ span n m l.
+          split (ltb 31 span) (λ b. cond b (cond (ltb n 63) n 64) 0 ≤ cond b (cond (ltb m 63) m 64) 0) (λ _. in-twos n .1 m l) (λ _. omega arith);
+      few = λ span n l. split (ltb 31 span) (λ b. cond b (cond (ltb n 63) n 64) 0 ≤ 64) (λ _. in-twos n .0) (λ _. omega arith);
+      free = λ span n l.
+          split (ltb 31 span) (λ b. cond b (cond (ltb n 63) n 64) 0 ≤ 63)
+          (λ _. subst (λ (b : Bool). cond b n 64 ≤ 63) (sym (lt-ltb n 63 (omega (arith, l)))) (omega (arith, l))) (λ _. omega arith);
+    }
+
+pub fitsRepetition : FitsRow machineRepetition
+fitsRepetition =
+    record {
+      keeping = keeping-none;
+      unkept = unkept-repetition;
+      crowding = crowding-repetition;
+      room = room-repetition;
+      places = places-repetition;
+    }

@@ -21,7 +21,7 @@ decided rule marks times head len stream t low high l h =
 
 returns : tie.Need-returns
 unfolding rowWords numberWords changedWords placed
-returns c stream rule times state past e =
+returns c rule times state past e =
     let p = c .before .before in
     let i = p .before .before in
     let z = i .before in
@@ -38,11 +38,11 @@ returns c stream rule times state past e =
     let low : m .minus .result ≡ lowestPoint rule (state .len / 2) (front kept) (a .t) = m .minus .ensures ∙ rw (e, few) refl in
     let pushed = p .push-two .ensures rule times state past e in
     let done = c .settle .ensures rule _ _ (ap (λ w. getD w 1 []) pushed) in
-    rw (done, pushed, decided rule (state .marks) times (state .head) (state .len) stream (a .t) _ _ low high, few) refl
+    rw (done, pushed, decided rule (state .marks) times (state .head) (state .len) (a .stream) (a .t) _ _ low high, few) refl
 
 returns-2 : tie.Need-returns-2
 unfolding rowWords numberWords changedWords placed
-returns-2 c stream rule times state past e =
+returns-2 c rule times state past e =
     let p = c .before .before in
     let i = p .before .before in
     let k = i .before in
@@ -66,7 +66,7 @@ returns-2 c stream rule times state past e =
     rw (
       done,
       pushed,
-      decided rule (state .marks) times (state .head) (state .len) stream (a .t) _ _ low high,
+      decided rule (state .marks) times (state .head) (state .len) (a .stream) (a .t) _ _ low high,
       le-ltb _ _ (rw e at (n .if1 .left)),
       le-leb _ _ (rw e at (k .if2 .taken)),
       i .if3 .taken,
@@ -75,7 +75,7 @@ returns-2 c stream rule times state past e =
 
 returns-3 : tie.Need-returns-3
 unfolding rowWords numberWords changedWords placed
-returns-3 c stream rule times state past e =
+returns-3 c rule times state past e =
     let j = c .before .before in
     let l = j .before in
     let f = l .before .before .before in
@@ -94,7 +94,7 @@ returns-3 c stream rule times state past e =
     l .larger .ensures ∙ rw (m .minus .ensures, l .before .plus3 .ensures, f .front .ensures, e, le-ltb _ _ (rw e at (n .if1 .left))) refl in
     rw (
       c .break-at .ensures rule times state past e,
-      decided rule (state .marks) times (state .head) (state .len) stream (a .t) _ _ low high,
+      decided rule (state .marks) times (state .head) (state .len) (a .stream) (a .t) _ _ low high,
       le-ltb _ _ (rw e at (n .if1 .left)),
     )
     (⊎-elim

@@ -6,7 +6,7 @@ use Rattle.repetition.proofs.fills.Tie as tie
 
 returns : tie.Need-returns
 unfolding fillsRepetition
-returns c kind t = refl
+returns c = refl
 
 pub fills-spec : {M : Type 1} → statement M
 fills-spec = tie.close (tie.spec (λ c. search needs) (λ c. search needs) returns)

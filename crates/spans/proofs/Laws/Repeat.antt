@@ -3,7 +3,7 @@
 -- the oldest of them is the first that the clock leaves too far behind.
 use Rattle.constraint.proofs.Library.{ℕ, _+_, _-_, _≤_, _<_, arith, decLt, _≡_, refl, sym, ap, subst, _∙_, Bool, true, cond, List, [], _∷_, _++_, _↔_}
 use Rattle.constraint.proofs.Library.{inr, ⊎-elim, by-cases, length, take, drop, length-append, length-drop, take-append-drop, drop-nil, getD-drop}
-use Rattle.constraint.proofs.Library.{drop-drop, drop-append-le, leb, ltb, ltb-true, ltb-false}
+use Rattle.constraint.proofs.Library.{drop-drop, drop-append-le, leb, ltb, ltb-true, ltb-false, false, _&&_, _||_, le-ltb}
 use Rattle.constraint.specs.Limits.{lastTime, noLimit, spanLimit, waitingLimit}
 use Rattle.constraint.specs.Steps.{Step, at, times, clock}
 use Rattle.constraint.specs.Meets.{Meets, SpansApart, MeetsRepeat, AtLeastApart}
@@ -16,15 +16,18 @@ use Rattle.constraint.proofs.History.{times-append}
 use Rattle.constraint.proofs.Continuations.{not-later-earlier, continues-late, continues-clock}
 use Rattle.queue.specs.declared.Edit.the-variants.{Push}
 use Rattle.machine.specs.Rule.{ruleOf}
-use Rattle.machine.specs.Parts.{noMarks, plus, withLast, continuesWith, breaking, front, dueOldest}
+use Rattle.machine.specs.Parts.{noMarks, plus, withLast, continuesWith, breaking, front, dueOldest, farEnough, dueOr}
 use Rattle.machine.specs.declared.Rule.{Rule}
 use Rattle.machine.specs.declared.Marks.{Marks}
+use Rattle.machine.specs.declared.Change.{Change}
+use Rattle.machine.specs.Words.{lastKept}
 use Rattle.machine.proofs.Exact.{Sound, Exact}
 use Rattle.machine.proofs.Tests.{Tells, holds, fails, tells-leb, tells-same, tells-and, tells-or}
 use Rattle.machine.proofs.OneKind.{Turns, exactOneKind}
 use Rattle.machine.proofs.Oldest.{front-at, due-or-pushed, due-within, due-reached, due-pushed, due-dropped}
 use Rattle.machine.proofs.Spans.{apart-first, ApartFromNew, apart-new, apart-more, rising-apart, LastIs, last-none, last-new, far-enough}
-use Rattle.spans.specs.Repeat.{spanReached, leaving, dueWith, decideRepeat}
+use Rattle.machine.proofs.FitsRow.{FitsRow, Unkept, Places, keeping-last, crowds-of, unkept-by, calm-by, neither, pushed, free-first, free-second}
+use Rattle.spans.specs.Repeat.{spanReached, leaving, dueWith, decideRepeat, fillsRepeat, takenRepeat, machineRepeat}
 
 -- each event and the one span places after it are lower to upper apart
 abbrev pub MeetsSpan : Rule → List ℕ → Type 0
@@ -218,3 +221,53 @@ exactRepeat kind span lower upper sound =
   where
     rule : Rule
     rule = ruleOf (Repeat kind span lower upper)
+
+-- ---- In a row, as a Burst too
+
+-- an event changes the last time alone
+unkept-repeat : (rule : Rule) (m : Marks) (times : List ℕ) (kind t : ℕ) → Unkept lastKept m
+    → Unkept lastKept (decideRepeat rule m times kind t .marks)
+unfolding decideRepeat
+unkept-repeat rule m times kind t e =
+    unkept-by lastKept (farEnough (rule .minimum) (m .last) t && spanReached rule times t)
+    (continuesWith (Push (leaving rule (length times)) t) (withLast m (plus t 1)) (dueWith rule times t) true) breaking
+    (ap (λ (x : Marks). withLast x (plus t 1)) e) refl
+
+replaced : (times : List ℕ) (t : ℕ) → 63 ≤ length times → length times ≤ 64 → ltb 64 (length (drop 1 times ++ (t ∷ []))) ≡ false
+replaced times t many few =
+    rw (length-append (drop 1 times) (t ∷ []), length-drop 1 times) (le-ltb 64 (length times - 1 + 1) (omega (arith, few, many)))
+
+crowding-repeat : (rule : Rule) (marks : Marks) (times : List ℕ) (kind t : ℕ) → 63 ≤ length times → length times ≤ 64
+    → fillsRepeat rule marks (length times) kind t ≡ crowds-of (decideRepeat rule marks times kind t) times
+unfolding fillsRepeat decideRepeat
+crowding-repeat rule marks times kind t many few =
+    let far : Bool = farEnough (rule .minimum) (marks .last) t in
+    let reached : Bool = leb (front times + rule .lower) t in
+    let full : Bool → Bool = λ b. cond (ltb (length times) waitingLimit) false b in
+    let on : Bool → Change = λ s. continuesWith (Push (cond s 0 1) t) (withLast marks (plus t 1))
+    (dueOr (plus t (rule .upper)) (rule .upper) (drop (cond s 0 1) times)) true in
+    split (ltb (length times) (rule .span)) (λ s. cond s (full far) false ≡ crowds-of (cond (far && (s || reached)) (on s) breaking) times)
+    (λ _. split far (λ f. full f ≡ crowds-of (cond (f && true) (on true) breaking) times)
+    (λ _. sym (pushed times t)) (λ _. neither (ltb (length times) waitingLimit)))
+    (λ _. sym (calm-by times (far && reached) (on false) breaking (replaced times t many few) refl))
+
+room-repeat : (rule : Rule) (marks : Marks) (n s t : ℕ) → 63 ≤ n → takenRepeat (rule .span) n < 64 → fillsRepeat rule marks n s t ≡ false
+unfolding fillsRepeat
+room-repeat rule marks n s t many =
+    let far : Bool = farEnough (rule .minimum) (marks .last) t in
+    split (ltb 64 (rule .span)) (λ b. cond b n 0 < 64 → cond (ltb n (rule .span)) (cond (ltb n waitingLimit) false far) false ≡ false)
+    (λ _ l. free-second n l (ltb n (rule .span)) far)
+    (λ e _. split (ltb n (rule .span)) (λ b. cond b (cond (ltb n waitingLimit) false far) false ≡ false)
+    (λ f. free-first n (omega (arith, ltb-false 64 (rule .span) e, ltb-true n (rule .span) f)) far) (λ _. refl))
+
+places-repeat : Places takenRepeat
+places-repeat =
+    record {
+      rise = λ span n m l. split (ltb 64 span) (λ b. cond b n 0 ≤ cond b m 0) (λ _. l) (λ _. omega arith);
+      few = λ span n l. split (ltb 64 span) (λ b. cond b n 0 ≤ 64) (λ _. l) (λ _. omega arith);
+      free = λ span n l. split (ltb 64 span) (λ b. cond b n 0 ≤ 63) (λ _. omega (arith, l)) (λ _. omega arith);
+    }
+
+pub fitsRepeat : FitsRow machineRepeat
+fitsRepeat =
+    record { keeping = keeping-last; unkept = unkept-repeat; crowding = crowding-repeat; room = room-repeat; places = places-repeat }

@@ -6,17 +6,17 @@ use Rattle.groups.proofs.strong_synchronization.fills.Tie as tie
 
 returns : tie.Need-returns
 unfolding fillsStrongSynchronization
-returns c t = rw (lt-ltb _ _ (c .if1 .taken))
+returns c = rw (lt-ltb _ _ (c .if1 .taken))
 
 returns-2 : tie.Need-returns-2
 unfolding fillsStrongSynchronization
-returns-2 c t =
+returns-2 c =
     let b = c .before .before in
     rw (le-ltb _ _ (b .before .if1 .left), ← b .count-at .ensures, lt-ltb _ _ (c .if2 .taken))
 
 returns-3 : tie.Need-returns-3
 unfolding fillsStrongSynchronization
-returns-3 c t =
+returns-3 c =
     let b = c .before .before in
     rw (le-ltb _ _ (b .before .if1 .left), ← b .count-at .ensures, le-ltb _ _ (c .if2 .left))
 

@@ -7,14 +7,14 @@ use Rattle.points.proofs.sporadic.apply.Tie as tie
 
 returns : tie.Need-returns
 unfolding rowWords numberWords decideSporadic
-returns c stream rule times state past e =
+returns c rule times state past e =
     let i = c .before .before in
     let m = i .before .before in
     rw (c .place .ensures rule times state past e, rw e at (m .minus .ensures), eq-eqb _ _ (rw e at (i .if1 .taken))) refl
 
 returns-2 : tie.Need-returns-2
 unfolding rowWords numberWords decideSporadic laterSporadic
-returns-2 c stream rule times state past e =
+returns-2 c rule times state past e =
     let i = c .before .before in
     let f = i .before .before .before in
     let h = f .before .before in
@@ -43,7 +43,7 @@ returns-2 c stream rule times state past e =
 
 returns-3 : tie.Need-returns-3
 unfolding rowWords numberWords changedWords decideSporadic laterSporadic
-returns-3 c stream rule times state past e =
+returns-3 c rule times state past e =
     let j = c .before .before in
     let f = j .before in
     let h = f .before .before in

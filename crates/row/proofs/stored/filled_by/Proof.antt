@@ -1,66 +1,76 @@
--- The tests are those of `filledBy`, in its order.
-use Rattle.constraint.proofs.Library.{_∙_, ap, eq-eqb, ne-eqb, needs}
-use Rattle.row.specs.Stored.{beyond}
+-- The code picks the type by its number, as `machineOf` does.
+use Rattle.constraint.proofs.Library.{ℕ, _≡_, refl, sym, ap, _∙_, ⊎-elim, needs}
+use Rattle.machine.specs.Machine.{Machine, noMachine}
+use Rattle.row.specs.Machine.{machineOf}
+use Rattle.row.specs.Stored.{filledBy}
+use Rattle.row.proofs.Machines.{none-of}
 use Rattle.row.proofs.stored.filled_by.Statement.{statement}
 use Rattle.row.proofs.stored.filled_by.Tie as tie
+-- Made by release/row-types.py.
+use Rattle.pairs.specs.Delay.{machineDelay}
+use Rattle.pairs.specs.StrongDelay.{machineStrongDelay}
+use Rattle.spans.specs.Repeat.{machineRepeat}
+use Rattle.points.specs.Sporadic.{machineSporadic}
+use Rattle.pairs.specs.Order.{machineOrder}
+use Rattle.groups.specs.StrongSynchronization.{machineStrongSynchronization}
+use Rattle.phases.specs.ExecutionTime.{machineExecutionTime}
+use Rattle.chains.specs.Reaction.{machineReaction}
+use Rattle.repetition.specs.Repetition.{machineRepetition}
+use Rattle.groups.specs.Synchronization.{machineSynchronization}
 
-returns : tie.Need-returns
-returns c = rw (eq-eqb _ _ (c .if1 .taken))
+-- how many places one type takes, where it is the one that is chosen
+by-type : (m : Machine) (form span len : ℕ) {r : ℕ} → r ≡ m .taken span len → machineOf form ≡ m → r ≡ filledBy form span len
+by-type m form span len e is = e ∙ ap (λ (x : Machine). x .taken span len) (sym is)
 
-returns-2 : tie.Need-returns-2
-returns-2 c = rw (ne-eqb _ _ (c .before .if1 .left), eq-eqb _ _ (c .if2 .taken))
-
-returns-3 : tie.Need-returns-3
-returns-3 c = rw (ne-eqb _ _ (c .before .before .if1 .left), ne-eqb _ _ (c .before .if2 .left), eq-eqb _ _ (c .if3 .taken))
-
-returns-4 : tie.Need-returns-4
-returns-4 c =
-    let t = c .before in
-    rw (
-      ne-eqb _ _ (t .before .before .before .if1 .left),
-      ne-eqb _ _ (t .before .before .if2 .left),
-      ne-eqb _ _ (t .before .if3 .left),
-      eq-eqb _ _ (t .if4 .taken),
-    )
-    (c .beyond .ensures)
-
-returns-5 : tie.Need-returns-5
-returns-5 c =
-    let t = c .before in
-    rw (
-      ne-eqb _ _ (t .before .before .before .before .if1 .left),
-      ne-eqb _ _ (t .before .before .before .if2 .left),
-      ne-eqb _ _ (t .before .before .if3 .left),
-      ne-eqb _ _ (t .before .if4 .left),
-      eq-eqb _ _ (t .if5 .taken),
-    )
-    (c .beyond2 .ensures)
-
-returns-6 : tie.Need-returns-6
-returns-6 c =
-    let t = c .before .before in
-    let i = t .before .before .before .before .before in
-    rw (
-      ne-eqb _ _ (i .if1 .left),
-      ne-eqb _ _ (t .before .before .before .before .if2 .left),
-      ne-eqb _ _ (t .before .before .before .if3 .left),
-      ne-eqb _ _ (t .before .before .if4 .left),
-      ne-eqb _ _ (t .before .if5 .left),
-      eq-eqb _ _ (t .if6 .taken),
-    )
-    (c .beyond3 .ensures ∙ ap (beyond 31 (i .before .args .span)) (c .before .filled-in-twos .ensures))
-
-returns-7 : tie.Need-returns-7
-returns-7 c = rw (
-  ne-eqb _ _ (c .before .before .before .before .before .if1 .left),
-  ne-eqb _ _ (c .before .before .before .before .if2 .left),
-  ne-eqb _ _ (c .before .before .before .if3 .left),
-  ne-eqb _ _ (c .before .before .if4 .left),
-  ne-eqb _ _ (c .before .if5 .left),
-  ne-eqb _ _ (c .if6 .left),
-)
+-- Made by release/row-types.py, to the end of the file.
 
 pub filled-by-spec : {M : Type 1} → statement M
 filled-by-spec =
-    tie.close (tie.spec returns returns-2 returns-3 (λ c κs. search needs) returns-4 (λ c κs. search needs) returns-5 (λ c κs. search needs)
-    (λ c κs. search needs) returns-6 returns-7)
+    tie.close
+    (tie.spec
+    (λ c κs. search needs)
+    (λ c κs. search needs)
+    (λ c.
+    let a = c .before .args in
+    by-type machineDelay (a .form) (a .span) (a .len) refl
+    (ap machineOf (c .match .keys1)))
+    (λ c.
+    let a = c .before .args in
+    by-type machineStrongDelay (a .form) (a .span) (a .len) refl
+    (ap machineOf (c .match .keys2)))
+    (λ c.
+    let a = c .before .before .args in
+    by-type machineRepeat (a .form) (a .span) (a .len) (c .taken .ensures)
+    (⊎-elim (λ e. ap machineOf e) (λ e. ap machineOf e) (c .before .match .keys3)))
+    (λ c.
+    let a = c .before .args in
+    by-type machineSporadic (a .form) (a .span) (a .len) refl
+    (ap machineOf (c .match .keys4)))
+    (λ c.
+    let a = c .before .args in
+    by-type machineOrder (a .form) (a .span) (a .len) refl
+    (ap machineOf (c .match .keys5)))
+    (λ c.
+    let a = c .before .args in
+    by-type machineStrongSynchronization (a .form) (a .span) (a .len) refl
+    (ap machineOf (c .match .keys6)))
+    (λ c.
+    let a = c .before .args in
+    by-type machineExecutionTime (a .form) (a .span) (a .len) refl
+    (ap machineOf (c .match .keys7)))
+    (λ c.
+    let a = c .before .args in
+    by-type machineReaction (a .form) (a .span) (a .len) refl
+    (ap machineOf (c .match .keys8)))
+    (λ c.
+    let a = c .before .before .args in
+    by-type machineRepetition (a .form) (a .span) (a .len) (c .taken2 .ensures)
+    (ap machineOf (c .before .match .keys9)))
+    (λ c.
+    let a = c .before .args in
+    by-type machineSynchronization (a .form) (a .span) (a .len) refl
+    (ap machineOf (c .match .keys10)))
+    (λ c.
+    let a = c .before .args in
+    by-type noMachine (a .form) (a .span) (a .len) refl
+    (none-of _ (c .match .rest))))

@@ -1,27 +1,82 @@
--- The code picks the type by its number, as `fills` does.
-use Rattle.constraint.proofs.Library.{_≡_, refl, sym, ap, _∙_, ℕ, Bool, getD, needs}
+-- The code picks the type by its number, as `machineOf` does.
+use Rattle.constraint.proofs.Library.{ℕ, _≡_, refl, sym, ap, _∙_, ⊎-elim, Bool, List, getD, needs}
 use Rattle.queue.proofs.Shared.{free}
-use Rattle.machine.specs.declared.Marks.{Marks}
-use Rattle.row.proofs.Dispatch.{form-1, form-2, form-3-5, form-4, form-6, form-7, form-8, form-9, form-10, form-none}
+use Rattle.machine.specs.Machine.{Machine, noMachine}
+use Rattle.machine.specs.Words.{askedOf}
+use Rattle.row.specs.Machine.{machineOf}
+use Rattle.row.specs.Apart.{fills}
+use Rattle.row.proofs.Machines.{none-of}
 use Rattle.row.proofs.stored.fills.Statement.{statement}
 use Rattle.row.proofs.stored.fills.Tie as tie
+-- Made by release/row-types.py.
+use Rattle.pairs.specs.Delay.{machineDelay}
+use Rattle.pairs.specs.StrongDelay.{machineStrongDelay}
+use Rattle.spans.specs.Repeat.{machineRepeat}
+use Rattle.points.specs.Sporadic.{machineSporadic}
+use Rattle.pairs.specs.Order.{machineOrder}
+use Rattle.groups.specs.StrongSynchronization.{machineStrongSynchronization}
+use Rattle.phases.specs.ExecutionTime.{machineExecutionTime}
+use Rattle.chains.specs.Reaction.{machineReaction}
+use Rattle.repetition.specs.Repetition.{machineRepetition}
+use Rattle.groups.specs.Synchronization.{machineSynchronization}
 
 -- what one type answers, where it is the one that is chosen
-by : {f g : Marks → ℕ → ℕ → ℕ → Bool} {marks : Marks} {len s t : ℕ} {r : Bool} → r ≡ g marks len s t → f ≡ g → r ≡ f marks len s t
-by {marks = marks} {len = len} {s = s} {t = t} e chosen = e ∙ sym (ap (λ (type : Marks → ℕ → ℕ → ℕ → Bool). type marks len s t) chosen)
+by-type : (m : Machine) (w : List ℕ) (s t : ℕ) {r : Bool} → r ≡ askedOf (m .fills) w s t → machineOf (getD w 0 0) ≡ m → r ≡ askedOf fills w s t
+by-type m w s t e is = e ∙ ap (λ (x : Machine). askedOf (x .fills) w s t) (sym is)
+
+-- Made by release/row-types.py, to the end of the file.
 
 pub fills-spec : {M : Type 1} → statement M
 fills-spec =
     tie.close
     (tie.spec
-    (λ c. search needs) free free free free free
-    (λ c. by (c .fills .ensures) (form-1 (getD (c .before .before .before .args .w .now) 0 0) _ _ _ _ _ _ _ _ _ _ (c .before .match .keys1)))
-    (λ c. by (c .fills2 .ensures _) (form-2 (getD (c .before .before .before .args .w .now) 0 0) _ _ _ _ _ _ _ _ _ _ (c .before .match .keys2)))
-    (λ c. by (c .fills3 .ensures _) (form-3-5 (getD (c .before .before .before .args .w .now) 0 0) _ _ _ _ _ _ _ _ _ _ (c .before .match .keys3)))
-    (λ c. by refl (form-4 (getD (c .before .before .args .w .now) 0 0) _ _ _ _ _ _ _ _ _ _ (c .match .keys4)))
-    (λ c. by refl (form-6 (getD (c .before .before .args .w .now) 0 0) _ _ _ _ _ _ _ _ _ _ (c .match .keys5)))
-    (λ c. by (c .fills4 .ensures _) (form-7 (getD (c .before .before .before .args .w .now) 0 0) _ _ _ _ _ _ _ _ _ _ (c .before .match .keys6)))
-    (λ c. by refl (form-8 (getD (c .before .before .args .w .now) 0 0) _ _ _ _ _ _ _ _ _ _ (c .match .keys7)))
-    (λ c. by refl (form-9 (getD (c .before .before .args .w .now) 0 0) _ _ _ _ _ _ _ _ _ _ (c .match .keys8)))
-    (λ c. by (c .fills5 .ensures _ _) (form-10 (getD (c .before .before .before .args .w .now) 0 0) _ _ _ _ _ _ _ _ _ _ (c .before .match .keys9)))
-    (λ c. by refl (form-none (getD (c .before .before .args .w .now) 0 0) _ _ _ _ _ _ _ _ _ _ (c .match .rest))))
+    (λ c. search needs)
+    free
+    free
+    free
+    free
+    free
+    (λ c.
+    let a = c .before .before .before .args in
+    by-type machineDelay (a .w .now) (a .stream) (a .t) (c .fills .ensures)
+    (ap machineOf (c .before .match .keys1)))
+    (λ c.
+    let a = c .before .before .before .args in
+    by-type machineStrongDelay (a .w .now) (a .stream) (a .t) (c .fills2 .ensures)
+    (ap machineOf (c .before .match .keys2)))
+    (λ c.
+    let a = c .before .before .before .args in
+    by-type machineRepeat (a .w .now) (a .stream) (a .t) (c .fills3 .ensures)
+    (⊎-elim (λ e. ap machineOf e) (λ e. ap machineOf e) (c .before .match .keys3)))
+    (λ c.
+    let a = c .before .before .args in
+    by-type machineSporadic (a .w .now) (a .stream) (a .t) refl
+    (ap machineOf (c .match .keys4)))
+    (λ c.
+    let a = c .before .before .args in
+    by-type machineOrder (a .w .now) (a .stream) (a .t) refl
+    (ap machineOf (c .match .keys5)))
+    (λ c.
+    let a = c .before .before .before .args in
+    by-type machineStrongSynchronization (a .w .now) (a .stream) (a .t) (c .fills4 .ensures)
+    (ap machineOf (c .before .match .keys6)))
+    (λ c.
+    let a = c .before .before .args in
+    by-type machineExecutionTime (a .w .now) (a .stream) (a .t) refl
+    (ap machineOf (c .match .keys7)))
+    (λ c.
+    let a = c .before .before .args in
+    by-type machineReaction (a .w .now) (a .stream) (a .t) refl
+    (ap machineOf (c .match .keys8)))
+    (λ c.
+    let a = c .before .before .before .args in
+    by-type machineRepetition (a .w .now) (a .stream) (a .t) (c .fills5 .ensures)
+    (ap machineOf (c .before .match .keys9)))
+    (λ c.
+    let a = c .before .before .args in
+    by-type machineSynchronization (a .w .now) (a .stream) (a .t) refl
+    (ap machineOf (c .match .keys10)))
+    (λ c.
+    let a = c .before .before .args in
+    by-type noMachine (a .w .now) (a .stream) (a .t) refl
+    (none-of _ (c .match .rest))))

@@ -27,7 +27,7 @@ goes-on rule marks kept stream t dropped far reached left =
 
 returns : tie.Need-returns
 unfolding rowWords numberWords changedWords decideRepeat
-returns c stream rule times state past e =
+returns c rule times state past e =
     let i = c .before .before in
     rw (
       c .break-at .ensures rule times state past e,
@@ -37,7 +37,7 @@ returns c stream rule times state past e =
 
 returns-2 : tie.Need-returns-2
 unfolding rowWords numberWords changedWords decideRepeat
-returns-2 c stream rule times state past e =
+returns-2 c rule times state past e =
     let i = c .before .before in
     let r = i .before in
     let o = r .before .before in
@@ -57,7 +57,7 @@ returns-2 c stream rule times state past e =
 
 returns-3 : tie.Need-returns-3
 unfolding rowWords numberWords changedWords decideRepeat
-returns-3 c stream rule times state past e =
+returns-3 c rule times state past e =
     let w = c .before in
     let k = w .before .before in
     let j = k .before .before in
@@ -80,7 +80,7 @@ returns-3 c stream rule times state past e =
     (j .if2 .came) in
     let far : farEnough (rule .minimum) (state .marks .last) (a .t) ≡ true =
     sym (rw e at (n .before .far-enough .ensures)) ∙ not-false (n .before .far-enough .result) (n .if1 .left) in
-    let decided = goes-on rule (state .marks) kept stream (a .t) (j .if2 .dropped) far reached left in
+    let decided = goes-on rule (state .marks) kept (a .stream) (a .t) (j .if2 .dropped) far reached left in
     rw (
       w .one-more-waits .ensures rule times state (pastWith past (lastKept (state .marks) (past .state .marks)))
           (k .keep-last .ensures rule times state past e),

@@ -6,15 +6,15 @@ use Rattle.spans.proofs.repeat.fills.Tie as tie
 
 returns : tie.Need-returns
 unfolding fillsRepeat
-returns c kind = rw (le-ltb _ _ (c .if1 .taken))
+returns c = rw (le-ltb _ _ (c .if1 .taken))
 
 returns-2 : tie.Need-returns-2
 unfolding fillsRepeat
-returns-2 c kind = rw (lt-ltb _ _ (c .before .before .if1 .left), lt-ltb _ _ (c .if2 .taken))
+returns-2 c = rw (lt-ltb _ _ (c .before .before .if1 .left), lt-ltb _ _ (c .if2 .taken))
 
 returns-3 : tie.Need-returns-3
 unfolding fillsRepeat
-returns-3 c kind =
+returns-3 c =
     let i = c .before .before .before in
     rw (lt-ltb _ _ (i .before .before .if1 .left), le-ltb _ _ (i .if2 .left)) (c .far-enough .ensures)
 

@@ -1,0 +1,91 @@
+-- Whatever the number of its type, a row's machine fits a row: each type's does, and so does that of no type.
+use Rattle.constraint.proofs.Library.{ℕ, zero, suc, _+_, _<_, arith, _≡_, _≢_, refl, _⊎_, inl, inr, List, [], _∷_, getD, List·getD-eq-default}
+use Rattle.machine.specs.Machine.{Machine, noMachine}
+use Rattle.machine.proofs.FitsRow.{FitsRow, fits-none}
+use Rattle.row.specs.Machine.{machines, machineOf}
+-- Made by release/row-types.py.
+use Rattle.pairs.proofs.Laws.Delay.{fitsDelay}
+use Rattle.pairs.proofs.Laws.StrongDelay.{fitsStrongDelay}
+use Rattle.spans.proofs.Laws.Repeat.{fitsRepeat}
+use Rattle.points.proofs.Laws.Sporadic.{fitsSporadic}
+use Rattle.pairs.proofs.Laws.Order.{fitsOrder}
+use Rattle.groups.proofs.Laws.StrongSynchronization.{fitsStrongSynchronization}
+use Rattle.phases.proofs.Laws.ExecutionTime.{fitsExecutionTime}
+use Rattle.chains.proofs.Laws.Reaction.{fitsReaction}
+use Rattle.repetition.proofs.Laws.Repetition.{fitsRepetition}
+use Rattle.groups.proofs.Laws.Synchronization.{fitsSynchronization}
+
+-- each of several machines fits a row, and so does the one of a number
+data EachFits : List Machine → Type 0 where
+  none-more : EachFits []
+  one-more : {m : Machine} {ms : List Machine} → FitsRow m → EachFits ms → EachFits (m ∷ ms)
+
+each-fits : {ms : List Machine} → EachFits ms → (n : ℕ) → FitsRow (getD ms n noMachine)
+each-fits none-more n = fits-none
+each-fits (one-more one others) zero = one
+each-fits (one-more one others) (suc n) = each-fits others n
+
+-- a number above another that is not the next is above that too
+next : (k n : ℕ) → k < n → n ≢ k + 1 → k + 1 < n
+next k n above other = omega (arith, above, other)
+
+-- the numbers that the code does not name, which are those of no type
+abbrev pub NoneOf : ℕ → Type 0
+-- Made by release/row-types.py, to the end of the file.
+NoneOf n =
+    (((((((((Unit {0}
+    × (n ≡ 1 → ⊥))
+    × (n ≡ 2 → ⊥))
+    × ((n ≡ 3) ⊎ (n ≡ 5) → ⊥))
+    × (n ≡ 4 → ⊥))
+    × (n ≡ 6 → ⊥))
+    × (n ≡ 7 → ⊥))
+    × (n ≡ 8 → ⊥))
+    × (n ≡ 9 → ⊥))
+    × (n ≡ 10 → ⊥))
+    × (n ≡ 11 → ⊥)
+
+pub none-of : (n : ℕ) → NoneOf n → machineOf n ≡ noMachine
+none-of zero is = refl
+none-of (suc n) is =
+    List·getD-eq-default machines noMachine {n = suc n}
+    (next 10 (suc n)
+    (next 9 (suc n)
+    (next 8 (suc n)
+    (next 7 (suc n)
+    (next 6 (suc n)
+    (next 5 (suc n)
+    (next 4 (suc n)
+    (next 3 (suc n)
+    (next 2 (suc n)
+    (next 1 (suc n)
+    (next 0 (suc n)
+    (omega arith)
+    (is .0 .0 .0 .0 .0 .0 .0 .0 .0 .1))
+    (is .0 .0 .0 .0 .0 .0 .0 .0 .1))
+    (λ e. is .0 .0 .0 .0 .0 .0 .0 .1 (inl e)))
+    (is .0 .0 .0 .0 .0 .0 .1))
+    (λ e. is .0 .0 .0 .0 .0 .0 .0 .1 (inr e)))
+    (is .0 .0 .0 .0 .0 .1))
+    (is .0 .0 .0 .0 .1))
+    (is .0 .0 .0 .1))
+    (is .0 .0 .1))
+    (is .0 .1))
+    (is .1))
+
+pub fits : (form : ℕ) → FitsRow (machineOf form)
+fits =
+    each-fits
+    (one-more fits-none
+    (one-more fitsDelay
+    (one-more fitsStrongDelay
+    (one-more fitsRepeat
+    (one-more fitsSporadic
+    (one-more fitsRepeat
+    (one-more fitsOrder
+    (one-more fitsStrongSynchronization
+    (one-more fitsExecutionTime
+    (one-more fitsReaction
+    (one-more fitsRepetition
+    (one-more fitsSynchronization
+    none-more))))))))))))

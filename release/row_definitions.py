@@ -8,9 +8,9 @@ from row_list import END, LISTED, MADE, ROOT, TYPES, length, one, snake, text_of
 
 #: The kinds of a type that has an n: how many there may be, and their names.
 NUMBERS, KINDS = (2, 3, 4), ("first", "second", "third", "fourth")
-#: A role of a field of one byte, as the definitions and the code name it; `n` is the number of kinds.
-BYTE_ROLES = {"kind": ("kind", "KIND"), "coloured": ("coloured", "COLOURED"), "n": ("count", "COUNT"),
-              "count": ("(span spanLimit)", "SPAN_LIMIT"), "few": ("(span repetitionSpanLimit)", "REPETITION_SPAN_LIMIT")}
+#: A role of a field of one byte, as the definitions and the code name it.
+BYTE_ROLES = {"kind": ("kind", "KIND"), "coloured": ("coloured", "COLOURED"), "count": ("(span spanLimit)", "SPAN_LIMIT"),
+              "few": ("(span repetitionSpanLimit)", "REPETITION_SPAN_LIMIT")}
 #: A role of a time, and what stands for its value in the definitions, where the role's name is taken.
 TIME_ROLES = {"lower": ("lower", "LOWER", "low"), "upper": ("upper", "UPPER", "high"),
               "upper-or-none": ("upper-or-none", "UPPER_OR_NONE", "high"), "jitter": ("(plain jitter)", "JITTER", "late"),
@@ -103,11 +103,16 @@ def code_lengths():
     return f"const LENGTHS: [usize; {len(TYPES) + 1}] = [{', '.join(plain_lengths())}];"
 
 
+def edition(row_type):
+    """The first edition of the table that has the type."""
+    return getattr(row_type, "edition", 1)
+
+
 def last_types():
     """The last type of each edition, by its number."""
-    editions = [getattr(row_type, "edition", 1) for row_type in TYPES]
+    editions = list(map(edition, TYPES))
     assert editions == sorted(editions), "a later edition has all types of the one before, and those behind them"
-    return ["0", *(str(sum(edition <= last for edition in editions)) for last in range(1, max(2, *editions) + 1))]
+    return ["0", *(str(sum(one <= last for one in editions)) for last in range(1, max(2, *editions) + 1))]
 
 
 def code_last_types():
@@ -304,7 +309,8 @@ def law_modules():
 def law_names():
     """The laws of the types, from their files."""
     laws = {row_type.name: [f"lawful{one.name}" for one in variants_of(row_type)] for row_type in TYPES}
-    return "".join(listed_names(f"use Rattle.constraint.proofs.Types.{name}.{{", found) for name, found in laws.items()) + listed_names("use Rattle.constraint.specs.Types.{", map(group_name, COUNTED))
+    lines = [listed_names(f"use Rattle.constraint.proofs.Types.{name}.{{", found) for name, found in laws.items()]
+    return "".join(lines) + listed_names("use Rattle.constraint.specs.Types.{", map(group_name, COUNTED))
 
 
 def lawful():
@@ -328,9 +334,11 @@ def read_group():
     value = f"{group_name(COUNTED[0])} b {' '.join(f'(at x {i})' for i in range(len(variants_of(COUNTED[0])[0].times)))}"
     others = " ".join(f"→\0¬\0(t\0≡\0{number})" for number in numbers)
     stated = broken(f"pub read-group : (t : ℕ) (b x : List ℕ) {others} " + f"→ rowRead t b x ≡ {value}".replace(" ", "\0"))
-    tests = broken("    rw (" + ", ".join(f"ne-eqb\0t\0{number}\0n{number}" for number in numbers) + ")")
+    tests = [f"ne-eqb t {number} n{number}" for number in numbers]
+    line = f"    rw ({', '.join(tests)})\n"
+    proof = line if len(line) <= 151 else "    rw (\n" + "".join(f"      {test},\n" for test in tests) + "    )\n"
     return (f"-- a number that is no other type's is read as {one_of(COUNTED[0])}\n{stated}unfolding rowRead\n"
-            f"read-group t b x {' '.join(f'n{number}' for number in numbers)} =\n{tests}")
+            f"read-group t b x {' '.join(f'n{number}' for number in numbers)} =\n{proof}")
 
 
 def groups_back():
@@ -475,13 +483,23 @@ def examples_computed():
 
 def examples_hold():
     """So each list reads as it says."""
-    found = example_lists()
-
     def law(place, clauses, name):
         return (f"\n-- {clauses}\npub {name}-hold : AllRead {name}\n"
-                f"{name}-hold = all-read {name} (all-computed{' .1' * place}{' .0' * (place < len(found))})\n")
+                f"{name}-hold = all-read {name} (all-computed .{place})\n")
 
-    return "".join(law(place, *one) for place, one in enumerate(found, 1))
+    return "".join(law(place, *one) for place, one in enumerate(example_lists(), 1))
+
+
+def reading_rows():
+    """The rows of the guide for the types of later editions: definition, examples, exactness and function."""
+    def row(row_type):
+        laws = [name for path in ROOT.glob(f"crates/*/proofs/Laws/{row_type.name}.antt")
+                for name in re.findall(rf"^pub (exact{row_type.name}\d?) :", path.read_text(encoding="utf-8"), re.M)]
+        lists = [name for clauses, name in example_lists() if re.match(rf"§5\.{row_type.number}\b", clauses)]
+        cells = [f"Meets{row_type.name}", *lists], [*laws, *(f"{name}-hold" for name in lists)], [f"{snake(row_type)}::apply"]
+        return f"| §5.{row_type.number} | {' | '.join(', '.join(f'[`{name}`]' for name in cell) for cell in cells)} |\n"
+
+    return "".join(row(row_type) for row_type in TYPES if edition(row_type) > 1)
 
 
 def type_crates():
@@ -519,6 +537,7 @@ PARTS = tuple((f"crates/constraint/{path}", first, last, make) for path, first, 
     ("src/lib.rt", f"}}\n\n// {MADE}\n\n", f"// {END}\n", group_reads),
     ("src/lib.rt", f"        match form {{\n            // {LISTED}\n", "        }\n", code_read),
     ("src/lib.rt", f"        match self {{\n            // {LISTED}\n", "        }\n", code_fields),
+    ("specs/Types.antt", "use mathlib.Core.Bool.{Bool, ", "cond}\n", lambda: "_||_, " * (len(COUNTED) > 1)),
     ("specs/Types.antt", DECLARED, "\n-- ", variant_names),
     ("specs/Types.antt", f"typeLine : Constraint → ℕ × List Field\n{ARMS}", "\n-- ", lambda: "".join(map(type_line, VARIANTS))),
     ("specs/Types.antt", f"-- {MADE}\n\n", f"-- {END}\n", groups_read),
@@ -555,6 +574,7 @@ PARTS += (
     ("crates/status/proofs/Coloured.antt", DECLARED.replace("·specs.specs", ".specs"), "use Rattle.constraint.proofs.",
      lambda: variant_names("Rattle.constraint.specs")),
     ("crates/status/proofs/Coloured.antt", f"  unfolding KindsSuit waiting\n  {ARMS}", "\n-- ----", coloured_waits),
+    ("docs/READING.md", "[`repetitions-hold`] | [`repetition::apply`] |\n", "\n## 6 What waits\n", reading_rows),
     *((f"crates/{crate}/{path}", "", "", partial(modules, f"crates/{crate}/{path}", f"crates/{crate}/{folder}"))
       for crate in type_crates() for path, folder in MODULES.items()),
 )

@@ -64,9 +64,10 @@ def test_a_row_needs_the_edition_of_its_type(row):
 
 
 def test_the_drive():
+    """A table of the first edition, with a row of each of its types; rows of later ones are in examples/rows."""
     table = Table.read(EXAMPLES / "drive.txt")
     assert table.bytes() == (EXAMPLES / "table.bin").read_bytes()
-    assert {row.type for row in table.rows} == set(TYPES)
+    assert {row.type for row in table.rows} == {row_type for row_type in TYPES if getattr(row_type, "edition", 1) == 1}
 
 
 UNIT = "unit us\nevent pedal = 0\nevent light = 1\n"

@@ -142,27 +142,27 @@ examples-hold = all-read examples (all-computed .0)
 
 -- §5.1.6, §5.1.7
 pub unlimited-delays-hold : AllRead unlimited-delays
-unlimited-delays-hold = all-read unlimited-delays (all-computed .1 .0)
+unlimited-delays-hold = all-read unlimited-delays (all-computed .1)
 
 -- §5.3.2, §5.4.4
 pub silences-hold : AllRead silences
-silences-hold = all-read silences (all-computed .1 .1 .0)
+silences-hold = all-read silences (all-computed .2)
 
 -- §5.8.1 to §5.8.6
 pub execution-times-hold : AllRead execution-times
-execution-times-hold = all-read execution-times (all-computed .1 .1 .1 .0)
+execution-times-hold = all-read execution-times (all-computed .3)
 
 -- §5.10 to §5.10.4
 pub repetitions-hold : AllRead repetitions
-repetitions-hold = all-read repetitions (all-computed .1 .1 .1 .1 .0)
+repetitions-hold = all-read repetitions (all-computed .4)
 
 -- §1.1
 pub long-clocks-hold : AllRead long-clocks
-long-clocks-hold = all-read long-clocks (all-computed .1 .1 .1 .1 .1 .0)
+long-clocks-hold = all-read long-clocks (all-computed .5)
 
 -- §5.9.1 to §5.9.7
 pub reactions-hold : AllRead reactions
-reactions-hold = all-read reactions (all-computed .1 .1 .1 .1 .1 .1)
+reactions-hold = all-read reactions (all-computed .6)
 
 -- ---- a table of two rows
 

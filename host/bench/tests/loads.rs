@@ -3,12 +3,12 @@
 use bench::line::{lines, sizes};
 use bench::load::{Call, Load, dense, dense_full, sparse, sparse_full};
 use bench::measure::{Spread, agree};
-use bench::plain::Plain;
 use bench::plain::report::report;
+use bench::plain::{LAST_TYPE, Plain};
 use model::random::Random;
 use model::random::recordings::{damaged_recording, recording};
 use model::random::tables::{any_table, damaged_table};
-use model::{Constraint, Step, TYPES, Verdict, report_text, table_bytes};
+use model::{Constraint, Step, Verdict, report_text, table_bytes};
 use std::collections::BTreeSet;
 
 fn loads(events: usize) -> [Load; 2] {
@@ -16,10 +16,10 @@ fn loads(events: usize) -> [Load; 2] {
 }
 
 #[test]
-fn thirty_two_rows_of_all_types() {
+fn thirty_two_rows_of_all_types_of_the_first_edition() {
     for load in [sparse, dense, sparse_full, dense_full].map(|load| load(10)) {
         let types: BTreeSet<u8> = load.rows.iter().map(Constraint::type_byte).collect();
-        assert_eq!((load.rows.len(), types), (32, BTreeSet::from(TYPES)));
+        assert_eq!((load.rows.len(), types), (32, BTreeSet::from_iter(1..=LAST_TYPE)));
     }
 }
 

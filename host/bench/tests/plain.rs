@@ -1,6 +1,6 @@
 //! The plain monitor is held to the model too: a benchmark beside a wrong one would say nothing.
 
-use bench::plain::Plain;
+use bench::plain::{LAST_TYPE, Plain};
 use model::random::Random;
 use model::random::calls::{Play, calls};
 use model::random::seen::Seen;
@@ -8,12 +8,19 @@ use model::random::tables::any_table;
 use model::types::{Burst, Delay, Repeat, Repetition, StrongDelay, StrongSynchronization};
 use model::{Answer, Constraint, Monitor, Step};
 
+/// A table of the types that the plain monitor has.
+fn plain_table(random: &mut Random) -> Vec<Constraint> {
+    let mut rows = any_table(random);
+    rows.retain(|row| row.type_byte() <= LAST_TYPE);
+    rows
+}
+
 #[test]
 fn lists_of_calls_beside_the_model() {
     let mut random = Random::new(601);
     let mut seen = Seen::default();
     for _ in 0..1_500 {
-        let rows = any_table(&mut random);
+        let rows = plain_table(&mut random);
         let mut plain = Plain::new(&rows);
         let mut play = Play::new(random.fork(), &rows, 150);
         while let Some((call, answer)) = play.call() {
@@ -27,7 +34,7 @@ fn lists_of_calls_beside_the_model() {
         assert_eq!(plain.count(), play.monitor().recorded().count());
     }
     seen.demand_refusals((8..=12).chain([19]));
-    seen.demand_verdicts();
+    seen.demand_verdicts_of(1..=LAST_TYPE);
     seen.demand_silences();
 }
 
@@ -134,7 +141,7 @@ fn lists_with_withdrawals_beside_the_model() {
     let mut random = Random::new(603);
     let mut seen = Withdrawals::default();
     for _ in 0..400 {
-        let rows = any_table(&mut random);
+        let rows = plain_table(&mut random);
         let mut beside = Beside::new(&rows);
         let list = calls(&mut random, &rows, 60);
         beside.play(&mut random, list, &mut seen);

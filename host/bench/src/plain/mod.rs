@@ -8,6 +8,7 @@ mod rule;
 
 use model::limits::stream;
 use model::{Answer, Constraint, FIRST_COLOURED, LAST_COLOUR, LAST_COUNT, LAST_KIND, LAST_TIME, Step, Verdict};
+pub use rule::LAST_TYPE;
 use rule::{Before, Left, Rule};
 
 /// A row: its rule, the last clock at which it is open without an event of its own, and the step that broke it (or 0).

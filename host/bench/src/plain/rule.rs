@@ -7,6 +7,10 @@ use model::types::{
 };
 use model::{Constraint, NO_LIMIT};
 
+/// The last type that the plain monitor has: it is for tables of the first edition, as the benchmark's are, so that a line
+/// of the benchmark is the same load in each release.
+pub const LAST_TYPE: u8 = 10;
+
 /// No time: later than all.
 const NEVER: u64 = u64::MAX;
 
@@ -75,6 +79,9 @@ pub enum Colour {
 
 impl Rule {
     /// The rule before any event.
+    ///
+    /// # Panics
+    /// If the row is of a type behind [`LAST_TYPE`].
     pub fn new(row: &Constraint) -> Rule {
         match *row {
             Constraint::Delay(Delay { source, lower, upper, .. }) => {
@@ -103,6 +110,8 @@ impl Rule {
             Constraint::Repetition(Repetition { span, lower, upper, jitter, .. }) => {
                 Rule::Repetition { span: span.into(), lower, upper, jitter, places: Ring::default() }
             }
+            #[allow(unreachable_patterns, reason = "where no type is of a later edition")]
+            ref later => panic!("type {} is of a later edition", later.type_byte()),
         }
     }
 

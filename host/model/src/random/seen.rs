@@ -73,8 +73,16 @@ impl Seen {
     /// # Panics
     /// With the counts by type.
     pub fn demand_verdicts(&self) {
+        self.demand_verdicts_of(TYPES);
+    }
+
+    /// Fails the test if one of these row types was never open, never kept or never broken.
+    ///
+    /// # Panics
+    /// With the counts by type.
+    pub fn demand_verdicts_of(&self, types: impl IntoIterator<Item = u8>) {
         let seen = |kind| self.verdicts.get(&kind).is_some_and(|counts| counts.iter().all(|count| *count > 0));
-        assert!(TYPES.into_iter().all(seen), "open, kept, broken by type: {:?}", self.verdicts);
+        assert!(types.into_iter().all(seen), "open, kept, broken by type: {:?}", self.verdicts);
     }
 
     /// Fails the test if silence never broke a Repeat or a Sporadic, at a tick and at an event of another kind, or never

@@ -134,6 +134,7 @@
  *                             lower, upper                                 21
  *   9 Reaction                stimulus, response, minimum, maximum         19
  *  10 Repetition              event, span, lower, upper, jitter            27
+ *  11 Synchronization         n from 2 to 4, n kinds, tolerance        10 + n
  *
  * The kinds of a Reaction are coloured ones, those of all other types plain
  * ones. Its maximum is a time, as its minimum is.
@@ -141,6 +142,8 @@
  * Spans, and the maximum of a Burst, go from 1 to 64, the span of type 10 from
  * 1 to 8. Where the upper of type 1, 3 or 4 is 2^64 - 1, DELKUTHI_NO_LIMIT,
  * there is no upper limit.
+ *
+ * Type 11: in tables of edition 2 alone.
  *
  * A host need not count these bytes: it makes rows by their fields' names, and
  * delkuthi_make_table writes the table. A Delay and an Order, say:
@@ -242,6 +245,14 @@
  *                 upper after the one span places before it. An event for
  *                 which there is no such point breaks the row; the first span
  *                 events never do. Silence and the close break nothing.
+ *  11 Synchronization
+ *                 Each event of the kinds lies in a full window: a stretch
+ *                 from some time to tolerance later in which every one of the
+ *                 kinds has an event. Windows may overlap, one event may serve
+ *                 several, and a kind may have several events in one: unlike
+ *                 type 7 it counts nothing. An event that lies in no full
+ *                 window breaks the row once the clock is past it + tolerance,
+ *                 and at the close.
  *
  *
  * A BENCH LOOP
@@ -702,6 +713,18 @@ static inline delkuthi_row delkuthi_repetition(uint8_t event, uint8_t span,
 
     row = delkuthi_row_time(delkuthi_row_time(row, 3, lower), 11, upper);
     return delkuthi_row_time(row, 19, jitter);
+}
+
+/* Of n kinds, 2 to 4; a row of another n is refused with 4. */
+static inline delkuthi_row delkuthi_synchronization(
+    const uint8_t *kinds, uint8_t n, uint64_t tolerance)
+{
+    delkuthi_row row = delkuthi_row_bytes(11, n, 0);
+    size_t i;
+
+    for (i = 0; i < n && i < 4; i++)
+        row.body[2 + i] = kinds[i];
+    return delkuthi_row_time(row, 2 + i, tolerance);
 }
 
 /* The table writer; rows_size is in bytes. delkuthi_make_table calls it. */

@@ -36,8 +36,10 @@ static delkuthi_row row_of(unsigned type, const uint8_t *b, const uint64_t *t)
         return delkuthi_execution_time(b[0], b[1], b[2], b[3], t[0], t[1]);
     case 9:
         return delkuthi_reaction(b[0], b[1], t[0], t[1]);
-    default:
+    case 10:
         return delkuthi_repetition(b[0], b[1], t[0], t[1], t[2]);
+    default:
+        return delkuthi_synchronization(b + 1, b[0], t[0]);
     }
 }
 

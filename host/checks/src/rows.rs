@@ -32,6 +32,9 @@ pub fn row_of(row: &Constraint) -> Row<'_> {
         Constraint::Repetition(types::Repetition { event, span, lower, upper, jitter }) => {
             Row::Repetition { event, span, lower, upper, jitter }
         }
+        Constraint::Synchronization(types::Synchronization { ref kinds, tolerance }) => {
+            Row::Synchronization { kinds, tolerance }
+        }
     }
 }
 

@@ -43,6 +43,8 @@ pub enum Row<'a> {
     Reaction { stimulus: u8, response: u8, minimum: u64, maximum: u64 },
     /// Each event is 0 to `jitter` after a hidden point; points `span` places apart, 1 to 8, are `lower` to `upper` apart.
     Repetition { event: u8, span: u8, lower: u64, upper: u64, jitter: u64 },
+    /// Each event of the kinds, 2 to 4 of them, lies in a stretch of `tolerance` in which every kind has an event.
+    Synchronization { kinds: &'a [u8], tolerance: u64 },
 }
 
 /// Writes the table of some rows, in the first edition that has the types of all; gives the number of bytes written. Bytes
@@ -93,6 +95,12 @@ impl Row<'_> {
                 body(&[9, stimulus, response], &[minimum, maximum])
             }
             Row::Repetition { event, span, lower, upper, jitter } => body(&[10, event, span], &[lower, upper, jitter]),
+            Row::Synchronization { kinds, tolerance } => {
+                let n = kinds.len().min(4);
+                let mut bytes = [11, kinds.len().min(255) as u8, 0, 0, 0, 0];
+                bytes[2..2 + n].copy_from_slice(&kinds[..n]);
+                body(&bytes[..2 + n], &[tolerance])
+            }
         }
     }
 }

@@ -12,6 +12,7 @@ mod repetition;
 mod sporadic;
 mod strong_delay;
 mod strong_synchronization;
+mod synchronization;
 
 pub use burst::{Burst, burst};
 pub use delay::{Delay, delay};
@@ -23,6 +24,7 @@ pub use repetition::{Repetition, repetition};
 pub use sporadic::{Sporadic, sporadic};
 pub use strong_delay::{StrongDelay, strong_delay};
 pub use strong_synchronization::{StrongSynchronization, synchronization};
+pub use synchronization::{Synchronization, windows};
 
 // End of what is made.
 
@@ -316,6 +318,7 @@ row_types! {
     8 => ExecutionTime from 1,
     9 => Reaction from 1,
     10 => Repetition from 1,
+    11 => Synchronization from 2,
 }
 
 impl Constraint {

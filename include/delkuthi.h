@@ -246,10 +246,13 @@
  *                 which there is no such point breaks the row; the first span
  *                 events never do. Silence and the close break nothing.
  *  11 Synchronization
- *                 Each event of the row's kinds lies in a window from some x
- *                 to x + tolerance in which every kind has an event. An event
- *                 in none breaks the row once the clock is past
- *                 it + tolerance, and at the close.
+ *                 Each event of the kinds lies in a full window: a stretch
+ *                 from some time to tolerance later in which every one of the
+ *                 kinds has an event. Windows may overlap, one event may serve
+ *                 several, and a kind may have several events in one: unlike
+ *                 type 7 it counts nothing. An event that lies in no full
+ *                 window breaks the row once the clock is past it + tolerance,
+ *                 and at the close.
  *
  *
  * A BENCH LOOP

@@ -223,37 +223,41 @@ reactions =
     ∷ reads (Reaction 48 49 4 6) (ColouredEvent 48 0 10 ∷ ColouredEvent 48 1 11 ∷ ColouredEvent 49 1 15 ∷ ColouredEvent 49 0 16 ∷ Close ∷ []) Kept
     ∷ []
 
--- §5.11 to §5.11.6: Synchronizations
+-- §5.11 to §5.11.5: Synchronizations
 abbrev pub synchronizations : List Example
 synchronizations =
-    -- both kinds within tolerance, in either order; a kind that has two in a window; one event that serves two windows
-    reads (Synchronization2 0 1 2) (Event 0 5 ∷ Event 1 7 ∷ Close ∷ []) Kept
+    -- §5.11: both kinds within tolerance, a kind that has two events in a window, and an event that lies in two windows
+    reads (Synchronization2 0 1 2) (Event 0 5 ∷ Event 1 7 ∷ []) Open
+    ∷ reads (Synchronization2 0 1 2) (Event 0 5 ∷ Event 1 7 ∷ Close ∷ []) Kept
     ∷ reads (Synchronization2 0 1 2) (Event 0 5 ∷ Event 0 6 ∷ Event 1 7 ∷ Close ∷ []) Kept
     ∷ reads (Synchronization2 0 1 2) (Event 0 5 ∷ Event 1 7 ∷ Event 0 9 ∷ Close ∷ []) Kept
-    -- an event soon after a full window is met by a window that ends with it; a later one is owed a window of its own
+    -- §5.11.2: the last moment of an event that lies in no full window, and the one after it
     ∷ reads (Synchronization2 0 1 2) (Event 0 5 ∷ Event 1 7 ∷ Event 0 10 ∷ Tick 12 ∷ []) Open
     ∷ reads (Synchronization2 0 1 2) (Event 0 5 ∷ Event 1 7 ∷ Event 0 10 ∷ Tick 12 ∷ Tick 13 ∷ []) (Broken 5)
-    -- the last moment and the one after it
     ∷ reads (Synchronization2 0 1 2) (Event 0 5 ∷ Tick 7 ∷ []) Open
     ∷ reads (Synchronization2 0 1 2) (Event 0 5 ∷ Tick 8 ∷ []) (Broken 2)
-    -- the close, with an event in no full window and with no events
-    ∷ reads (Synchronization2 0 1 2) (Event 0 5 ∷ Close ∷ []) (Broken 2)
-    ∷ reads (Synchronization2 0 1 2) (Tick 9 ∷ Close ∷ []) Kept
-    -- tolerance 0: all kinds at the same times
-    ∷ reads (Synchronization2 0 1 0) (Event 1 5 ∷ Event 0 5 ∷ Close ∷ []) Kept
-    ∷ reads (Synchronization2 0 1 0) (Event 0 5 ∷ Tick 6 ∷ []) (Broken 2)
+    ∷ reads (Synchronization2 0 1 2) (Event 0 5 ∷ Event 0 8 ∷ []) (Broken 2)
+    ∷ reads (Synchronization2 0 1 2) (Event 0 5 ∷ Event 9 7 ∷ Event 9 8 ∷ []) (Broken 3)
     -- three kinds and four
     ∷ reads (Synchronization3 0 1 2 2) (Event 0 5 ∷ Event 1 6 ∷ Event 2 7 ∷ Event 0 8 ∷ Close ∷ []) Kept
+    ∷ reads (Synchronization3 0 1 2 2) (Event 0 5 ∷ Event 1 6 ∷ Event 2 7 ∷ Event 0 9 ∷ []) Open
     ∷ reads (Synchronization3 0 1 2 2) (Event 0 5 ∷ Event 1 6 ∷ Event 2 7 ∷ Event 0 9 ∷ Close ∷ []) (Broken 5)
     ∷ reads (Synchronization3 0 1 2 2) (Event 0 5 ∷ Event 1 6 ∷ Event 2 7 ∷ Event 0 9 ∷ Event 1 9 ∷ Close ∷ []) Kept
     ∷ reads (Synchronization4 0 1 2 3 2) (Event 3 5 ∷ Event 2 6 ∷ Event 1 6 ∷ Event 0 7 ∷ Close ∷ []) Kept
-    ∷ reads (Synchronization4 0 1 2 3 2) (Event 3 5 ∷ Event 2 6 ∷ Event 1 6 ∷ Event 9 8 ∷ []) (Broken 4)
-    -- as many events as come: nothing waits, and the oldest of them counts
+    ∷ reads (Synchronization4 0 1 2 3 2) (Event 3 5 ∷ Event 2 6 ∷ Event 1 6 ∷ Event 0 8 ∷ []) (Broken 4)
+    -- §5.11.3: the close, with an event in no full window and with no event
+    ∷ reads (Synchronization2 0 1 2) (Event 0 5 ∷ Close ∷ []) (Broken 2)
+    ∷ reads (Synchronization2 0 1 2) (Tick 9 ∷ Close ∷ []) Kept
+    -- §5.11.4: tolerance 0
+    ∷ reads (Synchronization2 0 1 0) (Event 1 5 ∷ Event 0 5 ∷ Close ∷ []) Kept
+    ∷ reads (Synchronization2 0 1 0) (Event 0 5 ∷ Tick 6 ∷ []) (Broken 2)
+    ∷ reads (Synchronization2 0 1 0) (Event 0 5 ∷ Event 1 5 ∷ Event 0 9 ∷ Event 1 9 ∷ Close ∷ []) Kept
+    -- §5.11.5: however many events come, none is refused
     ∷ reads (Synchronization2 0 1 1000) (sources 200 1) Open
     ∷ reads (Synchronization2 0 1 1000) (sources 200 1 ++ (Event 1 201 ∷ Close ∷ [])) Kept
     ∷ reads (Synchronization2 0 1 1000) (sources 200 1 ++ (Tick 1001 ∷ [])) Open
     ∷ reads (Synchronization2 0 1 1000) (sources 200 1 ++ (Tick 1001 ∷ Tick 1002 ∷ [])) (Broken 202)
     -- the last time
     ∷ reads (Synchronization2 0 1 lastTime) (Event 0 0 ∷ Event 1 lastTime ∷ Close ∷ []) Kept
-    ∷ reads (Synchronization2 0 1 lastTime) (Event 0 0 ∷ Tick lastTime ∷ []) Open
+    ∷ reads (Synchronization2 0 1 lastTime) (Event 0 1 ∷ Tick lastTime ∷ []) Open
     ∷ []

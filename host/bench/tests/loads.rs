@@ -7,8 +7,8 @@ use bench::plain::report::report;
 use bench::plain::{LAST_TYPE, Plain};
 use model::random::Random;
 use model::random::recordings::{damaged_recording, recording};
-use model::random::tables::{any_table, damaged_table};
-use model::{Constraint, Step, Verdict, report_text, table_bytes};
+use model::random::tables::{any_table_in, damaged_table};
+use model::{Constraint, Step, Verdict, report_text_up_to, table_bytes};
 use std::collections::BTreeSet;
 
 fn loads(events: usize) -> [Load; 2] {
@@ -144,10 +144,10 @@ fn plain_reports_beside_the_model() {
     let check = |table: &[u8], recording: &[u8]| {
         let mut buffer = [0; 1024];
         let written = report(table, recording, &mut buffer).expect("a buffer that is long enough");
-        assert_eq!(buffer[..written], *report_text(table, recording).as_bytes());
+        assert_eq!(buffer[..written], *report_text_up_to(1, table, recording).as_bytes());
     };
     for _ in 0..500 {
-        let rows = any_table(&mut random);
+        let rows = any_table_in(1, &mut random);
         check(&table_bytes(&rows), &recording(&mut random, &rows, 40));
         check(&table_bytes(&rows), &damaged_recording(&mut random, &rows, 20));
         check(&damaged_table(&mut random), &[1]);

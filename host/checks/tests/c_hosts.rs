@@ -10,13 +10,13 @@ use model::limits::NO_LIMIT;
 use model::random::Random;
 use model::random::recordings::{recording, refused_recording};
 use model::random::seen::Seen;
-use model::random::tables::{any_table, damaged_rows, damaged_table, table};
+use model::random::tables::{Scale, any_table, damaged_rows, damaged_table, row_of_type, table};
 use model::types::{
     Burst, Delay, ExecutionTime, Order, Repeat, Repetition, Sporadic, StrongDelay, StrongSynchronization,
 };
 use model::{
-    Constraint, Step, Verdict, page_text, read_table, recording_bytes, refused_row, report_text, table_bytes,
-    write_table,
+    Constraint, NEWEST_EDITION, Step, Verdict, page_text, read_table, recording_bytes, refused_row, report_text,
+    table_bytes, types_in, write_table,
 };
 use std::collections::BTreeSet;
 use std::fs;
@@ -281,12 +281,15 @@ fn the_monitors_memory() {
     }
 }
 
-/// A row of each type, and of each number of kinds, that stays open for a while.
-fn one_of_each() -> [Constraint; 12] {
+/// A row of each type of edition 1, and of each number of kinds, that stays open for a while; of each later type some.
+fn one_of_each() -> Vec<Constraint> {
     let synchronization = |kinds: &[u8]| {
         Constraint::StrongSynchronization(StrongSynchronization { kinds: kinds.to_vec(), tolerance: 50 })
     };
-    [
+    let mut random = Random::new(409);
+    let later = types_in(NEWEST_EDITION).into_iter().filter(|one| !types_in(1).contains(one));
+    let later = later.flat_map(|one| [one; 3]).map(|one| row_of_type(&mut random, one, Scale::Patient, &[0, 1, 2, 3]));
+    let rows = [
         Constraint::Delay(Delay { source: 0, target: 1, lower: 2, upper: 30 }),
         Constraint::Delay(Delay { source: 0, target: 1, lower: 2, upper: NO_LIMIT }),
         Constraint::StrongDelay(StrongDelay { source: 0, target: 1, lower: 2, upper: 30 }),
@@ -299,7 +302,8 @@ fn one_of_each() -> [Constraint; 12] {
         synchronization(&[0, 1, 2, 3]),
         Constraint::ExecutionTime(ExecutionTime { start: 0, stop: 1, preempt: 2, resume: 3, lower: 2, upper: 50 }),
         Constraint::Repetition(Repetition { event: 0, span: 8, lower: 0, upper: 90, jitter: 9 }),
-    ]
+    ];
+    rows.into_iter().chain(later).collect()
 }
 
 /// Whatever a monitor's memory holds, every call ends soon: the host gives each a limit of processor time.

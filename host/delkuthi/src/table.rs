@@ -43,7 +43,7 @@ pub enum Row<'a> {
     Reaction { stimulus: u8, response: u8, minimum: u64, maximum: u64 },
     /// Each event is 0 to `jitter` after a hidden point; points `span` places apart, 1 to 8, are `lower` to `upper` apart.
     Repetition { event: u8, span: u8, lower: u64, upper: u64, jitter: u64 },
-    /// Each event of the kinds, 2 to 4 of them, lies in a window of `tolerance` in which every kind has an event.
+    /// Each event of the kinds, 2 to 4 of them, lies in a stretch of `tolerance` in which every kind has an event.
     Synchronization { kinds: &'a [u8], tolerance: u64 },
 }
 

@@ -57,4 +57,4 @@ pub use table::{
     edition_of, read_table, read_table_up_to, refused_row, refused_row_in, table_bytes, table_bytes_in, write_table,
     write_table_in,
 };
-pub use types::{Constraint, TYPES};
+pub use types::{Constraint, TYPES, types_in};

@@ -1,4 +1,4 @@
-//! Whether what a row asks is true of all events together, some of the clock too (§5.1 to §5.10), and what several types ask.
+//! Whether what a row asks is true of all events together, some of the clock too (section 5), and what several types ask.
 
 use crate::limits::NO_LIMIT;
 use crate::steps::Events;

@@ -24,7 +24,7 @@ pub use repetition::{Repetition, repetition};
 pub use sporadic::{Sporadic, sporadic};
 pub use strong_delay::{StrongDelay, strong_delay};
 pub use strong_synchronization::{StrongSynchronization, synchronization};
-pub use synchronization::{Synchronization};
+pub use synchronization::{Synchronization, windows};
 
 // End of what is made.
 
@@ -90,7 +90,7 @@ pub(crate) use row_type;
 /// What the model says of a row of one type. The functions but those on random rows are for rows that pass questions 4 to 7
 /// and 18.
 pub trait RowType: Fields {
-    /// Is the definition true of all these events together, at the clock that they close at (§5.1 to §5.10)?
+    /// Is the definition true of all these events together, at the clock that they close at (section 5)?
     fn meets(&self, events: &dyn Events) -> bool;
 
     /// How many wait, if the row is open: in most types nothing (§6.4).
@@ -243,6 +243,12 @@ macro_rules! row_types {
 
         /// The numbers of the types (§4.5).
         pub const TYPES: [u8; [$($number),*].len()] = [$($number),*];
+
+        /// The numbers of the types that an edition of the table has (§16.2).
+        pub fn types_in(edition: u8) -> Vec<u8> {
+            let first = [$(($number, $edition)),*];
+            first.into_iter().filter(|(_, first)| *first <= edition).map(|(number, _)| number).collect()
+        }
 
         impl Constraint {
             /// The number of its type (§4.5).

@@ -10,7 +10,7 @@ use model::random::Random;
 use model::random::tables::{Scale, row_of_type};
 use model::search::{open_by_search, open_within, reach};
 use model::types::{ExecutionTime, StrongSynchronization};
-use model::{Constraint, History, NO_LIMIT, Step, TYPES, open};
+use model::{Constraint, History, NEWEST_EDITION, NO_LIMIT, Step, TYPES, open, types_in};
 
 /// The kinds that the small rows use.
 const KINDS: [u8; 4] = [0, 1, 2, 3];
@@ -112,6 +112,11 @@ fn reaction_beside_the_search() {
 #[test]
 fn repetition_beside_the_search() {
     compare(10, 8_000);
+}
+
+#[test]
+fn types_of_later_editions_beside_the_search() {
+    types_in(NEWEST_EDITION).into_iter().filter(|one| !types_in(1).contains(one)).for_each(|one| compare(one, 8_000));
 }
 
 /// Compares both decisions after every list of at most so many steps that can be accepted, up to a last time.

@@ -23,13 +23,14 @@ BY_NAME = {row_type.name: row_type for row_type in TYPES}
 
 
 def judged(row_type: RowType, values: Mapping[str, Value], seen: Mapping[int | None, int]) -> int:
-    """How many instances of a row were there to be judged, by how many events of each signal were seen."""
+    """How many instances of a row were there to be judged, by how many events of each signal were seen. Of a row of several kinds they
+    are its groups, where groups wait, and else its events."""
     name, before = row_type.instance
     kinds = values[name]
     taken = values[before] if isinstance(before, str) else before
     assert isinstance(taken, int)
     if isinstance(kinds, tuple):
-        return max(seen.get(kind, 0) for kind in kinds)
+        return (max if row_type.waits else sum)(seen.get(kind, 0) for kind in kinds)
     return max(sum(seen.get(number, 0) for number in signals_of(kinds)) - taken, 0)
 
 

@@ -142,6 +142,11 @@ pub fn any_table(random: &mut Random) -> Vec<Constraint> {
     table(random, rows)
 }
 
+/// The same, without the rows whose types an edition of the table does not have.
+pub fn any_table_in(edition: u8, random: &mut Random) -> Vec<Constraint> {
+    any_table(random).into_iter().filter(|row| row.edition() <= edition).collect()
+}
+
 /// Rows that are mostly to be refused, by questions 3 to 7 and 18: one or two of them damaged, or too many.
 pub fn damaged_rows(random: &mut Random) -> Vec<Constraint> {
     let number = if random.chance(20) { ROW_LIMIT + 1 + random.place(3) } else { 1 + random.place(ROW_LIMIT) };

@@ -29,6 +29,10 @@ if TYPE_CHECKING:
 #: How many bytes a field of each role has; of ``kinds`` the number is in the first.
 SIZES = {"kind": 1, "coloured": 1, "count": 1, "few": 1, "time": 8, "limit": 8}
 
+#: The example of a type: the row's name, what follows the type in its text, and when each of its events comes.
+Example = tuple[str, str, dict[str, str]]
+NO_EXAMPLE: Example = ("", "", {})
+
 #: The largest number that a field of these roles may have.
 MOST = {"count": 64, "few": 8}
 
@@ -66,7 +70,7 @@ class RowType:
     waits: bool = field(default=False, compare=False)
     #: A row for the manual: its name, what follows the type, and when each event comes, in ms, of a coloured kind with the colour.
     #: The events meet the row at first and break it then. ``release/row-types.py`` makes examples/rows of it.
-    example: tuple[str, str, dict[str, str]] = field(default=("", "", {}), compare=False)
+    example: Example = field(default=NO_EXAMPLE, compare=False)
     #: The first edition of the table that has the type: the least version byte of a table with such a row.
     edition: int = field(default=1, compare=False)
     #: How many words such a row has from the start, each 0.

@@ -31,7 +31,7 @@ fn thousands_of_lists() {
 fn lists_at_the_end_of_the_count() {
     let mut random = Random::new(111);
     let mut seen = Seen::default();
-    for _ in 0..1_000 {
+    for _ in 0..2_000 {
         let rows = any_table(&mut random);
         let count = LAST_COUNT - random.below(60);
         Beside::counting_from(&mut random, &rows, 80, count).play(&mut seen);

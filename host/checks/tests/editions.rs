@@ -6,7 +6,7 @@ use delkuthi::{Monitor, TABLE_LIMIT, WORDS};
 use model::random::Random;
 use model::random::recordings::recording;
 use model::random::seen::Seen;
-use model::random::tables::{Scale, any_table, damaged_rows, damaged_table, row_of_type, table};
+use model::random::tables::{Scale, any_table, any_table_in, damaged_rows, damaged_table, row_of_type, table};
 use model::types::{delay, order};
 use model::{
     Constraint, NEWEST_EDITION, Refusal, TYPES, edition_of, read_table_up_to, recording_bytes, refused_row_in,
@@ -151,7 +151,7 @@ fn edition_1_through_both_forms() {
     let mut seen = Seen::default();
     let [first, second] = &FORMS;
     for turn in 0..3_000 {
-        let rows = any_table(&mut random);
+        let rows = any_table_in(1, &mut random);
         let mut table = if turn % 3 > 0 { table_bytes_in(1, &rows) } else { damaged_table(&mut random) };
         if let Some(version) = table.first_mut() {
             *version = 1;
@@ -167,7 +167,8 @@ fn edition_1_through_both_forms() {
         assert_eq!(first.stretch(&table, &records, row), second.stretch(&table, &records, row));
         first.compare(&table, &records, row, &mut seen);
     }
-    seen.demand_refusals(2..=7);
+    FORMS.iter().for_each(|form| form.compare(&table_bytes_in(1, &vec![order(); 33]), &short(), 0, &mut seen));
+    seen.demand_refusals((2..=7).chain([18]));
 }
 
 /// Tables of edition 2 with types that both have: what the rows read is what they read in edition 1.

@@ -1,14 +1,17 @@
-//! The proved table reader and writer beside the model's: those of edition 1 by value, and the writer as the Rust crate offers it.
+//! The proved table reader and writer beside the model's, in each edition: by value, and the writer as the Rust crate offers it.
 //! Clauses: §4.1 to §4.10, §5.9.6, §8.1 to §8.7, §8.16, §8.18, §9.3, §9.7, §9.8, §11.5.
 
 use checks::rows::write;
-use checks::table_host::{EDITION, read, rewrite};
+use checks::table_host::{read_up_to, rewrite_up_to};
 use model::TYPES;
 use model::random::Random;
 use model::random::seen::Seen;
 use model::random::tables::{any_table, damaged_rows, damaged_table, table};
 use model::types::order;
-use model::{Constraint, Refusal, edition_of, read_table_up_to, refused_row, table_bytes, write_table, write_table_in};
+use model::{
+    Constraint, NEWEST_EDITION, Refusal, edition_of, read_table_up_to, refused_row, table_bytes, table_bytes_in,
+    write_table, write_table_in,
+};
 
 /// What a buffer is filled with, so that a byte written is noticed.
 const FILL: u8 = 0xA5;
@@ -19,19 +22,22 @@ fn in_buffer<E>(length: usize, writer: impl Fn(&mut [u8]) -> Result<usize, E>) -
     (writer(&mut buffer), buffer)
 }
 
-/// Reads bytes and writes the rows again, in a buffer of this length, as the model does; counts the refusal.
+/// Reads bytes and writes the rows again in their edition, in a buffer of this length, as the model does; counts the refusal. So where
+/// edition 1 alone is taken, and where both are.
 fn compare_bytes(bytes: &[u8], length: usize, seen: &mut Seen) {
-    let expected = read_table_up_to(EDITION, bytes);
-    let answer = read(bytes);
-    assert_eq!(answer, expected.as_ref().map(Vec::len).map_err(|refusal| *refusal), "{bytes:02x?}");
-    let written = in_buffer(length, |buffer| rewrite(bytes, buffer));
-    let model = in_buffer(length, |buffer| {
-        let writer_refusal = |number| Refusal { number, place: 0 };
-        let rows = expected.as_ref().map_err(|refusal| *refusal)?;
-        write_table_in(EDITION, rows, buffer).map_err(writer_refusal)
-    });
-    assert_eq!(written, model, "{bytes:02x?}");
-    let _ = written.0.inspect_err(|refusal| seen.refusal(refusal.number));
+    for newest in 1..=NEWEST_EDITION {
+        let expected = read_table_up_to(newest, bytes);
+        let answer = read_up_to(newest, bytes);
+        assert_eq!(answer, expected.as_ref().map(Vec::len).map_err(|refusal| *refusal), "{newest}, {bytes:02x?}");
+        let written = in_buffer(length, |buffer| rewrite_up_to(newest, bytes, buffer));
+        let model = in_buffer(length, |buffer| {
+            let writer_refusal = |number| Refusal { number, place: 0 };
+            let rows = expected.as_ref().map_err(|refusal| *refusal)?;
+            write_table_in(bytes[0], rows, buffer).map_err(writer_refusal)
+        });
+        assert_eq!(written, model, "{newest}, {bytes:02x?}");
+        let _ = written.0.inspect_err(|refusal| seen.refusal(refusal.number));
+    }
 }
 
 /// Writes rows in a buffer of this length, as the model does; counts the refusal.
@@ -54,9 +60,10 @@ fn accepted_tables() {
             compare_bytes(&bytes, length, &mut seen);
             compare_rows(&rows, length, &mut seen);
         }
-        if edition_of(&rows) <= EDITION {
+        for bytes in (edition_of(&rows)..=NEWEST_EDITION).map(|edition| table_bytes_in(edition, &rows)) {
             let mut again = vec![0; bytes.len()];
-            assert_eq!((rewrite(&bytes, &mut again), &again), (Ok(bytes.len()), &bytes), "read, then written");
+            let answer = rewrite_up_to(NEWEST_EDITION, &bytes, &mut again);
+            assert_eq!((answer, &again), (Ok(bytes.len()), &bytes), "read, then written");
         }
     }
     seen.demand_refusals(16..=16);

@@ -30,7 +30,8 @@ def judged(row_type: RowType, values: Mapping[str, Value], seen: Mapping[int | N
     taken = values[before] if isinstance(before, str) else before
     assert isinstance(taken, int)
     if isinstance(kinds, tuple):
-        return (max if row_type.waits else sum)(seen.get(kind, 0) for kind in kinds)
+        numbers = [seen.get(kind, 0) for kind in kinds]
+        return max(numbers) if row_type.waits else sum(numbers)
     return max(sum(seen.get(number, 0) for number in signals_of(kinds)) - taken, 0)
 
 

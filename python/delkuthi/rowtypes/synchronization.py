@@ -90,7 +90,7 @@ class Widths(RowMeasuring):
         self.open: deque[tuple[int, int, int | None]] = deque()
 
     def limits(self) -> tuple[int | None, int | None]:
-        return None, self.tolerance
+        return None, self.values["tolerance"]
 
     def takers(self) -> dict[int, Taker]:
         return {kind: self._taker(kind) for kind in self.kinds}
@@ -144,5 +144,5 @@ TYPE = RowType(
              "would do", each="each event",
     reason=reason, windows=windows, measuring=Widths, instance=("kinds", 0), edition=2,
     example=("fusion", "radar lidar video, tolerance 5 ms",
-             {"radar": "10 13 50", "lidar": "12 57", "video": "14 52"}),
+             {"radar": "10 13 50", "lidar": "12 62", "video": "14 52"}),
 )

@@ -167,7 +167,7 @@ long-clocks-hold = all-read long-clocks (all-computed .5)
 pub reactions-hold : AllRead reactions
 reactions-hold = all-read reactions (all-computed .6)
 
--- §5.11 to §5.11.6
+-- §5.11 to §5.11.5
 pub synchronizations-hold : AllRead synchronizations
 synchronizations-hold = all-read synchronizations (all-computed .7)
 

@@ -56,8 +56,7 @@ pub strong-windows : (ks : List ℕ) (tolerance : ℕ) (steps : List Step) → M
 unfolding MeetsStrongSynchronization MeetsSynchronization
 strong-windows ks tolerance steps meets j s h (i, l, e) =
     let (m, g, least) = least-place (length ks) (λ k. at (times (at ks k) steps) i) (omega arith) in
-    let place : (k : ℕ) → k < length ks → i < length (times (at ks k) steps) = λ k q. omega (arith, meets j k h q .0) in
-    (
+    let place : (k : ℕ) → k < length ks → i < length (times (at ks k) steps) = λ k q. omega (arith, meets j k h q .0) in (
       at (times (at ks m) steps) i,
       (omega (arith, least j h), omega (arith, meets j m h g .1 i l)),
       λ k q. (at (times (at ks k) steps) i, (i, place k q, refl), (omega (arith, least k q), meets k m q g .1 i (place k q))),

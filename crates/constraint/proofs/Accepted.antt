@@ -7,8 +7,7 @@ use lib.ListN.{length, drop}
 use lib.Seq.{drop-cons}
 use Rattle.constraint.specs.Limits.{rowLimit}
 use Rattle.constraint.specs.Questions.{Question, Judged}
-use Rattle.constraint.specs.Accepted.{rowQuestions, rowQuestionsIn, rowsQuestions, AcceptedIn}
-use Rattle.constraint.specs.Types.{typeOf, lastType}
+use Rattle.constraint.specs.Accepted.{rowQuestionsIn, rowsQuestions}
 use Rattle.constraint.specs.Records.{filler}
 use Rattle.constraint.specs.declared.Answer.{Answer}
 use Rattle.constraint.specs.declared.Answer.the-variants.{Taken, Refused}
@@ -54,21 +53,3 @@ module _ (edition : ℕ) where
       let later = rows-room (i + 1) rows (omega arith)
       (judged-parts (rowQuestionsIn edition c) (rowsQuestions edition (i + 1) rows []) (room .1) .1) in
       omega arith
-
--- rows that are accepted in an edition are accepted in one that has its types
-module _ (edition later : ℕ) (more : lastType edition ≤ lastType later) where
-  rows-later : (i : ℕ) (rows : List Constraint) → Judged (rowsQuestions edition i rows []) Taken → Judged (rowsQuestions later i rows []) Taken
-  unfolding rowsQuestions
-  rows-later i [] judged = judged
-  rows-later i (c ∷ rows) judged =
-      let room = judged-all 3 (i < rowLimit) _ judged in
-      let known = judged-all 4 (typeOf c ≤ lastType edition) _ (room .1) in
-      let parts = judged-parts (rowQuestions c) (rowsQuestions edition (i + 1) rows []) (known .1) in
-      rows-taken later i c rows [] Taken (room .0) (judged-yes 4 _ _ Taken (omega (arith, known .0, more)) (parts .0)) (rows-later (i + 1) rows (parts .1))
-
-  pub accepted-in-later : (rows : List Constraint) → AcceptedIn edition rows → AcceptedIn later rows
-  accepted-in-later rows = rows-later 0 rows
-
--- §4.2: so those of the first edition are accepted in the second
-pub accepted-later : (rows : List Constraint) → AcceptedIn 1 rows → AcceptedIn 2 rows
-accepted-later = accepted-in-later 1 2 (omega arith)

@@ -1,5 +1,5 @@
--- What the second edition leaves as it was: a table of the first is read as before by a call that takes both, and its rows are accepted in the second,
--- since that has all types of the first.
+-- What the second edition leaves as it was: a table of the first is read as before by a call that takes both, and its rows are accepted in the
+-- second too, since that has all types of the first.
 use Prim.Native.Nat.{ℕ, _+_, _≤_, _<_}
 use native.Mathlib.Omega.{arith}
 use mathlib.Core.Path.{_≡_}
@@ -43,7 +43,8 @@ module _ (edition later : ℕ) (more : lastType edition ≤ lastType later) wher
       let room = judged-all 3 (i < rowLimit) _ judged in
       let known = judged-all 4 (typeOf c ≤ lastType edition) _ (room .1) in
       let parts = judged-parts (rowQuestions c) (rowsQuestions edition (i + 1) rows []) (known .1) in
-      rows-taken later i c rows [] Taken (room .0) (judged-yes 4 _ _ Taken (omega (arith, known .0, more)) (parts .0)) (rows-later (i + 1) rows (parts .1))
+      rows-taken later i c rows [] Taken (room .0) (judged-yes 4 _ _ Taken (omega (arith, known .0, more)) (parts .0))
+      (rows-later (i + 1) rows (parts .1))
 
 -- §4.2: those of the first edition are accepted in the second
 pub accepted-later : (rows : List Constraint) → AcceptedIn 1 rows → AcceptedIn 2 rows

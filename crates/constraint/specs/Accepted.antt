@@ -8,7 +8,8 @@ use lib.ListN.{length}
 use Rattle.constraint.specs.Limits.{lastKind, firstColoured, lastTime, noLimit, rowLimit}
 use Rattle.constraint.specs.Steps.{at}
 use Rattle.constraint.specs.Questions.{Question, Judged}
-use Rattle.constraint.specs.Types.{kind, coloured, count, span, plain, lower, upper, upper-or-none, Field, byte, time, typeOf, fieldsOf, lastType}
+use Rattle.constraint.specs.Types.{kind, coloured, count, span, plain, lower, upper, upper-or-none, Field, byte, time, typeOf, fieldsOf}
+use Rattle.constraint.specs.Types.{lastType}
 use Rattle.constraint.specs.declared.Answer.the-variants.{Taken}
 use Rattle.constraint.specs.declared.Constraint.{Constraint}
 

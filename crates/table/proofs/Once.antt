@@ -1,6 +1,7 @@
 -- Bytes have one reading, since each question has one answer and a body stands for one row.
 use Rattle.constraint.proofs.Library.{ℕ, _≡_, refl, ap₂, List, arith}
-use Rattle.constraint.specs.Table.{TableRead, rowThen, ReadsRows, no-more, row-refused, row-taken, ReadsTableUpTo, version-refused, version-taken, bodyAt}
+use Rattle.constraint.specs.Table.{TableRead, rowThen, ReadsRows, no-more, row-refused, row-taken, ReadsTableUpTo, version-refused, version-taken}
+use Rattle.constraint.specs.Table.{bodyAt}
 use Rattle.constraint.specs.declared.Answer.the-variants.{Taken, Refused}
 use Rattle.constraint.proofs.Judged.{never}
 use Rattle.table.proofs.Places.{place-taken, place-once}

@@ -32,7 +32,8 @@ module _ (edition : ℕ) (bytes : List ℕ) (i place : ℕ) (c : Constraint) whe
   unfolding placeQuestions
   place-full whole full = judged-yes 2 _ _ _ whole (judged-no 3 _ _ (λ h. omega arith))
 
-  pub place-misshapen : WholeAt bytes place → i < rowLimit → ¬ ShapeFits edition (bodyAt bytes place) → Judged (placeQuestions edition bytes i place c) (Refused 4)
+  pub place-misshapen : WholeAt bytes place → i < rowLimit → ¬ ShapeFits edition (bodyAt bytes place)
+      → Judged (placeQuestions edition bytes i place c) (Refused 4)
   unfolding placeQuestions
   place-misshapen whole room shape = judged-yes 2 _ _ _ whole (judged-yes 3 _ _ _ room (judged-no 4 _ _ shape))
 
@@ -62,11 +63,13 @@ pub row-at : (edition : ℕ) (bytes : List ℕ) (place : ℕ) → Bytes bytes �
 row-at edition bytes place all = row-stands (bodyAt bytes place) (bytes-part bytes (lengthAt bytes place) (place + 2) all)
 
 -- the row at a place is one, where it has a row's shape, so its questions have one answer
-pub place-once : (edition : ℕ) (bytes : List ℕ) (i place : ℕ) (c d : Constraint) (a b : Answer) → RowAt edition bytes place c → RowAt edition bytes place d
+pub place-once : (edition : ℕ) (bytes : List ℕ) (i place : ℕ) (c d : Constraint) (a b : Answer) → RowAt edition bytes place c
+    → RowAt edition bytes place d
     → Judged (placeQuestions edition bytes i place c) a → Judged (placeQuestions edition bytes i place d) b → a ≡ b
 unfolding placeQuestions
 place-once edition bytes i place c d a b at-c at-d one other =
-    judged-once-on ((2, WholeAt bytes place) ∷ (3, i < rowLimit) ∷ (4, ShapeFits edition (bodyAt bytes place)) ∷ []) (rowQuestions c) (rowQuestions d) a b
+    judged-once-on ((2, WholeAt bytes place) ∷ (3, i < rowLimit) ∷ (4, ShapeFits edition (bodyAt bytes place)) ∷ []) (rowQuestions c)
+    (rowQuestions d) a b
     (λ all. let room = judged-all 3 (i < rowLimit) _ (judged-all 2 (WholeAt bytes place) _ all .1) in
     let shape = judged-all 4 (ShapeFits edition (bodyAt bytes place)) _ (room .1) .0 in
     ap rowQuestions (stands-once (bodyAt bytes place) c d (at-c shape) (at-d shape)))

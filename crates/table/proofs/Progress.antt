@@ -38,7 +38,8 @@ pub rows-start : (edition : ℕ) (bytes : List ℕ) → 0 < length bytes → Row
 unfolding rowsThen
 rows-start edition bytes there = record { within = there; whole = λ later reads. reads }
 
-pub rows-more : (edition : ℕ) (bytes : List ℕ) (rows : List Constraint) (i place next : ℕ) (c : Constraint) → i ≡ length rows → RowsUpTo edition bytes rows place
+pub rows-more : (edition : ℕ) (bytes : List ℕ) (rows : List Constraint) (i place next : ℕ) (c : Constraint) → i ≡ length rows
+    → RowsUpTo edition bytes rows place
     → place < length bytes → ReadsAt edition bytes i place (RowRead.Row c next) → RowsUpTo edition bytes (rows ++ (c ∷ [])) next
 rows-more edition bytes rows i place next c counted before there read =
     let taken = place-taken edition bytes i place c (read .1) in
@@ -70,7 +71,8 @@ pub record ReadUpTo (edition : ℕ) (bytes : List ℕ) (table : Table) (place : 
 pub up-to-start : (edition : ℕ) (bytes : List ℕ) (table : Table) → 0 < length bytes → table ≡ tableOf [] → ReadUpTo edition bytes table 1
 up-to-start edition bytes table there none = record { rows = []; holds = none; before = rows-start edition bytes there }
 
-pub up-to-more : (edition : ℕ) (bytes : List ℕ) (table : Table) (place next : ℕ) (c : Constraint) → ReadUpTo edition bytes table place → place < length bytes
+pub up-to-more : (edition : ℕ) (bytes : List ℕ) (table : Table) (place next : ℕ) (c : Constraint) → ReadUpTo edition bytes table place
+    → place < length bytes
     → ReadsAt edition bytes (table .count) place (RowRead.Row c next) → ReadUpTo edition bytes (withOneMore table c) next
 up-to-more edition bytes table place next c up-to there read =
     let taken = place-taken edition bytes (table .count) place c (read .1) in

@@ -1,6 +1,6 @@
 -- Rows as raw bytes are the rows that their bodies stand for, and a body stands for one row: so an accepted table whose rows are given as raw
 -- bytes is written as the table that it was.
-use Rattle.constraint.proofs.Library.{ℕ, zero, suc, _+_, _*_, _≤_, _<_, _≡_, sym, ap, subst, _∙_, List, [], _∷_, _++_, add-zero, arith, eqb-true, eqb-false, eqb}
+use Rattle.constraint.proofs.Library.{ℕ, zero, suc, _+_, _*_, _≤_, _<_, _≡_, sym, ap, subst, _∙_, List, [], _∷_, _++_, add-zero, arith}
 use Rattle.constraint.proofs.Library.{length, getD, take, drop, length-take, take-append-drop, ext-getD, getD-take, getD-drop, length-take-le}
 use Rattle.constraint.proofs.Library.{take-all}
 use Rattle.constraint.specs.Limits.{rowLimit}
@@ -46,7 +46,8 @@ rows-append edition i (c ∷ rows) others =
 
 first-accepted : (edition : ℕ) (rows : List Constraint) (n : ℕ) → AcceptedIn edition rows → AcceptedIn edition (take n rows)
 first-accepted edition rows n accepted =
-    let parts = ap (λ (l : List Constraint). rowsQuestions edition 0 l []) (sym (take-append-drop n rows)) ∙ rows-append edition 0 (take n rows) (drop n rows) in
+    let parts = ap (λ (l : List Constraint). rowsQuestions edition 0 l []) (sym (take-append-drop n rows)) ∙ rows-append edition 0 (take n rows)
+    (drop n rows) in
     judged-parts (rowsQuestions edition 0 (take n rows) []) _ (subst (λ (qs : List Question). Judged qs Taken) parts accepted) .0
 
 -- ---- the table of rows given as raw bytes
@@ -79,7 +80,8 @@ row-typed edition i (c ∷ rows) judged (suc j) there =
     row-typed edition (i + 1) rows (judged-parts (rowQuestionsIn edition c) _ (judged-all 3 _ _ judged .1) .1) j (omega arith)
 
 module _ {newest : ℕ} (raw bytes before : List ℕ) (rows : List Constraint) (each : Bytes bytes)
-    (reads : ReadsTableUpTo newest bytes (table-of rows)) (given : RawRows raw rows) (end : length raw < (length rows + 1) * rawSize) (long : length bytes ≤ length before) where
+    (reads : ReadsTableUpTo newest bytes (table-of rows)) (given : RawRows raw rows) (end : length raw < (length rows + 1) * rawSize) 
+    (long : length bytes ≤ length before) where
   pub raw-write : {w : WriteAnswer} {after : List ℕ} → WritesRaw (at bytes 0) raw before w after
       → (w ≡ WriteAnswer.Written (length bytes)) × (after ≡ bytes ++ drop (length bytes) before)
   raw-write {w = w} {after = after} (all-read others read past writes) =
@@ -94,7 +96,8 @@ module _ {newest : ℕ} (raw bytes before : List ℕ) (rows : List Constraint) (
       let same : others ≡ take (length others) rows = raw-once raw others rows read given (omega arith) in
       let edition = at bytes 0 in
       let taken = subst (AcceptedIn edition) (sym same) (first-accepted edition rows (length others) accepted) in
-      let known = stands-known edition raw (length others) (getD rows (length others) filler) (row-typed edition 0 rows accepted (length others) fewer)
+      let known = stands-known edition raw (length others) (getD rows (length others) filler)
+      (row-typed edition 0 rows accepted (length others) fewer)
       (given .stand (length others) fewer) in
       let all : Judged (rowsQuestions edition 0 others ((3, length others < rowLimit) ∷ (4, KnownAt edition raw (length others)) ∷ [])) Taken =
       rw (rows-then edition) (judged-later (rowsQuestions edition 0 others []) _ Taken taken

@@ -1,6 +1,7 @@
 -- A row's first bytes, as many as its type has, are a body of fitting shape, so they stand for the row that is read from them; and where the
 -- next row is a 33rd or of no known type, 3 and 4 are asked after the rows before it.
-use Rattle.constraint.proofs.Library.{ℕ, zero, suc, _+_, _-_, _*_, _≤_, _<_, _≡_, refl, sym, ap, ap₂, subst, _∙_, Bool, true, List, [], _∷_, _++_, add-zero}
+use Rattle.constraint.proofs.Library.{ℕ, _+_, _-_, _*_, _≤_, _<_, _≡_, refl, sym, ap, ap₂, subst, _∙_, Bool, true, List, [], _∷_, _++_}
+use Rattle.constraint.proofs.Library.{add-zero}
 use Rattle.constraint.proofs.Library.{add-sub-cancel-left, arith, eqb-true, eqb-false, ltb-true, ltb-false, eq-eqb, eqb, ltb, length, getD, take}
 use Rattle.constraint.proofs.Library.{drop, length-append, length-drop, List·getD-append, length-take-le, getD-take, getD-drop, getD-append-add}
 use Rattle.constraint.specs.Limits.{rowLimit}
@@ -131,7 +132,8 @@ pub table-more : (edition : ℕ) (bytes : List ℕ) (i start t n : ℕ) (table n
 table-more edition bytes i start t n table next row each room known whole there first second read adds held =
     record {
       rows = held .rows ++ (row ∷ []);
-      raw = rows-more bytes (held .rows) row (held .raw) (rw (held .counted) whole) (rw (held .counted, same) (raw-stands edition bytes i known whole each));
+      raw = rows-more bytes (held .rows) row (held .raw) (rw (held .counted) whole)
+          (rw (held .counted, same) (raw-stands edition bytes i known whole each));
       counted = length-append (held .rows) (row ∷ []) ∙ ap (λ (k : ℕ). k + 1) (held .counted);
       holds =
           adds .room (omega (arith, record-count table (held .rows) (held .holds), held .counted))

@@ -1,5 +1,5 @@
 -- What is read from bytes is written back to those bytes, and what is written is read back, since a row and its body say the same.
-use Rattle.constraint.proofs.Library.{ℕ, _+_, _≤_, _<_, _≡_, refl, sym, ap, ap₂, subst₂, _∙_, List, [], _∷_, _++_, append-assoc, arith, length, drop}
+use Rattle.constraint.proofs.Library.{ℕ, _+_, _≤_, _<_, _≡_, sym, ap, ap₂, subst₂, _∙_, List, [], _∷_, _++_, append-assoc, arith, length, drop}
 use Rattle.constraint.proofs.Library.{length-append, length-drop, take-append-drop, drop-of-length-le, take-at, drop-at, take-append-seam}
 use Rattle.constraint.proofs.Library.{drop-append-seam, length-take-le, drop-drop, drop-cons}
 use Rattle.constraint.specs.Limits.{rowLimit}
@@ -9,7 +9,8 @@ use Rattle.constraint.specs.Accepted.{kinds, KindsFit, KindsSuit, InRange, rowQ
 use Rattle.constraint.specs.Types.{typeOf, fieldsOf, lastType}
 use Rattle.constraint.specs.Steps.{at}
 use Rattle.constraint.specs.Table.{rowBody, rowBytes, rowsBytes, tableBytesIn, StandsFor, lengthAt, bodyAt, WholeAt, RowAt, placeQuestions}
-use Rattle.constraint.specs.Table.{TableRead, table-of, table-refused, rowThen, ReadsRows, no-more, row-refused, row-taken, ReadsTableUpTo, version-taken}
+use Rattle.constraint.specs.Table.{TableRead, table-of, table-refused, rowThen, ReadsRows, no-more, row-refused, row-taken, ReadsTableUpTo}
+use Rattle.constraint.specs.Table.{version-taken}
 use Rattle.constraint.specs.declared.Answer.the-variants.{Taken}
 use Rattle.constraint.specs.declared.Constraint.{Constraint}
 use Rattle.constraint.proofs.Judged.{judged-all, judged-parts}

@@ -46,7 +46,8 @@ pub counted-refused : (edition : ℕ) (bytes : List ℕ) (count place n : ℕ) �
 counted-refused edition bytes count place n so-far there read =
     rows-refused edition bytes (so-far .rows) count place n (so-far .counted) (so-far .before) there read
 
-pub counted-end : (edition : ℕ) (bytes : List ℕ) (count place : ℕ) → CountedTo edition bytes count place → length bytes ≤ place → Counted edition (ReadsRows edition bytes 0 1) count
+pub counted-end : (edition : ℕ) (bytes : List ℕ) (count place : ℕ) → CountedTo edition bytes count place → length bytes ≤ place
+    → Counted edition (ReadsRows edition bytes 0 1) count
 counted-end edition bytes count place so-far end =
     let reads = rows-end edition bytes (so-far .rows) place (so-far .before) end in
     record {
@@ -81,7 +82,8 @@ scan-start bytes rows (version-taken version reads) = reads
 
 -- the row at a place is the first of those that are read from there on, and the next place is where the others are read
 pub scan-row : {edition : ℕ} (bytes : List ℕ) {i place : ℕ} (c : Constraint) (later : List Constraint) (r : Placed)
-    → ReadsRows edition bytes i place (table-of (c ∷ later)) → PlacedAt bytes place r → (r .row ≡ c) × ReadsRows edition bytes (i + 1) (r .next) (table-of later)
+    → ReadsRows edition bytes i place (table-of (c ∷ later)) → PlacedAt bytes place r → (r .row ≡ c) × ReadsRows edition bytes (i + 1) (r .next)
+    (table-of later)
 scan-row {edition} bytes c later r reads placed = go reads refl placed
   where
     go : {i place : ℕ} {read : TableRead} → ReadsRows edition bytes i place read → read ≡ table-of (c ∷ later) → PlacedAt bytes place r
@@ -94,7 +96,8 @@ scan-row {edition} bytes c later r reads placed = go reads refl placed
         let first : d ≡ c = cc in
         let rest : others ≡ later = cc in (
           stands-once (bodyAt bytes place) (r .row) d (there .stands (taken .whole) edition (taken .shape)) (at-d (taken .shape)) ∙ first,
-          subst₂ (λ (p : ℕ) (rows : List Constraint). ReadsRows edition bytes (i + 1) p (table-of rows)) (sym (there .behind (taken .whole))) rest reads,
+          subst₂ (λ (p : ℕ) (rows : List Constraint). ReadsRows edition bytes (i + 1) p (table-of rows)) (sym (there .behind (taken .whole))) rest
+              reads,
         )
 
 -- so the i-th row that is read is the row i

@@ -12,7 +12,8 @@ use Rattle.table.proofs.Written.{written-refused, written-short, writte
 use Rattle.table.proofs.write.Statement.{statement}
 use Rattle.table.proofs.write.Tie as tie
 
-taken : (c : tie.After-enum-told) → Judged (rowsQuestions (c .before .before .before .before .args .edition) 0 (rowsOf (c .before .before .before .before .args .table)) []) Taken
+taken : (c : tie.After-enum-told)
+    → Judged (rowsQuestions (c .before .before .before .before .args .edition) 0 (rowsOf (c .before .before .before .before .args .table)) []) Taken
 taken c = rw (c .enum-told .given .1) at (c .before .before .judge .ensures)
 
 few : (c : tie.After-enum-told) → c .before .before .before .before .args .table .count ≤ rowLimit
@@ -45,7 +46,8 @@ returns-3 c =
     let at-room = c .before .before .before .before .before .before .before .before in
     let at-size = at-room .before in
     let a = at-size .before .before .before .before .before .args in
-    written-all (a .edition) (rowsOf (a .table)) (now (a .buffer)) _ _ _ (taken (at-size .before)) (omega (arith, at-room .if1 .left, at-size .size-of .ensures))
+    written-all (a .edition) (rowsOf (a .table)) (now (a .buffer)) _ _ _ (taken (at-size .before))
+    (omega (arith, at-room .if1 .left, at-size .size-of .ensures))
     (omega (arith, at-size .size-of .ensures))
     (c .before .before .before .before .before .before .put-byte .ensures) (c .before .before .put-rows .ensures)
 

@@ -33,7 +33,8 @@ test c =
     let second = c .before .byte-at2 in
     let first = c .before .before .byte-at in
     let at-loop = c .before .before .before .before .before in
-    known-test (at-loop .before .before .args .edition) (now (at-loop .before .before .args .bytes)) (at-loop .loop .i) (at-loop .loop .start) (first .result) (second .result)
+    known-test (at-loop .before .before .args .edition) (now (at-loop .before .before .args .bytes)) (at-loop .loop .i) (at-loop .loop .start)
+    (first .result) (second .result)
     (c .type-known .result)
     (at-loop .loop .inv .1) (first .ensures) (second .ensures) (c .type-known .ensures)
 

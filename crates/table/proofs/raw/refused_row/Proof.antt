@@ -33,7 +33,8 @@ loop-again c =
       omega arith,
       omega (arith, loop .inv .1),
       omega (arith, c .before .before .if1 .left, loop .inv .2),
-      taken-more (at-loop .before .before .args .edition) (now (at-loop .before .before .args .bytes)) (loop .i) (loop .inv .3) (passed (test .result) (test .ensures) (c .if2 .left)),
+      taken-more (at-loop .before .before .args .edition) (now (at-loop .before .before .args .bytes)) (loop .i) (loop .inv .3)
+          (passed (test .result) (test .ensures) (c .if2 .left)),
     )
 
 returns-3 : tie.Need-returns-3 Inv-loop μ-loop

@@ -22,7 +22,8 @@ shape : (c : tie.After-shape-fits) → Decides (ShapeFits (c .before .before .be
 shape c =
     let a = c .before .before .before .before .before .before .before .args in
     let size = c .before .before .two-at in
-    subst (λ body. Decides (ShapeFits (a .edition) body) (c .shape-fits .result)) (part-body (now (a .bytes)) (a .place) (size .result) (size .ensures))
+    subst (λ body. Decides (ShapeFits (a .edition) body) (c .shape-fits .result))
+    (part-body (now (a .bytes)) (a .place) (size .result) (size .ensures))
     (c .shape-fits .ensures)
 
 -- a slice of bytes holds bytes, so the row at the place is the one that the body is read as
@@ -56,14 +57,19 @@ answer : (c : tie.After-judge) (a : Answer) → c .judge .result ≡ a
 answer c a e =
     let at-shape = c .before .before .before in
     let start = at-shape .before .before .before .before .before .before .before .args in
-    place-row (start .edition) (now (start .bytes)) (start .before) (start .place) _ a (whole (at-shape .before .before .before .before)) (omega arith)
+    place-row (start .edition) (now (start .bytes)) (start .before) (start .place) _ a (whole (at-shape .before .before .before .before))
+    (omega arith)
     (passed (at-shape .shape-fits .result) (shape at-shape) (c .before .before .if3 .left)) (rw e at (c .judge .ensures))
 
 returns : tie.Need-returns
 returns c =
     let asked = c .before .whole-at in
-    let a = c .before .before .before .args in
-    (_, row (c .before .before), place-short (a .edition) (now (a .bytes)) (a .before) (a .place) _ (failed (asked .result) (asked .ensures) (c .if1 .taken)))
+    let a = c .before .before .before .args in (
+      _,
+      row (c .before .before),
+      place-short (a .edition) (now (a .bytes)) (a .before) (a .place) _
+          (failed (asked .result) (asked .ensures) (c .if1 .taken)),
+    )
 
 returns-2 : tie.Need-returns-2
 returns-2 c =

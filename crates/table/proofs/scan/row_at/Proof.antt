@@ -13,7 +13,8 @@ whole c = passed (c .before .whole-at .result) (c .before .whole-at .ensures) (c
 
 -- a slice of bytes holds bytes, so the row at the place is the one that the body is read as
 row : (c : tie.After-shared-slice-known) (edition : ℕ)
-    → RowAt edition (now (c .before .args .bytes)) (c .before .args .place) (constraintOf (bodyAt (now (c .before .args .bytes)) (c .before .args .place)))
+    → RowAt edition (now (c .before .args .bytes)) (c .before .args .place)
+    (constraintOf (bodyAt (now (c .before .args .bytes)) (c .before .args .place)))
 unfolding Bytes
 row c edition = let a = c .before .args in row-at edition (now (a .bytes)) (a .place) (λ i h. omega (arith, c .shared-slice-known .given i))
 

@@ -1,8 +1,8 @@
 -- Rows as raw bytes are the rows that their bodies stand for, and a body stands for one row: so an accepted table whose rows are given as raw
 -- bytes is written as the table that it was.
-use Rattle.constraint.proofs.Library.{ℕ, zero, suc, _+_, _*_, _≤_, _<_, _≡_, sym, ap, subst, _∙_, List, [], _∷_, _++_, add-zero, arith}
+use Rattle.constraint.proofs.Library.{ℕ, zero, suc, _+_, _*_, _≤_, _<_, _≡_, refl, sym, ap, subst, _∙_, List, [], _∷_, _++_, add-zero, arith}
 use Rattle.constraint.proofs.Library.{length, getD, take, drop, length-take, take-append-drop, ext-getD, getD-take, getD-drop, length-take-le}
-use Rattle.constraint.proofs.Library.{take-all}
+use Rattle.constraint.proofs.Library.{take-all, some, getElem?}
 use Rattle.constraint.specs.Limits.{rowLimit}
 use Rattle.constraint.specs.Steps.{at}
 use Rattle.constraint.specs.Bytes.{Bytes}
@@ -14,7 +14,7 @@ use Rattle.constraint.specs.Table.{ShapeFits, StandsFor, ReadsTableUpTo, table-
 use Rattle.constraint.specs.declared.Answer.the-variants.{Taken, Refused}
 use Rattle.constraint.specs.declared.Constraint.{Constraint}
 use Rattle.constraint.proofs.Judged.{never, judged-none, judged-yes, judged-later, judged-all, judged-parts, judged-once}
-use Rattle.constraint.proofs.Accepted.{rows-then, rows-room}
+use Rattle.constraint.proofs.Accepted.{rows-then, rows-room, row-accepted}
 use Rattle.table.specs.Raw.{rawSize, rawBody, RawRows, KnownAt, WritesRaw, all-read, stopped-at}
 use Rattle.table.specs.Writing.{Writes}
 use Rattle.table.specs.declared.WriteAnswer.{WriteAnswer}
@@ -71,16 +71,17 @@ module _ (edition : ℕ) (raw : List ℕ) (i : ℕ) (c : Constraint) (typed : ty
       }
 
 -- a row of an accepted table has a type of the edition
-row-typed : (edition i : ℕ) (rows : List Constraint) → Judged (rowsQuestions edition i rows []) Taken → (j : ℕ) → j < length rows
-    → typeOf (getD rows j filler) ≤ lastType edition
-unfolding rowsQuestions
-row-typed edition i [] judged j there = absurd (omega arith)
-row-typed edition i (c ∷ rows) judged zero there = judged-all 4 _ _ (judged-all 3 _ _ judged .1) .0
-row-typed edition i (c ∷ rows) judged (suc j) there =
-    row-typed edition (i + 1) rows (judged-parts (rowQuestionsIn edition c) _ (judged-all 3 _ _ judged .1) .1) j (omega arith)
+row-typed : (edition : ℕ) (rows : List Constraint) → AcceptedIn edition rows → (i : ℕ) → i < length rows
+    → typeOf (getD rows i filler) ≤ lastType edition
+row-typed edition rows accepted i there = judged-all 4 _ _ (row-accepted edition 0 rows accepted i _ (is rows i there)) .0
+  where
+    is : (rows : List Constraint) (i : ℕ) → i < length rows → getElem? rows i ≡ some (getD rows i filler)
+    is [] i there = absurd (omega arith)
+    is (c ∷ rows) zero there = refl
+    is (c ∷ rows) (suc i) there = is rows i (omega arith)
 
 module _ {newest : ℕ} (raw bytes before : List ℕ) (rows : List Constraint) (each : Bytes bytes)
-    (reads : ReadsTableUpTo newest bytes (table-of rows)) (given : RawRows raw rows) (end : length raw < (length rows + 1) * rawSize) 
+    (reads : ReadsTableUpTo newest bytes (table-of rows)) (given : RawRows raw rows) (end : length raw < (length rows + 1) * rawSize)
     (long : length bytes ≤ length before) where
   pub raw-write : {w : WriteAnswer} {after : List ℕ} → WritesRaw (at bytes 0) raw before w after
       → (w ≡ WriteAnswer.Written (length bytes)) × (after ≡ bytes ++ drop (length bytes) before)
@@ -97,7 +98,7 @@ module _ {newest : ℕ} (raw bytes before : List ℕ) (rows : List Constraint) (
       let edition = at bytes 0 in
       let taken = subst (AcceptedIn edition) (sym same) (first-accepted edition rows (length others) accepted) in
       let known = stands-known edition raw (length others) (getD rows (length others) filler)
-      (row-typed edition 0 rows accepted (length others) fewer)
+      (row-typed edition rows accepted (length others) fewer)
       (given .stand (length others) fewer) in
       let all : Judged (rowsQuestions edition 0 others ((3, length others < rowLimit) ∷ (4, KnownAt edition raw (length others)) ∷ [])) Taken =
       rw (rows-then edition) (judged-later (rowsQuestions edition 0 others []) _ Taken taken

@@ -26,5 +26,6 @@ returns-2 c =
 
 pub table-rewrite-spec : {M : Type 1} → statement M
 table-rewrite-spec =
-    tie.close (tie.spec (λ c κs. search needs) (λ c κs. search needs) (λ c. search needs) (λ c κs. search needs) (λ c κs. search needs) (λ c. search needs) (λ c κs. search
+    tie.close (tie.spec (λ c κs. search needs) (λ c κs. search needs) (λ c. search needs) (λ c κs. search needs) (λ c κs. search needs)
+    (λ c. search needs) (λ c κs. search
     needs) (λ c. search needs) returns returns-2)

@@ -1,5 +1,5 @@
 -- The refusal of a table has a number above 0 and a place close to the start: each of the rows before it, at most 32, has at most 36 bytes.
-use Rattle.constraint.proofs.Library.{ℕ, zero, suc, _+_, _-_, _*_, _≤_, _<_, _≡_, cond, List, [], _∷_, inl, inr, arith, eqb-true, eqb, length, drop}
+use Rattle.constraint.proofs.Library.{ℕ, _+_, _-_, _*_, _≤_, _<_, _≡_, List, [], _∷_, inl, inr, arith, length, drop}
 use Rattle.constraint.proofs.Library.{length-drop, length-take-le}
 use Rattle.constraint.specs.Limits.{rowLimit}
 use Rattle.constraint.specs.Steps.{at}

@@ -18,7 +18,8 @@ use Rattle.fresh.specs.Fresh.{RowsPut}
 -- ---- read
 
 -- no row is left only at the end of the bytes
-at-end : {edition : ℕ} (bytes : List ℕ) {i place : ℕ} {read : TableRead} → ReadsRows edition bytes i place read → read ≡ table-of [] → length bytes ≤ place
+at-end : {edition : ℕ} (bytes : List ℕ) {i place : ℕ} {read : TableRead} → ReadsRows edition bytes i place read → read ≡ table-of []
+    → length bytes ≤ place
 at-end bytes (no-more end) e = end
 at-end bytes (row-refused n c there at-c refused) e = never (cc)
 at-end bytes (row-taken {later = table-of others} c there at-c judged reads) e = never (cc)
@@ -29,7 +30,8 @@ getD-past [] i past = refl
 getD-past (c ∷ rows) zero past = absurd (omega (arith, past))
 getD-past (c ∷ rows) (suc i) past = getD-past rows i (omega (arith, past))
 
-pub scan-next : {edition : ℕ} (bytes : List ℕ) (rows : List Constraint) (i place : ℕ) (r : Placed) → ReadsRows edition bytes i place (table-of (drop i rows))
+pub scan-next : {edition : ℕ} (bytes : List ℕ) (rows : List Constraint) (i place : ℕ) (r : Placed)
+    → ReadsRows edition bytes i place (table-of (drop i rows))
     → PlacedAt bytes place r → (r .row ≡ getD rows i filler) × ReadsRows edition bytes (i + 1) (r .next) (table-of (drop (i + 1) rows))
 scan-next {edition} bytes rows i place r reads placed =
     split (ltb i (length rows)) (λ _. (r .row ≡ getD rows i filler) × ReadsRows edition bytes (i + 1) (r .next) (table-of (drop (i + 1) rows)))

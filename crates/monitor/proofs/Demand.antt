@@ -2,7 +2,7 @@
 -- what the
 -- definitions say.
 use Rattle.constraint.proofs.Library.{ℕ, zero, suc, _+_, _-_, _≤_, _<_, decLt, arith, _≡_, refl, ap, subst, Bool, true, false, cond, List, [], _∷_}
-use Rattle.constraint.proofs.Library.{_⊎_, inl, inr, ⊎-elim, by-cases, Option, none, some, length, getD, replicate, getElem?, getD-replicate}
+use Rattle.constraint.proofs.Library.{inl, inr, by-cases, Option, none, some, length, getD, replicate, getElem?, getD-replicate}
 use Rattle.constraint.proofs.Library.{length-replicate, ltb, lt-ltb, le-ltb}
 use Rattle.constraint.specs.Limits.{rowLimit}
 use Rattle.constraint.specs.Steps.{Step, times, clockFrom, closed}

@@ -7,7 +7,8 @@ use Rattle.fresh.proofs.judge.Tie as tie
 
 -- the refusal that was read
 refusal : (c : tie.After-answer)
-    → ReadsTableUpTo (c .before .before .before .before .args .newest) (now (c .before .before .before .before .args .table)) (table-refused (c .answer .given .0 .0) (c .answer .given .0 .1 .0))
+    → ReadsTableUpTo (c .before .before .before .before .args .newest) (now (c .before .before .before .before .args .table))
+    (table-refused (c .answer .given .0 .0) (c .answer .given .0 .1 .0))
 refusal c = (rw (c .answer .given .1) at (c .before .before .judge .ensures)) .0
 
 small : (c : tie.After-answer) → (0 < c .answer .given .0 .0) × (c .answer .given .0 .1 .0 ≤ 1153)

@@ -59,7 +59,7 @@ clockAfter o s =
 
 none-accepted : Accepted []
 unfolding rowsQuestions
-none-accepted = judged-none
+none-accepted = (1, judged-none)
 
 pub starts : After [] (record { time = 0; count = 0; next = replicate streamCount 0; closed = 0 })
 unfolding after play monitorOf

@@ -1,19 +1,19 @@
 -- The rows' questions are put row by row, so their answer goes by the first row's answer and that of the others.
-use Prim.Native.Nat.{ℕ, _+_, _≤_, _<_}
-use mathlib.Core.Path.{_≡_, refl, ap}
+use Prim.Native.Nat.{ℕ, zero, suc, _+_, _≤_, _<_}
+use mathlib.Core.Path.{_≡_, refl, ap, subst}
 use mathlib.Core.List.{List, [], _∷_, _++_}
 use native.Mathlib.Omega.{arith}
-use lib.ListN.{length, drop}
+use mathlib.Core.Option.{some}
+use lib.ListN.{length, drop, getElem?}
 use lib.Seq.{drop-cons}
 use Rattle.constraint.specs.Limits.{rowLimit}
 use Rattle.constraint.specs.Questions.{Question, Judged}
-use Rattle.constraint.specs.Accepted.{rowQuestions, rowQuestionsIn, rowsQuestions, AcceptedIn}
-use Rattle.constraint.specs.Types.{typeOf, lastType}
+use Rattle.constraint.specs.Accepted.{rowQuestionsIn, rowsQuestions, AcceptedIn}
 use Rattle.constraint.specs.Records.{filler}
 use Rattle.constraint.specs.declared.Answer.{Answer}
 use Rattle.constraint.specs.declared.Answer.the-variants.{Taken, Refused}
 use Rattle.constraint.specs.declared.Constraint.{Constraint}
-use Rattle.constraint.proofs.Judged.{judged-yes, judged-no, judged-all, judged-parts, judged-later, judged-first}
+use Rattle.constraint.proofs.Judged.{never, judged-none, judged-yes, judged-no, judged-all, judged-parts, judged-later, judged-first}
 
 module _ (edition : ℕ) where
   -- the row's questions, and then those of the rows after it
@@ -55,20 +55,21 @@ module _ (edition : ℕ) where
       (judged-parts (rowQuestionsIn edition c) (rowsQuestions edition (i + 1) rows []) (room .1) .1) in
       omega arith
 
--- rows that are accepted in an edition are accepted in one that has its types
-module _ (edition later : ℕ) (more : lastType edition ≤ lastType later) where
-  rows-later : (i : ℕ) (rows : List Constraint) → Judged (rowsQuestions edition i rows []) Taken → Judged (rowsQuestions later i rows []) Taken
+  -- and each of them is taken by itself
+  pub row-accepted : (i : ℕ) (rows : List Constraint) → Judged (rowsQuestions edition i rows []) Taken → (j : ℕ) (c : Constraint)
+      → getElem? rows j ≡ some c → Judged (rowQuestionsIn edition c) Taken
   unfolding rowsQuestions
-  rows-later i [] judged = judged
-  rows-later i (c ∷ rows) judged =
-      let room = judged-all 3 (i < rowLimit) _ judged in
-      let known = judged-all 4 (typeOf c ≤ lastType edition) _ (room .1) in
-      let parts = judged-parts (rowQuestions c) (rowsQuestions edition (i + 1) rows []) (known .1) in
-      rows-taken later i c rows [] Taken (room .0) (judged-yes 4 _ _ Taken (omega (arith, known .0, more)) (parts .0)) (rows-later (i + 1) rows (parts .1))
+  row-accepted i [] judged j c there = never (cc)
+  row-accepted i (d ∷ rows) judged zero c there =
+      let same : d ≡ c = cc in
+      subst (λ (x : Constraint). Judged (rowQuestionsIn edition x) Taken) same
+      (judged-parts (rowQuestionsIn edition d) (rowsQuestions edition (i + 1) rows []) (judged-all 3 (i < rowLimit) _ judged .1) .0)
+  row-accepted i (d ∷ rows) judged (suc j) c there =
+      row-accepted (i + 1) rows
+      (judged-parts (rowQuestionsIn edition d) (rowsQuestions edition (i + 1) rows []) (judged-all 3 (i < rowLimit) _ judged .1) .1) j c there
 
-  pub accepted-in-later : (rows : List Constraint) → AcceptedIn edition rows → AcceptedIn later rows
-  accepted-in-later rows = rows-later 0 rows
-
--- §4.2: so those of the first edition are accepted in the second
-pub accepted-later : (rows : List Constraint) → AcceptedIn 1 rows → AcceptedIn 2 rows
-accepted-later = accepted-in-later 1 2 (omega arith)
+  -- so it is accepted as a table of its own
+  pub alone-accepted : (rows : List Constraint) → AcceptedIn edition rows → (j : ℕ) (c : Constraint) → getElem? rows j ≡ some c
+      → AcceptedIn edition (c ∷ [])
+  unfolding rowsQuestions
+  alone-accepted rows accepted j c there = rows-taken 0 c [] [] Taken (omega arith) (row-accepted 0 rows accepted j c there) judged-none

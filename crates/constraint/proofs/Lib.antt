@@ -5,6 +5,7 @@ pub mod Streams
 pub mod History
 pub mod Lawful
 pub mod Types
+pub mod Lengths
 pub mod Continuations
 pub mod Verdicts
 pub mod Waitings
@@ -16,6 +17,7 @@ pub mod FieldByField
 pub mod Rows
 pub mod Records
 pub mod Accepted
+pub mod Editions
 pub mod Runs
 pub mod Withdrawals
 pub mod AsBefore

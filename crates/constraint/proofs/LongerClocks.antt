@@ -13,7 +13,8 @@ use Rattle.constraint.specs.Limits.{lastKind, firstColoured, lastColour,
 use Rattle.constraint.specs.Streams.{stream}
 use Rattle.constraint.specs.Steps.{Step, event, tick, close, times, clockFrom, clock, closed}
 use Rattle.constraint.specs.Continuation.{EventInOrder}
-use Rattle.constraint.specs.Types.{kind, coloured, count, span, plain, lower, upper, upper-or-none, Field, byte, time, typeOf, fieldsOf, lastType}
+use Rattle.constraint.specs.Types.{kind, coloured, count, span, plain, lower, upper, upper-or-none, Field, byte, time, typeOf, fieldsOf}
+use Rattle.constraint.specs.Types.{lastType}
 use Rattle.constraint.specs.Accepted.{kinds, KindsFit, KindsSuit, FieldsInRange, InRange, LowerFirst, rowsQuestions, Accepted}
 use Rattle.constraint.specs.Questions.{Question, Judged}
 use Rattle.constraint.specs.Run.{stepFor, Room, questions, asks, Left, noneLeft, leftBy, Run, done, request}
@@ -64,8 +65,8 @@ range-still (time upper-or-none x ∷ fields) h = (⊎-elim (λ small. inl (omeg
 abbrev pub rowsQuestionsBefore : ℕ → List Constraint → List Question
 rowsQuestionsBefore i [] = []
 rowsQuestionsBefore i (c ∷ rows) =
-    (3, i < rowLimit) ∷ (4, typeOf c ≤ lastType 1) ∷ (5, KindsFit (kinds c)) ∷ (18, KindsSuit c) ∷ (6, FieldsInRangeBefore (fieldsOf c)) ∷ (7, LowerFirst c)
-    ∷ rowsQuestionsBefore (i + 1) rows
+    (3, i < rowLimit) ∷ (4, typeOf c ≤ lastType 1) ∷ (5, KindsFit (kinds c)) ∷ (18, KindsSuit c) ∷ (6, FieldsInRangeBefore (fieldsOf c))
+    ∷ (7, LowerFirst c) ∷ rowsQuestionsBefore (i + 1) rows
 
 rows-still : (i : ℕ) (rows : List Constraint) → Judged (rowsQuestionsBefore i rows) Taken → Judged (rowsQuestions 1 i rows []) Taken
 unfolding rowsQuestions InRange

@@ -12,20 +12,19 @@ pub mod ExecutionTime
 pub mod Reaction
 pub mod Repetition
 pub mod Synchronization
-use Prim.Native.Nat.{ℕ, zero, suc, _+_, _-_, _*_, _≤_, _<_}
+use Prim.Native.Nat.{ℕ, zero, suc, _+_, _*_, _≤_, _<_}
 use mathlib.Core.Path.{_≡_, refl, sym, ap, ap₂, subst⁻¹, _∙_}
-use mathlib.Core.Bool.{Bool, true, false, cond}
+use mathlib.Core.Bool.{true, cond}
 use mathlib.Core.List.{List, [], _∷_, _++_}
-use native.Mathlib.Nat.{add-zero}
 use native.Mathlib.Omega.{arith}
 use borrow.Author.Tests.{ltb-true, ltb-false, ne-eqb}
 use lib.Dec.{ltb}
-use lib.ListN.{length, take, drop, List·getD-eq-default, take-append-drop}
+use lib.ListN.{length, take, drop, take-append-drop}
 use Rattle.constraint.specs.Steps.{at}
 use Rattle.constraint.specs.Bytes.{bytesOf}
 use Rattle.constraint.specs.Types.{kind, coloured, count, span, Field, byte, time, typeOf, fieldsOf, rowRead, lengths, lengthOf}
-use Rattle.constraint.specs.Types.{lastTypes, lastType, takesCount}
-use Rattle.constraint.specs.Table.{fieldsBytes, rowBody, ShapeFits}
+use Rattle.constraint.specs.Types.{takesCount}
+use Rattle.constraint.specs.Table.{fieldsBytes, rowBody}
 use Rattle.constraint.specs.Records.{bytesIn, timesIn, timesBytes, HoldsRow}
 use Rattle.constraint.specs.Accepted.{kinds}
 use Rattle.constraint.specs.declared.Constraint.{Constraint}
@@ -145,40 +144,6 @@ read-group t b x n1 n2 n3 n4 n5 n6 n8 n9 n10 n11 =
     )
 
 -- End of what is made.
-
--- a row's shape fits in the editions that have its type
-pub row-fits : (c : Constraint) {edition : ℕ} → typeOf c ≤ lastType edition → ShapeFits edition (rowBody c)
-unfolding rowBody
-row-fits c known =
-    let sized = regular c .sized in
-    record {
-      type-there = omega (arith, sized .two);
-      type-known = (sized .typed, known);
-      n-there = λ e. sized .two;
-      n-known = λ e. sized .n-known (ap (λ (b : Bool). cond b 1 0) e);
-      length-right = sized .long;
-    }
-
--- a list of numbers, each at most some number: so is what stands at a place of it
-abbrev pub AtMost : ℕ → List ℕ → Type 0
-AtMost most [] = Unit {0}
-AtMost most (x ∷ xs) = (x ≤ most) × AtMost most xs
-
-pub at-most : (most : ℕ) (xs : List ℕ) → AtMost most xs → (i : ℕ) → at xs i ≤ most
-at-most most [] h i = omega arith
-at-most most (x ∷ xs) h zero = h .0
-at-most most (x ∷ xs) h (suc i) = at-most most xs (h .1) i
-
--- every type of an edition is in the list of lengths
-pub last-listed : (edition : ℕ) → lastType edition < length lengths
-last-listed edition = omega (arith, at-most (length lengths - 1) lastTypes (omega arith) edition)
-
--- the list of lengths, where it has no entry, and for every type that has no n
-pub length-unknown : (t n : ℕ) → length lengths ≤ t → lengthOf t n ≡ 0
-length-unknown t n past = rw (List·getD-eq-default lengths 0 {n = t} past, ne-eqb t 7 (λ e. omega arith), ne-eqb t 11 (λ e. omega arith))
-
-pub length-plain : (t n : ℕ) → takesCount t ≡ false → lengthOf t n ≡ at lengths t
-length-plain t n other = rw other (add-zero (at lengths t))
 
 -- what is shown of each of n numbers from i on, one after the other, is shown of all of them
 abbrev EachThen : (ℕ → Type 0) → Type 0 → ℕ → ℕ → Type 0

@@ -43,7 +43,7 @@ unfoldable pub rowsBytes : List Constraint → List ℕ
 rowsBytes [] = []
 rowsBytes (c ∷ rows) = rowBytes c ++ rowsBytes rows
 
--- §4.2; 01, table: the version byte, which is the edition, then the rows
+-- §4.2, §4.14; 01, table: the version byte, which is the edition, then the rows
 unfoldable pub tableBytesIn : ℕ → List Constraint → List ℕ
 tableBytesIn edition rows = edition ∷ rowsBytes rows
 

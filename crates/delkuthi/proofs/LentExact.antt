@@ -2,10 +2,10 @@
 -- and each reader's contract speaks of every list of calls and withdrawals.
 use Rattle.constraint.proofs.Library.{ℕ, _<_, _≡_, refl, sym, ap₂, subst, List, _∷_, map, arith}
 use Rattle.constraint.specs.Accepted.{Accepted}
-use Rattle.constraint.specs.Steps.{Step}
+use Rattle.constraint.specs.Steps.{Step, at}
 use Rattle.constraint.specs.Run.{Request, Left, asks, noneLeft, Run}
 use Rattle.constraint.specs.Promise.{ReadsRow, play}
-use Rattle.constraint.specs.Table.{ReadsTable, table-of, table-refused}
+use Rattle.constraint.specs.Table.{ReadsTableUpTo, table-of, table-refused}
 use Rattle.constraint.specs.Page.{Pages}
 use Rattle.constraint.specs.declared.Answer.{Answer}
 use Rattle.constraint.specs.declared.Constraint.{Constraint}
@@ -19,10 +19,11 @@ use Rattle.monitor.specs.Contract.{resultOf, step, after}
 use Rattle.monitor.specs.declared.Monitor.{Monitor}
 use Rattle.monitor.proofs.Theorem.{monitor-is-exact}
 use Rattle.lent.specs.Contract.{answerFrom, Holds}
-use Rattle.fresh.specs.Fresh.{Begins, begun, refused}
+use Rattle.fresh.specs.Fresh.{BeginsUpTo, Begins, begun, refused}
 use Rattle.delkuthi.specs.Taking.{Took, RecordingTakenAs}
-use Rattle.delkuthi.specs.Reporting.{LeftBy, unused, used, ReportsOn, ReportsSteps}
-use Rattle.delkuthi.specs.LentExact.{Memory, Host, over, asked, Untouched, ReadsAs, ReadsRecorded, whole, cut, Reported, LentExact}
+use Rattle.delkuthi.specs.Reporting.{LeftBy, unused, used, ReportsOnUpTo, ReportsSteps}
+use Rattle.delkuthi.specs.LentExact.{Memory, Host, over, asked, Untouched, ReadsAs, ReadsRecorded, whole, cut, Reported, LentExactUpTo}
+use Rattle.delkuthi.specs.LentExact.{LentExact}
 use Rattle.delkuthi.proofs.Lying.{call-holds}
 use Rattle.delkuthi.proofs.Telling.{begun-over, told-reports}
 
@@ -62,15 +63,15 @@ recorded h m holds rows recording ReadAnswer.Accepted taken = whole (taken .0) (
 recorded h m holds rows recording (ReadAnswer.Refused n place) taken =
     cut n place (taken .0) (taken .3) (taken .1) (readers-after h m holds rows (taken .0) (taken .2))
 
-module _ (before : Memory) (table recording : List ℕ) where
-  left-refused : {answer : ReadAnswer} {h : Memory} → LeftBy before table recording answer h → (n place : ℕ)
-      → ReadsTable table (table-refused n place)
+module _ {newest : ℕ} (before : Memory) (table recording : List ℕ) where
+  left-refused : {answer : ReadAnswer} {h : Memory} → LeftBy newest before table recording answer h → (n place : ℕ)
+      → ReadsTableUpTo newest table (table-refused n place)
       → h ≡ before
   left-refused (unused m at reads) n place r = refl
   left-refused (used rows answer h m reads taken holds) n place r = let same = reads-once table reads r in never (cc)
 
-  left-used : {answer : ReadAnswer} {h : Memory} → LeftBy before table recording answer h → (rows : List Constraint)
-      → ReadsTable table (table-of rows)
+  left-used : {answer : ReadAnswer} {h : Memory} → LeftBy newest before table recording answer h → (rows : List Constraint)
+      → ReadsTableUpTo newest table (table-of rows)
       → ReadsRecorded h rows recording
   left-used (unused m at reads) rows r = let same = reads-once table reads r in never (cc)
   left-used (used others answer h m reads taken holds) rows r =
@@ -78,8 +79,8 @@ module _ (before : Memory) (table recording : List ℕ) where
       let same : others ≡ rows = cc in
       recorded h m holds rows recording answer (subst (λ (list : List Constraint). RecordingTakenAs list recording answer m) same taken)
 
-  reported-as : (buffer : List ℕ) (number : ℕ) (written : List ℕ) (h : Memory) → ReportsOn before table recording buffer number written h
-      → Reported before table recording buffer number written h
+  reported-as : (buffer : List ℕ) (number : ℕ) (written : List ℕ) (h : Memory) → ReportsOnUpTo newest before table recording buffer number written h
+      → Reported newest before table recording buffer number written h
   reported-as buffer number written h on =
       record { reports = on .reports; refused = left-refused (on .left-by); used = left-used (on .left-by) }
 
@@ -104,17 +105,19 @@ untouched-all : {h end : Memory} {requests : List Request} {numbers : List ℕ} 
 untouched-all over = tt
 untouched-all (asked r number takes rest) = (λ above. takes .untouched (λ zero. omega arith), untouched-all rest)
 
-fresh-refused : {bytes : List ℕ} {before : Memory} {number : ℕ} {h : Memory} → Begins bytes before number h → 0 < number → h ≡ before
+fresh-refused : {newest : ℕ} {bytes : List ℕ} {before : Memory} {number : ℕ} {h : Memory} → BeginsUpTo newest bytes before number h → 0 < number
+    → h ≡ before
 fresh-refused (begun rows reads accepted indexes) above = absurd (omega arith)
 fresh-refused (refused n place reads low high) above = refl
 
-pub lent-is-exact : (bytes : List ℕ) (before : Memory) {h end : Memory} {requests : List Request} {numbers : List ℕ} → Begins bytes before 0 h
-    → (host : Host h requests numbers end) → LentExact bytes host
+-- over what is given to a call that makes a monitor fresh, of whichever editions it takes
+pub lent-is-exact-up-to : {newest : ℕ} (bytes : List ℕ) (before : Memory) {h end : Memory} {requests : List Request} {numbers : List ℕ}
+    → BeginsUpTo newest bytes before 0 h → (host : Host h requests numbers end) → LentExactUpTo newest bytes host
 unfolding after play
-lent-is-exact bytes before {h = h} {end = end} {requests = requests} {numbers = numbers} begins host =
+lent-is-exact-up-to bytes before {h = h} {end = end} {requests = requests} {numbers = numbers} begins host =
     let fresh = begun-over bytes before 0 h begins refl in
     let rows = fresh .0 in
-    let accepted = read-accepted bytes rows (fresh .1) in
+    let accepted : Accepted rows = (at bytes 0, read-accepted bytes rows (fresh .1)) in
     let f = follows (monitorOf rows) (fresh .2) host in
     let exact = monitor-is-exact .exact rows accepted requests in
     let read = readers end (play step (monitorOf rows) requests .monitor) (f .left-there) rows requests _ (exact .0) accepted refl (exact .1) in
@@ -131,3 +134,8 @@ lent-is-exact bytes before {h = h} {end = end} {requests = requests} {numbers = 
       reported = λ table recording buffer number written after on. reported-as end table recording buffer number written after on;
       refused = λ table number after anew above. fresh-refused anew above;
     }
+
+-- and so over what is given to `delkuthi_fresh`
+pub lent-is-exact : (bytes : List ℕ) (before : Memory) {h end : Memory} {requests : List Request} {numbers : List ℕ} → Begins bytes before 0 h
+    → (host : Host h requests numbers end) → LentExact bytes host
+lent-is-exact = lent-is-exact-up-to

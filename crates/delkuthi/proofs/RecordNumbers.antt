@@ -6,7 +6,7 @@ use Rattle.constraint.specs.Questions.{Question, Judged}
 use Rattle.constraint.specs.Run.{questions}
 use Rattle.constraint.specs.Recording.{callAt, recordQuestions, recording-refused, ReadsRecords, record-refused, record-taken, ReadsInOrder}
 use Rattle.constraint.specs.Recording.{version-refused, version-taken}
-use Rattle.constraint.specs.Stamps.{stampsQuestions, AnswersStamps, no-table, no-recording, not-asked}
+use Rattle.constraint.specs.Stamps.{stampsQuestions, AnswersStampsUpTo, no-table, no-recording, not-asked}
 use Rattle.constraint.specs.declared.Answer.the-variants.{Refused}
 use Rattle.constraint.specs.declared.Call.{Call}
 use Rattle.constraint.specs.declared.Constraint.{Constraint}
@@ -37,10 +37,11 @@ number-short (q ∷ later) n e (inr h) =
 
 -- ---- of rows
 
-pub rows-short : (i : ℕ) (rows : List Constraint) (later : List Question) → short? later ≡ true → short? (rowsQuestions i rows later) ≡ true
+pub rows-short : (edition i : ℕ) (rows : List Constraint) (later : List Question) → short? later ≡ true
+    → short? (rowsQuestions edition i rows later) ≡ true
 unfolding rowsQuestions short?
-rows-short i [] later e = e
-rows-short i (c ∷ rows) later e = rows-short (i + 1) rows later e
+rows-short edition i [] later e = e
+rows-short edition i (c ∷ rows) later e = rows-short edition (i + 1) rows later e
 
 -- ---- of a recording
 
@@ -63,7 +64,8 @@ refusal-short bytes n place (version-taken one records) = records-short bytes re
 
 -- ---- of late stamps
 
-pub stamped-above : (table recording : List ℕ) (i e n place : ℕ) → AnswersStamps table recording i e (StampedAnswer.Refused n place) → 0 < n
+pub stamped-above : {newest : ℕ} (table recording : List ℕ) (i e n place : ℕ)
+    → AnswersStampsUpTo newest table recording i e (StampedAnswer.Refused n place) → 0 < n
 unfolding short?
 stamped-above table recording i e n place (no-table m at read) = refused-small table m at read .0
 stamped-above table recording i e n place (no-recording rows m at read refused) = refusal-short recording m at refused .0

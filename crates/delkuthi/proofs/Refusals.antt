@@ -2,7 +2,7 @@
 use Rattle.constraint.proofs.Library.{ℕ, _+_, _*_, _≤_, _<_, _≡_, refl, subst, List, [], _∷_, arith, length, length-append}
 use Rattle.constraint.specs.Questions.{Question, Judged}
 use Rattle.constraint.specs.Accepted.{rowsQuestions}
-use Rattle.constraint.specs.Table.{rowBytes, rowsBytes, tableBytes, writerQuestions}
+use Rattle.constraint.specs.Table.{rowBytes, rowsBytes, tableBytesIn, writerQuestions}
 use Rattle.constraint.specs.declared.Answer.the-variants.{Taken, Refused}
 use Rattle.constraint.specs.declared.Constraint.{Constraint}
 use Rattle.constraint.proofs.Judged.{never, judged-parts}
@@ -12,63 +12,69 @@ use Rattle.table.specs.Writing.{Writes, answerIn}
 use Rattle.table.specs.declared.WriteAnswer.{WriteAnswer}
 use Rattle.table.proofs.Bodies.{row-length}
 use Rattle.table.proofs.Standing.{body-short}
-use Rattle.delkuthi.specs.Tables.{tableNumber, MakesTable}
+use Rattle.delkuthi.specs.Tables.{tableNumber, MakesTableIn}
 use Rattle.delkuthi.proofs.RecordNumbers.{short?, number-short, rows-short}
 
-writer-number : (rows : List Constraint) (before after : List ℕ) (r : WriteAnswer) (n : ℕ) → r ≡ WriteAnswer.Refused n → Writes rows before r after
+writer-number : {edition : ℕ} (rows : List Constraint) (before after : List ℕ) (r : WriteAnswer) (n : ℕ) → r ≡ WriteAnswer.Refused n
+    → Writes edition rows before r after
     → 0 < n
 unfolding short?
-writer-number rows before after r n e writes =
-    number-short (writerQuestions rows before) n (rows-short 0 rows _ refl)
-    (subst (λ (w : WriteAnswer). Judged (writerQuestions rows before) (answerIn w)) e (writes .judged)) .0
+writer-number {edition} rows before after r n e writes =
+    number-short (writerQuestions edition rows before) n (rows-short edition 0 rows _ refl)
+    (subst (λ (w : WriteAnswer). Judged (writerQuestions edition rows before) (answerIn w)) e (writes .judged)) .0
 
-raw-number : (bytes before after : List ℕ) (r : WriteAnswer) (n : ℕ) → r ≡ WriteAnswer.Refused n → WritesRaw bytes before r after → 0 < n
+raw-number : {edition : ℕ} (bytes before after : List ℕ) (r : WriteAnswer) (n : ℕ) → r ≡ WriteAnswer.Refused n
+    → WritesRaw edition bytes before r after → 0 < n
 unfolding short?
 raw-number bytes before after r n e (all-read rows raw past writes) = writer-number rows before _ _ n e writes
-raw-number bytes before after r n e (stopped-at rows m raw more judged) =
+raw-number {edition} bytes before after r n e (stopped-at rows m raw more judged) =
     let same : m ≡ n = cc in
-    omega (arith, same, number-short _ m (rows-short 0 rows _ refl) judged .0)
+    omega (arith, same, number-short _ m (rows-short edition 0 rows _ refl) judged .0)
 
 rows-length : (rows : List Constraint) → length (rowsBytes rows) ≤ 40 * length rows
 unfolding rowsBytes
 rows-length [] = omega arith
 rows-length (c ∷ rows) = omega (arith, length-append (rowBytes c) (rowsBytes rows), row-length c, body-short c, rows-length rows)
 
-table-short : (rows : List Constraint) → length (tableBytes rows) ≤ 1 + 40 * length rows
-unfolding tableBytes
-table-short rows = omega (arith, rows-length rows)
+table-short : (edition : ℕ) (rows : List Constraint) → length (tableBytesIn edition rows) ≤ 1 + 40 * length rows
+unfolding tableBytesIn
+table-short edition rows = omega (arith, rows-length rows)
 
-writer-short : (rows : List Constraint) (before after : List ℕ) (r : WriteAnswer) (n : ℕ) → r ≡ WriteAnswer.Written n → Writes rows before r after
+writer-short : {edition : ℕ} (rows : List Constraint) (before after : List ℕ) (r : WriteAnswer) (n : ℕ) → r ≡ WriteAnswer.Written n
+    → Writes edition rows before r after
     → n ≤ 1281
-writer-short rows before after r n e writes =
-    let judged = subst (λ (w : WriteAnswer). Judged (writerQuestions rows before) (answerIn w)) e (writes .judged) in
-    let parts = judged-parts (rowsQuestions 0 rows []) _ (subst (λ (qs : List Question). Judged qs Taken) (rows-then 0 rows _) judged) in
-    omega (arith, rows-room 0 rows (omega arith) (parts .0), table-short rows, writes .counted n e)
+writer-short {edition} rows before after r n e writes =
+    let judged = subst (λ (w : WriteAnswer). Judged (writerQuestions edition rows before) (answerIn w)) e (writes .judged) in
+    let parts = judged-parts (rowsQuestions edition 0 rows []) _
+    (subst (λ (qs : List Question). Judged qs Taken) (rows-then edition 0 rows _) judged) in
+    omega (arith, rows-room edition 0 rows (omega arith) (parts .0), table-short edition rows, writes .counted n e)
 
-pub raw-short : (bytes before after : List ℕ) (r : WriteAnswer) (n : ℕ) → r ≡ WriteAnswer.Written n → WritesRaw bytes before r after → n ≤ 1281
+pub raw-short : {edition : ℕ} (bytes before after : List ℕ) (r : WriteAnswer) (n : ℕ) → r ≡ WriteAnswer.Written n
+    → WritesRaw edition bytes before r after → n ≤ 1281
 raw-short bytes before after r n e (all-read rows raw past writes) = writer-short rows before _ _ n e writes
 raw-short bytes before after r n e (stopped-at rows m raw more judged) = never (cc)
 
 -- what the writer for a host promises
-pub makes-written : (bytes before after : List ℕ) (r : WriteAnswer) (n : ℕ) → r ≡ WriteAnswer.Written n → WritesRaw bytes before r after
-    → MakesTable bytes before (n * 256) after
-makes-written bytes before after r n e writes =
+pub makes-written : {edition : ℕ} (bytes before after : List ℕ) (r : WriteAnswer) (n : ℕ) → r ≡ WriteAnswer.Written n
+    → WritesRaw edition bytes before r after
+    → MakesTableIn edition bytes before (n * 256) after
+makes-written {edition} bytes before after r n e writes =
     record {
       answer = WriteAnswer.Written n;
-      writes = subst (λ (w : WriteAnswer). WritesRaw bytes before w after) e writes;
+      writes = subst (λ (w : WriteAnswer). WritesRaw edition bytes before w after) e writes;
       row = 0;
       of-row = λ m refused. never (cc);
       equals = refl;
       small = λ m refused. never (cc);
     }
 
-pub makes-refused : (bytes before after : List ℕ) (r : WriteAnswer) (n row number : ℕ) → n < 256 → r ≡ WriteAnswer.Refused n
-    → WritesRaw bytes before r after → FirstRefused bytes row → number ≡ tableNumber (WriteAnswer.Refused n) row
-    → MakesTable bytes before number after
-makes-refused bytes before after r n row number small e writes first is =
+pub makes-refused : {edition : ℕ} (bytes before after : List ℕ) (r : WriteAnswer) (n row number : ℕ) → n < 256 → r ≡ WriteAnswer.Refused n
+    → WritesRaw edition bytes before r after → FirstRefused edition bytes row → number ≡ tableNumber (WriteAnswer.Refused n) row
+    → MakesTableIn edition bytes before number after
+makes-refused {edition} bytes before after r n row number small e writes first is =
     record {
       answer = WriteAnswer.Refused n;
-      writes = subst (λ (w : WriteAnswer). WritesRaw bytes before w after) e writes;
+      writes = subst (λ (w : WriteAnswer). WritesRaw edition bytes before w after) e writes;
       row = row;
       of-row = λ m refused. first;
       equals = is;

@@ -2,35 +2,42 @@
 -- bytes stand for; and raw bytes that stand for the rows of an accepted table are written as that table.
 use Rattle.constraint.proofs.Library.{ℕ, _+_, _*_, _≤_, _<_, _≡_, refl, sym, ap, subst, _∙_, cond, List, _++_, arith, eqb, length, take, drop}
 use Rattle.constraint.specs.Bytes.{Bytes}
-use Rattle.constraint.specs.Table.{ReadsTable, table-of}
+use Rattle.constraint.specs.Table.{ReadsTableUpTo, table-of}
+use Rattle.constraint.specs.Steps.{at}
 use Rattle.constraint.specs.declared.Constraint.{Constraint}
 use Rattle.constraint.proofs.Lists.{split}
 use Rattle.table.specs.Raw.{rawSize, RawRows, WritesRaw}
 use Rattle.table.specs.declared.WriteAnswer.{WriteAnswer}
 use Rattle.table.proofs.Again.{raw-read}
 use Rattle.table.proofs.RawAgain.{raw-write}
-use Rattle.delkuthi.specs.Tables.{tableNumber, MakesTable}
+use Rattle.delkuthi.specs.Tables.{tableNumber, MakesTableIn}
 
 -- the number of a refusal is no length
 no-length : (k row n : ℕ) → 0 < k → k < 256 → n * 256 ≡ tableNumber (WriteAnswer.Refused k) row → ⊥
 no-length k row n above below =
     split (eqb k 16) (λ b. n * 256 ≡ cond b 16 (row * 256 + k) → ⊥) (λ _ same. omega arith) (λ _ same. omega arith)
 
-pub table-reads-back : (bytes before after : List ℕ) (number n : ℕ) → MakesTable bytes before number after → number ≡ n * 256
-    → (rows : List Constraint) × RawRows bytes rows × (length bytes < (length rows + 1) * rawSize) × ReadsTable (take n after) (table-of rows)
-table-reads-back bytes before after number n makes e = go (makes .answer) (makes .writes) (sym e ∙ makes .equals) (makes .small)
+-- what a table of an edition that was written says to a call that takes the edition
+abbrev ReadsBack : ℕ → List ℕ → List ℕ → Type 0
+ReadsBack newest bytes table =
+    (rows : List Constraint) × RawRows bytes rows × (length bytes < (length rows + 1) * rawSize) × ReadsTableUpTo newest table (table-of rows)
+
+pub table-reads-back : (newest edition : ℕ) → 1 ≤ edition → edition ≤ newest → (bytes before after : List ℕ) (number n : ℕ)
+    → MakesTableIn edition bytes before number after → number ≡ n * 256 → ReadsBack newest bytes (take n after)
+table-reads-back newest edition some known bytes before after number n makes e =
+    go (makes .answer) (makes .writes) (sym e ∙ makes .equals) (makes .small)
   where
-    go : (answer : WriteAnswer) → WritesRaw bytes before answer after → n * 256 ≡ tableNumber answer (makes .row)
-        → ((m : ℕ) → answer ≡ WriteAnswer.Refused m → (0 < m) × (m < 256))
-        → (rows : List Constraint) × RawRows bytes rows × (length bytes < (length rows + 1) * rawSize) × ReadsTable (take n after) (table-of rows)
+    go : (answer : WriteAnswer) → WritesRaw edition bytes before answer after → n * 256 ≡ tableNumber answer (makes .row)
+        → ((m : ℕ) → answer ≡ WriteAnswer.Refused m → (0 < m) × (m < 256)) → ReadsBack newest bytes (take n after)
     go (WriteAnswer.Written k) writes same small =
         let long : k ≡ n = omega arith in
-        raw-read bytes before after n (subst (λ (m : ℕ). WritesRaw bytes before (WriteAnswer.Written m) after) long writes)
+        raw-read newest edition some known bytes before after n
+        (subst (λ (m : ℕ). WritesRaw edition bytes before (WriteAnswer.Written m) after) long writes)
     go (WriteAnswer.Refused k) writes same small = absurd (no-length k (makes .row) n (small k refl .0) (small k refl .1) same)
 
-pub table-writes-back : (raw bytes before after : List ℕ) (rows : List Constraint) (number : ℕ) → Bytes bytes → ReadsTable bytes (table-of rows)
-    → RawRows raw rows → length raw < (length rows + 1) * rawSize → length bytes ≤ length before → MakesTable raw before number after
-    → (number ≡ length bytes * 256) × (after ≡ bytes ++ drop (length bytes) before)
+pub table-writes-back : {newest : ℕ} (raw bytes before after : List ℕ) (rows : List Constraint) (number : ℕ) → Bytes bytes
+    → ReadsTableUpTo newest bytes (table-of rows) → RawRows raw rows → length raw < (length rows + 1) * rawSize → length bytes ≤ length before
+    → MakesTableIn (at bytes 0) raw before number after → (number ≡ length bytes * 256) × (after ≡ bytes ++ drop (length bytes) before)
 table-writes-back raw bytes before after rows number each reads given end long makes =
     let written = raw-write raw bytes before rows each reads given end long (makes .writes) in
     (makes .equals ∙ ap (λ (a : WriteAnswer). tableNumber a (makes .row)) (written .0), written .1)

@@ -4,7 +4,7 @@ use Rattle.constraint.specs.Steps.{Step, close}
 use Rattle.constraint.specs.Continuation.{Reads, reads-open}
 use Rattle.constraint.specs.Run.{asks, Left}
 use Rattle.constraint.specs.Promise.{ReadsRow, row, no-row}
-use Rattle.constraint.specs.Table.{ReadsTable, table-of}
+use Rattle.constraint.specs.Table.{ReadsTableUpTo, table-of}
 use Rattle.constraint.specs.Stamps.{RepeatRow}
 use Rattle.constraint.specs.declared.Constraint.{Constraint}
 use Rattle.constraint.specs.declared.Constraint.the-variants.{Repeat}
@@ -19,7 +19,7 @@ use Rattle.monitor.specs.declared.Monitor.{Monitor}
 use Rattle.stamps.proofs.Agreement.{stampedOf, stamps-agree}
 use Rattle.table.specs.declared.ReadAnswer.{ReadAnswer}
 use Rattle.delkuthi.specs.Lent.{wordOf, WordOfVerdict}
-use Rattle.delkuthi.specs.Stamps.{stampedNumber, NumbersStamps}
+use Rattle.delkuthi.specs.Stamps.{stampedNumber, NumbersStampsUpTo}
 use Rattle.delkuthi.specs.Taking.{RecordingTakenAs}
 
 -- 1 for kept and 2 for broken are 256 and 512
@@ -29,9 +29,9 @@ numbers-agree c steps Verdict.Open (reads-open e o) = both (sym (closed-close st
 numbers-agree c steps Verdict.Kept reading = omega arith
 numbers-agree c steps (Verdict.Broken n) reading = omega arith
 
-pub stamps-as-the-monitor : (table recording : List ℕ) (rows : List Constraint) (m : Monitor) (i k lower upper word number : ℕ)
-    → ReadsTable table (table-of rows) → RecordingTakenAs rows recording ReadAnswer.Accepted m → RepeatRow rows i k lower upper
-    → WordOfVerdict m i word → NumbersStamps table recording i 0 number → number ≡ word * 256
+pub stamps-as-the-monitor : {newest : ℕ} (table recording : List ℕ) (rows : List Constraint) (m : Monitor) (i k lower upper word number : ℕ)
+    → ReadsTableUpTo newest table (table-of rows) → RecordingTakenAs rows recording ReadAnswer.Accepted m → RepeatRow rows i k lower upper
+    → WordOfVerdict m i word → NumbersStampsUpTo newest table recording i 0 number → number ≡ word * 256
 stamps-as-the-monitor table recording rows m i k lower upper word number read taken there verdict numbers =
     let steps = taken .0 in
     let took = taken .2 in

@@ -3,8 +3,9 @@ use Rattle.constraint.proofs.Library.{ℕ, suc, _+_, _*_, _/_, _%_, _≤_, _<_,
 use Rattle.constraint.proofs.Library.{add-one, arith, length, drop, drop-cons, lt-ltb, le-ltb}
 use Rattle.constraint.specs.Steps.{Step, at, close, closed}
 use Rattle.constraint.specs.Run.{done}
-use Rattle.constraint.specs.Table.{ReadsTable, table-of}
-use Rattle.constraint.specs.Report.{rowLines, closedText, refusedText, EachReads, no-row, row-reads, ReportOf, Reports, no-table, no-recording}
+use Rattle.constraint.specs.Table.{ReadsTableUpTo, table-of}
+use Rattle.constraint.specs.Report.{rowLines, closedText, refusedText, EachReads, no-row, row-reads, ReportOfUpTo, ReportsUpTo, no-table}
+use Rattle.constraint.specs.Report.{no-recording}
 use Rattle.constraint.specs.Report.{all-taken}
 use Rattle.constraint.specs.Recording.{ReadsRecording, recording-of}
 use Rattle.constraint.specs.declared.Constraint.{Constraint}
@@ -24,10 +25,10 @@ use Rattle.monitor.specs.Contract.{after}
 use Rattle.monitor.specs.declared.Monitor.{Monitor}
 use Rattle.lent.specs.Layout.{Words}
 use Rattle.lent.specs.Contract.{Holds}
-use Rattle.fresh.specs.Fresh.{freshLent, Begins, begun, refused}
+use Rattle.fresh.specs.Fresh.{freshLent, BeginsUpTo, begun, refused}
 use Rattle.page.specs.declared.Summary.{Summary}
 use Rattle.delkuthi.specs.Taking.{TakesRecords}
-use Rattle.delkuthi.specs.Reporting.{LeftBy, unused, used, ReportsOn, ReportsSteps, unclosed, told, ReportsOf}
+use Rattle.delkuthi.specs.Reporting.{LeftBy, unused, used, ReportsOnUpTo, ReportsSteps, unclosed, told, ReportsOf}
 use Rattle.delkuthi.specs.Telling.{refusalOf, summaryOf, verdictsIn, reportText}
 use Rattle.delkuthi.proofs.Taking.{took-follows}
 use Rattle.delkuthi.proofs.Summaries.{verdicts-few, each-told, made-follows}
@@ -57,23 +58,23 @@ holds-refusal n place text e = rw e (holds-all (refusedText n place) (omega (ari
 
 -- ---- what is left by a table and a recording
 
-module _ (table : List ℕ) (before : Words) where
+module _ {newest : ℕ} (table : List ℕ) (before : Words) where
   -- the number 0 says that the monitor was begun
-  pub begun-over : (number : ℕ) (words : Words) → Begins table before number words → number ≡ 0
-      → (rows : List Constraint) × ReadsTable table (table-of rows) × Holds words (after rows [])
+  pub begun-over : (number : ℕ) (words : Words) → BeginsUpTo newest table before number words → number ≡ 0
+      → (rows : List Constraint) × ReadsTableUpTo newest table (table-of rows) × Holds words (after rows [])
   begun-over number words (begun rows read accepted indexes) e =
       (rows, read, record { lent = freshLent rows; words-are = refl; indexes = indexes; monitor-is = refl })
   begun-over number words (refused n place read above below) e = absurd (omega (arith, e, above))
 
   module _ (recording : List ℕ) where
-    pub left-used : (number : ℕ) (words : Words) → Begins table before number words → number ≡ 0 → (answer : ReadAnswer) (last : Words)
-        → TakesRecords words recording answer last → LeftBy before table recording answer last
+    pub left-used : (number : ℕ) (words : Words) → BeginsUpTo newest table before number words → number ≡ 0 → (answer : ReadAnswer) (last : Words)
+        → TakesRecords words recording answer last → LeftBy newest before table recording answer last
     left-used number words begins e answer last takes =
         let over = begun-over number words begins e in
         let taken = takes (after (over .0) []) (over .2) in
         used (over .0) answer last (taken .0) (over .1)
         (taken .1 .means (over .0) (record {
-          accepted = read-accepted table (over .0) (over .1);
+          accepted = (_, read-accepted table (over .0) (over .1));
           calls = [];
           all-taken = (false, done);
           made = refl;
@@ -81,20 +82,20 @@ module _ (table : List ℕ) (before : Words) where
         (taken .2)
 
     -- another number is the refusal's
-    pub left-unused : (number : ℕ) (words : Words) → Begins table before number words → (number ≡ 0 → ⊥)
-        → LeftBy before table recording (refusalOf number) words
+    pub left-unused : (number : ℕ) (words : Words) → BeginsUpTo newest table before number words → (number ≡ 0 → ⊥)
+        → LeftBy newest before table recording (refusalOf number) words
     left-unused number words (begun rows read accepted indexes) other = absurd (other refl)
     left-unused number words (refused n place read above below) other =
         let number-is : n ≡ (place * 256 + n) % 256 = omega arith in
         let place-is : place ≡ (place * 256 + n) / 256 = omega arith in
-        subst (λ (answer : ReadAnswer). LeftBy before table recording answer before) (ap₂ Refused number-is place-is) (unused n place read)
+        subst (λ (answer : ReadAnswer). LeftBy newest before table recording answer before) (ap₂ Refused number-is place-is) (unused n place read)
 
 -- ---- the report
 
 -- what is told is the report
-pub report-told : {before after : Words} {table recording : List ℕ} {answer : ReadAnswer} (summary : Summary)
-    → LeftBy before table recording answer after → ((m : Monitor) → Holds after m → summary ≡ summaryOf m)
-    → ReportOf table recording (reportText answer summary)
+pub report-told : {newest : ℕ} {before after : Words} {table recording : List ℕ} {answer : ReadAnswer} (summary : Summary)
+    → LeftBy newest before table recording answer after → ((m : Monitor) → Holds after m → summary ≡ summaryOf m)
+    → ReportOfUpTo newest table recording (reportText answer summary)
 report-told summary (unused n place read) is = no-table n place read
 report-told summary (used rows Accepted after m read (steps, reads, took) holds) is =
     let f = took-follows rows (steps ++ (close ∷ [])) m took in
@@ -102,9 +103,10 @@ report-told summary (used rows Accepted after m read (steps, reads, took) holds)
 report-told summary (used rows (Refused n place) after m read (steps, before, took, reads) holds) is = no-recording rows n place read reads
 
 -- and what is written of it, on a lent monitor
-pub reports-on : {before after : Words} {table recording : List ℕ} {answer : ReadAnswer} (summary : Summary) {buffer : List ℕ} {number : ℕ}
-    {written : List ℕ} → LeftBy before table recording answer after → ((m : Monitor) → Holds after m → summary ≡ summaryOf m)
-    → Copied (reportText answer summary) buffer number written → ReportsOn before table recording buffer number written after
+pub reports-on : {newest : ℕ} {before after : Words} {table recording : List ℕ} {answer : ReadAnswer} (summary : Summary)
+    {buffer : List ℕ} {number : ℕ} {written : List ℕ} → LeftBy newest before table recording answer after
+    → ((m : Monitor) → Holds after m → summary ≡ summaryOf m)
+    → Copied (reportText answer summary) buffer number written → ReportsOnUpTo newest before table recording buffer number written after
 reports-on summary {buffer} {number} {written} left is copied =
     record { reports = copied-reports _ _ _ buffer number written (report-told summary left is) copied; answer = _; left-by = left }
 
@@ -131,9 +133,9 @@ reports-closed m before answer written shut copied =
     }
 
 -- which is that of a recording of the same steps
-pub told-reports : (table recording : List ℕ) (rows : List Constraint) (steps : List Step) (buffer : List ℕ) (number : ℕ) (written : List ℕ)
-    → ReadsTable table (table-of rows) → ReadsRecording rows recording (recording-of steps)
-    → ReportsSteps rows (steps ++ (close ∷ [])) buffer number written → Reports table recording buffer number written
+pub told-reports : {newest : ℕ} (table recording : List ℕ) (rows : List Constraint) (steps : List Step) (buffer : List ℕ) (number : ℕ)
+    (written : List ℕ) → ReadsTableUpTo newest table (table-of rows) → ReadsRecording rows recording (recording-of steps)
+    → ReportsSteps rows (steps ++ (close ∷ [])) buffer number written → ReportsUpTo newest table recording buffer number written
 told-reports table recording rows steps buffer number written read taken (unclosed still) = let shut = closed-close steps in never (cc)
 told-reports table recording rows steps buffer number written read taken (told verdicts shut each copied) =
     copied-reports table recording (closedText (length (steps ++ (close ∷ []))) verdicts) buffer number written
@@ -145,9 +147,9 @@ each-length no-row = refl
 each-length (row-reads reads later) = ap suc (each-length later)
 
 -- a report has at most 1,024 bytes
-pub report-length : (table recording text : List ℕ) → ReportOf table recording text → length text ≤ reportLimit
+pub report-length : {newest : ℕ} (table recording text : List ℕ) → ReportOfUpTo newest table recording text → length text ≤ reportLimit
 report-length table recording text (no-table n place read) = refused-length n place
 report-length table recording text (no-recording rows n place read reads) = refused-length n place
 report-length table recording text (all-taken rows accepted verdicts read reads each) =
     closed-length (length (accepted ++ (close ∷ []))) verdicts
-    (omega (arith, each-length each, rows-room 0 rows (omega arith) (read-accepted table rows read)))
+    (omega (arith, each-length each, rows-room (at table 0) 0 rows (omega arith) (read-accepted table rows read)))

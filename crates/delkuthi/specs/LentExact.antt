@@ -7,20 +7,20 @@ use lib.ListN.{length}
 use Rattle.constraint.specs.Steps.{Step, close}
 use Rattle.constraint.specs.Run.{Request, Left, noneLeft, Run}
 use Rattle.constraint.specs.Promise.{ReadsRow}
-use Rattle.constraint.specs.Table.{ReadsTable, table-of, table-refused}
+use Rattle.constraint.specs.Table.{ReadsTableUpTo, table-of, table-refused}
 use Rattle.constraint.specs.Recording.{ReadsRecording, recording-of, recording-refused}
 use Rattle.constraint.specs.Page.{Pages}
-use Rattle.constraint.specs.Report.{Reports}
+use Rattle.constraint.specs.Report.{ReportsUpTo}
 use Rattle.constraint.specs.declared.Constraint.{Constraint}
 use Rattle.constraint.specs.declared.Verdict.{Verdict}
 use Rattle.monitor.specs.Contract.{stepIn}
 use Rattle.lent.specs.Layout.{Words}
 use Rattle.lent.specs.Contract.{answerFrom, Takes, ReadOff}
-use Rattle.fresh.specs.Fresh.{Begins}
+use Rattle.fresh.specs.Fresh.{BeginsUpTo}
 use Rattle.delkuthi.specs.Taking.{StepsBefore}
 use Rattle.delkuthi.specs.Lent.{wordOf, WordOfVerdict, StepOfVerdict, NumberOfRows}
 use Rattle.delkuthi.specs.Printed.{WritesPage}
-use Rattle.delkuthi.specs.Reporting.{ReportsOn, ReportsSteps, ReportsOf}
+use Rattle.delkuthi.specs.Reporting.{ReportsOnUpTo, ReportsSteps, ReportsOf}
 
 -- ---- the memory
 
@@ -64,28 +64,32 @@ pub data ReadsRecorded (h : Memory) (rows : List Constraint) (recording : List �
 
 -- §7.22: the report is that of its table and recording, whatever lay in the memory; where the table is refused the memory is as it was, and else
 -- the readers read what the recording has left
-pub record Reported (before : Memory) (table recording buffer : List ℕ) (number : ℕ) (written : List ℕ) (h : Memory) : Type 0 where
-  pub reports : Reports table recording buffer number written
-  pub refused : (n place : ℕ) → ReadsTable table (table-refused n place) → h ≡ before
-  pub used : (rows : List Constraint) → ReadsTable table (table-of rows) → ReadsRecorded h rows recording
+pub record Reported (newest : ℕ) (before : Memory) (table recording buffer : List ℕ) (number : ℕ) (written : List ℕ) (h : Memory) : Type 0 where
+  pub reports : ReportsUpTo newest table recording buffer number written
+  pub refused : (n place : ℕ) → ReadsTableUpTo newest table (table-refused n place) → h ≡ before
+  pub used : (rows : List Constraint) → ReadsTableUpTo newest table (table-of rows) → ReadsRecorded h rows recording
 
 -- ---- the promise
 
 -- §3.6, §3.8 and §3.13 for the exported calls, over a table's bytes and any list of calls and withdrawals: the numbers are the answers of the
 -- questions, a refused call leaves the memory as it was, and the readers answer what the rows read after the steps that are left. After the
 -- list the report of the monitor is that of the table and a recording of the steps that are left, a report on the memory is as §7.22 says, and a
--- `delkuthi_fresh` that is refused leaves the memory as it was
-pub record LentExact (bytes : List ℕ) {h end : Memory} {requests : List Request} {numbers : List ℕ} (host : Host h requests numbers end)
-    : Type 0 where
+-- `delkuthi_fresh` that is refused leaves the memory as it was: these two of every newest edition, and the others of the one that the first call had
+pub record LentExactUpTo (newest : ℕ) (bytes : List ℕ) {h end : Memory} {requests : List Request} {numbers : List ℕ}
+    (host : Host h requests numbers end) : Type 0 where
   pub rows : List Constraint
-  pub read : ReadsTable bytes (table-of rows)
+  pub read : ReadsTableUpTo newest bytes (table-of rows)
   pub left : Left
   pub run : Run rows noneLeft requests (map answerFrom numbers) left
   pub untouched : Untouched host
   pub reads : ReadsAs end rows (left .steps)
   pub recorded : (recording : List ℕ) (steps : List Step) → ReadsRecording rows recording (recording-of steps) → left .steps ≡ steps ++ (close ∷ [])
       → (buffer : List ℕ) (number : ℕ) (written : List ℕ) → ReadOff end (λ m answer. ReportsOf m buffer answer written) number
-      → Reports bytes recording buffer number written
-  pub reported : (table recording buffer : List ℕ) (number : ℕ) (written : List ℕ) (after : Memory)
-      → ReportsOn end table recording buffer number written after → Reported end table recording buffer number written after
-  pub refused : (table : List ℕ) (number : ℕ) (after : Memory) → Begins table end number after → 0 < number → after ≡ end
+      → ReportsUpTo newest bytes recording buffer number written
+  pub reported : {other : ℕ} (table recording buffer : List ℕ) (number : ℕ) (written : List ℕ) (after : Memory)
+      → ReportsOnUpTo other end table recording buffer number written after → Reported other end table recording buffer number written after
+  pub refused : {other : ℕ} (table : List ℕ) (number : ℕ) (after : Memory) → BeginsUpTo other table end number after → 0 < number → after ≡ end
+
+-- the same for a table of the first edition
+abbrev pub LentExact : List ℕ → {h end : Memory} {requests : List Request} {numbers : List ℕ} → Host h requests numbers end → Type 0
+LentExact bytes host = LentExactUpTo 1 bytes host

@@ -7,8 +7,8 @@ use lib.ListN.{length}
 use Rattle.constraint.specs.Steps.{Step, closed}
 use Rattle.constraint.specs.Accepted.{Accepted}
 use Rattle.constraint.specs.Run.{Request, Left}
-use Rattle.constraint.specs.Report.{closedText, EachReads, Reports}
-use Rattle.constraint.specs.Table.{ReadsTable, table-of, table-refused}
+use Rattle.constraint.specs.Report.{closedText, EachReads, ReportsUpTo}
+use Rattle.constraint.specs.Table.{ReadsTableUpTo, table-of, table-refused}
 use Rattle.constraint.specs.declared.Constraint.{Constraint}
 use Rattle.constraint.specs.declared.Verdict.{Verdict}
 use Rattle.text.specs.Content.{Copied}
@@ -21,16 +21,22 @@ use Rattle.delkuthi.specs.Taking.{RecordingTakenAs}
 
 -- the answer to a table and a recording, and what lies in the lent monitor then: the table's refusal, and all as it was; or the recording's
 -- answer, and the monitor over the table's rows after the steps that were taken, and the close where all were
-pub data LeftBy (before : Words) (table recording : List ℕ) : ReadAnswer → Words → Type 0 where
-  unused : (n place : ℕ) → ReadsTable table (table-refused n place) → LeftBy before table recording (ReadAnswer.Refused n place) before
-  used : (rows : List Constraint) (answer : ReadAnswer) (after : Words) (m : Monitor) → ReadsTable table (table-of rows)
-      → RecordingTakenAs rows recording answer m → Holds after m → LeftBy before table recording answer after
+pub data LeftBy (newest : ℕ) (before : Words) (table recording : List ℕ) : ReadAnswer → Words → Type 0 where
+  unused : (n place : ℕ) → ReadsTableUpTo newest table (table-refused n place)
+      → LeftBy newest before table recording (ReadAnswer.Refused n place) before
+  used : (rows : List Constraint) (answer : ReadAnswer) (after : Words) (m : Monitor) → ReadsTableUpTo newest table (table-of rows)
+      → RecordingTakenAs rows recording answer m → Holds after m → LeftBy newest before table recording answer after
 
 -- §7.22: the number and the buffer are the report's, whatever lay in the monitor; and the monitor has been used, however short the buffer is
-pub record ReportsOn (before : Words) (table recording buffer : List ℕ) (number : ℕ) (written : List ℕ) (after : Words) : Type 0 where
-  pub reports : Reports table recording buffer number written
+pub record ReportsOnUpTo (newest : ℕ) (before : Words) (table recording buffer : List ℕ) (number : ℕ) (written : List ℕ) (after : Words)
+    : Type 0 where
+  pub reports : ReportsUpTo newest table recording buffer number written
   pub answer : ReadAnswer
-  pub left-by : LeftBy before table recording answer after
+  pub left-by : LeftBy newest before table recording answer after
+
+-- §7.22: for a table of the first edition
+abbrev pub ReportsOn : Words → List ℕ → List ℕ → List ℕ → ℕ → List ℕ → Words → Type 0
+ReportsOn = ReportsOnUpTo 1
 
 -- ---- of a monitor that was stepped call by call
 

@@ -2,7 +2,7 @@
 use Prim.Native.Nat.{ℕ, _+_, _-_, _*_, _^_, _<_, min}
 use mathlib.Core.Path.{_≡_}
 use mathlib.Core.List.{List}
-use Rattle.constraint.specs.Stamps.{AnswersStamps}
+use Rattle.constraint.specs.Stamps.{AnswersStampsUpTo}
 use Rattle.constraint.specs.declared.StampedAnswer.{StampedAnswer}
 use Rattle.constraint.specs.declared.StampedVerdict.{StampedVerdict}
 
@@ -22,8 +22,12 @@ stampedNumber (StampedAnswer.Reads v) = verdictNumber v
 stampedNumber (StampedAnswer.Refused n place) = placeNumber place + n
 
 -- the number of the answer; it tells a refusal from a word, as a refusal has a number from 1 to 255
-pub record NumbersStamps (table recording : List ℕ) (i e number : ℕ) : Type 0 where
+pub record NumbersStampsUpTo (newest : ℕ) (table recording : List ℕ) (i e number : ℕ) : Type 0 where
   pub answer : StampedAnswer
-  pub answers : AnswersStamps table recording i e answer
+  pub answers : AnswersStampsUpTo newest table recording i e answer
   pub equals : number ≡ stampedNumber answer
   pub small : (n place : ℕ) → answer ≡ StampedAnswer.Refused n place → (0 < n) × (n < 256)
+
+-- for a table of the first edition
+abbrev pub NumbersStamps : List ℕ → List ℕ → ℕ → ℕ → ℕ → Type 0
+NumbersStamps = NumbersStampsUpTo 1

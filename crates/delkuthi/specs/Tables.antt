@@ -13,10 +13,14 @@ tableNumber (WriteAnswer.Written n) row = n * 256
 tableNumber (WriteAnswer.Refused n) row = cond (eqb n 16) 16 (row * 256 + n)
 
 -- the number of what writing the rows gives; it tells a refusal from a table, as a refusal has a number from 1 to 255
-pub record MakesTable (bytes before : List ℕ) (number : ℕ) (after : List ℕ) : Type 0 where
+pub record MakesTableIn (edition : ℕ) (bytes before : List ℕ) (number : ℕ) (after : List ℕ) : Type 0 where
   pub answer : WriteAnswer
-  pub writes : WritesRaw bytes before answer after
+  pub writes : WritesRaw edition bytes before answer after
   pub row : ℕ
-  pub of-row : (n : ℕ) → answer ≡ WriteAnswer.Refused n → FirstRefused bytes row
+  pub of-row : (n : ℕ) → answer ≡ WriteAnswer.Refused n → FirstRefused edition bytes row
   pub equals : number ≡ tableNumber answer row
   pub small : (n : ℕ) → answer ≡ WriteAnswer.Refused n → (0 < n) × (n < 256)
+
+-- in the first edition
+abbrev pub MakesTable : List ℕ → List ℕ → ℕ → List ℕ → Type 0
+MakesTable = MakesTableIn 1

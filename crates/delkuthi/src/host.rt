@@ -12,7 +12,7 @@ ghost use Rattle.monitor.specs.Contract.{verdictIn, Reading};
 ghost use Rattle.monitor.specs.declared.Monitor.{Monitor};
 ghost use Rattle.constraint.specs.Run.{asks, withdraws};
 ghost use Rattle.lent.specs.Contract.{Takes, Holds, ReadOff};
-ghost use Rattle.fresh.specs.Fresh.{Begins};
+ghost use Rattle.fresh.specs.Fresh.{BeginsUpTo, Begins};
 ghost use Rattle.delkuthi.specs.Lent.{KnownWord, WordOfVerdict, StepOfVerdict, NumberOfRows, version, monitorSize};
 
 // The version of the library: 0.5.0 as major * 1,000,000 + minor * 1,000 + patch.
@@ -42,7 +42,15 @@ pub extern "C" fn delkuthi_monitor_size() -> u64
 pub extern "C" fn delkuthi_fresh(m: &mut Words, table: &[u8]) -> u64
     ensures { λ r. ⌜ Begins (now (table .entry)) (now (m .entry)) r (now (m .exit)) ⌝ }
 {
-    fresh::fresh(m, table)
+    fresh::fresh(1, m, table)
+}
+
+// The same over a table of either edition.
+#[no_mangle]
+pub extern "C" fn delkuthi_fresh_2(m: &mut Words, table: &[u8]) -> u64
+    ensures { λ r. ⌜ BeginsUpTo 2 (now (table .entry)) (now (m .entry)) r (now (m .exit)) ⌝ }
+{
+    fresh::fresh(2, m, table)
 }
 
 // The word for each verdict, and the one for "there is no row of that number".

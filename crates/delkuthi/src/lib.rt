@@ -10,11 +10,11 @@ pub mod tables;
 use lent::Words;
 use table::ReadAnswer;
 use text::Text;
-ghost use Rattle.constraint.specs.Report.{Reports};
+ghost use Rattle.constraint.specs.Report.{ReportsUpTo, Reports};
 ghost use Rattle.lent.specs.Contract.{ReadOff};
 ghost use Rattle.delkuthi.specs.Program.{Prints};
 ghost use Rattle.delkuthi.specs.Telling.{Tells};
-ghost use Rattle.delkuthi.specs.Reporting.{ReportsOn, ReportsOf};
+ghost use Rattle.delkuthi.specs.Reporting.{ReportsOnUpTo, ReportsOn, ReportsOf};
 
 // How many bytes a table file has at most.
 pub const TABLE_SIZE_LIMIT: usize = 2048;
@@ -29,7 +29,7 @@ pub fn program_text(table: &[u8], recording: &[u8]) -> Text
         return Text::new().refused_line(17, 0);
     }
     let mut m = [[[0u64; 64]; 2]; 35];
-    let answer = report::answer_on(&mut m, table, recording);
+    let answer = report::answer_on(1, &mut m, table, recording);
     report::text_of(answer, report::summary_of(&m))
 }
 
@@ -39,8 +39,15 @@ pub fn program_text(table: &[u8], recording: &[u8]) -> Text
 pub extern "C" fn delkuthi_report(table: &[u8], recording: &[u8], buffer: &mut [u8]) -> usize
     ensures { λ r. ⌜ Reports (now (table .entry)) (now (recording .entry)) (now (buffer .entry)) r (now (buffer .exit)) ⌝ }
 {
-    let mut m = [[[0u64; 64]; 2]; 35];
-    report::report_on(&mut m, table, recording, buffer)
+    report::report(1, table, recording, buffer)
+}
+
+// The same for a table of either edition.
+#[no_mangle]
+pub extern "C" fn delkuthi_report_2(table: &[u8], recording: &[u8], buffer: &mut [u8]) -> usize
+    ensures { λ r. ⌜ ReportsUpTo 2 (now (table .entry)) (now (recording .entry)) (now (buffer .entry)) r (now (buffer .exit)) ⌝ }
+{
+    report::report(2, table, recording, buffer)
 }
 
 // Writes the report on a recording under a table to a lent buffer, on a monitor that is lent: the number of bytes written, or 0 where the buffer is
@@ -55,7 +62,21 @@ pub extern "C" fn delkuthi_report_on(
     ensures { λ r. ⌜ ReportsOn (now (m .entry)) (now (table .entry)) (now (recording .entry))
         (now (buffer .entry)) r (now (buffer .exit)) (now (m .exit)) ⌝ }
 {
-    report::report_on(m, table, recording, buffer)
+    report::report_on(1, m, table, recording, buffer)
+}
+
+// The same for a table of either edition.
+#[no_mangle]
+pub extern "C" fn delkuthi_report_on_2(
+    m: &mut Words,
+    table: &[u8],
+    recording: &[u8],
+    buffer: &mut [u8],
+) -> usize
+    ensures { λ r. ⌜ ReportsOnUpTo 2 (now (m .entry)) (now (table .entry)) (now (recording .entry))
+        (now (buffer .entry)) r (now (buffer .exit)) (now (m .exit)) ⌝ }
+{
+    report::report_on(2, m, table, recording, buffer)
 }
 
 // Writes the report of a monitor that was stepped call by call to a lent buffer: the number of bytes written, or 0 where the buffer is too short or

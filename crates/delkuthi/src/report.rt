@@ -11,12 +11,12 @@ ghost use Prim.Native.Nat.{_≤_};
 ghost use mathlib.Core.Path.{_≡_};
 ghost use mathlib.Core.List.{map};
 ghost use lib.ListN.{length, take};
-ghost use Rattle.constraint.specs.Report.{rowLines};
+ghost use Rattle.constraint.specs.Report.{rowLines, ReportsUpTo};
 ghost use Rattle.text.specs.Content.{extended, Holds as Contains, Copied};
 ghost use Rattle.page.specs.Sheet.{verdictFor};
 ghost use Rattle.monitor.specs.declared.Monitor.{Monitor};
 ghost use Rattle.lent.specs.Contract.{Holds};
-ghost use Rattle.delkuthi.specs.Reporting.{LeftBy, ReportsOn};
+ghost use Rattle.delkuthi.specs.Reporting.{LeftBy, ReportsOnUpTo};
 ghost use Rattle.delkuthi.specs.Telling.{refusalOf, summaryOf, reportText};
 
 // The refusal that a number other than 0 stands for.
@@ -29,11 +29,11 @@ fn refusal_of(number: u64) -> ReadAnswer
     }
 }
 
-// The answer to a recording under a table, on a monitor that is lent, which takes it.
-pub(crate) fn answer_on(m: &mut Words, table: &[u8], recording: &[u8]) -> ReadAnswer
-    ensures { λ r. ⌜ LeftBy (now (m .entry)) (now (table .entry)) (now (recording .entry)) r (now (m .exit)) ⌝ }
+// The answer to a recording under a table of an edition up to the newest, on a monitor that is lent, which takes it.
+pub(crate) fn answer_on(newest: u8, m: &mut Words, table: &[u8], recording: &[u8]) -> ReadAnswer
+    ensures { λ r. ⌜ LeftBy newest (now (m .entry)) (now (table .entry)) (now (recording .entry)) r (now (m .exit)) ⌝ }
 {
-    let number = fresh::fresh(m, table);
+    let number = fresh::fresh(newest, m, table);
     if number == 0 {
         return take_recording(m, recording);
     }
@@ -101,12 +101,26 @@ pub(crate) fn write(answer: ReadAnswer, summary: Summary, buffer: &mut [u8]) -> 
     text_of(answer, summary).copy_to(buffer)
 }
 
-// Writes the report on a recording under a table, which a monitor takes that is lent.
-pub(crate) fn report_on(m: &mut Words, table: &[u8], recording: &[u8], buffer: &mut [u8]) -> usize
-    ensures { λ r. ⌜ ReportsOn (now (m .entry)) (now (table .entry)) (now (recording .entry))
+// Writes the report on a recording under a table of an edition up to the newest, which a monitor takes that is lent.
+pub(crate) fn report_on(
+    newest: u8,
+    m: &mut Words,
+    table: &[u8],
+    recording: &[u8],
+    buffer: &mut [u8],
+) -> usize
+    ensures { λ r. ⌜ ReportsOnUpTo newest (now (m .entry)) (now (table .entry)) (now (recording .entry))
         (now (buffer .entry)) r (now (buffer .exit)) (now (m .exit)) ⌝ }
 {
-    let answer = answer_on(m, table, recording);
+    let answer = answer_on(newest, m, table, recording);
     let summary = summary_of(m);
     write(answer, summary, buffer)
+}
+
+// The same on a monitor of its own.
+pub(crate) fn report(newest: u8, table: &[u8], recording: &[u8], buffer: &mut [u8]) -> usize
+    ensures { λ r. ⌜ ReportsUpTo newest (now (table .entry)) (now (recording .entry)) (now (buffer .entry)) r (now (buffer .exit)) ⌝ }
+{
+    let mut m = [[[0u64; 64]; 2]; 35];
+    report_on(newest, &mut m, table, recording, buffer)
 }

@@ -170,7 +170,7 @@ row-sound (c ∷ rows) sound (suc i) there = row-sound rows (sound .1) i (omega 
 none-ticks : (rows : List Constraint) → Accepted rows → (i : ℕ) → i < length rows → isOf (after rows []) noEvent i ≡ false
 none-ticks rows accepted i there =
     ap (λ (r : Row). concerns (r .rule) noEvent) (row-is rows i) ∙ ap (λ (rule : Rule). concerns rule noEvent) (rule-is (getD rows i filler))
-    ∙ concerns-none (getD rows i filler) (row-sound rows (accepted-sound 0 rows accepted .0) i there .kinds-fit)
+    ∙ concerns-none (getD rows i filler) (row-sound rows (accepted-sound rows accepted) i there .kinds-fit)
 
 -- nothing waits but the words that a row has from the start
 row-few : (c : Constraint) → rowOf c .now .len ≤ waitingLimit

@@ -18,7 +18,8 @@ use Rattle.fresh.specs.Fresh.{RowsPut}
 -- ---- read
 
 -- no row is left only at the end of the bytes
-at-end : (bytes : List ℕ) {i place : ℕ} {read : TableRead} → ReadsRows bytes i place read → read ≡ table-of [] → length bytes ≤ place
+at-end : {edition : ℕ} (bytes : List ℕ) {i place : ℕ} {read : TableRead} → ReadsRows edition bytes i place read → read ≡ table-of []
+    → length bytes ≤ place
 at-end bytes (no-more end) e = end
 at-end bytes (row-refused n c there at-c refused) e = never (cc)
 at-end bytes (row-taken {later = table-of others} c there at-c judged reads) e = never (cc)
@@ -29,17 +30,18 @@ getD-past [] i past = refl
 getD-past (c ∷ rows) zero past = absurd (omega (arith, past))
 getD-past (c ∷ rows) (suc i) past = getD-past rows i (omega (arith, past))
 
-pub scan-next : (bytes : List ℕ) (rows : List Constraint) (i place : ℕ) (r : Placed) → ReadsRows bytes i place (table-of (drop i rows))
-    → PlacedAt bytes place r → (r .row ≡ getD rows i filler) × ReadsRows bytes (i + 1) (r .next) (table-of (drop (i + 1) rows))
-scan-next bytes rows i place r reads placed =
-    split (ltb i (length rows)) (λ _. (r .row ≡ getD rows i filler) × ReadsRows bytes (i + 1) (r .next) (table-of (drop (i + 1) rows)))
+pub scan-next : {edition : ℕ} (bytes : List ℕ) (rows : List Constraint) (i place : ℕ) (r : Placed)
+    → ReadsRows edition bytes i place (table-of (drop i rows))
+    → PlacedAt bytes place r → (r .row ≡ getD rows i filler) × ReadsRows edition bytes (i + 1) (r .next) (table-of (drop (i + 1) rows))
+scan-next {edition} bytes rows i place r reads placed =
+    split (ltb i (length rows)) (λ _. (r .row ≡ getD rows i filler) × ReadsRows edition bytes (i + 1) (r .next) (table-of (drop (i + 1) rows)))
     (λ e. scan-step bytes rows i place filler r (ltb-true i (length rows) e) reads placed)
     (λ e.
     let past : length rows ≤ i = ltb-false i (length rows) e in
     let end : length bytes ≤ place = at-end bytes reads (ap table-of (drop-of-length-le rows past)) in
     let read = placed .none (λ whole. omega (arith, whole .0, end)) in (
       read .0 ∙ sym (getD-past rows i past),
-      subst (λ (later : List Constraint). ReadsRows bytes (i + 1) (r .next) (table-of later))
+      subst (λ (later : List Constraint). ReadsRows edition bytes (i + 1) (r .next) (table-of later))
           (sym (drop-of-length-le rows {i = i + 1} (omega (arith, past)))) (no-more (omega (arith, end, read .1))),
     ))
 

@@ -6,7 +6,8 @@ use mathlib.Core.List.{List, [], _∷_, _++_}
 use lib.ListN.{length, getD, take, replicate}
 use Rattle.constraint.specs.Limits.{rowLimit}
 use Rattle.constraint.specs.Accepted.{Accepted}
-use Rattle.constraint.specs.Table.{ReadsTable, table-of, table-refused}
+use Rattle.constraint.specs.Table.{ReadsRows, ReadsTableUpTo, table-of, table-refused}
+use Rattle.constraint.specs.Steps.{at}
 use Rattle.constraint.specs.declared.Constraint.{Constraint}
 use Rattle.table.specs.Scan.{Counted}
 use Rattle.row.specs.Stored as Stored
@@ -49,26 +50,31 @@ freshLent rows =
 
 -- §11.5: the number that answers and the words then: 0, and each is the fresh monitor's; or 256 times the place and the number of the refusal, and
 -- each as it was
-pub data Begins (bytes : List ℕ) (entry : Words) : ℕ → Words → Type 0 where
-  begun : (rows : List Constraint) → ReadsTable bytes (table-of rows) → Accepted rows → Indexes (freshLent rows)
-      → Begins bytes entry 0 (wordsOf (freshLent rows))
-  refused : (n place : ℕ) → ReadsTable bytes (table-refused n place) → 0 < n → n < 256 → Begins bytes entry (place * 256 + n) entry
+pub data BeginsUpTo (newest : ℕ) (bytes : List ℕ) (entry : Words) : ℕ → Words → Type 0 where
+  begun : (rows : List Constraint) → ReadsTableUpTo newest bytes (table-of rows) → Accepted rows → Indexes (freshLent rows)
+      → BeginsUpTo newest bytes entry 0 (wordsOf (freshLent rows))
+  refused : (n place : ℕ) → ReadsTableUpTo newest bytes (table-refused n place) → 0 < n → n < 256
+      → BeginsUpTo newest bytes entry (place * 256 + n) entry
+
+-- §11.5: over a table of the first edition
+abbrev pub Begins : List ℕ → Words → ℕ → Words → Type 0
+Begins = BeginsUpTo 1
 
 -- ---- what its parts promise
 
 -- the refusal that a number answers with
-pub record RefusedAs (bytes : List ℕ) (number : ℕ) : Type 0 where
+pub record RefusedAs (newest : ℕ) (bytes : List ℕ) (number : ℕ) : Type 0 where
   pub question : ℕ
   pub place : ℕ
-  pub reads : ReadsTable bytes (table-refused question place)
+  pub reads : ReadsTableUpTo newest bytes (table-refused question place)
   pub above : 0 < question
   pub below : question < 256
   pub numbered : number ≡ place * 256 + question
 
 -- the number that answers to a table's bytes, and where it is 0 how many rows they hold
-pub record Judges (bytes : List ℕ) (judged : Judged) : Type 0 where
-  pub accepted : judged .number ≡ 0 → Counted (ReadsTable bytes) (judged .rows)
-  pub refused : ¬ (judged .number ≡ 0) → RefusedAs bytes (judged .number)
+pub record Judges (newest : ℕ) (bytes : List ℕ) (judged : Judged) : Type 0 where
+  pub accepted : judged .number ≡ 0 → Counted (at bytes 0) (ReadsTableUpTo newest bytes) (judged .rows)
+  pub refused : ¬ (judged .number ≡ 0) → RefusedAs newest bytes (judged .number)
 
 -- the words of a block that is cleared
 abbrev pub noWords : List (List ℕ)
@@ -84,10 +90,14 @@ pub record RowsPut (entry : Words) (m : Monitor) (n : ℕ) (exit : Words) : Type
   pub rows-lie : RowsLie m n exit
   pub others : (i : ℕ) → n ≤ i → getD exit i [] ≡ getD entry i []
 
+-- the rows that stand behind the version byte
+abbrev pub RowsBehind : List ℕ → List Constraint → Type 0
+RowsBehind bytes rows = ReadsRows (at bytes 0) bytes 0 1 (table-of rows)
+
 -- the rows of the table that the bytes hold
 abbrev pub StoresRows : List ℕ → Words → Words → Type 0
 StoresRows bytes entry exit =
-    (rows : List Constraint) → ReadsTable bytes (table-of rows) → length entry ≡ 35 → RowsPut entry (after rows []) 32 exit
+    (rows : List Constraint) → RowsBehind bytes rows → length entry ≡ 35 → RowsPut entry (after rows []) 32 exit
 
 -- the lists so far, and the place behind the entries
 abbrev pub ListsLie : Lent → List ℕ → List ℕ → ℕ → Words → Type 0
@@ -96,7 +106,7 @@ ListsLie h ends entries place words = (place ≡ length entries) × (words ≡ w
 -- every word but those of the lists, over the n rows of the table
 abbrev pub StoresAll : List ℕ → ℕ → Words → Type 0
 StoresAll bytes n exit =
-    (rows : List Constraint) → ReadsTable bytes (table-of rows) → length rows ≤ rowLimit → n ≡ length rows → ListsLie (freshLent rows) [] [] 0 exit
+    (rows : List Constraint) → RowsBehind bytes rows → length rows ≤ rowLimit → n ≡ length rows → ListsLie (freshLent rows) [] [] 0 exit
 
 -- one entry, or none
 abbrev pub oneIf : Bool → ℕ → List ℕ

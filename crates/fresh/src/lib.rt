@@ -15,7 +15,7 @@ ghost use lib.ListN.{length, set, replicate};
 ghost use Rattle.lent.specs.Layout.{Lent, wordsOf, Shaped};
 ghost use Rattle.lent.specs.Steps.{Turns};
 ghost use Rattle.lent.specs.Contract.{numbers, isOf};
-ghost use Rattle.fresh.specs.Fresh.{withLists, oneIf, Begins, Judges, noWords, StoresRows, StoresAll, Enters, Enlists};
+ghost use Rattle.fresh.specs.Fresh.{withLists, oneIf, BeginsUpTo, Judges, noWords, StoresRows, StoresAll, Enters, Enlists};
 
 // The number that answers to a table's bytes: 0, or 256 times the place and the number of the refusal; and how many rows they hold.
 pub struct Judged {
@@ -23,11 +23,11 @@ pub struct Judged {
     pub rows: usize,
 }
 
-// The answer to a table's bytes as a number.
-fn judge(table: &[u8]) -> Judged
-    ensures { λ r. ⌜ Judges (now (table .entry)) r ⌝ }
+// The answer to the bytes of a table of an edition up to the newest, as a number.
+fn judge(newest: u8, table: &[u8]) -> Judged
+    ensures { λ r. ⌜ Judges newest (now (table .entry)) r ⌝ }
 {
-    let scanned = scan::judge(table);
+    let scanned = scan::judge(newest, table);
     let answer = scanned.answer;
     match answer {
         ReadAnswer::Accepted => Judged {
@@ -142,11 +142,12 @@ fn enlist(m: &mut Words, n: usize)
     }
 }
 
-// Makes a lent monitor fresh over a table's bytes, in place: 0, or 256 times the place and the number of the refusal, and all as it was.
-pub fn fresh(m: &mut Words, table: &[u8]) -> u64
-    ensures { λ r. ⌜ Begins (now (table .entry)) (now (m .entry)) r (now (m .exit)) ⌝ }
+// Makes a lent monitor fresh over the bytes of a table of an edition up to the newest, in place: 0, or 256 times the place and the number of the
+// refusal, and all as it was.
+pub fn fresh(newest: u8, m: &mut Words, table: &[u8]) -> u64
+    ensures { λ r. ⌜ BeginsUpTo newest (now (table .entry)) (now (m .entry)) r (now (m .exit)) ⌝ }
 {
-    let judged = judge(table);
+    let judged = judge(newest, table);
     let number = judged.number;
     if number == 0 {
         begin(m, table, judged.rows);

@@ -2,7 +2,7 @@
 -- what the
 -- definitions say.
 use Rattle.constraint.proofs.Library.{ℕ, zero, suc, _+_, _-_, _≤_, _<_, decLt, arith, _≡_, refl, ap, subst, Bool, true, false, cond, List, [], _∷_}
-use Rattle.constraint.proofs.Library.{_⊎_, inl, inr, ⊎-elim, by-cases, Option, none, some, length, getD, replicate, getElem?, getD-replicate}
+use Rattle.constraint.proofs.Library.{inl, inr, by-cases, Option, none, some, length, getD, replicate, getElem?, getD-replicate}
 use Rattle.constraint.proofs.Library.{length-replicate, ltb, lt-ltb, le-ltb}
 use Rattle.constraint.specs.Limits.{rowLimit}
 use Rattle.constraint.specs.Steps.{Step, times, clockFrom, closed}
@@ -16,6 +16,7 @@ use Rattle.constraint.specs.declared.Constraint.{Constraint}
 use Rattle.constraint.specs.declared.Verdict.{Verdict}
 use Rattle.constraint.proofs.History.{Valid, valid-none}
 use Rattle.constraint.proofs.Counting.{nextFree}
+use Rattle.constraint.proofs.Accepted.{rows-room}
 use Rattle.constraint.proofs.Judged.{never}
 use Rattle.constraint.proofs.Runs.{reads-once}
 use Rattle.row.specs.Machine.{rowVerdict}
@@ -48,23 +49,25 @@ step-untouched m s =
 
 -- ---- fresh
 
--- a table that is accepted has sound rows, and there is room for them
-pub accepted-sound : (i : ℕ) (rows : List Constraint) → Judged (rowsQuestions i rows []) Taken → SoundRows rows
-    × ((length rows ≡ 0) ⊎ (i + length rows ≤ rowLimit))
+-- a table that is accepted has sound rows
+rows-sound : (edition i : ℕ) (rows : List Constraint) → Judged (rowsQuestions edition i rows []) Taken → SoundRows rows
 unfolding Judged rowsQuestions
-accepted-sound i [] taken = (tt, inl refl)
-accepted-sound i (c ∷ rows) (inl (room, inl (fit, inl (suit, inl (range, inl (lower, later)))))) =
-    let rest = accepted-sound (i + 1) rows later in
-    let sound : Sound c = record { kinds-fit = fit; kinds-suit = suit; in-range = range; lower-first = lower } in
-    ((sound, rest .0), inr (⊎-elim (λ e. omega arith) (λ h. omega arith) (rest .1)))
-accepted-sound i (c ∷ rows) (inl (room, inl (fit, inl (suit, inl (range, inr e))))) = never (cc (e .1))
-accepted-sound i (c ∷ rows) (inl (room, inl (fit, inl (suit, inr e)))) = never (cc (e .1))
-accepted-sound i (c ∷ rows) (inl (room, inl (fit, inr e))) = never (cc (e .1))
-accepted-sound i (c ∷ rows) (inl (room, inr e)) = never (cc (e .1))
-accepted-sound i (c ∷ rows) (inr e) = never (cc (e .1))
+rows-sound edition i [] taken = tt
+rows-sound edition i (c ∷ rows) (inl (room, inl (known, inl (fit, inl (suit, inl (range, inl (lower, later))))))) =
+    (record { kinds-fit = fit; kinds-suit = suit; in-range = range; lower-first = lower }, rows-sound edition (i + 1) rows later)
+rows-sound edition i (c ∷ rows) (inl (room, inl (known, inl (fit, inl (suit, inl (range, inr e)))))) = never (cc (e .1))
+rows-sound edition i (c ∷ rows) (inl (room, inl (known, inl (fit, inl (suit, inr e))))) = never (cc (e .1))
+rows-sound edition i (c ∷ rows) (inl (room, inl (known, inl (fit, inr e)))) = never (cc (e .1))
+rows-sound edition i (c ∷ rows) (inl (room, inl (known, inr e))) = never (cc (e .1))
+rows-sound edition i (c ∷ rows) (inl (room, inr e)) = never (cc (e .1))
+rows-sound edition i (c ∷ rows) (inr e) = never (cc (e .1))
 
+pub accepted-sound : (rows : List Constraint) → Accepted rows → SoundRows rows
+accepted-sound rows (edition, accepted) = rows-sound edition 0 rows accepted
+
+-- and there is room for them
 pub accepted-few : (rows : List Constraint) → Accepted rows → length rows ≤ rowLimit
-accepted-few rows accepted = ⊎-elim (λ e. omega arith) (λ h. omega arith) (accepted-sound 0 rows accepted .1)
+accepted-few rows (edition, accepted) = omega (arith, rows-room edition 0 rows (omega arith) accepted)
 
 -- ---- verdicts
 
@@ -106,7 +109,7 @@ module _ (engine : (c : Constraint) → Sound c → Exact c) where
         next-is = λ k kind. getD-replicate 176 k 0 0 (omega arith);
         len-is = refl;
         few = accepted-few rows accepted;
-        fit = fit-start engine rows (replicate (rowLimit - length rows) noRow) (accepted-sound 0 rows accepted .0);
+        fit = fit-start engine rows (replicate (rowLimit - length rows) noRow) (accepted-sound rows accepted);
       }
 
   -- each row number reads what the definitions say

@@ -72,7 +72,7 @@ module _
   -- what the row reads after place n of both
   both-read : (v : Verdict) × Reads c (take n steps) v × Reads c (take n steps′) v
   both-read =
-      read-both c (sound-row rows (accepted-sound 0 rows accepted .0) i c there) rows rows′ i j there there′
+      read-both c (sound-row rows (accepted-sound rows accepted) i c there) rows rows′ i j there there′
       (take n calls) (take n calls′) (take n steps) (take n steps′) taken-n taken-n′ (beside-first c n beside)
 
   -- after each place the row reads the same, by the definitions

@@ -89,7 +89,7 @@ module _ (rows : List Constraint) (requests : List Request) (left : Left) (accep
   pub unlimited-delay-unbroken : (source target lower : ℕ) → c ≡ Delay source target lower noLimit → closed (left .steps) ≡ false
       → (n : ℕ) → ¬ (verdictOf (after rows requests) i ≡ some (Verdict.Broken n))
   unlimited-delay-unbroken source target lower is before n broken =
-      let sound : Sound (Delay source target lower noLimit) = subst Sound is (sound-at rows (accepted-sound 0 rows accepted .0) i c there) in
+      let sound : Sound (Delay source target lower noLimit) = subst Sound is (sound-at rows (accepted-sound rows accepted) i c there) in
       broken-while-it-runs .0 (n, broken)
       (subst (λ (x : Constraint). Open x (left .steps)) (sym is)
       (unlimited-delay-open source target lower sound (past-of (run-valid (remains .1) valid-none)) before))

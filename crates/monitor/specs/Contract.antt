@@ -37,11 +37,16 @@ Remains rows requests left = (answers : List Answer) × Run rows noneLeft reques
 
 -- ---- the contracts
 
--- §9.7: a fresh monitor, its rows asked 3 to 7; over an accepted table the monitor before any call, and on a refusal the one over no rows
-pub record Freshly (table : Table) (answer : Answer) (m : Monitor) : Type 0 where
-  pub judged : Judged (rowsQuestions 0 (rowsOf table) []) answer
+-- §9.7: a fresh monitor, its rows asked 3 to 7 in an edition; over an accepted table the monitor before any call, and on a refusal the one over no
+-- rows
+pub record FreshlyIn (edition : ℕ) (table : Table) (answer : Answer) (m : Monitor) : Type 0 where
+  pub judged : Judged (rowsQuestions edition 0 (rowsOf table) []) answer
   pub made : answer ≡ Taken → m ≡ after (rowsOf table) []
   pub refused : (n : ℕ) → answer ≡ Refused n → m ≡ after [] []
+
+-- §9.7: in the first edition
+abbrev pub Freshly : Table → Answer → Monitor → Type 0
+Freshly = FreshlyIn 1
 
 -- a request: the answer that its questions give over what the requests have left, and the monitor after the longer list of requests
 pub record Steps (m : Monitor) (r : Request) (result : Stepped) : Type 0 where

@@ -11,7 +11,7 @@ ghost use mathlib.Core.Path.{_≡_};
 ghost use Rattle.constraint.specs.Run.{asks, withdraws};
 ghost use Rattle.constraint.specs.declared.Call.{Call};
 ghost use Rattle.monitor.specs.Machine.{refuses, takes};
-ghost use Rattle.monitor.specs.Contract.{Freshly, Steps, VerdictOf};
+ghost use Rattle.monitor.specs.Contract.{FreshlyIn, Freshly, Steps, VerdictOf};
 
 mod rows;
 pub mod verdicts;
@@ -57,11 +57,18 @@ impl Monitor {
     // The largest count of steps, 2^64 - 1.
     pub const LAST_COUNT: u64 = constraint::LAST_COUNT;
 
-    // A monitor over a table, with clock 0, or the refusal: questions 3 to 7 and 18, row by row.
+    // A monitor over a table of the first edition, with clock 0, or the refusal: questions 3 to 7 and 18, row by row.
     pub fn fresh(table: Table) -> Stepped
         ensures { λ r. ⌜ Freshly table (r .answer) (r .monitor) ⌝ }
     {
-        match table.judge() {
+        Monitor::fresh_in(1, table)
+    }
+
+    // A monitor over a table of an edition, or the refusal.
+    pub fn fresh_in(edition: u8, table: Table) -> Stepped
+        ensures { λ r. ⌜ FreshlyIn edition table (r .answer) (r .monitor) ⌝ }
+    {
+        match table.judge(edition) {
             Answer::Refused(number) => Stepped {
                 answer: Answer::Refused(number),
                 monitor: rows::over(table, 0),

@@ -7,10 +7,11 @@ use Rattle.constraint.specs.Continuation.{Reads, reads-open}
 use Rattle.constraint.specs.Questions.{Judged}
 use Rattle.constraint.specs.Run.{Room, eventQuestions, questions}
 use Rattle.constraint.specs.Streams.{stream}
-use Rattle.constraint.specs.Table.{ReadsTable, table-of}
+use Rattle.constraint.specs.Table.{ReadsTableUpTo, table-of}
 use Rattle.constraint.specs.Recording.{callAt, recordQuestions, RecordingRead, recording-of, ReadsRecords, no-more, record-refused, record-taken}
 use Rattle.constraint.specs.Recording.{ReadsRecording, version-refused, version-taken, ReadsInOrder}
-use Rattle.constraint.specs.Stamps.{TrueTimes, ReadsStamps, each-meets, none-meets, both-occur, RepeatRow, stampsQuestions, AnswersStamps, no-table}
+use Rattle.constraint.specs.Stamps.{TrueTimes, ReadsStamps, each-meets, none-meets, both-occur, RepeatRow, stampsQuestions, AnswersStampsUpTo}
+use Rattle.constraint.specs.Stamps.{no-table}
 use Rattle.constraint.specs.Stamps.{no-recording, not-asked, reads}
 use Rattle.constraint.specs.declared.Answer.the-variants.{Taken, Refused}
 use Rattle.constraint.specs.declared.Call.{Call}
@@ -196,11 +197,12 @@ module _ (k lower upper : ℕ) (steps : List Step) (valid : Valid steps) where
 
 -- the call with late = 0 over a table and a recording whose every record the monitor takes, and the close: its answer is the word for what the row
 -- reads then
-pub stamps-agree : (table recording : List ℕ) (rows : List Constraint) (steps : List Step) (i k lower upper : ℕ) (v : Verdict)
+pub stamps-agree : {newest : ℕ} (table recording : List ℕ) (rows : List Constraint) (steps : List Step) (i k lower upper : ℕ) (v : Verdict)
     (answer : StampedAnswer)
-    → ReadsTable table (table-of rows) → ReadsRecording rows recording (recording-of steps) → Valid (steps ++ (close ∷ []))
+    → ReadsTableUpTo newest table (table-of rows) → ReadsRecording rows recording (recording-of steps) → Valid (steps ++ (close ∷ []))
     → RepeatRow rows i k lower upper
-    → Reads (Repeat k 1 lower upper) (steps ++ (close ∷ [])) v → AnswersStamps table recording i 0 answer → answer ≡ StampedAnswer.Reads (stampedOf v)
+    → Reads (Repeat k 1 lower upper) (steps ++ (close ∷ [])) v → AnswersStampsUpTo newest table recording i 0 answer
+    → answer ≡ StampedAnswer.Reads (stampedOf v)
 stamps-agree table recording rows steps i k lower upper v answer read taken closes row reading (no-table n place refused) =
     let same = reads-once table read refused in never (cc)
 stamps-agree table recording rows steps i k lower upper v answer read taken closes row reading (no-recording rows′ n place read′ refused) =

@@ -3,8 +3,8 @@ use Rattle.constraint.proofs.Library.{ℕ, zero, suc, _≤_, _<_, arith, _≡_,
 use Rattle.constraint.specs.Limits.{firstColoured, lastTime}
 use Rattle.constraint.specs.Accepted.{KindsSuit, InRange}
 use Rattle.constraint.specs.Records.{tableOf}
-use Rattle.constraint.specs.Table.{ReadsTable, table-of}
-use Rattle.constraint.specs.Stamps.{RepeatRow, AnswersStamps, no-recording, not-asked, reads}
+use Rattle.constraint.specs.Table.{ReadsTableUpTo, table-of}
+use Rattle.constraint.specs.Stamps.{RepeatRow, AnswersStampsUpTo, no-recording, not-asked, reads}
 use Rattle.constraint.specs.declared.Answer.the-variants.{Refused}
 use Rattle.constraint.specs.declared.Constraint.{Constraint}
 use Rattle.constraint.specs.declared.Constraint.the-variants.{Repeat}
@@ -38,24 +38,24 @@ event-plain k lower upper sound = sound .kinds-suit .0
 abbrev askedOf : RowAsked → ℕ → Asked
 askedOf found late = record { event = found .event; lower = found .lower; upper = found .upper; late = late }
 
-module _ (bytes recording : List ℕ) (i late : ℕ) (rows : List Constraint) (read : ReadsTable bytes (table-of rows)) (table : Table)
-    (holds : table ≡ tableOf rows)
+module _ {newest : ℕ} (bytes recording : List ℕ) (i late : ℕ) (rows : List Constraint) (read : ReadsTableUpTo newest bytes (table-of rows))
+    (table : Table) (holds : table ≡ tableOf rows)
     (found : RowAsked) (finds : Finds table i found) (passed : Passed) (passes : PassesStamps recording (askedOf found late) passed) where
   few : length rows ≤ 32
-  few = accepted-few rows (read-accepted bytes rows read)
+  few = accepted-few rows (_, read-accepted bytes rows read)
 
-  pub answer-recording : 0 < passed .number → AnswersStamps bytes recording i late (StampedAnswer.Refused (passed .number) (passed .place))
+  pub answer-recording : 0 < passed .number → AnswersStampsUpTo newest bytes recording i late (StampedAnswer.Refused (passed .number) (passed .place))
   answer-recording h = no-recording rows (passed .number) (passed .place) read (passes .refused h)
 
   module _ (taken : passed .number ≡ 0) where
-    pub answer-row : 0 < found .number → AnswersStamps bytes recording i late (StampedAnswer.Refused (found .number) 0)
+    pub answer-row : 0 < found .number → AnswersStampsUpTo newest bytes recording i late (StampedAnswer.Refused (found .number) 0)
     answer-row h = let steps = passes .taken taken in not-asked rows (steps .0) (found .number) read (steps .1) (finds .refused h rows holds few late)
 
     module _ (there : found .number ≡ 0) where
       row : RepeatRow rows i (found .event) (found .lower) (found .upper)
       row = finds .found there rows holds few
 
-      pub answer-range : lastTime < late → AnswersStamps bytes recording i late (StampedAnswer.Refused 10 0)
+      pub answer-range : lastTime < late → AnswersStampsUpTo newest bytes recording i late (StampedAnswer.Refused 10 0)
       answer-range h =
           let steps = passes .taken taken in
           not-asked rows (steps .0) 10 read (steps .1)
@@ -63,10 +63,10 @@ module _ (bytes recording : List ℕ) (i late : ℕ) (rows : List Constraint) (r
           (judged-yes 25 _ _ (Refused 10) (found .event, (found .lower, (found .upper, row)))
           (judged-no 10 _ _ (λ small. omega (arith, small, h)))))
 
-      pub answer-reads : late ≤ lastTime → AnswersStamps bytes recording i late (StampedAnswer.Reads (passed .verdict))
+      pub answer-reads : late ≤ lastTime → AnswersStampsUpTo newest bytes recording i late (StampedAnswer.Reads (passed .verdict))
       answer-reads h =
           let steps = passes .taken taken in
-          let sound = sound-at rows (accepted-sound 0 rows (read-accepted bytes rows read) .0) i _ row in
+          let sound = sound-at rows (accepted-sound rows (_, read-accepted bytes rows read)) i _ row in
           reads rows (steps .0) (found .event) (found .lower) (found .upper) (passed .verdict) read (steps .1) row h
           (steps .2 (event-plain (found .event) (found .lower) (found .upper) sound)
           (lower-small (found .event) (found .lower) (found .upper) sound))

@@ -15,7 +15,7 @@ ghost use mathlib.Core.Path.{_≡_};
 ghost use mathlib.Core.Bool.{_&&_};
 ghost use lib.Dec.{leb};
 ghost use Rattle.machine.specs.Parts.{plus};
-ghost use Rattle.constraint.specs.Stamps.{AnswersStamps};
+ghost use Rattle.constraint.specs.Stamps.{AnswersStampsUpTo};
 ghost use Rattle.stamps.specs.Words.{spelling};
 ghost use Rattle.stamps.specs.Machine.{nextLow, nextHigh, noStamps, firstStamp, pairFits, laterStamp, stampAfter, callAfter, closeVerdict};
 ghost use Rattle.stamps.specs.Machine.{stampsVerdict, PassesStamps, Finds};
@@ -316,11 +316,11 @@ fn row_of(table: Table, row: u64) -> RowAsked
     }
 }
 
-// What a row of a table reads at the close of a recording whose stamps are late by at most so much; or the refusal.
-pub fn read(table: &[u8], recording: &[u8], row: u64, late: u64) -> StampedAnswer
-    ensures { λ r. ⌜ AnswersStamps (now (table .entry)) (now (recording .entry)) row late r ⌝ }
+// What a row of a table of an edition up to the newest reads at the close of a recording whose stamps are late by at most so much; or the refusal.
+pub fn read(newest: u8, table: &[u8], recording: &[u8], row: u64, late: u64) -> StampedAnswer
+    ensures { λ r. ⌜ AnswersStampsUpTo newest (now (table .entry)) (now (recording .entry)) row late r ⌝ }
 {
-    let reading = table::read(table);
+    let reading = table::read(newest, table);
     let answer = reading.answer;
     if let ReadAnswer::Refused { number, place } = answer {
         return StampedAnswer::Refused { number, place };

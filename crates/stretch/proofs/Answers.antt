@@ -5,7 +5,7 @@ use Rattle.constraint.proofs.Library.{getElem?, length-drop, leb, le-leb, lt-le
 use Rattle.constraint.specs.Steps.{Step, at}
 use Rattle.constraint.specs.Questions.{Judged}
 use Rattle.constraint.specs.Records.{Decides, tableOf}
-use Rattle.constraint.specs.Accepted.{rowsQuestions, Accepted}
+use Rattle.constraint.specs.Accepted.{Accepted}
 use Rattle.constraint.specs.Recording.{ReadsInOrder, recording-of}
 use Rattle.constraint.specs.declared.Answer.{Answer}
 use Rattle.constraint.specs.declared.Answer.the-variants.{Taken, Refused}
@@ -14,9 +14,7 @@ use Rattle.constraint.specs.declared.Entry.{Entry}
 use Rattle.constraint.specs.declared.Table.{Table}
 use Rattle.constraint.proofs.Judged.{judged-none, judged-yes, judged-no}
 use Rattle.constraint.proofs.Records.{record-count, row-there}
-use Rattle.row.proofs.Exact.{Sound}
-use Rattle.monitor.proofs.Demand.{accepted-sound}
-use Rattle.monitor.proofs.FittingRows.{sound-at}
+use Rattle.constraint.proofs.Accepted.{alone-accepted}
 use Rattle.constraint.specs.Stretches.{Stretch, stretchOf, stretches, Some, FirstAt, Breaking, stretchQuestions, AnswersRow, no-stretch, found}
 use Rattle.stretch.specs.Machine.{Kept, RunOf, NeedsFrom, Enough, Searches, Tries, TriesAll, Asks}
 use Rattle.stretch.specs.declared.Found.{Found}
@@ -70,14 +68,6 @@ module _ (c : Constraint) (streams times : List ℕ) (count : ℕ) (need : List 
 
 -- ---- a row of a table
 
-row-accepted : (c : Constraint) → Sound c → Accepted (c ∷ [])
-unfolding rowsQuestions
-row-accepted c sound =
-    judged-yes 3 _ _ Taken (omega arith)
-    (judged-yes 5 _ _ Taken (sound .kinds-fit)
-    (judged-yes 18 _ _ Taken (sound .kinds-suit)
-    (judged-yes 6 _ _ Taken (sound .in-range) (judged-yes 7 _ _ Taken (sound .lower-first) judged-none))))
-
 -- the first that breaks is one that breaks
 some-first : (P : Stretch → Type 0) (list : List Stretch) (s : Stretch) (place : ℕ) → FirstAt P list s place → Some P list
 some-first P list s place f = subst (Some P) (sym (f .in-order)) (some-right P (f .before) (s ∷ f .later) (inl (f .has)))
@@ -102,7 +92,7 @@ module _ (table : Table) (i : ℕ) (streams times : List ℕ) (count : ℕ) (few
       is = row-there table rows i d e within
 
       alone : Accepted (c ∷ [])
-      alone = row-accepted c (sound-at rows (accepted-sound 0 rows accepted .0) i c is)
+      alone = (accepted .0, alone-accepted (accepted .0) rows (accepted .1) i c is)
 
       -- 22 and 15 are answered "yes"
       asked-first : (a : Answer)

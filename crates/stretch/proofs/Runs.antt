@@ -24,7 +24,7 @@ use Rattle.stretch.specs.Machine.{seenAs, RunOf, NeedsFrom}
 use Rattle.stretch.proofs.Starts.{Running, run-start, run-end, run-crowded, run-broken, run-on}
 
 pub sound-of : (c : Constraint) → Accepted (c ∷ []) → Sound c
-sound-of c accepted = accepted-sound 0 (c ∷ []) accepted .0 .0
+sound-of c accepted = accepted-sound (c ∷ []) accepted .0
 
 pub few-of : (steps : List Step) (streams times : List ℕ) (count : ℕ) → RunOf steps streams times count → count ≤ 256 → length steps ≤ 256
 few-of steps streams times count run small = omega (arith, run .counted, small)

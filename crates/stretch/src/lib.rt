@@ -15,7 +15,7 @@ use table::ReadAnswer;
 ghost use mathlib.Core.Path.{_≡_};
 ghost use Prim.Native.Nat.{ℕ, _≤_, _<_};
 ghost use lib.ListN.{length, getD};
-ghost use Rattle.constraint.specs.Stretches.{AnswersStretch};
+ghost use Rattle.constraint.specs.Stretches.{AnswersStretchUpTo};
 ghost use Rattle.stretch.specs.Machine.{seenAs, KeepsRecord, GathersRecords, NeedsFrom, Searches, TriesAll, Asks};
 
 // How many records a recording may have.
@@ -238,12 +238,12 @@ fn ask_row(
     try_row(constraint, streams, times, count)
 }
 
-// The shortest stretch of a recording that breaks a row of a table, and how many were tried by length and by start; or the refusal. For n
-// records it takes at most n(n + 1)/2 steps of the row.
-pub fn shortest(table: &[u8], recording: &[u8], row: u64) -> StretchAnswer
-    ensures { λ r. ⌜ AnswersStretch (now (table .entry)) (now (recording .entry)) row r ⌝ }
+// The shortest stretch of a recording that breaks a row of a table of an edition up to the newest, and how many were tried by length and by start;
+// or the refusal. For n records it takes at most n(n + 1)/2 steps of the row.
+pub fn shortest(newest: u8, table: &[u8], recording: &[u8], row: u64) -> StretchAnswer
+    ensures { λ r. ⌜ AnswersStretchUpTo newest (now (table .entry)) (now (recording .entry)) row r ⌝ }
 {
-    let reading = table::read(table);
+    let reading = table::read(newest, table);
     let answer = reading.answer;
     if let ReadAnswer::Refused { number, place } = answer {
         return StretchAnswer::Refused { number, place };

@@ -1,33 +1,44 @@
 -- A table that was read is accepted: the questions that a fresh monitor puts to its rows were put when they were read.
-use Rattle.constraint.proofs.Library.{ℕ, _+_, _<_, List, []}
+use Rattle.constraint.proofs.Library.{ℕ, _+_, _≤_, _<_, _≡_, ap, List, []}
 use Rattle.constraint.specs.Limits.{rowLimit}
 use Rattle.constraint.specs.Questions.{Judged}
-use Rattle.constraint.specs.Accepted.{rowQuestions, rowsQuestions, Accepted}
-use Rattle.constraint.specs.Table.{TableRead, table-of, table-refused, rowThen, ReadsRows, no-more, row-refused, row-taken, ReadsTable, version-taken}
+use Rattle.constraint.specs.Accepted.{rowQuestionsIn, rowsQuestions, AcceptedIn}
+use Rattle.constraint.specs.Steps.{at}
+use Rattle.constraint.specs.Types.{typeOf, lastType}
+use Rattle.constraint.specs.Table.{rowBody, ShapeFits, StandsFor, bodyAt, TableRead, table-of, table-refused, rowThen}
+use Rattle.constraint.specs.Table.{ReadsRows, no-more, row-refused, row-taken, ReadsTableUpTo, version-taken}
 use Rattle.constraint.specs.declared.Answer.the-variants.{Taken}
 use Rattle.constraint.specs.declared.Constraint.{Constraint}
-use Rattle.constraint.proofs.Judged.{judged-none}
+use Rattle.constraint.proofs.Judged.{judged-none, judged-yes}
 use Rattle.constraint.proofs.Accepted.{rows-taken}
 use Rattle.table.proofs.Places.{place-taken}
 
 -- the rows that were read, with i rows before them, are accepted
-abbrev pub AcceptedBehind : ℕ → TableRead → Type 0
-AcceptedBehind i (table-of rows) = Judged (rowsQuestions i rows []) Taken
-AcceptedBehind i (table-refused n place) = Unit {0}
+abbrev pub AcceptedBehind : ℕ → ℕ → TableRead → Type 0
+AcceptedBehind edition i (table-of rows) = Judged (rowsQuestions edition i rows []) Taken
+AcceptedBehind edition i (table-refused n place) = Unit {0}
 
 -- one row more in front
-accepted-more : (i : ℕ) (c : Constraint) (later : TableRead) → i < rowLimit → Judged (rowQuestions c) Taken → AcceptedBehind (i + 1) later
-    → AcceptedBehind i (rowThen c later)
-accepted-more i c (table-of rows) room own accepted = rows-taken i c rows [] Taken room own accepted
-accepted-more i c (table-refused n place) room own accepted = tt
+accepted-more : (edition i : ℕ) (c : Constraint) (later : TableRead) → i < rowLimit → Judged (rowQuestionsIn edition c) Taken
+    → AcceptedBehind edition (i + 1) later → AcceptedBehind edition i (rowThen c later)
+accepted-more edition i c (table-of rows) room own accepted = rows-taken edition i c rows [] Taken room own accepted
+accepted-more edition i c (table-refused n place) room own accepted = tt
 
-pub rows-accepted : (bytes : List ℕ) {i place : ℕ} {read : TableRead} → ReadsRows bytes i place read → AcceptedBehind i read
+-- the row that stands in a body of fitting shape has a type of the edition
+row-typed : (edition : ℕ) (body : List ℕ) (c : Constraint) → ShapeFits edition body → StandsFor body c → typeOf c ≤ lastType edition
+unfolding rowBody
+row-typed edition body c fits stands = let same : typeOf c ≡ at body 0 = ap (λ (l : List ℕ). at l 0) (stands .bytes) in rw same (fits .type-known .1)
+
+pub rows-accepted : {edition : ℕ} (bytes : List ℕ) {i place : ℕ} {read : TableRead} → ReadsRows edition bytes i place read
+    → AcceptedBehind edition i read
 unfolding rowsQuestions
 rows-accepted bytes (no-more end) = judged-none
 rows-accepted bytes (row-refused n c there at-c refused) = tt
-rows-accepted bytes (row-taken {i} {place} {later} c there at-c judged reads) =
-    let taken = place-taken bytes i place c judged in
-    accepted-more i c later (taken .room) (taken .own) (rows-accepted bytes reads)
+rows-accepted {edition} bytes (row-taken {i} {place} {later} c there at-c judged reads) =
+    let taken = place-taken edition bytes i place c judged in
+    let typed = row-typed edition (bodyAt bytes place) c (taken .shape) (at-c (taken .shape)) in
+    accepted-more edition i c later (taken .room) (judged-yes 4 _ _ Taken typed (taken .own)) (rows-accepted bytes reads)
 
-pub read-accepted : (bytes : List ℕ) (rows : List Constraint) → ReadsTable bytes (table-of rows) → Accepted rows
-read-accepted bytes rows (version-taken one reads) = rows-accepted bytes reads
+pub read-accepted : {newest : ℕ} (bytes : List ℕ) (rows : List Constraint) → ReadsTableUpTo newest bytes (table-of rows)
+    → AcceptedIn (at bytes 0) rows
+read-accepted bytes rows (version-taken version reads) = rows-accepted bytes reads

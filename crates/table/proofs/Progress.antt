@@ -30,64 +30,66 @@ then-end [] = refl
 then-end (c ∷ rows) = ap (rowThen c) (then-end rows)
 
 -- some rows stand before a place, and what is read from there on, behind them, is the whole
-pub record RowsUpTo (bytes : List ℕ) (rows : List Constraint) (place : ℕ) : Type 0 where
+pub record RowsUpTo (edition : ℕ) (bytes : List ℕ) (rows : List Constraint) (place : ℕ) : Type 0 where
   pub within : place ≤ length bytes
-  pub whole : (later : TableRead) → ReadsRows bytes (length rows) place later → ReadsRows bytes 0 1 (rowsThen rows later)
+  pub whole : (later : TableRead) → ReadsRows edition bytes (length rows) place later → ReadsRows edition bytes 0 1 (rowsThen rows later)
 
-pub rows-start : (bytes : List ℕ) → 0 < length bytes → RowsUpTo bytes [] 1
+pub rows-start : (edition : ℕ) (bytes : List ℕ) → 0 < length bytes → RowsUpTo edition bytes [] 1
 unfolding rowsThen
-rows-start bytes there = record { within = there; whole = λ later reads. reads }
+rows-start edition bytes there = record { within = there; whole = λ later reads. reads }
 
-pub rows-more : (bytes : List ℕ) (rows : List Constraint) (i place next : ℕ) (c : Constraint) → i ≡ length rows → RowsUpTo bytes rows place
-    → place < length bytes → ReadsAt bytes i place (RowRead.Row c next) → RowsUpTo bytes (rows ++ (c ∷ [])) next
-rows-more bytes rows i place next c counted before there read =
-    let taken = place-taken bytes i place c (read .1) in
+pub rows-more : (edition : ℕ) (bytes : List ℕ) (rows : List Constraint) (i place next : ℕ) (c : Constraint) → i ≡ length rows
+    → RowsUpTo edition bytes rows place
+    → place < length bytes → ReadsAt edition bytes i place (RowRead.Row c next) → RowsUpTo edition bytes (rows ++ (c ∷ [])) next
+rows-more edition bytes rows i place next c counted before there read =
+    let taken = place-taken edition bytes i place c (read .1) in
     record {
       within = omega arith;
       whole = λ later reads.
-          subst (ReadsRows bytes 0 1) (then-more rows c later)
+          subst (ReadsRows edition bytes 0 1) (then-more rows c later)
           (before .whole (rowThen c later)
           (row-taken c there (read .0) (rw counted at (read .1))
-          (subst₂ (λ (i p : ℕ). ReadsRows bytes i p later) (length-append rows (c ∷ [])) (read .2) reads)));
+          (subst₂ (λ (i p : ℕ). ReadsRows edition bytes i p later) (length-append rows (c ∷ [])) (read .2) reads)));
     }
 
-pub rows-refused : (bytes : List ℕ) (rows : List Constraint) (i place n : ℕ) → i ≡ length rows → RowsUpTo bytes rows place
-    → place < length bytes → ReadsAt bytes i place (RowRead.Refused n) → ReadsRows bytes 0 1 (table-refused n place)
-rows-refused bytes rows i place n counted before there read =
-    subst (ReadsRows bytes 0 1) (then-refused rows n place)
+pub rows-refused : (edition : ℕ) (bytes : List ℕ) (rows : List Constraint) (i place n : ℕ) → i ≡ length rows → RowsUpTo edition bytes rows place
+    → place < length bytes → ReadsAt edition bytes i place (RowRead.Refused n) → ReadsRows edition bytes 0 1 (table-refused n place)
+rows-refused edition bytes rows i place n counted before there read =
+    subst (ReadsRows edition bytes 0 1) (then-refused rows n place)
     (before .whole (table-refused n place) (row-refused n (read .0) there (read .1) (rw counted at (read .2))))
 
-pub rows-end : (bytes : List ℕ) (rows : List Constraint) (place : ℕ) → RowsUpTo bytes rows place → length bytes ≤ place
-    → ReadsRows bytes 0 1 (table-of rows)
-rows-end bytes rows place before end = subst (ReadsRows bytes 0 1) (then-end rows) (before .whole (table-of []) (no-more end))
+pub rows-end : (edition : ℕ) (bytes : List ℕ) (rows : List Constraint) (place : ℕ) → RowsUpTo edition bytes rows place → length bytes ≤ place
+    → ReadsRows edition bytes 0 1 (table-of rows)
+rows-end edition bytes rows place before end = subst (ReadsRows edition bytes 0 1) (then-end rows) (before .whole (table-of []) (no-more end))
 
 -- the table holds the rows before a place
-pub record ReadUpTo (bytes : List ℕ) (table : Table) (place : ℕ) : Type 0 where
+pub record ReadUpTo (edition : ℕ) (bytes : List ℕ) (table : Table) (place : ℕ) : Type 0 where
   pub rows : List Constraint
   pub holds : table ≡ tableOf rows
-  pub before : RowsUpTo bytes rows place
+  pub before : RowsUpTo edition bytes rows place
 
-pub up-to-start : (bytes : List ℕ) (table : Table) → 0 < length bytes → table ≡ tableOf [] → ReadUpTo bytes table 1
-up-to-start bytes table there none = record { rows = []; holds = none; before = rows-start bytes there }
+pub up-to-start : (edition : ℕ) (bytes : List ℕ) (table : Table) → 0 < length bytes → table ≡ tableOf [] → ReadUpTo edition bytes table 1
+up-to-start edition bytes table there none = record { rows = []; holds = none; before = rows-start edition bytes there }
 
-pub up-to-more : (bytes : List ℕ) (table : Table) (place next : ℕ) (c : Constraint) → ReadUpTo bytes table place → place < length bytes
-    → ReadsAt bytes (table .count) place (RowRead.Row c next) → ReadUpTo bytes (withOneMore table c) next
-up-to-more bytes table place next c up-to there read =
-    let taken = place-taken bytes (table .count) place c (read .1) in
+pub up-to-more : (edition : ℕ) (bytes : List ℕ) (table : Table) (place next : ℕ) (c : Constraint) → ReadUpTo edition bytes table place
+    → place < length bytes
+    → ReadsAt edition bytes (table .count) place (RowRead.Row c next) → ReadUpTo edition bytes (withOneMore table c) next
+up-to-more edition bytes table place next c up-to there read =
+    let taken = place-taken edition bytes (table .count) place c (read .1) in
     let counted = record-count table (up-to .rows) (up-to .holds) in
     record {
       rows = up-to .rows ++ (c ∷ []);
       holds = ap (λ (t : Table). withOneMore t c) (up-to .holds) ∙ record-more (up-to .rows) c (omega arith);
-      before = rows-more bytes (up-to .rows) (table .count) place next c counted (up-to .before) there read;
+      before = rows-more edition bytes (up-to .rows) (table .count) place next c counted (up-to .before) there read;
     }
 
-pub up-to-refused : (bytes : List ℕ) (table : Table) (place n : ℕ) → ReadUpTo bytes table place → place < length bytes
-    → ReadsAt bytes (table .count) place (RowRead.Refused n) → ReadsRows bytes 0 1 (table-refused n place)
-up-to-refused bytes table place n up-to there read =
-    rows-refused bytes (up-to .rows) (table .count) place n (record-count table (up-to .rows) (up-to .holds)) (up-to .before) there read
+pub up-to-refused : (edition : ℕ) (bytes : List ℕ) (table : Table) (place n : ℕ) → ReadUpTo edition bytes table place → place < length bytes
+    → ReadsAt edition bytes (table .count) place (RowRead.Refused n) → ReadsRows edition bytes 0 1 (table-refused n place)
+up-to-refused edition bytes table place n up-to there read =
+    rows-refused edition bytes (up-to .rows) (table .count) place n (record-count table (up-to .rows) (up-to .holds)) (up-to .before) there read
 
-pub up-to-end : (bytes : List ℕ) (table : Table) (place : ℕ) → ReadUpTo bytes table place → length bytes ≤ place
-    → ReadsRows bytes 0 1 (table-of (rowsOf table)) × (table ≡ tableOf (rowsOf table))
-up-to-end bytes table place up-to end =
+pub up-to-end : (edition : ℕ) (bytes : List ℕ) (table : Table) (place : ℕ) → ReadUpTo edition bytes table place → length bytes ≤ place
+    → ReadsRows edition bytes 0 1 (table-of (rowsOf table)) × (table ≡ tableOf (rowsOf table))
+up-to-end edition bytes table place up-to end =
     let rows : rowsOf table ≡ up-to .rows = ap rowsOf (up-to .holds) ∙ record-rows (up-to .rows) in
-    (rw rows (rows-end bytes (up-to .rows) place (up-to .before) end), up-to .holds ∙ ap tableOf (sym rows))
+    (rw rows (rows-end edition bytes (up-to .rows) place (up-to .before) end), up-to .holds ∙ ap tableOf (sym rows))

@@ -1,27 +1,25 @@
 -- Rows as raw bytes are the rows that their bodies stand for, and a body stands for one row: so an accepted table whose rows are given as raw
 -- bytes is written as the table that it was.
-use Rattle.constraint.proofs.Library.{ℕ, _+_, _*_, _≤_, _<_, _≡_, sym, ap, subst, _∙_, List, [], _∷_, _++_, add-zero, arith, eqb-true, eqb-false, eqb}
+use Rattle.constraint.proofs.Library.{ℕ, zero, suc, _+_, _*_, _≤_, _<_, _≡_, refl, sym, ap, subst, _∙_, List, [], _∷_, _++_, add-zero, arith}
 use Rattle.constraint.proofs.Library.{length, getD, take, drop, length-take, take-append-drop, ext-getD, getD-take, getD-drop, length-take-le}
-use Rattle.constraint.proofs.Library.{take-all}
+use Rattle.constraint.proofs.Library.{take-all, some, getElem?}
 use Rattle.constraint.specs.Limits.{rowLimit}
 use Rattle.constraint.specs.Steps.{at}
 use Rattle.constraint.specs.Bytes.{Bytes}
 use Rattle.constraint.specs.Questions.{Question, Judged}
-use Rattle.constraint.specs.Types.{lengths, lengthOf}
-use Rattle.constraint.specs.Accepted.{rowQuestions, rowsQuestions, Accepted}
+use Rattle.constraint.specs.Types.{typeOf, lastType, takesCount, lengthOf}
+use Rattle.constraint.specs.Accepted.{rowQuestionsIn, rowsQuestions, AcceptedIn}
 use Rattle.constraint.specs.Records.{filler}
-use Rattle.constraint.specs.Table.{ShapeFits, StandsFor, ReadsTable, table-of}
+use Rattle.constraint.specs.Table.{ShapeFits, StandsFor, ReadsTableUpTo, table-of}
 use Rattle.constraint.specs.declared.Answer.the-variants.{Taken, Refused}
 use Rattle.constraint.specs.declared.Constraint.{Constraint}
-use Rattle.constraint.proofs.Lists.{split}
-use Rattle.constraint.proofs.Judged.{never, judged-none, judged-yes, judged-later, judged-parts, judged-once}
-use Rattle.constraint.proofs.Accepted.{rows-then, rows-room}
-use Rattle.table.specs.Raw.{rawSize, rawBody, RawRows, TypeKnown, KnownAt, WritesRaw, all-read, stopped-at}
+use Rattle.constraint.proofs.Judged.{never, judged-none, judged-yes, judged-later, judged-all, judged-parts, judged-once}
+use Rattle.constraint.proofs.Accepted.{rows-then, rows-room, row-accepted}
+use Rattle.table.specs.Raw.{rawSize, rawBody, RawRows, KnownAt, WritesRaw, all-read, stopped-at}
 use Rattle.table.specs.Writing.{Writes}
 use Rattle.table.specs.declared.WriteAnswer.{WriteAnswer}
-use Rattle.constraint.proofs.Types.{regular}
+use Rattle.constraint.proofs.Lengths.{row-fits}
 use Rattle.table.proofs.Standing.{stands-once}
-use Rattle.constraint.proofs.Types.{length-plain}
 use Rattle.table.proofs.AcceptedRows.{read-accepted}
 use Rattle.table.proofs.Again.{rows-write}
 
@@ -35,69 +33,75 @@ raw-once bytes rows others one two short =
     ext-getD filler rows (take (length rows) others) (sym long)
     (λ i h. stands-once (rawBody bytes i) _ _ (one .stand i h) (two .stand i (omega arith)) ∙ sym (getD-take (length rows) others i filler h))
 
--- a row's type is known
-row-known : (body : List ℕ) → ShapeFits body → TypeKnown (at body 0) (at body 1)
-row-known body fits =
-    record {
-      type-known =
-          split (eqb (at body 0) 7) (λ b. 0 < at lengths (at body 0)) (λ e. rw (eqb-true (at body 0) 7 e) (omega arith))
-          (λ e. omega (arith, fits .type-there, fits .length-right, length-plain (at body 0) (at body 1) (eqb-false (at body 0) 7 e)));
-      n-known = fits .n-known;
-    }
-
 -- ---- rows before others
 
-rows-append : (i : ℕ) (rows others : List Constraint)
-    → rowsQuestions i (rows ++ others) [] ≡ rowsQuestions i rows [] ++ rowsQuestions (i + length rows) others []
+rows-append : (edition i : ℕ) (rows others : List Constraint)
+    → rowsQuestions edition i (rows ++ others) [] ≡ rowsQuestions edition i rows [] ++ rowsQuestions edition (i + length rows) others []
 unfolding rowsQuestions
-rows-append i [] others = ap (λ (n : ℕ). rowsQuestions n others []) (sym (add-zero i))
-rows-append i (c ∷ rows) others =
+rows-append edition i [] others = ap (λ (n : ℕ). rowsQuestions edition n others []) (sym (add-zero i))
+rows-append edition i (c ∷ rows) others =
     let next : i + 1 + length rows ≡ i + length (c ∷ rows) = omega arith in
-    ap (λ (l : List Question). (3, i < rowLimit) ∷ rowQuestions c ++ l)
-    (rows-append (i + 1) rows others ∙ ap (λ (n : ℕ). rowsQuestions (i + 1) rows [] ++ rowsQuestions n others []) next)
+    ap (λ (l : List Question). (3, i < rowLimit) ∷ rowQuestionsIn edition c ++ l)
+    (rows-append edition (i + 1) rows others ∙ ap (λ (n : ℕ). rowsQuestions edition (i + 1) rows [] ++ rowsQuestions edition n others []) next)
 
-first-accepted : (rows : List Constraint) (n : ℕ) → Accepted rows → Accepted (take n rows)
-first-accepted rows n accepted =
-    let parts = ap (λ (l : List Constraint). rowsQuestions 0 l []) (sym (take-append-drop n rows)) ∙ rows-append 0 (take n rows) (drop n rows) in
-    judged-parts (rowsQuestions 0 (take n rows) []) _ (subst (λ (qs : List Question). Judged qs Taken) parts accepted) .0
+first-accepted : (edition : ℕ) (rows : List Constraint) (n : ℕ) → AcceptedIn edition rows → AcceptedIn edition (take n rows)
+first-accepted edition rows n accepted =
+    let parts = ap (λ (l : List Constraint). rowsQuestions edition 0 l []) (sym (take-append-drop n rows)) ∙ rows-append edition 0 (take n rows)
+    (drop n rows) in
+    judged-parts (rowsQuestions edition 0 (take n rows) []) _ (subst (λ (qs : List Question). Judged qs Taken) parts accepted) .0
 
 -- ---- the table of rows given as raw bytes
 
-module _ (raw : List ℕ) (i : ℕ) (c : Constraint) (stands : StandsFor (rawBody raw i) c) where
-  fits : ShapeFits (rawBody raw i)
-  fits = subst ShapeFits (stands .bytes) (regular c .sized .fits)
+module _ (edition : ℕ) (raw : List ℕ) (i : ℕ) (c : Constraint) (typed : typeOf c ≤ lastType edition) (stands : StandsFor (rawBody raw i) c) where
+  fits : ShapeFits edition (rawBody raw i)
+  fits = subst (ShapeFits edition) (stands .bytes) (row-fits edition c typed)
 
   byte-there : (j : ℕ) → j < length (rawBody raw i) → at (rawBody raw i) j ≡ at raw (i * rawSize + j)
   byte-there j less =
       let size = lengthOf (at raw (i * rawSize)) (at raw (i * rawSize + 1)) in
       getD-take size (drop (i * rawSize) raw) j 0 (omega (arith, length-take size (drop (i * rawSize) raw))) ∙ getD-drop (i * rawSize) raw j 0
 
-  pub stands-known : KnownAt raw i
+  pub stands-known : KnownAt edition raw i
   stands-known =
       let first : at (rawBody raw i) 0 ≡ at raw (i * rawSize) = byte-there 0 (fits .type-there) ∙ ap (at raw) (add-zero (i * rawSize)) in
       record {
-        type-known = rw first at (row-known (rawBody raw i) fits .type-known);
-        n-known = λ seven. rw (byte-there 1 (fits .n-there (first ∙ seven))) at (fits .n-known (first ∙ seven));
+        type-known = rw first at (fits .type-known);
+        n-known = λ has.
+            let has-n = ap takesCount first ∙ has in rw (byte-there 1 (fits .n-there has-n)) at (fits .n-known has-n);
       }
 
-module _ (raw bytes before : List ℕ) (rows : List Constraint) (each : Bytes bytes) (reads : ReadsTable bytes (table-of rows))
-    (given : RawRows raw rows) (end : length raw < (length rows + 1) * rawSize) (long : length bytes ≤ length before) where
-  pub raw-write : {w : WriteAnswer} {after : List ℕ} → WritesRaw raw before w after
+-- a row of an accepted table has a type of the edition
+row-typed : (edition : ℕ) (rows : List Constraint) → AcceptedIn edition rows → (i : ℕ) → i < length rows
+    → typeOf (getD rows i filler) ≤ lastType edition
+row-typed edition rows accepted i there = judged-all 4 _ _ (row-accepted edition 0 rows accepted i _ (is rows i there)) .0
+  where
+    is : (rows : List Constraint) (i : ℕ) → i < length rows → getElem? rows i ≡ some (getD rows i filler)
+    is [] i there = absurd (omega arith)
+    is (c ∷ rows) zero there = refl
+    is (c ∷ rows) (suc i) there = is rows i (omega arith)
+
+module _ {newest : ℕ} (raw bytes before : List ℕ) (rows : List Constraint) (each : Bytes bytes)
+    (reads : ReadsTableUpTo newest bytes (table-of rows)) (given : RawRows raw rows) (end : length raw < (length rows + 1) * rawSize)
+    (long : length bytes ≤ length before) where
+  pub raw-write : {w : WriteAnswer} {after : List ℕ} → WritesRaw (at bytes 0) raw before w after
       → (w ≡ WriteAnswer.Written (length bytes)) × (after ≡ bytes ++ drop (length bytes) before)
   raw-write {w = w} {after = after} (all-read others read past writes) =
       let count : length others ≡ length rows = omega (arith, read .whole, given .whole) in
       let same : others ≡ rows =
       raw-once raw others rows read given (omega arith) ∙ ap (λ (n : ℕ). take n rows) count ∙ take-all (length rows) rows (omega arith) in
-      rows-write bytes before after rows w each reads long (subst (λ (l : List Constraint). Writes l before w after) same writes)
+      rows-write bytes before after rows w each reads long (subst (λ (l : List Constraint). Writes (at bytes 0) l before w after) same writes)
   raw-write (stopped-at others n read more judged) =
       let fewer : length others < length rows = omega arith in
       let accepted = read-accepted bytes rows reads in
-      let few : 0 + length rows ≤ rowLimit = rows-room 0 rows (omega arith) accepted in
+      let few : 0 + length rows ≤ rowLimit = rows-room (at bytes 0) 0 rows (omega arith) accepted in
       let same : others ≡ take (length others) rows = raw-once raw others rows read given (omega arith) in
-      let taken = subst Accepted (sym same) (first-accepted rows (length others) accepted) in
-      let known = stands-known raw (length others) (getD rows (length others) filler) (given .stand (length others) fewer) in
-      let all : Judged (rowsQuestions 0 others ((3, length others < rowLimit) ∷ (4, KnownAt raw (length others)) ∷ [])) Taken =
-      rw rows-then (judged-later (rowsQuestions 0 others []) _ Taken taken
+      let edition = at bytes 0 in
+      let taken = subst (AcceptedIn edition) (sym same) (first-accepted edition rows (length others) accepted) in
+      let known = stands-known edition raw (length others) (getD rows (length others) filler)
+      (row-typed edition rows accepted (length others) fewer)
+      (given .stand (length others) fewer) in
+      let all : Judged (rowsQuestions edition 0 others ((3, length others < rowLimit) ∷ (4, KnownAt edition raw (length others)) ∷ [])) Taken =
+      rw (rows-then edition) (judged-later (rowsQuestions edition 0 others []) _ Taken taken
       (judged-yes 3 _ _ Taken (omega arith) (judged-yes 4 _ _ Taken known judged-none))) in
       let no = judged-once _ Taken (Refused n) all judged in
       never (cc)

@@ -1,6 +1,7 @@
 -- A row's first bytes, as many as its type has, are a body of fitting shape, so they stand for the row that is read from them; and where the
 -- next row is a 33rd or of no known type, 3 and 4 are asked after the rows before it.
-use Rattle.constraint.proofs.Library.{ℕ, zero, suc, _+_, _-_, _*_, _≤_, _<_, _≡_, refl, sym, ap, ap₂, subst, _∙_, Bool, List, [], _∷_, _++_, add-zero}
+use Rattle.constraint.proofs.Library.{ℕ, _+_, _-_, _*_, _≤_, _<_, _≡_, refl, sym, ap, ap₂, subst, _∙_, Bool, true, List, [], _∷_, _++_}
+use Rattle.constraint.proofs.Library.{add-zero}
 use Rattle.constraint.proofs.Library.{add-sub-cancel-left, arith, eqb-true, eqb-false, ltb-true, ltb-false, eq-eqb, eqb, ltb, length, getD, take}
 use Rattle.constraint.proofs.Library.{drop, length-append, length-drop, List·getD-append, length-take-le, getD-take, getD-drop, getD-append-add}
 use Rattle.constraint.specs.Limits.{rowLimit}
@@ -8,7 +9,7 @@ use Rattle.constraint.specs.Steps.{at}
 use Rattle.constraint.specs.Bytes.{Bytes}
 use Rattle.constraint.specs.Questions.{Judged}
 use Rattle.constraint.specs.Records.{Decides, filler, rowsOf, tableOf, withOneMore, Adds}
-use Rattle.constraint.specs.Types.{lengths, lengthOf}
+use Rattle.constraint.specs.Types.{lengths, takesCount, lengthOf}
 use Rattle.constraint.specs.Accepted.{rowsQuestions}
 use Rattle.constraint.specs.Table.{ShapeFits, StandsFor}
 use Rattle.constraint.specs.declared.Answer.{Answer}
@@ -25,46 +26,40 @@ use Rattle.table.specs.Writing.{Writes}
 use Rattle.table.specs.declared.WriteAnswer.{WriteAnswer}
 use Rattle.table.proofs.Bodies.{bytes-part}
 use Rattle.table.proofs.Standing.{row-stands}
-use Rattle.constraint.proofs.Types.{length-plain}
+use Rattle.constraint.proofs.Types.{read-back}
+use Rattle.constraint.proofs.Lengths.{last-listed, length-plain, length-short}
 use Rattle.table.proofs.Shapes.{shape-asked}
 
 -- The test of a row's type
 
-pub known-test : (bytes : List ℕ) (i start t n : ℕ) (b : Bool) → start ≡ i * rawSize → t ≡ at bytes start → n ≡ at bytes (start + 1)
-    → Decides (TypeKnown t n) b → Decides (KnownAt bytes i) b
-known-test bytes i start t n b there first second d =
+pub known-test : (edition : ℕ) (bytes : List ℕ) (i start t n : ℕ) (b : Bool) → start ≡ i * rawSize → t ≡ at bytes start
+    → n ≡ at bytes (start + 1) → Decides (TypeKnown edition t n) b → Decides (KnownAt edition bytes i) b
+known-test edition bytes i start t n b there first second d =
     let one : t ≡ at bytes (i * rawSize) = first ∙ ap (at bytes) there in
     let two : n ≡ at bytes (i * rawSize + 1) = second ∙ ap (λ (s : ℕ). at bytes (s + 1)) there in
     rw (← one, ← two) d
 
-pub known-more : (bytes : List ℕ) (i : ℕ) → ((j : ℕ) → j < i → KnownAt bytes j) → KnownAt bytes i → (j : ℕ) → j < i + 1 → KnownAt bytes j
-known-more bytes i to here =
-    λ j below. split (eqb j i) (λ _. KnownAt bytes j) (λ e. rw (eqb-true j i e) here) (λ e. to j (omega (arith, eqb-false j i e)))
+pub known-more : (edition : ℕ) (bytes : List ℕ) (i : ℕ) → ((j : ℕ) → j < i → KnownAt edition bytes j) → KnownAt edition bytes i
+    → (j : ℕ) → j < i + 1 → KnownAt edition bytes j
+known-more edition bytes i to here =
+    λ j below. split (eqb j i) (λ _. KnownAt edition bytes j) (λ e. rw (eqb-true j i e) here) (λ e. to j (omega (arith, eqb-false j i e)))
 
 -- one more row that is taken
-pub taken-more : (bytes : List ℕ) (i : ℕ) → ((j : ℕ) → j < i → RowTaken bytes j) → RowTaken bytes i → (j : ℕ) → j < i + 1 → RowTaken bytes j
-taken-more bytes i to here j below =
-    split (eqb j i) (λ _. RowTaken bytes j) (λ e. rw (eqb-true j i e) here) (λ e. to j (omega (arith, eqb-false j i e)))
+pub taken-more : (edition : ℕ) (bytes : List ℕ) (i : ℕ) → ((j : ℕ) → j < i → RowTaken edition bytes j) → RowTaken edition bytes i
+    → (j : ℕ) → j < i + 1 → RowTaken edition bytes j
+taken-more edition bytes i to here j below =
+    split (eqb j i) (λ _. RowTaken edition bytes j) (λ e. rw (eqb-true j i e) here) (λ e. to j (omega (arith, eqb-false j i e)))
 
 -- The body of a row of a known type
 
--- no type needs more than a row's bytes
-abbrev Short : List ℕ → Type 0
-Short [] = Unit {0}
-Short (x ∷ xs) = (x ≤ rawSize) × Short xs
+known-length : (edition t n : ℕ) → TypeKnown edition t n → (0 < lengthOf t n) × (lengthOf t n ≤ rawSize)
+known-length edition t n known =
+    let listed : t < length lengths = omega (arith, known .type-known .1, last-listed edition) in (
+      omega (arith, read-back n 0 0 0 0 0 0 0 0 t (known .type-known .0, listed) (known .n-known) .long),
+      length-short t n listed (λ has. known .n-known has .1),
+    )
 
-short-at : (xs : List ℕ) → Short xs → (i : ℕ) → at xs i ≤ rawSize
-short-at [] h i = omega arith
-short-at (x ∷ xs) h zero = h .0
-short-at (x ∷ xs) h (suc i) = short-at xs (h .1) i
-
-known-length : (t n : ℕ) → TypeKnown t n → (0 < lengthOf t n) × (lengthOf t n ≤ rawSize)
-known-length t n known =
-    split (eqb t 7) (λ b. (0 < lengthOf t n) × (lengthOf t n ≤ rawSize))
-    (λ e. let seven = eqb-true t 7 e in rw seven (omega (arith, known .n-known seven), omega (arith, known .n-known seven)))
-    (λ e. rw (length-plain t n (eqb-false t 7 e)) (known .type-known, short-at lengths (omega arith) t))
-
-module _ (bytes : List ℕ) (i : ℕ) (known : KnownAt bytes i) (whole : (i + 1) * rawSize ≤ length bytes) where
+module _ (edition : ℕ) (bytes : List ℕ) (i : ℕ) (known : KnownAt edition bytes i) (whole : (i + 1) * rawSize ≤ length bytes) where
   abbrev start : ℕ
   start = i * rawSize
 
@@ -72,7 +67,7 @@ module _ (bytes : List ℕ) (i : ℕ) (known : KnownAt bytes i) (whole : (i + 1)
   size = lengthOf (at bytes start) (at bytes (start + 1))
 
   pub body-within : start + size ≤ length bytes
-  body-within = omega (arith, known-length (at bytes start) (at bytes (start + 1)) known)
+  body-within = omega (arith, known-length edition (at bytes start) (at bytes (start + 1)) known)
 
   body-length : length (rawBody bytes i) ≡ size
   body-length = length-take-le size (drop start bytes) (omega (arith, length-drop start bytes, body-within))
@@ -81,26 +76,29 @@ module _ (bytes : List ℕ) (i : ℕ) (known : KnownAt bytes i) (whole : (i + 1)
   byte-there j less = rw (getD-take size (drop start bytes) j 0 less, getD-drop start bytes j 0)
 
   first : at bytes start ≡ at (rawBody bytes i) 0
-  first = sym (byte-there 0 (known-length (at bytes start) (at bytes (start + 1)) known .0) ∙ ap (at bytes) (add-zero start))
+  first = sym (byte-there 0 (known-length edition (at bytes start) (at bytes (start + 1)) known .0) ∙ ap (at bytes) (add-zero start))
 
-  -- the byte behind the type byte counts in a StrongSynchronization alone
-  second : at bytes start ≡ 7 → at (rawBody bytes i) 1 ≡ at bytes (start + 1)
-  second seven = byte-there 1 (rw seven (omega arith))
+  -- the byte behind the type byte counts in the types that have an n alone
+  second : takesCount (at bytes start) ≡ true → at (rawBody bytes i) 1 ≡ at bytes (start + 1)
+  second has = byte-there 1 (rw has (omega (arith, known .n-known has)))
 
   right : length (rawBody bytes i) ≡ lengthOf (at (rawBody bytes i) 0) (at (rawBody bytes i) 1)
   right =
-      body-length ∙ split (eqb (at bytes start) 7) (λ b. size ≡ lengthOf (at (rawBody bytes i) 0) (at (rawBody bytes i) 1))
-      (λ e. ap₂ lengthOf first (sym (second (eqb-true (at bytes start) 7 e))))
-      (λ e. let other = eqb-false (at bytes start) 7 e in
+      body-length ∙ split (takesCount (at bytes start)) (λ b. size ≡ lengthOf (at (rawBody bytes i) 0) (at (rawBody bytes i) 1))
+      (λ has. ap₂ lengthOf first (sym (second has)))
+      (λ other.
       length-plain (at bytes start) (at bytes (start + 1)) other ∙ sym (length-plain (at bytes start) (at (rawBody bytes i) 1) other)
       ∙ ap (λ (t : ℕ). lengthOf t (at (rawBody bytes i) 1)) first)
 
-  fits : ShapeFits (rawBody bytes i)
-  fits =
-      yes-of _
-      (shape-asked (rawBody bytes i) _ _ _ refl refl refl (omega (arith, body-length, known-length (at bytes start) (at bytes (start + 1)) known))
-      (λ seven. let t = first ∙ seven in rw (second t) (known .n-known t)))
-      (eq-eqb _ _ right)
+  typed : TypeKnown edition (at (rawBody bytes i) 0) (at (rawBody bytes i) 1)
+  typed =
+      record {
+        type-known = rw first at (known .type-known);
+        n-known = λ has. let t = ap takesCount first ∙ has in rw (second t) (known .n-known t);
+      }
+
+  fits : ShapeFits edition (rawBody bytes i)
+  fits = yes-of _ (shape-asked edition (rawBody bytes i) _ _ _ refl refl refl typed) (eq-eqb _ _ right)
 
   -- the row that is read from it is the one that it stands for
   pub raw-stands : Bytes bytes → StandsFor (rawBody bytes i) (constraintOf (rawBody bytes i))
@@ -127,14 +125,15 @@ rows-more bytes rows c raw whole stands =
     }
 
 -- one row more
-pub table-more : (bytes : List ℕ) (i start t n : ℕ) (table next : Table) (row : Constraint) → Bytes bytes → i < rowLimit → KnownAt bytes i
-    → (i + 1) * rawSize ≤ length bytes → start ≡ i * rawSize → t ≡ at bytes start → n ≡ at bytes (start + 1)
+pub table-more : (edition : ℕ) (bytes : List ℕ) (i start t n : ℕ) (table next : Table) (row : Constraint) → Bytes bytes → i < rowLimit
+    → KnownAt edition bytes i → (i + 1) * rawSize ≤ length bytes → start ≡ i * rawSize → t ≡ at bytes start → n ≡ at bytes (start + 1)
     → row ≡ constraintOf (take (start + lengthOf t n - start) (drop start bytes)) → Adds table row next → RawTable bytes i table
     → RawTable bytes (i + 1) next
-table-more bytes i start t n table next row each room known whole there first second read adds held =
+table-more edition bytes i start t n table next row each room known whole there first second read adds held =
     record {
       rows = held .rows ++ (row ∷ []);
-      raw = rows-more bytes (held .rows) row (held .raw) (rw (held .counted) whole) (rw (held .counted, same) (raw-stands bytes i known whole each));
+      raw = rows-more bytes (held .rows) row (held .raw) (rw (held .counted) whole)
+          (rw (held .counted, same) (raw-stands edition bytes i known whole each));
       counted = length-append (held .rows) (row ∷ []) ∙ ap (λ (k : ℕ). k + 1) (held .counted);
       holds =
           adds .room (omega (arith, record-count table (held .rows) (held .holds), held .counted))
@@ -148,34 +147,36 @@ table-more bytes i start t n table next row each room known whole there first se
 -- The answer
 
 -- all the rows are known
-pub all-written : (bytes before after : List ℕ) (n : ℕ) (table : Table) (r : WriteAnswer) → RawTable bytes n table → length bytes < (n + 1) * rawSize
-    → Writes (rowsOf table) before r after → WritesRaw bytes before r after
-all-written bytes before after n table r held past writes =
+pub all-written : (edition : ℕ) (bytes before after : List ℕ) (n : ℕ) (table : Table) (r : WriteAnswer) → RawTable bytes n table
+    → length bytes < (n + 1) * rawSize → Writes edition (rowsOf table) before r after → WritesRaw edition bytes before r after
+all-written edition bytes before after n table r held past writes =
     all-read (held .rows) (held .raw) (rw (held .counted) past)
-    (subst (λ (rows : List Constraint). Writes rows before r after) (ap rowsOf (held .holds) ∙ record-rows (held .rows)) writes)
+    (subst (λ (rows : List Constraint). Writes edition rows before r after) (ap rowsOf (held .holds) ∙ record-rows (held .rows)) writes)
 
-module _ (bytes before : List ℕ) (n : ℕ) (table : Table) (held : RawTable bytes n table) (more : (n + 1) * rawSize ≤ length bytes) where
-  asked : (a : Answer) → Judged (rowsQuestions 0 (rowsOf table) []) a → Judged (rowsQuestions 0 (held .rows) []) a
+module _ (edition : ℕ) (bytes before : List ℕ) (n : ℕ) (table : Table) (held : RawTable bytes n table)
+    (more : (n + 1) * rawSize ≤ length bytes) where
+  asked : (a : Answer) → Judged (rowsQuestions edition 0 (rowsOf table) []) a → Judged (rowsQuestions edition 0 (held .rows) []) a
   asked a judged =
-      subst (λ (rows : List Constraint). Judged (rowsQuestions 0 rows []) a) (ap rowsOf (held .holds) ∙ record-rows (held .rows)) judged
+      subst (λ (rows : List Constraint). Judged (rowsQuestions edition 0 rows []) a) (ap rowsOf (held .holds) ∙ record-rows (held .rows)) judged
 
   -- a row before the one that stops is refused
-  pub before-refused : (number : ℕ) → Judged (rowsQuestions 0 (rowsOf table) []) (Refused number)
-      → WritesRaw bytes before (WriteAnswer.Refused number) before
+  pub before-refused : (number : ℕ) → Judged (rowsQuestions edition 0 (rowsOf table) []) (Refused number)
+      → WritesRaw edition bytes before (WriteAnswer.Refused number) before
   before-refused number judged =
       stopped-at (held .rows) number (held .raw) (rw (held .counted) more)
-      (rw rows-then (judged-first (rowsQuestions 0 (held .rows) []) _ number (asked (Refused number) judged)))
+      (rw (rows-then edition) (judged-first (rowsQuestions edition 0 (held .rows) []) _ number (asked (Refused number) judged)))
 
   -- the rows before it are taken
-  pub unknown-refused : n < rowLimit → ¬ KnownAt bytes n → Judged (rowsQuestions 0 (rowsOf table) []) Taken
-      → WritesRaw bytes before (WriteAnswer.Refused 4) before
+  pub unknown-refused : n < rowLimit → ¬ KnownAt edition bytes n → Judged (rowsQuestions edition 0 (rowsOf table) []) Taken
+      → WritesRaw edition bytes before (WriteAnswer.Refused 4) before
   unknown-refused room not-known judged =
       stopped-at (held .rows) 4 (held .raw) (rw (held .counted) more)
-      (rw rows-then (judged-later (rowsQuestions 0 (held .rows) []) _ (Refused 4) (asked Taken judged)
+      (rw (rows-then edition) (judged-later (rowsQuestions edition 0 (held .rows) []) _ (Refused 4) (asked Taken judged)
       (judged-yes 3 _ _ (Refused 4) (omega (arith, held .counted)) (judged-no 4 _ [] (rw (held .counted) not-known)))))
 
-  pub full-refused : rowLimit ≤ n → Judged (rowsQuestions 0 (rowsOf table) []) Taken → WritesRaw bytes before (WriteAnswer.Refused 3) before
+  pub full-refused : rowLimit ≤ n → Judged (rowsQuestions edition 0 (rowsOf table) []) Taken
+      → WritesRaw edition bytes before (WriteAnswer.Refused 3) before
   full-refused full judged =
       stopped-at (held .rows) 3 (held .raw) (rw (held .counted) more)
-      (rw rows-then (judged-later (rowsQuestions 0 (held .rows) []) _ (Refused 3) (asked Taken judged)
+      (rw (rows-then edition) (judged-later (rowsQuestions edition 0 (held .rows) []) _ (Refused 3) (asked Taken judged)
       (judged-no 3 _ _ (λ less. omega (arith, held .counted)))))

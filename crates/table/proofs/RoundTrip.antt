@@ -1,20 +1,22 @@
 -- What is read from bytes is written back to those bytes, and what is written is read back, since a row and its body say the same.
-use Rattle.constraint.proofs.Library.{ℕ, _+_, _<_, _≡_, refl, sym, ap, ap₂, subst₂, _∙_, List, [], _∷_, _++_, append-assoc, arith, length, drop}
+use Rattle.constraint.proofs.Library.{ℕ, _+_, _≤_, _<_, _≡_, sym, ap, ap₂, subst₂, _∙_, List, [], _∷_, _++_, append-assoc, arith, length, drop}
 use Rattle.constraint.proofs.Library.{length-append, length-drop, take-append-drop, drop-of-length-le, take-at, drop-at, take-append-seam}
 use Rattle.constraint.proofs.Library.{drop-append-seam, length-take-le, drop-drop, drop-cons}
 use Rattle.constraint.specs.Limits.{rowLimit}
 use Rattle.constraint.specs.Bytes.{Bytes, bytesOf, bytesAt}
 use Rattle.constraint.specs.Questions.{Judged}
-use Rattle.constraint.specs.Accepted.{kinds, KindsFit, KindsSuit, InRange, rowQuestions, rowsQuestions, Accepted}
-use Rattle.constraint.specs.Types.{fieldsOf}
-use Rattle.constraint.specs.Table.{rowBody, rowBytes, rowsBytes, tableBytes, StandsFor, lengthAt, bodyAt, WholeAt, RowAt, placeQuestions}
-use Rattle.constraint.specs.Table.{TableRead, table-of, table-refused, rowThen, ReadsRows, no-more, row-refused, row-taken, ReadsTable, version-taken}
+use Rattle.constraint.specs.Accepted.{kinds, KindsFit, KindsSuit, InRange, rowQuestions, rowsQuestions, AcceptedIn}
+use Rattle.constraint.specs.Types.{typeOf, fieldsOf, lastType}
+use Rattle.constraint.specs.Steps.{at}
+use Rattle.constraint.specs.Table.{rowBody, rowBytes, rowsBytes, tableBytesIn, StandsFor, lengthAt, bodyAt, WholeAt, RowAt, placeQuestions}
+use Rattle.constraint.specs.Table.{TableRead, table-of, table-refused, rowThen, ReadsRows, no-more, row-refused, row-taken, ReadsTableUpTo}
+use Rattle.constraint.specs.Table.{version-taken}
 use Rattle.constraint.specs.declared.Answer.the-variants.{Taken}
 use Rattle.constraint.specs.declared.Constraint.{Constraint}
 use Rattle.constraint.proofs.Judged.{judged-all, judged-parts}
 use Rattle.number.proofs.Numbers.{bytes-length, number-of-bytes}
 use Rattle.table.proofs.Bodies.{number-back, range-fits, row-length}
-use Rattle.constraint.proofs.Types.{regular}
+use Rattle.constraint.proofs.Lengths.{row-fits}
 use Rattle.table.proofs.Standing.{body-short}
 use Rattle.table.proofs.Places.{place-row, place-taken}
 
@@ -51,19 +53,21 @@ unfolding rowsBytes
 one-more bytes place c (table-of rows) row written = ap₂ (λ (first later : List ℕ). first ++ later) row written ∙ sym (split-row bytes place)
 one-more bytes place c (table-refused n p) row written = tt
 
-rows-written : (bytes : List ℕ) {i place : ℕ} {read : TableRead} → Bytes bytes → ReadsRows bytes i place read → WrittenBack bytes place read
+rows-written : {edition : ℕ} (bytes : List ℕ) {i place : ℕ} {read : TableRead} → Bytes bytes → ReadsRows edition bytes i place read
+    → WrittenBack bytes place read
 unfolding rowsBytes
 rows-written bytes all (no-more h) = sym (drop-of-length-le bytes h)
 rows-written bytes all (row-refused n c h at-c judged) = tt
-rows-written bytes all (row-taken {i} {place} {later} c h at-c judged rows) =
-    let taken = place-taken bytes i place c judged in
+rows-written {edition} bytes all (row-taken {i} {place} {later} c h at-c judged rows) =
+    let taken = place-taken edition bytes i place c judged in
     one-more bytes place c later (row-written bytes place c all (taken .whole) (at-c (taken .shape))) (rows-written bytes all rows)
 
 -- what is read from bytes has those bytes
-pub read-then-write : (bytes : List ℕ) (rows : List Constraint) → Bytes bytes → ReadsTable bytes (table-of rows) → tableBytes rows ≡ bytes
-unfolding tableBytes
+pub read-then-write : {newest : ℕ} (bytes : List ℕ) (rows : List Constraint) → Bytes bytes → ReadsTableUpTo newest bytes (table-of rows)
+    → tableBytesIn (at bytes 0) rows ≡ bytes
+unfolding tableBytesIn
 read-then-write bytes rows all (version-taken version reads) =
-    ap₂ (λ (first : ℕ) (later : List ℕ). first ∷ later) (sym (version .1)) (rows-written bytes all reads) ∙ sym (drop-cons bytes 0 0 (version .0))
+    ap (λ (later : List ℕ). at bytes 0 ∷ later) (rows-written bytes all reads) ∙ sym (drop-cons bytes 0 0 (version .0))
 
 -- From rows to bytes and back
 
@@ -71,7 +75,7 @@ row-ranges : (c : Constraint) → Judged (rowQuestions c) Taken → InRange c
 row-ranges c judged = judged-all 6 (InRange c) _ (judged-all 18 (KindsSuit c) _ (judged-all 5 (KindsFit (kinds c)) _ judged .1) .1) .0
 
 -- the length field and the body of a row that stands behind other bytes
-module _ (before : List ℕ) (c : Constraint) (after : List ℕ) where
+module _ (edition : ℕ) (before : List ℕ) (c : Constraint) (after : List ℕ) where
   length-there : lengthAt (before ++ (rowBytes c ++ after)) (length before) ≡ length (rowBody c)
   unfolding rowBytes
   length-there =
@@ -95,35 +99,38 @@ module _ (before : List ℕ) (c : Constraint) (after : List ℕ) where
       (take-append-seam (rowBody c) after)
 
   -- it stands there, and its questions are answered "yes" where the row's own are
-  row-there : Judged (rowQuestions c) Taken → RowAt (before ++ (rowBytes c ++ after)) (length before) c
+  row-there : Judged (rowQuestions c) Taken → RowAt edition (before ++ (rowBytes c ++ after)) (length before) c
   unfolding InRange
   row-there judged shape = record { bytes = sym body-there; fits = range-fits (fieldsOf c) (row-ranges c judged) }
 
-  row-read : (i : ℕ) → i < rowLimit → Judged (rowQuestions c) Taken
-      → Judged (placeQuestions (before ++ (rowBytes c ++ after)) i (length before) c) Taken
-  row-read i room judged =
-      place-row (before ++ (rowBytes c ++ after)) i (length before) c Taken
+  row-read : (i : ℕ) → i < rowLimit → typeOf c ≤ lastType edition → Judged (rowQuestions c) Taken
+      → Judged (placeQuestions edition (before ++ (rowBytes c ++ after)) i (length before) c) Taken
+  row-read i room typed judged =
+      place-row edition (before ++ (rowBytes c ++ after)) i (length before) c Taken
       (rw length-there (omega (arith, length-append before (rowBytes c ++ after), length-append (rowBytes c) after, row-length c))) room
-      (rw body-there (regular c .sized .fits)) judged
+      (rw body-there (row-fits edition c typed)) judged
 
-rows-read : (before : List ℕ) (i : ℕ) (rows : List Constraint) → Judged (rowsQuestions i rows []) Taken
-    → ReadsRows (before ++ rowsBytes rows) i (length before) (table-of rows)
+rows-read : (edition : ℕ) (before : List ℕ) (i : ℕ) (rows : List Constraint) → Judged (rowsQuestions edition i rows []) Taken
+    → ReadsRows edition (before ++ rowsBytes rows) i (length before) (table-of rows)
 unfolding rowsBytes rowsQuestions
-rows-read before i [] judged = no-more {place = length before} (omega (arith, length-append before []))
-rows-read before i (c ∷ rows) judged =
+rows-read edition before i [] judged = no-more {place = length before} (omega (arith, length-append before []))
+rows-read edition before i (c ∷ rows) judged =
     let after = rowsBytes rows in
     let bytes = before ++ (rowBytes c ++ after) in
     let room = judged-all 3 (i < rowLimit) _ judged in
-    let parts = judged-parts (rowQuestions c) (rowsQuestions (i + 1) rows []) (room .1) in
+    let known = judged-all 4 (typeOf c ≤ lastType edition) _ (room .1) in
+    let parts = judged-parts (rowQuestions c) (rowsQuestions edition (i + 1) rows []) (known .1) in
     let next : length (before ++ rowBytes c) ≡ length before + 2 + lengthAt bytes (length before) =
-    omega (arith, length-append before (rowBytes c), row-length c, length-there before c after) in
-    let later : ReadsRows bytes (i + 1) (length before + 2 + lengthAt bytes (length before)) (table-of rows) =
-    subst₂ (λ (l : List ℕ) (place : ℕ). ReadsRows l (i + 1) place (table-of rows)) (append-assoc before (rowBytes c) after) next
-    (rows-read (before ++ rowBytes c) (i + 1) rows (parts .1)) in
+    omega (arith, length-append before (rowBytes c), row-length c, length-there edition before c after) in
+    let later : ReadsRows edition bytes (i + 1) (length before + 2 + lengthAt bytes (length before)) (table-of rows) =
+    subst₂ (λ (l : List ℕ) (place : ℕ). ReadsRows edition l (i + 1) place (table-of rows)) (append-assoc before (rowBytes c) after) next
+    (rows-read edition (before ++ rowBytes c) (i + 1) rows (parts .1)) in
     row-taken {place = length before} c (omega (arith, length-append before (rowBytes c ++ after), length-append (rowBytes c) after, row-length c))
-    (row-there before c after (parts .0)) (row-read before c after i (room .0) (parts .0)) later
+    (row-there edition before c after (parts .0)) (row-read edition before c after i (room .0) (known .0) (parts .0)) later
 
--- what is written is read back
-pub write-then-read : (rows : List Constraint) → Accepted rows → ReadsTable (tableBytes rows) (table-of rows)
-unfolding tableBytes
-write-then-read rows accepted = version-taken (omega arith, refl) (rows-read (1 ∷ []) 0 rows accepted)
+-- what is written in an edition that the reader takes is read back
+pub write-then-read : (newest edition : ℕ) (rows : List Constraint) → 1 ≤ edition → edition ≤ newest → AcceptedIn edition rows
+    → ReadsTableUpTo newest (tableBytesIn edition rows) (table-of rows)
+unfolding tableBytesIn
+write-then-read newest edition rows some known accepted =
+    version-taken (omega arith, some, known) (rows-read edition (edition ∷ []) 0 rows accepted)

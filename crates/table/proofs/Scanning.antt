@@ -3,7 +3,8 @@ use Rattle.constraint.proofs.Library.{ℕ, _+_, _≤_, _<_, _≡_, refl, sym, s
 use Rattle.constraint.proofs.Library.{length-append, drop, getD, drop-cons}
 use Rattle.constraint.specs.Limits.{rowLimit}
 use Rattle.constraint.specs.Table.{TableRead, table-of, table-refused, ReadsRows, no-more, row-refused, row-taken}
-use Rattle.constraint.specs.Table.{VersionOne, ReadsTable, version-taken, bodyAt}
+use Rattle.constraint.specs.Table.{VersionUpTo, ReadsTableUpTo, version-taken, bodyAt}
+use Rattle.constraint.specs.Steps.{at}
 use Rattle.constraint.specs.declared.Constraint.{Constraint}
 use Rattle.constraint.proofs.Judged.{never}
 use Rattle.table.specs.declared.ReadAnswer.{ReadAnswer}
@@ -19,35 +20,36 @@ use Rattle.table.proofs.Progress.{RowsUpTo, rows-start, rows-more, rows
 -- Judging
 
 -- as many rows as were counted stand before a place
-pub record CountedTo (bytes : List ℕ) (count place : ℕ) : Type 0 where
+pub record CountedTo (edition : ℕ) (bytes : List ℕ) (count place : ℕ) : Type 0 where
   pub rows : List Constraint
   pub counted : count ≡ length rows
   pub room : count ≤ rowLimit
-  pub before : RowsUpTo bytes rows place
+  pub before : RowsUpTo edition bytes rows place
 
-pub counted-start : (bytes : List ℕ) → 0 < length bytes → CountedTo bytes 0 1
-counted-start bytes there = record { rows = []; counted = refl; room = omega arith; before = rows-start bytes there }
+pub counted-start : (edition : ℕ) (bytes : List ℕ) → 0 < length bytes → CountedTo edition bytes 0 1
+counted-start edition bytes there = record { rows = []; counted = refl; room = omega arith; before = rows-start edition bytes there }
 
-pub counted-more : (bytes : List ℕ) (count place next : ℕ) (c : Constraint) → CountedTo bytes count place → place < length bytes
-    → ReadsAt bytes count place (RowRead.Row c next) → CountedTo bytes (count + 1) next
-counted-more bytes count place next c so-far there read =
-    let taken = place-taken bytes count place c (read .1) in
+pub counted-more : (edition : ℕ) (bytes : List ℕ) (count place next : ℕ) (c : Constraint) → CountedTo edition bytes count place → place < length bytes
+    → ReadsAt edition bytes count place (RowRead.Row c next) → CountedTo edition bytes (count + 1) next
+counted-more edition bytes count place next c so-far there read =
+    let taken = place-taken edition bytes count place c (read .1) in
     let longer = length-append (so-far .rows) (c ∷ []) in
     record {
       rows = so-far .rows ++ (c ∷ []);
       counted = omega (arith, so-far .counted, longer);
       room = omega (arith, taken .room);
-      before = rows-more bytes (so-far .rows) count place next c (so-far .counted) (so-far .before) there read;
+      before = rows-more edition bytes (so-far .rows) count place next c (so-far .counted) (so-far .before) there read;
     }
 
-pub counted-refused : (bytes : List ℕ) (count place n : ℕ) → CountedTo bytes count place → place < length bytes
-    → ReadsAt bytes count place (RowRead.Refused n) → ReadsRows bytes 0 1 (table-refused n place)
-counted-refused bytes count place n so-far there read =
-    rows-refused bytes (so-far .rows) count place n (so-far .counted) (so-far .before) there read
+pub counted-refused : (edition : ℕ) (bytes : List ℕ) (count place n : ℕ) → CountedTo edition bytes count place → place < length bytes
+    → ReadsAt edition bytes count place (RowRead.Refused n) → ReadsRows edition bytes 0 1 (table-refused n place)
+counted-refused edition bytes count place n so-far there read =
+    rows-refused edition bytes (so-far .rows) count place n (so-far .counted) (so-far .before) there read
 
-pub counted-end : (bytes : List ℕ) (count place : ℕ) → CountedTo bytes count place → length bytes ≤ place → Counted (ReadsRows bytes 0 1) count
-counted-end bytes count place so-far end =
-    let reads = rows-end bytes (so-far .rows) place (so-far .before) end in
+pub counted-end : (edition : ℕ) (bytes : List ℕ) (count place : ℕ) → CountedTo edition bytes count place → length bytes ≤ place
+    → Counted edition (ReadsRows edition bytes 0 1) count
+counted-end edition bytes count place so-far end =
+    let reads = rows-end edition bytes (so-far .rows) place (so-far .before) end in
     record {
       rows = so-far .rows;
       reads = reads;
@@ -57,40 +59,51 @@ counted-end bytes count place so-far end =
     }
 
 -- the version byte is asked for first
-pub counted-behind : (bytes : List ℕ) (a : ReadAnswer) (count : ℕ) → VersionOne bytes → Says (ReadsRows bytes 0 1) a count
-    → Says (ReadsTable bytes) a count
-counted-behind bytes ReadAnswer.Accepted count one said =
-    record { rows = said .rows; reads = version-taken one (said .reads); counted = said .counted; room = said .room; accepted = said .accepted }
-counted-behind bytes (ReadAnswer.Refused n place) count one said = (version-taken one (said .0), said .1)
+pub counted-behind : (newest edition : ℕ) (bytes : List ℕ) (a : ReadAnswer) (count : ℕ) → VersionUpTo newest bytes → edition ≡ at bytes 0
+    → Says edition (ReadsRows edition bytes 0 1) a count → Says (at bytes 0) (ReadsTableUpTo newest bytes) a count
+counted-behind newest edition bytes ReadAnswer.Accepted count version e said =
+    let found = subst (λ (v : ℕ). Counted v (ReadsRows v bytes 0 1) count) e said in
+    record {
+      rows = found .rows;
+      reads = version-taken version (found .reads);
+      counted = found .counted;
+      room = found .room;
+      accepted = found .accepted;
+    }
+counted-behind newest edition bytes (ReadAnswer.Refused n place) count version e said =
+    (version-taken version (subst (λ (v : ℕ). ReadsRows v bytes 0 1 (table-refused n place)) e (said .0)), said .1)
 
 -- Reading again
 
 -- the rows of a table stand behind its version byte
-pub scan-start : (bytes : List ℕ) (rows : List Constraint) → ReadsTable bytes (table-of rows) → ReadsRows bytes 0 1 (table-of rows)
-scan-start bytes rows (version-taken one reads) = reads
+pub scan-start : {newest : ℕ} (bytes : List ℕ) (rows : List Constraint) → ReadsTableUpTo newest bytes (table-of rows)
+    → ReadsRows (at bytes 0) bytes 0 1 (table-of rows)
+scan-start bytes rows (version-taken version reads) = reads
 
 -- the row at a place is the first of those that are read from there on, and the next place is where the others are read
-pub scan-row : (bytes : List ℕ) {i place : ℕ} (c : Constraint) (later : List Constraint) (r : Placed)
-    → ReadsRows bytes i place (table-of (c ∷ later)) → PlacedAt bytes place r → (r .row ≡ c) × ReadsRows bytes (i + 1) (r .next) (table-of later)
-scan-row bytes c later r reads placed = go reads refl placed
+pub scan-row : {edition : ℕ} (bytes : List ℕ) {i place : ℕ} (c : Constraint) (later : List Constraint) (r : Placed)
+    → ReadsRows edition bytes i place (table-of (c ∷ later)) → PlacedAt bytes place r → (r .row ≡ c) × ReadsRows edition bytes (i + 1) (r .next)
+    (table-of later)
+scan-row {edition} bytes c later r reads placed = go reads refl placed
   where
-    go : {i place : ℕ} {read : TableRead} → ReadsRows bytes i place read → read ≡ table-of (c ∷ later) → PlacedAt bytes place r
-        → (r .row ≡ c) × ReadsRows bytes (i + 1) (r .next) (table-of later)
+    go : {i place : ℕ} {read : TableRead} → ReadsRows edition bytes i place read → read ≡ table-of (c ∷ later) → PlacedAt bytes place r
+        → (r .row ≡ c) × ReadsRows edition bytes (i + 1) (r .next) (table-of later)
     go (no-more end) e there = never (cc)
     go (row-refused n d within at-d refused) e there = never (cc)
     go (row-taken {i = i} {place = place} {later = table-refused n p} d within at-d judged reads) e there = never (cc)
     go (row-taken {i = i} {place = place} {later = table-of others} d within at-d judged reads) e there =
-        let taken = place-taken bytes i place d judged in
+        let taken = place-taken edition bytes i place d judged in
         let first : d ≡ c = cc in
         let rest : others ≡ later = cc in (
-          stands-once (bodyAt bytes place) (r .row) d (there .stands (taken .whole) (taken .shape)) (at-d (taken .shape)) ∙ first,
-          subst₂ (λ (p : ℕ) (rows : List Constraint). ReadsRows bytes (i + 1) p (table-of rows)) (sym (there .behind (taken .whole))) rest reads,
+          stands-once (bodyAt bytes place) (r .row) d (there .stands (taken .whole) edition (taken .shape)) (at-d (taken .shape)) ∙ first,
+          subst₂ (λ (p : ℕ) (rows : List Constraint). ReadsRows edition bytes (i + 1) p (table-of rows)) (sym (there .behind (taken .whole))) rest
+              reads,
         )
 
 -- so the i-th row that is read is the row i
-pub scan-step : (bytes : List ℕ) (rows : List Constraint) (i place : ℕ) (none : Constraint) (r : Placed) → i < length rows
-    → ReadsRows bytes i place (table-of (drop i rows)) → PlacedAt bytes place r
-    → (r .row ≡ getD rows i none) × ReadsRows bytes (i + 1) (r .next) (table-of (drop (i + 1) rows))
-scan-step bytes rows i place none r there reads placed =
+pub scan-step : {edition : ℕ} (bytes : List ℕ) (rows : List Constraint) (i place : ℕ) (none : Constraint) (r : Placed) → i < length rows
+    → ReadsRows edition bytes i place (table-of (drop i rows)) → PlacedAt bytes place r
+    → (r .row ≡ getD rows i none) × ReadsRows edition bytes (i + 1) (r .next) (table-of (drop (i + 1) rows))
+scan-step {edition} bytes rows i place none r there reads placed =
     scan-row bytes (getD rows i none) (drop (i + 1) rows) r
-    (subst (λ (list : List Constraint). ReadsRows bytes i place (table-of list)) (rw add-one (drop-cons rows i none there)) reads) placed
+    (subst (λ (list : List Constraint). ReadsRows edition bytes i place (table-of list)) (rw add-one (drop-cons rows i none there)) reads) placed

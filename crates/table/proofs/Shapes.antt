@@ -1,32 +1,31 @@
--- A body's shape fits where its length is the one that the list has for its type, to which a StrongSynchronization's n is added.
-use Rattle.constraint.proofs.Library.{ℕ, _≤_, _<_, _≡_, sym, ap₂, _∙_, List, arith, ltb-true, ltb-false, eqb-true, eqb-false, ltb, eqb, length}
+-- A body's shape fits where its type is known and its length is the one that the list has for it, to which its n is added where it has one.
+use Rattle.constraint.proofs.Library.{ℕ, zero, suc, _<_, _≡_, sym, ap, ap₂, _∙_, List, [], _∷_, arith, eqb, length}
 use Rattle.constraint.specs.Steps.{at}
 use Rattle.constraint.specs.Records.{Decides}
-use Rattle.constraint.specs.Types.{lengths, lengthOf}
+use Rattle.constraint.specs.Types.{takesCount, lengthOf}
 use Rattle.constraint.specs.Table.{ShapeFits}
-use Rattle.constraint.proofs.Types.{length-unknown}
-use Rattle.constraint.proofs.Lists.{split}
 use Rattle.constraint.proofs.Judged.{same-test, test-equal}
+use Rattle.table.specs.Raw.{TypeKnown}
 
-pub shape-asked : (body : List ℕ) (size t n : ℕ) → size ≡ length body → t ≡ at body 0 → n ≡ at body 1 → 0 < size
-    → (t ≡ 7 → (2 ≤ n) × (n ≤ 4)) → Decides (ShapeFits body) (eqb size (lengthOf t n))
-shape-asked body size t n long typed counted there known =
+-- past the end of a list stands 0
+pub there : (list : List ℕ) (i : ℕ) → 0 < at list i → i < length list
+there [] i above = absurd (omega arith)
+there (x ∷ list) zero above = omega arith
+there (x ∷ list) (suc i) above = omega (arith, there list i above)
+
+-- the type of a fitting shape is known
+pub shape-known : (edition : ℕ) (body : List ℕ) → ShapeFits edition body → TypeKnown edition (at body 0) (at body 1)
+shape-known edition body fits = record { type-known = fits .type-known; n-known = fits .n-known }
+
+pub shape-asked : (edition : ℕ) (body : List ℕ) (size t n : ℕ) → size ≡ length body → t ≡ at body 0 → n ≡ at body 1 → TypeKnown edition t n
+    → Decides (ShapeFits edition body) (eqb size (lengthOf t n))
+shape-asked edition body size t n long typed counted known =
     same-test
     (λ e. record {
-      type-there = omega arith;
-      type-known = (typed-low e, typed-high e);
-      n-there = λ seven. omega (arith, rw (typed ∙ seven) at e);
-      n-known = λ seven. rw counted at (known (typed ∙ seven));
+      type-there = there body 0 (omega (arith, typed, known .type-known .0));
+      type-known = (omega (arith, typed, known .type-known .0), omega (arith, typed, known .type-known .1));
+      n-there = λ has. there body 1 (omega (arith, counted, known .n-known (ap takesCount typed ∙ has)));
+      n-known = λ has. rw counted at (known .n-known (ap takesCount typed ∙ has));
       length-right = sym long ∙ e ∙ ap₂ lengthOf typed counted;
     })
     (λ fits. long ∙ fits .length-right ∙ sym (ap₂ lengthOf typed counted)) (eqb size (lengthOf t n)) (test-equal size (lengthOf t n))
-  where
-    typed-low : size ≡ lengthOf t n → 1 ≤ at body 0
-    typed-low e =
-        split (eqb t 0) (λ b. 1 ≤ at body 0) (λ zero. absurd (omega (arith, rw (eqb-true t 0 zero) at e)))
-        (λ other. omega (arith, eqb-false t 0 other))
-
-    typed-high : size ≡ lengthOf t n → at body 0 < length lengths
-    typed-high e =
-        split (ltb t (length lengths)) (λ b. at body 0 < length lengths) (λ less. omega (arith, ltb-true t (length lengths) less))
-        (λ past. absurd (omega (arith, length-unknown t n (ltb-false t (length lengths) past))))

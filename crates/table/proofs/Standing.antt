@@ -8,6 +8,7 @@ use Rattle.constraint.specs.Types.{Field, byte, time, typeOf, fieldsOf, rowRead
 use Rattle.constraint.specs.Table.{rowBody, ShapeFits, TimesFit, StandsFor}
 use Rattle.constraint.specs.Records.{bytesIn, timesIn, timesBytes}
 use Rattle.constraint.specs.declared.Constraint.{Constraint}
+use Rattle.constraint.proofs.Lengths.{last-listed}
 use Rattle.constraint.proofs.Types.{regular, ReadBack, read-back}
 use Rattle.number.proofs.Numbers.{bytes-length, number-of-bytes}
 use Rattle.table.specs.Rows.{timesStart, bytesRead, timesRead, constraintOf}
@@ -47,7 +48,7 @@ body-short c = omega (arith, body-length c, regular c .sized .few, regular c .si
 -- the length expected of it is its own, and says how many bytes and how many times it has
 pub body-expected : (c : Constraint) → lengthOf (typeOf c) (at (rowBody c) 1) ≡ length (rowBody c)
 unfolding rowBody
-body-expected c = sym (regular c .sized .fits .length-right)
+body-expected c = sym (regular c .sized .long)
 
 pub body-start : (c : Constraint) → length (rowBody c) % 8 ≡ 1 + length (bytesIn (fieldsOf c))
 body-start c = rw (body-length c) (omega (arith, regular c .sized .few))
@@ -105,9 +106,9 @@ joined k n body long =
     ∙ sym (drop-cons body 0 0 (omega arith))
 
 -- the row that it is read as is the one that it stands for
-pub row-stands : (body : List ℕ) → Bytes body → ShapeFits body → StandsFor body (constraintOf body)
+pub row-stands : {edition : ℕ} (body : List ℕ) → Bytes body → ShapeFits edition body → StandsFor body (constraintOf body)
 unfolding constraintOf
-row-stands body all fits =
+row-stands {edition} body all fits =
     let c = constraintOf body in
     let k = length (bytesIn (fieldsOf c)) in
     let m = length (timesIn (fieldsOf c)) in
@@ -126,7 +127,8 @@ row-stands body all fits =
     }
   where
     back : ReadBack (at body 0) (bytesRead 5 body 1) (timesRead 4 body (timesStart body)) (constraintOf body)
-    back = read-back _ _ _ _ _ _ _ _ _ (at body 0) (fits .type-known) (fits .n-known)
+    back =
+        read-back _ _ _ _ _ _ _ _ _ (at body 0) (fits .type-known .0, omega (arith, fits .type-known .1, last-listed edition)) (fits .n-known)
 
 -- A row that stands in a body
 

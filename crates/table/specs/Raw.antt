@@ -1,13 +1,14 @@
 -- Rows given as raw bytes, 34 for each, and what writing them promises.
 use Prim.Native.Nat.{ℕ, _+_, _*_, _≤_, _<_}
 use mathlib.Core.Path.{_≡_}
+use mathlib.Core.Bool.{true}
 use mathlib.Core.List.{List, [], _∷_}
 use lib.ListN.{length, getD}
 use Rattle.constraint.specs.Limits.{rowLimit}
 use Rattle.constraint.specs.Steps.{at}
 use Rattle.constraint.specs.Bytes.{bytesAt}
 use Rattle.constraint.specs.Questions.{Judged}
-use Rattle.constraint.specs.Types.{lengths, lengthOf}
+use Rattle.constraint.specs.Types.{lastType, takesCount, lengthOf}
 use Rattle.constraint.specs.Accepted.{rowQuestions, rowsQuestions}
 use Rattle.constraint.specs.Records.{filler, tableOf}
 use Rattle.constraint.specs.Table.{StandsFor}
@@ -31,30 +32,30 @@ pub record RawRows (bytes : List ℕ) (rows : List Constraint) : Type 0 where
   pub whole : length rows * rawSize ≤ length bytes
   pub stand : (i : ℕ) → i < length rows → StandsFor (rawBody bytes i) (getD rows i filler)
 
--- §8.4, where the type gives the length: the list of lengths has one for the type, and the n is known
-pub record TypeKnown (t n : ℕ) : Type 0 where
-  pub type-known : 0 < at lengths t
-  pub n-known : t ≡ 7 → (2 ≤ n) × (n ≤ 4)
+-- §8.4, where the type gives the length: the type is one of the edition, and the n is known
+pub record TypeKnown (edition t n : ℕ) : Type 0 where
+  pub type-known : (1 ≤ t) × (t ≤ lastType edition)
+  pub n-known : takesCount t ≡ true → (2 ≤ n) × (n ≤ 4)
 
-abbrev pub KnownAt : List ℕ → ℕ → Type 0
-KnownAt bytes i = TypeKnown (at bytes (i * rawSize)) (at bytes (i * rawSize + 1))
+abbrev pub KnownAt : ℕ → List ℕ → ℕ → Type 0
+KnownAt edition bytes i = TypeKnown edition (at bytes (i * rawSize)) (at bytes (i * rawSize + 1))
 
--- the first n rows are whole and of known types, and there is no more such row, or no entry for it
-pub record Known (bytes : List ℕ) (n : ℕ) : Type 0 where
+-- the first n rows are whole and of types of the edition, and there is no more such row, or no entry for it
+pub record Known (edition : ℕ) (bytes : List ℕ) (n : ℕ) : Type 0 where
   pub room : n ≤ rowLimit
   pub whole : n * rawSize ≤ length bytes
-  pub known : (i : ℕ) → i < n → KnownAt bytes i
-  pub last : n < rowLimit → (n + 1) * rawSize ≤ length bytes → ¬ KnownAt bytes n
+  pub known : (i : ℕ) → i < n → KnownAt edition bytes i
+  pub last : n < rowLimit → (n + 1) * rawSize ≤ length bytes → ¬ KnownAt edition bytes n
 
 -- row i is taken: 4, and then 5, 18, 6 and 7 of the row that its body stands for (`raw-stands`)
-abbrev pub RowTaken : List ℕ → ℕ → Type 0
-RowTaken bytes i = KnownAt bytes i × Judged (rowQuestions (constraintOf (rawBody bytes i))) Taken
+abbrev pub RowTaken : ℕ → List ℕ → ℕ → Type 0
+RowTaken edition bytes i = KnownAt edition bytes i × Judged (rowQuestions (constraintOf (rawBody bytes i))) Taken
 
 -- the number of the first row that is refused, or of the first that is not whole or has no entry
-pub record FirstRefused (bytes : List ℕ) (row : ℕ) : Type 0 where
+pub record FirstRefused (edition : ℕ) (bytes : List ℕ) (row : ℕ) : Type 0 where
   pub room : row ≤ rowLimit
-  pub taken : (i : ℕ) → i < row → RowTaken bytes i
-  pub refused : row < rowLimit → (row + 1) * rawSize ≤ length bytes → ¬ RowTaken bytes row
+  pub taken : (i : ℕ) → i < row → RowTaken edition bytes i
+  pub refused : row < rowLimit → (row + 1) * rawSize ≤ length bytes → ¬ RowTaken edition bytes row
 
 -- the record of the first n rows
 pub record RawTable (bytes : List ℕ) (n : ℕ) (table : Table) : Type 0 where
@@ -65,9 +66,9 @@ pub record RawTable (bytes : List ℕ) (n : ℕ) (table : Table) : Type 0 where
 
 -- §9.7, §9.8: the writer's promise for the rows of all the whole stretches of 34 bytes; or a refusal, by the questions of some first rows and
 -- then 3 and 4 of the next
-pub data WritesRaw (bytes before : List ℕ) : WriteAnswer → List ℕ → Type 0 where
+pub data WritesRaw (edition : ℕ) (bytes before : List ℕ) : WriteAnswer → List ℕ → Type 0 where
   all-read : {r : WriteAnswer} {after : List ℕ} (rows : List Constraint) → RawRows bytes rows → length bytes < (length rows + 1) * rawSize
-      → Writes rows before r after → WritesRaw bytes before r after
+      → Writes edition rows before r after → WritesRaw edition bytes before r after
   stopped-at : (rows : List Constraint) (n : ℕ) → RawRows bytes rows → (length rows + 1) * rawSize ≤ length bytes
-      → Judged (rowsQuestions 0 rows ((3, length rows < rowLimit) ∷ (4, KnownAt bytes (length rows)) ∷ [])) (Refused n)
-      → WritesRaw bytes before (WriteAnswer.Refused n) before
+      → Judged (rowsQuestions edition 0 rows ((3, length rows < rowLimit) ∷ (4, KnownAt edition bytes (length rows)) ∷ [])) (Refused n)
+      → WritesRaw edition bytes before (WriteAnswer.Refused n) before

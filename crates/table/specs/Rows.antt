@@ -11,11 +11,12 @@ use Rattle.constraint.specs.declared.Answer.the-variants.{Taken, Refused}
 use Rattle.constraint.specs.declared.Constraint.{Constraint}
 use Rattle.table.specs.declared.reader.RowRead.{RowRead}
 
--- what reading the row at a place gives, with i rows before it: the row and the place of the next, or the refusal's number
-abbrev pub ReadsAt : List ℕ → ℕ → ℕ → RowRead → Type 0
-ReadsAt bytes i place (RowRead.Row c next) =
-    RowAt bytes place c × Judged (placeQuestions bytes i place c) Taken × (next ≡ place + 2 + lengthAt bytes place)
-ReadsAt bytes i place (RowRead.Refused n) = (c : Constraint) × RowAt bytes place c × Judged (placeQuestions bytes i place c) (Refused n)
+-- what reading the row at a place gives in a table of an edition, with i rows before it: the row and the place of the next, or the refusal's number
+abbrev pub ReadsAt : ℕ → List ℕ → ℕ → ℕ → RowRead → Type 0
+ReadsAt edition bytes i place (RowRead.Row c next) =
+    RowAt edition bytes place c × Judged (placeQuestions edition bytes i place c) Taken × (next ≡ place + 2 + lengthAt bytes place)
+ReadsAt edition bytes i place (RowRead.Refused n) =
+    (c : Constraint) × RowAt edition bytes place c × Judged (placeQuestions edition bytes i place c) (Refused n)
 
 -- where the times of a body begin: fewer than eight bytes stand before them
 abbrev pub timesStart : List ℕ → ℕ

@@ -4,40 +4,41 @@ use mathlib.Core.Path.{_≡_}
 use mathlib.Core.List.{List}
 use lib.ListN.{length}
 use Rattle.constraint.specs.Limits.{rowLimit}
-use Rattle.constraint.specs.Accepted.{Accepted}
+use Rattle.constraint.specs.Accepted.{AcceptedIn}
 use Rattle.constraint.specs.Records.{filler}
-use Rattle.constraint.specs.Table.{TableRead, table-of, table-refused, lengthAt, bodyAt, WholeAt, RowAt, ReadsRows, ReadsTable}
+use Rattle.constraint.specs.Steps.{at}
+use Rattle.constraint.specs.Table.{TableRead, table-of, table-refused, lengthAt, bodyAt, WholeAt, RowAt, ReadsRows, ReadsTableUpTo}
 use Rattle.constraint.specs.declared.Constraint.{Constraint}
 use Rattle.table.specs.Rows.{constraintOf}
 use Rattle.table.specs.declared.ReadAnswer.{ReadAnswer}
 use Rattle.table.specs.declared.scan.Scan.{Scan}
 use Rattle.table.specs.declared.scan.Placed.{Placed}
 
--- some rows that are read, as many as were counted
-pub record Counted (Reads : TableRead → Type 0) (count : ℕ) : Type 0 where
+-- some rows of an edition that are read, as many as were counted
+pub record Counted (edition : ℕ) (Reads : TableRead → Type 0) (count : ℕ) : Type 0 where
   pub rows : List Constraint
   pub reads : Reads (table-of rows)
   pub counted : count ≡ length rows
   pub room : length rows ≤ rowLimit
-  pub accepted : Accepted rows
+  pub accepted : AcceptedIn edition rows
 
 -- what an answer and a count say of what is read
-abbrev pub Says : (TableRead → Type 0) → ReadAnswer → ℕ → Type 0
-Says Reads ReadAnswer.Accepted count = Counted Reads count
-Says Reads (ReadAnswer.Refused n place) count = Reads (table-refused n place) × (count ≡ 0)
+abbrev pub Says : ℕ → (TableRead → Type 0) → ReadAnswer → ℕ → Type 0
+Says edition Reads ReadAnswer.Accepted count = Counted edition Reads count
+Says edition Reads (ReadAnswer.Refused n place) count = Reads (table-refused n place) × (count ≡ 0)
 
 -- of the rows behind the version byte
-abbrev pub CountsRows : List ℕ → Scan → Type 0
-CountsRows bytes r = Says (ReadsRows bytes 0 1) (r .answer) (r .rows)
+abbrev pub CountsRows : ℕ → List ℕ → Scan → Type 0
+CountsRows edition bytes r = Says edition (ReadsRows edition bytes 0 1) (r .answer) (r .rows)
 
 -- the promise of judging a table: its answer is what reading the bytes gives, and it counts the rows, and no row after a refusal
-abbrev pub Scans : List ℕ → Scan → Type 0
-Scans bytes r = Says (ReadsTable bytes) (r .answer) (r .rows)
+abbrev pub Scans : ℕ → List ℕ → Scan → Type 0
+Scans newest bytes r = Says (at bytes 0) (ReadsTableUpTo newest bytes) (r .answer) (r .rows)
 
 -- the promise of reading at a place: where a row is whole, it is read from its body, and the next place is the one behind it; where none is,
 -- the filler and the place itself
 pub record PlacedAt (bytes : List ℕ) (place : ℕ) (r : Placed) : Type 0 where
   pub read : WholeAt bytes place → r .row ≡ constraintOf (bodyAt bytes place)
-  pub stands : WholeAt bytes place → RowAt bytes place (r .row)
+  pub stands : WholeAt bytes place → (edition : ℕ) → RowAt edition bytes place (r .row)
   pub behind : WholeAt bytes place → r .next ≡ place + 2 + lengthAt bytes place
   pub none : ¬ WholeAt bytes place → (r .row ≡ filler) × (r .next ≡ place)

@@ -1,12 +1,15 @@
 // A row's body, its type byte and fields: its shape, and the row that it stands for.
 use constraint::Constraint;
+use constraint::last_type;
 use constraint::length_of;
+use constraint::takes_count;
 ghost use mathlib.Core.Path.{_≡_};
 ghost use Prim.Native.Nat.{_/_, _%_};
 ghost use lib.ListN.{length};
 ghost use Rattle.constraint.specs.Records.{Decides};
 ghost use Rattle.constraint.specs.Table.{ShapeFits};
 ghost use Rattle.table.specs.Rows.{constraintOf};
+ghost use Rattle.table.specs.Raw.{TypeKnown};
 
 // Where the times of a body of that size begin: fewer than eight bytes stand before them, so the three lowest bits say how many.
 pub(crate) fn times_start(size: usize) -> usize
@@ -22,23 +25,36 @@ pub(crate) fn times_count(size: usize) -> usize
     size >> 3
 }
 
-// Question 4, of a row with a length field of that size: is the type 1 to 10, n in range, the length right?
-pub(crate) fn shape_fits(body: &[u8], size: usize) -> bool
-    requires { ⌜ size ≡ length (now body) ⌝ }
-    ensures { λ r. ⌜ Decides (ShapeFits (now (body .entry))) r ⌝ }
+// Question 4 of a type byte and the byte behind it: is the type one of the edition, and is n in range?
+pub(crate) fn type_known(edition: u8, form: u8, n: u8) -> bool
+    ensures { λ r. ⌜ Decides (TypeKnown edition form n) r ⌝ }
 {
-    let form = number::byte_at(body, 0);
-    let n = number::byte_at(body, 1);
-    if size == 0 {
+    if form == 0 {
         return false;
     }
-    if form == 7 {
+    if last_type(edition) < form {
+        return false;
+    }
+    if takes_count(form) {
         if n < 2 {
             return false;
         }
         if 4 < n {
             return false;
         }
+    }
+    true
+}
+
+// Question 4, of a row with a length field of that size: is the type one of the edition, n in range, the length right?
+pub(crate) fn shape_fits(edition: u8, body: &[u8], size: usize) -> bool
+    requires { ⌜ size ≡ length (now body) ⌝ }
+    ensures { λ r. ⌜ Decides (ShapeFits edition (now (body .entry))) r ⌝ }
+{
+    let form = number::byte_at(body, 0);
+    let n = number::byte_at(body, 1);
+    if !type_known(edition, form, n) {
+        return false;
     }
     size == length_of(form, n)
 }

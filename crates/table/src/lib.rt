@@ -29,21 +29,22 @@ pub enum WriteAnswer {
     Refused(u8),
 }
 
-// Reads a table: its rows, or the first question answered "no" and the place.
-pub fn read(bytes: &[u8]) -> Reading
-    ensures { λ r. ⌜ ReadsInto (now (bytes .entry)) r ⌝ }
+// Reads a table of an edition up to the newest: its rows, or the first question answered "no" and the place.
+pub fn read(newest: u8, bytes: &[u8]) -> Reading
+    ensures { λ r. ⌜ ReadsInto newest (now (bytes .entry)) r ⌝ }
 {
-    if number::byte_at(bytes, 0) != 1 {
+    if !reader::version_known(newest, bytes) {
         return reader::refused(1, 0);
     }
-    reader::read_rows(bytes)
+    let edition = number::byte_at(bytes, 0);
+    reader::read_rows(edition, bytes)
 }
 
-// Writes a table to a lent buffer. A refusal leaves the buffer as it was, and bytes after those written stay.
-pub fn write(table: Table, buffer: &mut [u8]) -> WriteAnswer
-    ensures { λ r. ⌜ Writes (rowsOf table) (now (buffer .entry)) r (now (buffer .exit)) ⌝ }
+// Writes a table of an edition to a lent buffer. A refusal leaves the buffer as it was, and bytes after those written stay.
+pub fn write(edition: u8, table: Table, buffer: &mut [u8]) -> WriteAnswer
+    ensures { λ r. ⌜ Writes edition (rowsOf table) (now (buffer .entry)) r (now (buffer .exit)) ⌝ }
 {
-    match table.judge() {
+    match table.judge(edition) {
         Answer::Refused(number) => {
             return WriteAnswer::Refused(number);
         }
@@ -53,7 +54,7 @@ pub fn write(table: Table, buffer: &mut [u8]) -> WriteAnswer
     if buffer.len() < size {
         return WriteAnswer::Refused(16);
     }
-    number::put_byte(buffer, 0, 1);
+    number::put_byte(buffer, 0, edition);
     writer::put_rows(buffer, table);
     WriteAnswer::Written(size)
 }

@@ -1,38 +1,21 @@
 // Rows given as raw bytes, 34 for each: a row's type byte and fields, and behind them bytes that do not matter.
 use super::WriteAnswer;
 use super::body::row_of;
+use super::body::type_known;
 use constraint::Answer;
 use constraint::Table;
 use constraint::length_of;
 ghost use Prim.Native.Nat.{_+_, _*_, _≤_};
 ghost use lib.ListN.{length};
 ghost use Rattle.constraint.specs.Records.{Decides};
-ghost use Rattle.table.specs.Raw.{rawSize, TypeKnown, Known, RowTaken, FirstRefused, RawTable, WritesRaw};
+ghost use Rattle.table.specs.Raw.{rawSize, Known, RowTaken, FirstRefused, RawTable, WritesRaw};
 
 // How many bytes each row is given, which the longest type needs.
 const RAW_SIZE: usize = 34;
 
-// Question 4 of a type byte and the byte behind it: is there a length for the type, and is n in range?
-fn type_known(form: u8, n: u8) -> bool
-    ensures { λ r. ⌜ Decides (TypeKnown form n) r ⌝ }
-{
-    if length_of(form, 0) == 0 {
-        return false;
-    }
-    if form == 7 {
-        if n < 2 {
-            return false;
-        }
-        if 4 < n {
-            return false;
-        }
-    }
-    true
-}
-
-// How many of the first rows are whole and of known types: at most as many as a table has entries.
-fn known_rows(bytes: &[u8]) -> usize
-    ensures { λ r. ⌜ Known (now (bytes .entry)) r ⌝ }
+// How many of the first rows are whole and of types of the edition: at most as many as a table has entries.
+fn known_rows(edition: u8, bytes: &[u8]) -> usize
+    ensures { λ r. ⌜ Known edition (now (bytes .entry)) r ⌝ }
 {
     let mut start = 0;
     let mut i = 0;
@@ -43,7 +26,7 @@ fn known_rows(bytes: &[u8]) -> usize
         let form = number::byte_at(bytes, start);
         let next = start + 1;
         let n = number::byte_at(bytes, next);
-        if !type_known(form, n) {
+        if !type_known(edition, form, n) {
             return i;
         }
         start += RAW_SIZE;
@@ -53,8 +36,8 @@ fn known_rows(bytes: &[u8]) -> usize
 }
 
 // The table record of the first rows: each is read from as many of its bytes as its type has.
-fn first_rows(bytes: &[u8], count: usize) -> Table
-    requires { ⌜ Known (now bytes) count ⌝ }
+fn first_rows(edition: u8, bytes: &[u8], count: usize) -> Table
+    requires { ⌜ Known edition (now bytes) count ⌝ }
     ensures { λ r. ⌜ RawTable (now (bytes .entry)) count r ⌝ }
 {
     let mut table = Table::new();
@@ -74,15 +57,15 @@ fn first_rows(bytes: &[u8], count: usize) -> Table
 }
 
 // Whether the row of a number is taken: questions 4 to 7 and 18.
-fn row_taken(bytes: &[u8], i: usize) -> bool
+fn row_taken(edition: u8, bytes: &[u8], i: usize) -> bool
     requires { ⌜ (i + 1) * rawSize ≤ length (now bytes) ⌝ }
-    ensures { λ r. ⌜ Decides (RowTaken (now (bytes .entry)) i) r ⌝ }
+    ensures { λ r. ⌜ Decides (RowTaken edition (now (bytes .entry)) i) r ⌝ }
 {
     let start = i * RAW_SIZE;
     let form = number::byte_at(bytes, start);
     let next = start + 1;
     let n = number::byte_at(bytes, next);
-    if !type_known(form, n) {
+    if !type_known(edition, form, n) {
         return false;
     }
     let end = start + length_of(form, n);
@@ -94,8 +77,8 @@ fn row_taken(bytes: &[u8], i: usize) -> bool
 }
 
 // The number of the first row that is refused, or how many rows there are where none is: at most as many as a table has entries.
-pub fn refused_row(bytes: &[u8]) -> usize
-    ensures { λ r. ⌜ FirstRefused (now (bytes .entry)) r ⌝ }
+pub fn refused_row(edition: u8, bytes: &[u8]) -> usize
+    ensures { λ r. ⌜ FirstRefused edition (now (bytes .entry)) r ⌝ }
 {
     let mut start = 0;
     let mut i = 0;
@@ -103,7 +86,7 @@ pub fn refused_row(bytes: &[u8]) -> usize
         if bytes.len() - start < RAW_SIZE {
             return i;
         }
-        if !row_taken(bytes, i) {
+        if !row_taken(edition, bytes, i) {
             return i;
         }
         start += RAW_SIZE;
@@ -112,16 +95,17 @@ pub fn refused_row(bytes: &[u8]) -> usize
     i
 }
 
-// Writes the table of rows given as raw bytes to a lent buffer. A refusal leaves the buffer as it was, and bytes after those written stay.
-pub fn write(rows: &[u8], buffer: &mut [u8]) -> WriteAnswer
-    ensures { λ r. ⌜ WritesRaw (now (rows .entry)) (now (buffer .entry)) r (now (buffer .exit)) ⌝ }
+// Writes the table of an edition of rows given as raw bytes to a lent buffer. A refusal leaves the buffer as it was, and bytes after those written
+// stay.
+pub fn write(edition: u8, rows: &[u8], buffer: &mut [u8]) -> WriteAnswer
+    ensures { λ r. ⌜ WritesRaw edition (now (rows .entry)) (now (buffer .entry)) r (now (buffer .exit)) ⌝ }
 {
-    let known = known_rows(rows);
-    let table = first_rows(rows, known);
+    let known = known_rows(edition, rows);
+    let table = first_rows(edition, rows, known);
     if rows.len() - known * RAW_SIZE < RAW_SIZE {
-        return super::write(table, buffer);
+        return super::write(edition, table, buffer);
     }
-    match table.judge() {
+    match table.judge(edition) {
         Answer::Refused(number) => {
             return WriteAnswer::Refused(number);
         }

@@ -11,7 +11,7 @@ ghost use mathlib.Core.List.{[]};
 ghost use Prim.Native.Nat.{_<_};
 ghost use lib.ListN.{length};
 ghost use Rattle.constraint.specs.Records.{tableOf, Decides};
-ghost use Rattle.constraint.specs.Table.{WholeAt, ReadsRows, table-refused};
+ghost use Rattle.constraint.specs.Table.{WholeAt, VersionUpTo, ReadsRows, table-refused};
 ghost use Rattle.table.specs.Reading.{readOf, rowsRead};
 ghost use Rattle.table.specs.Rows.{ReadsAt};
 
@@ -30,6 +30,17 @@ pub(crate) fn refused(number: u8, place: usize) -> Reading
     Reading { answer, table }
 }
 
+// Question 1: is the first byte there, and an edition up to the newest?
+pub(crate) fn version_known(newest: u8, bytes: &[u8]) -> bool
+    ensures { λ r. ⌜ Decides (VersionUpTo newest (now (bytes .entry))) r ⌝ }
+{
+    let version = number::byte_at(bytes, 0);
+    if version == 0 {
+        return false;
+    }
+    version <= newest
+}
+
 // Question 2, of the row at a place: are its length field and its body whole?
 pub(crate) fn whole_at(bytes: &[u8], place: usize) -> bool
     ensures { λ r. ⌜ Decides (WholeAt (now (bytes .entry)) place) r ⌝ }
@@ -44,9 +55,9 @@ pub(crate) fn whole_at(bytes: &[u8], place: usize) -> bool
     number::two_at(bytes, place) <= size - 2 - place
 }
 
-// Questions 2 to 7, put to the row at a place with some rows before it.
-pub(crate) fn read_row(bytes: &[u8], place: usize, before: usize) -> RowRead
-    ensures { λ r. ⌜ ReadsAt (now (bytes .entry)) before place r ⌝ }
+// Questions 2 to 7, put to the row at a place in a table of an edition, with some rows before it.
+pub(crate) fn read_row(edition: u8, bytes: &[u8], place: usize, before: usize) -> RowRead
+    ensures { λ r. ⌜ ReadsAt edition (now (bytes .entry)) before place r ⌝ }
 {
     if !whole_at(bytes, place) {
         return RowRead::Refused(2);
@@ -58,7 +69,7 @@ pub(crate) fn read_row(bytes: &[u8], place: usize, before: usize) -> RowRead
     let start = place + 2;
     let next = start + size;
     let body = &bytes[start..next];
-    if !shape_fits(body, size) {
+    if !shape_fits(edition, body, size) {
         return RowRead::Refused(4);
     }
     let row = row_of(body);
@@ -68,15 +79,15 @@ pub(crate) fn read_row(bytes: &[u8], place: usize, before: usize) -> RowRead
     }
 }
 
-// The rows behind the version byte, row by row.
-pub(crate) fn read_rows(bytes: &[u8]) -> Reading
+// The rows of an edition behind the version byte, row by row.
+pub(crate) fn read_rows(edition: u8, bytes: &[u8]) -> Reading
     requires { ⌜ 0 < length (now bytes) ⌝ }
-    ensures { λ r. ⌜ ReadsRows (now (bytes .entry)) 0 1 (readOf r) × (r .table ≡ tableOf (rowsRead (readOf r))) ⌝ }
+    ensures { λ r. ⌜ ReadsRows edition (now (bytes .entry)) 0 1 (readOf r) × (r .table ≡ tableOf (rowsRead (readOf r))) ⌝ }
 {
     let mut table = Table::new();
     let mut place = 1;
     while place < bytes.len() {
-        match read_row(bytes, place, table.count) {
+        match read_row(edition, bytes, place, table.count) {
             RowRead::Row(row, next) => {
                 table = table.with_row(row);
                 place = next;

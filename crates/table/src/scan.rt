@@ -3,6 +3,7 @@ use super::ReadAnswer;
 use super::body::row_of;
 use super::reader::RowRead;
 use super::reader::read_row;
+use super::reader::version_known;
 use super::reader::whole_at;
 use constraint::Constraint;
 ghost use Prim.Native.Nat.{_<_};
@@ -21,15 +22,15 @@ pub struct Placed {
     pub next: usize,
 }
 
-// The rows behind the version byte, judged and counted.
-fn judge_rows(bytes: &[u8]) -> Scan
+// The rows of an edition behind the version byte, judged and counted.
+fn judge_rows(edition: u8, bytes: &[u8]) -> Scan
     requires { ⌜ 0 < length (now bytes) ⌝ }
-    ensures { λ r. ⌜ CountsRows (now (bytes .entry)) r ⌝ }
+    ensures { λ r. ⌜ CountsRows edition (now (bytes .entry)) r ⌝ }
 {
     let mut rows = 0;
     let mut place = 1;
     while place < bytes.len() {
-        match read_row(bytes, place, rows) {
+        match read_row(edition, bytes, place, rows) {
             RowRead::Row(_, next) => {
                 rows += 1;
                 place = next;
@@ -44,18 +45,19 @@ fn judge_rows(bytes: &[u8]) -> Scan
     Scan { answer, rows }
 }
 
-// Judges a table's bytes: the number of its rows, or the first question answered "no" and the place.
-pub fn judge(bytes: &[u8]) -> Scan
-    ensures { λ r. ⌜ Scans (now (bytes .entry)) r ⌝ }
+// Judges the bytes of a table of an edition up to the newest: the number of its rows, or the first question answered "no" and the place.
+pub fn judge(newest: u8, bytes: &[u8]) -> Scan
+    ensures { λ r. ⌜ Scans newest (now (bytes .entry)) r ⌝ }
 {
-    if number::byte_at(bytes, 0) != 1 {
+    if !version_known(newest, bytes) {
         let answer = ReadAnswer::Refused {
             number: 1,
             place: 0,
         };
         return Scan { answer, rows: 0 };
     }
-    judge_rows(bytes)
+    let edition = number::byte_at(bytes, 0);
+    judge_rows(edition, bytes)
 }
 
 // The row at a place, and the place behind it. Where no whole row stands, it is the row of an empty entry, and the place itself.

@@ -8,7 +8,7 @@ ghost use lib.ListN.{length, take};
 ghost use lib.Seq.{sets};
 ghost use Rattle.constraint.specs.Limits.{rowLimit};
 ghost use Rattle.constraint.specs.Records.{rowsOf, timesBytes};
-ghost use Rattle.constraint.specs.Table.{rowBody, rowBytes, rowsBytes, tableBytes};
+ghost use Rattle.constraint.specs.Table.{rowBody, rowBytes, rowsBytes};
 
 // The length of a row's body.
 fn row_length(row: Constraint) -> usize
@@ -63,7 +63,7 @@ fn put_row(buffer: &mut [u8], place: usize, row: Constraint)
 
 // Stores the rows of a table behind the version byte.
 pub(crate) fn put_rows(buffer: &mut [u8], table: Table)
-    requires { ⌜ (table .count ≤ rowLimit) × (length (tableBytes (rowsOf table)) ≤ length (now buffer)) ⌝ }
+    requires { ⌜ (table .count ≤ rowLimit) × (1 + length (rowsBytes (rowsOf table)) ≤ length (now buffer)) ⌝ }
     ensures { λ _. ⌜ now (buffer .exit) ≡ sets (now (buffer .entry)) 1 (rowsBytes (rowsOf table)) ⌝ }
 {
     let count = table.count;
@@ -81,7 +81,7 @@ pub(crate) fn put_rows(buffer: &mut [u8], table: Table)
 // The number of bytes of a table.
 pub(crate) fn size_of(table: Table) -> usize
     requires { ⌜ table .count ≤ rowLimit ⌝ }
-    ensures { λ r. ⌜ r ≡ length (tableBytes (rowsOf table)) ⌝ }
+    ensures { λ r. ⌜ r ≡ 1 + length (rowsBytes (rowsOf table)) ⌝ }
 {
     let count = table.count;
     let mut size = 1;

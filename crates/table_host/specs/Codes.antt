@@ -3,7 +3,8 @@ use Prim.Native.Nat.{ℕ, _+_, _*_, _^_, _-_, min}
 use mathlib.Core.Path.{_≡_}
 use mathlib.Core.List.{List}
 use lib.ListN.{length}
-use Rattle.constraint.specs.Table.{TableRead, table-of, table-refused, ReadsTable}
+use Rattle.constraint.specs.Table.{TableRead, table-of, table-refused, ReadsTableUpTo}
+use Rattle.constraint.specs.Steps.{at}
 use Rattle.constraint.specs.declared.Constraint.{Constraint}
 use Rattle.table.specs.Writing.{Writes}
 use Rattle.table.specs.declared.WriteAnswer.{WriteAnswer}
@@ -23,19 +24,20 @@ writeCode (WriteAnswer.Written n) = n
 writeCode (WriteAnswer.Refused n) = refusalCode n 0
 
 -- the code of what reading gives
-pub record AnswersRead (bytes : List ℕ) (r : ℕ) : Type 0 where
+pub record AnswersRead (newest : ℕ) (bytes : List ℕ) (r : ℕ) : Type 0 where
   pub read : TableRead
-  pub reads : ReadsTable bytes read
+  pub reads : ReadsTableUpTo newest bytes read
   pub code : r ≡ readCode read
 
 -- the code of what writing gives
-pub record AnswersWrite (rows : List Constraint) (before : List ℕ) (r : ℕ) (after : List ℕ) : Type 0 where
+pub record AnswersWrite (edition : ℕ) (rows : List Constraint) (before : List ℕ) (r : ℕ) (after : List ℕ) : Type 0 where
   pub answer : WriteAnswer
-  pub writes : Writes rows before answer after
+  pub writes : Writes edition rows before answer after
   pub code : r ≡ writeCode answer
 
--- what reading a table and writing its rows gives: the reader's refusal, which leaves the buffer, or what writing gives
-pub data AnswersRewrite (bytes before : List ℕ) : ℕ → List ℕ → Type 0 where
-  not-read : {r : ℕ} (n place : ℕ) → ReadsTable bytes (table-refused n place) → r ≡ refusalCode n place → AnswersRewrite bytes before r before
-  rewritten : {r : ℕ} {after : List ℕ} (rows : List Constraint) → ReadsTable bytes (table-of rows) → AnswersWrite rows before r after
-      → AnswersRewrite bytes before r after
+-- what reading a table and writing its rows in its edition gives: the reader's refusal, which leaves the buffer, or what writing gives
+pub data AnswersRewrite (newest : ℕ) (bytes before : List ℕ) : ℕ → List ℕ → Type 0 where
+  not-read : {r : ℕ} (n place : ℕ) → ReadsTableUpTo newest bytes (table-refused n place) → r ≡ refusalCode n place
+      → AnswersRewrite newest bytes before r before
+  rewritten : {r : ℕ} {after : List ℕ} (rows : List Constraint) → ReadsTableUpTo newest bytes (table-of rows)
+      → AnswersWrite (at bytes 0) rows before r after → AnswersRewrite newest bytes before r after

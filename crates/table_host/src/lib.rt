@@ -25,12 +25,12 @@ fn write_code(answer: WriteAnswer) -> u64
     }
 }
 
-// Reads a table: the number of its rows, or the refusal.
+// Reads a table of an edition up to the newest: the number of its rows, or the refusal.
 #[no_mangle]
-pub extern "C" fn table_read(bytes: &[u8]) -> u64
-    ensures { λ r. ⌜ AnswersRead (now (bytes .entry)) r ⌝ }
+pub extern "C" fn table_read(newest: u8, bytes: &[u8]) -> u64
+    ensures { λ r. ⌜ AnswersRead newest (now (bytes .entry)) r ⌝ }
 {
-    let reading = table::read(bytes);
+    let reading = table::read(newest, bytes);
     let answer = reading.answer;
     let rows = reading.table;
     match answer {
@@ -39,16 +39,17 @@ pub extern "C" fn table_read(bytes: &[u8]) -> u64
     }
 }
 
-// Reads a table and writes its rows to a lent buffer: the number of bytes written, or the refusal.
+// Reads a table of an edition up to the newest and writes its rows in that edition to a lent buffer: the number of bytes written, or the refusal.
 #[no_mangle]
-pub extern "C" fn table_rewrite(bytes: &[u8], buffer: &mut [u8]) -> u64
-    ensures { λ r. ⌜ AnswersRewrite (now (bytes .entry)) (now (buffer .entry)) r (now (buffer .exit)) ⌝ }
+pub extern "C" fn table_rewrite(newest: u8, bytes: &[u8], buffer: &mut [u8]) -> u64
+    ensures { λ r. ⌜ AnswersRewrite newest (now (bytes .entry)) (now (buffer .entry)) r (now (buffer .exit)) ⌝ }
 {
-    let reading = table::read(bytes);
+    let edition = number::byte_at(bytes, 0);
+    let reading = table::read(newest, bytes);
     let answer = reading.answer;
     let rows = reading.table;
     match answer {
-        ReadAnswer::Accepted => write_code(table::write(rows, buffer)),
+        ReadAnswer::Accepted => write_code(table::write(edition, rows, buffer)),
         ReadAnswer::Refused { number, place } => refusal_code(number, place),
     }
 }

@@ -2,7 +2,7 @@
 use Rattle.constraint.proofs.Library.{ℕ, suc, _+_, _*_, _≤_, _<_, _≡_, ap, List, [], _∷_, _++_, append-assoc, decLt, add-zero, arith, length}
 use Rattle.constraint.proofs.Library.{length-append}
 use Rattle.constraint.specs.Limits.{rowLimit}
-use Rattle.constraint.specs.Report.{verdictText, rowLines, closedText, refusedText, ReportOf, Reports, written, too-short}
+use Rattle.constraint.specs.Report.{verdictText, rowLines, closedText, refusedText, ReportOfUpTo, ReportsUpTo, written, too-short}
 use Rattle.constraint.specs.declared.Verdict.{Verdict}
 use Rattle.constraint.specs.declared.Verdict.the-variants.{Open, Kept, Broken}
 use Rattle.text.specs.Content.{Copied}
@@ -62,11 +62,11 @@ refused-length n place = simp length-append (omega (arith, decimal-length n, dec
 -- Copied out
 
 -- a report's text that is copied to a buffer is reported
-pub copied-reports : (table recording text before : List ℕ) (answer : ℕ) (after : List ℕ)
-    → ReportOf table recording text → Copied text before answer after → Reports table recording before answer after
-copied-reports table recording text before answer after report copied = go (decLt (length before) (length text))
+pub copied-reports : {newest : ℕ} (table recording text before : List ℕ) (answer : ℕ) (after : List ℕ)
+    → ReportOfUpTo newest table recording text → Copied text before answer after → ReportsUpTo newest table recording before answer after
+copied-reports {newest} table recording text before answer after report copied = go (decLt (length before) (length text))
   where
-    go : Dec (length before < length text) → Reports table recording before answer after
+    go : Dec (length before < length text) → ReportsUpTo newest table recording before answer after
     go (yes short) = rw (copied .too-short short .0, copied .too-short short .1) (too-short text report short)
     go (no long) =
         let fits : length text ≤ length before = omega arith in

@@ -3,7 +3,7 @@ use native.Mathlib.Omega.{arith}
 use borrow.Author.Needs.{needs}
 use mathlib.Core.Path.{sym, _∙_}
 use Rattle.constraint.specs.Types.{lengths}
-use Rattle.constraint.proofs.Types.{at-most, length-unknown, length-plain}
+use Rattle.constraint.proofs.Lengths.{at-most, length-unknown, length-plain}
 use Rattle.constraint.proofs.Judged.{free}
 use Rattle.constraint.proofs.length_of.Statement.{statement}
 use Rattle.constraint.proofs.length_of.Tie as tie

@@ -1,9 +1,10 @@
 -- The bytes are judged before anything is stored; where they are accepted, every word is stored, those of the lists last.
 use Rattle.constraint.proofs.Library.{ℕ, arith, _≡_, sym, ap, subst, subst₂, _∙_, List, [], now, needs}
 use Rattle.constraint.specs.declared.Constraint.{Constraint}
+use Rattle.table.proofs.Scanning.{scan-start}
 use Rattle.monitor.specs.Contract.{after}
 use Rattle.lent.specs.Layout.{Words, wordsOf}
-use Rattle.fresh.specs.Fresh.{listedTo, endsTo, padded, withLists, freshLent, Begins, begun, refused}
+use Rattle.fresh.specs.Fresh.{listedTo, endsTo, padded, withLists, freshLent, BeginsUpTo, begun, refused}
 use Rattle.fresh.proofs.Freshness.{fresh-shaped, fresh-indexes}
 use Rattle.fresh.proofs.fresh.Statement.{statement}
 use Rattle.fresh.proofs.fresh.Tie as tie
@@ -22,20 +23,20 @@ returns c =
     let a = j .before .before .args in
     let counted = j .judge .ensures .accepted (t .if1 .taken) in
     let rows : List Constraint = counted .rows in
-    let lies = b .begin .ensures rows (counted .reads) (counted .room) (counted .counted) in
+    let lies = b .begin .ensures rows (scan-start (now (a .table)) rows (counted .reads)) (counted .room) (counted .counted) in
     let words : c .enlist .last .0 ≡ wordsOf (freshLent rows) =
     c .enlist .ensures (freshLent rows) (fresh-shaped rows (counted .room)) lies
     ∙ ap (λ (n : ℕ). wordsOf (withLists (freshLent rows) (endsTo (after rows []) n 64) (padded 128 (listedTo (after rows []) n 64))))
     (counted .counted) in
-    subst₂ (λ (number : ℕ) (exit : Words). Begins (now (a .table)) (now (a .m)) number exit) (sym (t .if1 .taken)) (sym words)
-    (begun rows (counted .reads) (counted .accepted) (fresh-indexes rows (counted .accepted)))
+    subst₂ (λ (number : ℕ) (exit : Words). BeginsUpTo (a .newest) (now (a .table)) (now (a .m)) number exit) (sym (t .if1 .taken)) (sym words)
+    (begun rows (counted .reads) (_, counted .accepted) (fresh-indexes rows (_, counted .accepted)))
 
 returns-2 : tie.Need-returns-2
 returns-2 c =
     let j = c .before in
     let a = j .before .before .args in
     let refusal = j .judge .ensures .refused (c .if1 .left) in
-    subst (λ (number : ℕ). Begins (now (a .table)) (now (a .m)) number (now (a .m))) (sym (refusal .numbered))
+    subst (λ (number : ℕ). BeginsUpTo (a .newest) (now (a .table)) (now (a .m)) number (now (a .m))) (sym (refusal .numbered))
     (refused (refusal .question) (refusal .place) (refusal .reads) (refusal .above) (refusal .below))
 
 pub fresh-spec : {M : Type 1} → statement M

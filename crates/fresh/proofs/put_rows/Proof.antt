@@ -1,13 +1,13 @@
 -- Row after row: before the turn of number i the first i are stored, and the others are read from the place on that the turn has.
 use Rattle.constraint.proofs.Library.{ℕ, _-_, _≤_, arith, _≡_, sym, ap, ap₂, subst, _∙_, List, [], length, drop}
-use Rattle.constraint.specs.Table.{ReadsRows, ReadsTable, table-of}
+use Rattle.constraint.specs.Table.{ReadsRows, table-of}
+use Rattle.constraint.specs.Steps.{at}
 use Rattle.constraint.specs.declared.Constraint.{Constraint}
-use Rattle.table.proofs.Scanning.{scan-start}
 use Rattle.row.specs.Machine.{rowOf}
 use Rattle.row.specs.Undo.{noBefore}
 use Rattle.row.specs.Stored as Stored
 use Rattle.monitor.specs.Contract.{after}
-use Rattle.fresh.specs.Fresh.{RowsPut}
+use Rattle.fresh.specs.Fresh.{RowsBehind, RowsPut}
 use Rattle.fresh.proofs.Scanned.{scan-next, put-none, put-next}
 use Rattle.fresh.proofs.Freshness.{row-is, kept-is}
 use Rattle.fresh.proofs.put_rows.Statement.{statement}
@@ -15,14 +15,14 @@ use Rattle.fresh.proofs.put_rows.Tie as tie
 
 abbrev Inv-loop : tie.InvT-loop
 Inv-loop m₀ table place₀ i₀ m place i =
-    (i ≤ 32) × ((rows : List Constraint) → ReadsTable table (table-of rows) → length m₀ ≡ 35
-    → ReadsRows table i place (table-of (drop i rows)) × RowsPut m₀ (after rows []) i m)
+    (i ≤ 32) × ((rows : List Constraint) → RowsBehind table rows → length m₀ ≡ 35
+    → ReadsRows (at table 0) table i place (table-of (drop i rows)) × RowsPut m₀ (after rows []) i m)
 
 abbrev μ-loop : tie.MeasureT-loop
 μ-loop m₀ table place₀ i₀ m place i = 32 - i
 
 loop-holds : tie.Need-loop-holds Inv-loop μ-loop
-loop-holds c = (omega arith, λ rows reads long. (scan-start _ rows reads, put-none _ (after rows [])))
+loop-holds c = (omega arith, λ rows reads long. (reads, put-none _ (after rows [])))
 
 loop-again : tie.Need-loop-again Inv-loop μ-loop
 loop-again c =

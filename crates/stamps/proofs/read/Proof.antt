@@ -1,7 +1,7 @@
 -- Each answer is that of the first "no"; where there is none the pass has read what the row reads.
 use Rattle.constraint.proofs.Library.{arith, needs, _≡_, now}
 use Rattle.constraint.specs.Records.{rowsOf, tableOf}
-use Rattle.constraint.specs.Table.{ReadsTable, table-of, table-refused}
+use Rattle.constraint.specs.Table.{ReadsTableUpTo, table-of, table-refused}
 use Rattle.constraint.specs.Stamps.{no-table}
 use Rattle.queue.proofs.Shared.{free}
 use Rattle.stamps.proofs.Answers.{answer-recording, answer-row, answer-range, answer-reads}
@@ -9,12 +9,14 @@ use Rattle.stamps.proofs.read.Statement.{statement}
 use Rattle.stamps.proofs.read.Tie as tie
 
 -- the refusal that was read
-refusal : (c : tie.After-answer) → ReadsTable (now (c .before .before .before .before .before .args .table))
+refusal : (c : tie.After-answer) → ReadsTableUpTo (c .before .before .before .before .before .args .newest)
+    (now (c .before .before .before .before .before .args .table))
     (table-refused (c .answer .given .0 .0) (c .answer .given .0 .1 .0))
 refusal c = rw (c .answer .given .1) at (c .before .before .read .ensures .reads)
 
 -- the rows that were read
-rows-read : (c : tie.After-enum-told) → ReadsTable (now (c .before .before .before .before .before .args .table))
+rows-read : (c : tie.After-enum-told) → ReadsTableUpTo (c .before .before .before .before .before .args .newest)
+    (now (c .before .before .before .before .before .args .table))
     (table-of (rowsOf (c .before .before .read .result .table)))
 rows-read c = rw (c .enum-told .given .1) at (c .before .before .read .ensures .reads)
 

@@ -1,7 +1,7 @@
 -- Each answer is that of the first "no": the table's, the recording's, 22, and then the row's.
 use Rattle.constraint.proofs.Library.{arith, needs, _≡_, refl, now}
 use Rattle.constraint.specs.Records.{rowsOf, tableOf}
-use Rattle.constraint.specs.Table.{ReadsTable, table-of, table-refused}
+use Rattle.constraint.specs.Table.{ReadsTableUpTo, table-of, table-refused}
 use Rattle.queue.proofs.Shared.{free}
 use Rattle.table.proofs.AcceptedRows.{read-accepted}
 use Rattle.constraint.specs.Stretches.{no-table, no-recording, answers}
@@ -10,12 +10,14 @@ use Rattle.stretch.proofs.shortest.Statement.{statement}
 use Rattle.stretch.proofs.shortest.Tie as tie
 
 -- the refusal that was read
-refusal : (c : tie.After-answer) → ReadsTable (now (c .before .before .before .before .before .args .table))
+refusal : (c : tie.After-answer) → ReadsTableUpTo (c .before .before .before .before .before .args .newest)
+    (now (c .before .before .before .before .before .args .table))
     (table-refused (c .answer .given .0 .0) (c .answer .given .0 .1 .0))
 refusal c = rw (c .answer .given .1) at (c .before .before .read .ensures .reads)
 
 -- the rows that were read
-rows-read : (c : tie.After-enum-told) → ReadsTable (now (c .before .before .before .before .before .args .table))
+rows-read : (c : tie.After-enum-told) → ReadsTableUpTo (c .before .before .before .before .before .args .newest)
+    (now (c .before .before .before .before .before .args .table))
     (table-of (rowsOf (c .before .before .read .result .table)))
 rows-read c = rw (c .enum-told .given .1) at (c .before .before .read .ensures .reads)
 
@@ -50,7 +52,7 @@ returns-4 c =
     let taken = at-gather .gather .ensures .taken (omega (arith, passed .before .if1 .left)) in
     let rows = rowsOf (told .before .before .read .result .table) in
     answers rows (taken .0) (rows-read told) (taken .1)
-    (c .ask-row .ensures rows (taken .0) (rows-held told) (read-accepted (now (begun .args .table)) rows (rows-read told))
+    (c .ask-row .ensures rows (taken .0) (rows-held told) (_, read-accepted (now (begun .args .table)) rows (rows-read told))
     (run-of (now (begun .args .recording)) _ _ (taken .0) _ (taken .1) (taken .2) (taken .3) (passed .if2 .left)))
 
 pub shortest-spec : {M : Type 1} → statement M

@@ -1,23 +1,35 @@
--- The version byte is asked for first, and then the rows.
-use Rattle.constraint.proofs.Library.{needs, sym, _∙_, now}
-use Rattle.constraint.specs.Table.{VersionOne, version-refused, version-taken}
-use Rattle.table.proofs.Places.{version-one}
+-- The version byte is asked for first, and then the rows of its edition.
+use Rattle.constraint.proofs.Library.{ℕ, needs, subst, now}
+use Rattle.constraint.specs.Table.{VersionUpTo, ReadsRows, version-refused, version-taken}
+use Rattle.constraint.proofs.Judged.{passed, failed}
+use Rattle.table.specs.Reading.{readOf}
 use Rattle.table.proofs.read.Statement.{statement}
 use Rattle.table.proofs.read.Tie as tie
 
-version : (c : tie.Else1) → VersionOne (now (c .before .before .before .args .bytes))
-version c = version-one (now (c .before .before .before .args .bytes)) (sym (c .before .byte-at .ensures) ∙ c .if1 .left)
+version : (c : tie.Else1) → VersionUpTo (c .before .before .before .args .newest) (now (c .before .before .before .args .bytes))
+version c = passed (c .before .version-known .result) (c .before .version-known .ensures) (c .if1 .left)
 
 returns : tie.Need-returns
 returns c =
     let refused = c .refused .ensures in
+    let test = c .before .before .version-known in
     record {
-      reads = rw (refused .0) (version-refused (λ one. c .before .if1 .taken (c .before .before .byte-at .ensures ∙ one .1)));
+      reads = rw (refused .0) (version-refused (failed (test .result) (test .ensures) (c .before .if1 .taken)));
       holds = rw (refused .0) (refused .1);
+    }
+
+returns-2 : tie.Need-returns-2
+returns-2 c =
+    let edition = c .before .byte-at in
+    let a = c .before .before .before .before .before .args in
+    let read = c .read-rows in
+    record {
+      reads = version-taken (version (c .before .before))
+          (subst (λ (e : ℕ). ReadsRows e (now (a .bytes)) 0 1 (readOf (read .result))) (edition .ensures) (read .ensures .0));
+      holds = read .ensures .1;
     }
 
 pub read-spec : {M : Type 1} → statement M
 read-spec =
     tie.close
-    (tie.spec (λ c κs. search needs) (λ c κs. search needs) returns (λ c κs. version c .0)
-    (λ c. record { reads = version-taken (version (c .before)) (c .read-rows .ensures .0); holds = c .read-rows .ensures .1 }))
+    (tie.spec (λ c κs. search needs) (λ c κs. search needs) returns (λ c κs. search needs) (λ c κs. version (c .before) .0) returns-2)

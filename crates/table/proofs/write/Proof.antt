@@ -4,6 +4,7 @@ use Rattle.constraint.specs.Limits.{rowLimit}
 use Rattle.constraint.specs.Questions.{Judged}
 use Rattle.constraint.specs.Accepted.{rowsQuestions}
 use Rattle.constraint.specs.Records.{rowsOf}
+use Rattle.constraint.specs.Table.{tableBytesIn}
 use Rattle.constraint.specs.declared.Answer.the-variants.{Taken}
 use Rattle.constraint.proofs.Rows.{rows-length}
 use Rattle.constraint.proofs.Accepted.{rows-room}
@@ -11,25 +12,27 @@ use Rattle.table.proofs.Written.{written-refused, written-short, writte
 use Rattle.table.proofs.write.Statement.{statement}
 use Rattle.table.proofs.write.Tie as tie
 
-taken : (c : tie.After-enum-told) → Judged (rowsQuestions 0 (rowsOf (c .before .before .before .before .args .table)) []) Taken
+taken : (c : tie.After-enum-told)
+    → Judged (rowsQuestions (c .before .before .before .before .args .edition) 0 (rowsOf (c .before .before .before .before .args .table)) []) Taken
 taken c = rw (c .enum-told .given .1) at (c .before .before .judge .ensures)
 
 few : (c : tie.After-enum-told) → c .before .before .before .before .args .table .count ≤ rowLimit
 few c =
     let table = c .before .before .before .before .args .table in
-    omega (arith, rows-length table, rows-room 0 (rowsOf table) (omega arith) (taken c))
+    omega (arith, rows-length table, rows-room _ 0 (rowsOf table) (omega arith) (taken c))
 
 returns : tie.Need-returns
 returns c =
     let at-judge = c .before .before .before in
     let a = at-judge .before .before .args in
-    written-refused (rowsOf (a .table)) (now (a .buffer)) _ (rw (c .before .number .given .1) at (at-judge .judge .ensures))
+    written-refused (a .edition) (rowsOf (a .table)) (now (a .buffer)) _ (rw (c .before .number .given .1) at (at-judge .judge .ensures))
 
 returns-2 : tie.Need-returns-2
+unfolding tableBytesIn
 returns-2 c =
     let at-taken = c .before .before in
     let a = at-taken .before .before .before .before .args in
-    written-short (rowsOf (a .table)) (now (a .buffer)) (taken at-taken) (omega (arith, c .before .size-of .ensures))
+    written-short (a .edition) (rowsOf (a .table)) (now (a .buffer)) (taken at-taken) (omega (arith, c .before .size-of .ensures))
 
 put-rows-requires : tie.Need-put-rows-requires
 put-rows-requires c κs =
@@ -38,12 +41,14 @@ put-rows-requires c κs =
     (few (at-size .before), omega (arith, at-room .if1 .left, at-size .size-of .ensures, c .before .before .before .put-byte .kept .0))
 
 returns-3 : tie.Need-returns-3
+unfolding tableBytesIn
 returns-3 c =
     let at-room = c .before .before .before .before .before .before .before .before in
     let at-size = at-room .before in
     let a = at-size .before .before .before .before .before .args in
-    written-all (rowsOf (a .table)) (now (a .buffer)) _ _ _ (taken (at-size .before)) (omega (arith, at-room .if1 .left, at-size .size-of .ensures))
-    (at-size .size-of .ensures)
+    written-all (a .edition) (rowsOf (a .table)) (now (a .buffer)) _ _ _ (taken (at-size .before))
+    (omega (arith, at-room .if1 .left, at-size .size-of .ensures))
+    (omega (arith, at-size .size-of .ensures))
     (c .before .before .before .before .before .before .put-byte .ensures) (c .before .before .put-rows .ensures)
 
 pub write-spec : {M : Type 1} → statement M

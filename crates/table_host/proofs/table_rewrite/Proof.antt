@@ -10,19 +10,22 @@ returns c =
     let at-write = c .before .before .before in
     let at-told = at-write .before .before in
     let at-read = at-told .before .before .before in
+    let edition = at-read .before .byte-at in
+    let bytes = now (at-read .before .before .before .before .args .bytes) in
     let r = at-read .read in
-    rewritten _ (reads-as (now (at-read .before .before .before .args .bytes)) (r .result) _ (at-told .enum-told .given .1) (r .ensures))
-    (record { answer = _; writes = at-write .write .ensures; code = c .write-code .ensures })
+    rewritten _ (reads-as bytes (r .result) _ (at-told .enum-told .given .1) (r .ensures))
+    (record { answer = _; writes = rw (edition .ensures) at (at-write .write .ensures); code = c .write-code .ensures })
 
 returns-2 : tie.Need-returns-2
 returns-2 c =
     let at-answer = c .before .before in
     let at-read = at-answer .before .before .before in
     let r = at-read .read in
-    not-read _ _ (reads-as (now (at-read .before .before .before .args .bytes)) (r .result) _ (at-answer .answer .given .1) (r .ensures))
+    not-read _ _ (reads-as (now (at-read .before .before .before .before .args .bytes)) (r .result) _ (at-answer .answer .given .1) (r .ensures))
     (c .refusal-code .ensures)
 
 pub table-rewrite-spec : {M : Type 1} → statement M
 table-rewrite-spec =
-    tie.close (tie.spec (λ c κs. search needs) (λ c. search needs) (λ c κs. search needs) (λ c κs. search needs) (λ c. search needs) (λ c κs. search
+    tie.close (tie.spec (λ c κs. search needs) (λ c κs. search needs) (λ c. search needs) (λ c κs. search needs) (λ c κs. search needs)
+    (λ c. search needs) (λ c κs. search
     needs) (λ c. search needs) returns returns-2)

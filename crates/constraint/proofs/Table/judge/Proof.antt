@@ -56,7 +56,8 @@ loop-again c =
       λ a later.
           at-loop .loop .inv .1 a
           (subst⁻¹ (λ rows. Judged (rowsQuestions edition i rows []) a) (rows-from table i _ (omega arith) (omega (arith, size at-loop)))
-          (rows-taken edition i _ (drop (i + 1) (rowsOf table)) [] a (omega arith) (rw (c .enum-told .given .1) at (at-judge .judge-in .ensures)) later)),
+          (rows-taken edition i _ (drop (i + 1) (rowsOf table)) [] a (omega arith) (rw (c .enum-told .given .1) at (at-judge .judge-in .ensures))
+          later)),
     )
 
 returns-3 : tie.Need-returns-3 Inv-loop μ-loop

@@ -1,22 +1,28 @@
--- The n of a StrongSynchronization is asked for first, and then the length is compared with the list's, which is 0 for no type.
-use Rattle.constraint.proofs.Library.{arith, needs, ⊎-elim, now}
-use Rattle.constraint.proofs.Judged.{free}
-use Rattle.table.proofs.Shapes.{shape-asked}
+-- The type and its n are asked for first, and then the length is compared with the list's.
+use Rattle.constraint.proofs.Library.{now}
+use Rattle.constraint.proofs.Judged.{free, passed, failed}
+use Rattle.table.proofs.Shapes.{shape-known, shape-asked}
 use Rattle.table.proofs.body.shape_fits.Statement.{statement}
 use Rattle.table.proofs.body.shape_fits.Tie as tie
 
-returns-4 : tie.Need-returns-4
-returns-4 c =
-    let at-n = c .before .before .before in
+returns : tie.Need-returns
+returns c =
+    let at-n = c .before .before in
     let a = at-n .before .before .before .args in
+    let test = c .before .type-known in
+    λ fits. failed (test .result) (test .ensures) (c .if1 .taken)
+    (rw (at-n .before .byte-at .ensures, at-n .byte-at2 .ensures) (shape-known (a .edition) (now (a .body)) fits))
+
+returns-2 : tie.Need-returns-2
+returns-2 c =
+    let at-test = c .before .before in
+    let at-n = at-test .before in
+    let start = at-n .before .before .before in
+    let a = start .args in
+    let test = at-test .type-known in
     rw (c .length-of .ensures)
-    (shape-asked (now (a .body)) (a .size) (at-n .before .byte-at .result) (at-n .byte-at2 .result) (at-n .before .before .before .pre)
-    (at-n .before .byte-at .ensures)
-    (at-n .byte-at2 .ensures) (omega arith) (⊎-elim (λ came seven. (came .1 .left, came .2 .left)) (λ came seven. absurd (came .left seven))
-    (c .before .if2 .came)))
+    (shape-asked (a .edition) (now (a .body)) (a .size) (at-n .before .byte-at .result) (at-n .byte-at2 .result) (start .pre)
+    (at-n .before .byte-at .ensures) (at-n .byte-at2 .ensures) (passed (test .result) (test .ensures) (c .before .if1 .left)))
 
 pub shape-fits-spec : {M : Type 1} → statement M
-shape-fits-spec =
-    tie.close
-    (tie.spec free free (λ c. search needs) (λ c. λ fits. omega (arith, fits .n-known (omega arith)))
-    (λ c. λ fits. omega (arith, fits .n-known (omega arith))) free returns-4)
+shape-fits-spec = tie.close (tie.spec free free free returns free returns-2)

@@ -8,10 +8,10 @@ use Rattle.table.proofs.raw.first_rows.Statement.{statement}
 use Rattle.table.proofs.raw.first_rows.Tie as tie
 
 abbrev Inv-loop : tie.InvT-loop
-Inv-loop bytes count table₀ start₀ i₀ table start i = (i ≤ count) × (start ≡ i * rawSize) × RawTable bytes i table
+Inv-loop edition bytes count table₀ start₀ i₀ table start i = (i ≤ count) × (start ≡ i * rawSize) × RawTable bytes i table
 
 abbrev μ-loop : tie.MeasureT-loop
-μ-loop bytes count table₀ start₀ i₀ table start i = count - i
+μ-loop edition bytes count table₀ start₀ i₀ table start i = count - i
 
 -- a slice of bytes holds bytes
 each : (c : tie.After-shared-slice-known Inv-loop μ-loop) → Bytes (now (c .before .args .bytes))
@@ -28,7 +28,8 @@ ends c =
     let first = c .before .before .byte-at in
     let second = c .before .byte-at2 in
     rw (c .length-of .ensures, first .ensures, second .ensures, loop .inv .1)
-    (body-within (now (start .args .bytes)) (loop .i) (start .pre .known (loop .i) (omega arith)) (omega (arith, start .pre .whole)))
+    (body-within (start .args .edition) (now (start .args .bytes)) (loop .i) (start .pre .known (loop .i) (omega arith))
+    (omega (arith, start .pre .whole)))
 
 loop-again : tie.Need-loop-again Inv-loop μ-loop
 loop-again c =
@@ -41,7 +42,8 @@ loop-again c =
     let bytes = now (start .args .bytes) in (
       omega arith,
       omega (arith, loop .inv .1),
-      table-more bytes (loop .i) (loop .start) (first .result) (second .result) (loop .table) (c .with-row .result) (c .before .row-of .result)
+      table-more (start .args .edition) bytes (loop .i) (loop .start) (first .result) (second .result) (loop .table) (c .with-row .result)
+          (c .before .row-of .result)
           (each (at-loop .before .before)) (omega (arith, start .pre .room)) (start .pre .known (loop .i) (omega arith))
           (omega (arith, start .pre .whole)) (loop .inv .1)
           (first .ensures) (second .ensures) (c .before .row-of .ensures ∙ rw (at-length .length-of .ensures)) (c .with-row .ensures) (loop .inv .2),

@@ -9,10 +9,11 @@ use Rattle.table.proofs.raw.known_rows.Statement.{statement}
 use Rattle.table.proofs.raw.known_rows.Tie as tie
 
 abbrev Inv-loop : tie.InvT-loop
-Inv-loop bytes start₀ i₀ start i = (i ≤ rowLimit) × (start ≡ i * rawSize) × (start ≤ length bytes) × ((j : ℕ) → j < i → KnownAt bytes j)
+Inv-loop edition bytes start₀ i₀ start i =
+    (i ≤ rowLimit) × (start ≡ i * rawSize) × (start ≤ length bytes) × ((j : ℕ) → j < i → KnownAt edition bytes j)
 
 abbrev μ-loop : tie.MeasureT-loop
-μ-loop bytes start₀ i₀ start i = rowLimit - i
+μ-loop edition bytes start₀ i₀ start i = rowLimit - i
 
 returns : tie.Need-returns Inv-loop μ-loop
 returns c =
@@ -25,13 +26,15 @@ returns c =
     }
 
 -- the test is that of the row
-test : (c : tie.After-type-known Inv-loop μ-loop) → Decides (KnownAt (now (c .before .before .before .before .before .before .before .args .bytes))
+test : (c : tie.After-type-known Inv-loop μ-loop) → Decides (KnownAt (c .before .before .before .before .before .before .before .args .edition)
+    (now (c .before .before .before .before .before .before .before .args .bytes))
     (c .before .before .before .before .before .loop .i)) (c .type-known .result)
 test c =
     let second = c .before .byte-at2 in
     let first = c .before .before .byte-at in
     let at-loop = c .before .before .before .before .before in
-    known-test (now (at-loop .before .before .args .bytes)) (at-loop .loop .i) (at-loop .loop .start) (first .result) (second .result)
+    known-test (at-loop .before .before .args .edition) (now (at-loop .before .before .args .bytes)) (at-loop .loop .i) (at-loop .loop .start)
+    (first .result) (second .result)
     (c .type-known .result)
     (at-loop .loop .inv .1) (first .ensures) (second .ensures) (c .type-known .ensures)
 
@@ -52,7 +55,7 @@ loop-again c =
       omega arith,
       omega (arith, loop .inv .1),
       omega arith,
-      known-more (now (at-loop .before .before .args .bytes)) (loop .i) (loop .inv .3)
+      known-more (at-loop .before .before .args .edition) (now (at-loop .before .before .args .bytes)) (loop .i) (loop .inv .3)
           (passed (c .before .type-known .result) (test (c .before)) (c .if2 .left)),
     )
 

@@ -8,10 +8,11 @@ use Rattle.table.proofs.raw.refused_row.Statement.{statement}
 use Rattle.table.proofs.raw.refused_row.Tie as tie
 
 abbrev Inv-loop : tie.InvT-loop
-Inv-loop bytes start₀ i₀ start i = (i ≤ rowLimit) × (start ≡ i * rawSize) × (start ≤ length bytes) × ((j : ℕ) → j < i → RowTaken bytes j)
+Inv-loop edition bytes start₀ i₀ start i =
+    (i ≤ rowLimit) × (start ≡ i * rawSize) × (start ≤ length bytes) × ((j : ℕ) → j < i → RowTaken edition bytes j)
 
 abbrev μ-loop : tie.MeasureT-loop
-μ-loop bytes start₀ i₀ start i = rowLimit - i
+μ-loop edition bytes start₀ i₀ start i = rowLimit - i
 
 returns : tie.Need-returns Inv-loop μ-loop
 returns c =
@@ -32,7 +33,8 @@ loop-again c =
       omega arith,
       omega (arith, loop .inv .1),
       omega (arith, c .before .before .if1 .left, loop .inv .2),
-      taken-more (now (at-loop .before .before .args .bytes)) (loop .i) (loop .inv .3) (passed (test .result) (test .ensures) (c .if2 .left)),
+      taken-more (at-loop .before .before .args .edition) (now (at-loop .before .before .args .bytes)) (loop .i) (loop .inv .3)
+          (passed (test .result) (test .ensures) (c .if2 .left)),
     )
 
 returns-3 : tie.Need-returns-3 Inv-loop μ-loop

@@ -22,13 +22,15 @@ judged-as row other a b is same judged = subst (λ (x : Constraint). Judged (row
     (subst (λ (x : Answer). Judged (rowQuestions row) x) same judged)
 
 -- the test is that of the row
-test : (c : tie.After-type-known) → Decides (KnownAt (now (c .before .before .before .before .args .bytes))
+test : (c : tie.After-type-known) → Decides (KnownAt (c .before .before .before .before .args .edition)
+    (now (c .before .before .before .before .args .bytes))
     (c .before .before .before .before .args .i)) (c .type-known .result)
 test c =
     let start = c .before .before .before .before in
     let first = c .before .before .byte-at in
     let second = c .before .byte-at2 in
-    known-test (now (start .args .bytes)) (start .args .i) _ (first .result) (second .result) (c .type-known .result) refl (first .ensures)
+    known-test (start .args .edition) (now (start .args .bytes)) (start .args .i) _ (first .result) (second .result) (c .type-known .result) refl
+    (first .ensures)
     (second .ensures) (c .type-known .ensures)
 
 -- the body ends within the bytes that there are
@@ -38,7 +40,8 @@ ends c =
     let at-test = c .before .before in
     let start = at-test .before .before .before .before in
     rw (c .length-of .ensures, at-test .before .before .byte-at .ensures, at-test .before .byte-at2 .ensures)
-    (body-within (now (start .args .bytes)) (start .args .i) (passed (at-test .type-known .result) (test at-test) (c .before .if1 .left))
+    (body-within (start .args .edition) (now (start .args .bytes)) (start .args .i)
+    (passed (at-test .type-known .result) (test at-test) (c .before .if1 .left))
     (start .pre))
 
 -- the row that is read is the one of the body

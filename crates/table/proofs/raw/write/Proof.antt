@@ -10,7 +10,8 @@ returns c =
     let at-first = at-write .before .before .before in
     let at-known = at-first .before in
     let a = at-known .before .before .before .args in
-    all-written (now (a .rows)) (now (a .buffer)) _ (at-known .known-rows .result) (at-first .first-rows .result) (at-write .write .result)
+    all-written (a .edition) (now (a .rows)) (now (a .buffer)) _ (at-known .known-rows .result) (at-first .first-rows .result)
+    (at-write .write .result)
     (at-first .first-rows .ensures) (omega (arith, at-write .before .before .if1 .taken, at-known .known-rows .ensures .whole))
     (at-write .write .ensures)
 
@@ -20,7 +21,8 @@ returns-2 c =
     let at-first = at-judge .before .before in
     let at-known = at-first .before in
     let a = at-known .before .before .before .args in
-    before-refused (now (a .rows)) (now (a .buffer)) (at-known .known-rows .result) (at-first .first-rows .result) (at-first .first-rows .ensures)
+    before-refused (a .edition) (now (a .rows)) (now (a .buffer)) (at-known .known-rows .result) (at-first .first-rows .result)
+    (at-first .first-rows .ensures)
     (omega (arith, at-judge .before .if1 .left, at-known .known-rows .ensures .whole)) _
     (rw (c .before .number .given .1) at (at-judge .judge .ensures))
 
@@ -32,7 +34,8 @@ returns-3 c =
     let at-known = at-first .before in
     let a = at-known .before .before .before .args in
     let found = at-known .known-rows .ensures in
-    unknown-refused (now (a .rows)) (now (a .buffer)) (at-known .known-rows .result) (at-first .first-rows .result) (at-first .first-rows .ensures)
+    unknown-refused (a .edition) (now (a .rows)) (now (a .buffer)) (at-known .known-rows .result) (at-first .first-rows .result)
+    (at-first .first-rows .ensures)
     (omega (arith, at-judge .before .if1 .left, found .whole)) (c .if2 .taken)
     (found .last (c .if2 .taken) (omega (arith, at-judge .before .if1 .left, found .whole)))
     (rw (at-told .enum-told .given .1) at (at-judge .judge .ensures))
@@ -44,7 +47,8 @@ returns-4 c =
     let at-first = at-judge .before .before in
     let at-known = at-first .before in
     let a = at-known .before .before .before .args in
-    full-refused (now (a .rows)) (now (a .buffer)) (at-known .known-rows .result) (at-first .first-rows .result) (at-first .first-rows .ensures)
+    full-refused (a .edition) (now (a .rows)) (now (a .buffer)) (at-known .known-rows .result) (at-first .first-rows .result)
+    (at-first .first-rows .ensures)
     (omega (arith, at-judge .before .if1 .left, at-known .known-rows .ensures .whole)) (c .if2 .left)
     (rw (at-told .enum-told .given .1) at (at-judge .judge .ensures))
 

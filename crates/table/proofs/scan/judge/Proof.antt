@@ -1,22 +1,27 @@
--- The version byte is asked for first, and then the rows.
-use Rattle.constraint.proofs.Library.{needs, refl, sym, _∙_, now}
-use Rattle.constraint.specs.Table.{VersionOne, version-refused}
-use Rattle.table.proofs.Places.{version-one}
+-- The version byte is asked for first, and then the rows of its edition.
+use Rattle.constraint.proofs.Library.{needs, refl, now}
+use Rattle.constraint.specs.Table.{VersionUpTo, version-refused}
+use Rattle.constraint.proofs.Judged.{passed, failed}
 use Rattle.table.proofs.Scanning.{counted-behind}
 use Rattle.table.proofs.scan.judge.Statement.{statement}
 use Rattle.table.proofs.scan.judge.Tie as tie
 
-version : (c : tie.Else1) → VersionOne (now (c .before .before .before .args .bytes))
-version c = version-one (now (c .before .before .before .args .bytes)) (sym (c .before .byte-at .ensures) ∙ c .if1 .left)
+version : (c : tie.Else1) → VersionUpTo (c .before .before .before .args .newest) (now (c .before .before .before .args .bytes))
+version c = passed (c .before .version-known .result) (c .before .version-known .ensures) (c .if1 .left)
+
+returns : tie.Need-returns
+returns c =
+    let test = c .before .version-known in
+    (version-refused (failed (test .result) (test .ensures) (c .if1 .taken)), refl)
 
 returns-2 : tie.Need-returns-2
 returns-2 c =
     let found = c .judge-rows in
-    let a = c .before .before .before .before .args in
-    counted-behind (now (a .bytes)) (found .result .answer) (found .result .rows) (version (c .before)) (found .ensures)
+    let edition = c .before .byte-at in
+    let a = c .before .before .before .before .before .args in
+    counted-behind (a .newest) (edition .result) (now (a .bytes)) (found .result .answer) (found .result .rows) (version (c .before .before))
+    (edition .ensures) (found .ensures)
 
 pub judge-spec : {M : Type 1} → statement M
 judge-spec =
-    tie.close
-    (tie.spec (λ c κs. search needs) (λ c. (version-refused (λ one. c .if1 .taken (c .before .byte-at .ensures ∙ one .1)), refl))
-    (λ c κs. version c .0) returns-2)
+    tie.close (tie.spec (λ c κs. search needs) returns (λ c κs. search needs) (λ c κs. version (c .before) .0) returns-2)

@@ -7,14 +7,15 @@ use Rattle.table.proofs.scan.judge_rows.Statement.{statement}
 use Rattle.table.proofs.scan.judge_rows.Tie as tie
 
 abbrev Inv-loop : tie.InvT-loop
-Inv-loop bytes rows₀ place₀ rows place = CountedTo bytes rows place
+Inv-loop edition bytes rows₀ place₀ rows place = CountedTo edition bytes rows place
 
 abbrev μ-loop : tie.MeasureT-loop
-μ-loop bytes rows₀ place₀ rows place = length bytes - place
+μ-loop edition bytes rows₀ place₀ rows place = length bytes - place
 
 -- what was read of the row that is counted
 row : (c : tie.After-next Inv-loop μ-loop)
-    → ReadsAt (now (c .before .before .before .before .before .before .args .bytes)) (c .before .before .before .before .loop .rows)
+    → ReadsAt (c .before .before .before .before .before .before .args .edition)
+    (now (c .before .before .before .before .before .before .args .bytes)) (c .before .before .before .before .loop .rows)
     (c .before .before .before .before .loop .place) (RowRead.Row (c .next .given .0 .0) (c .next .given .0 .1 .0))
 row c = rw (c .next .given .1) at (c .before .before .read-row .ensures)
 
@@ -22,24 +23,30 @@ loop-again : tie.Need-loop-again Inv-loop μ-loop
 loop-again c =
     let at-loop = c .before .before .before .before .before in
     let bytes = now (at-loop .before .before .args .bytes) in
-    counted-more bytes (at-loop .loop .rows) (at-loop .loop .place) _ _ (at-loop .loop .inv) (omega arith) (row (c .before))
+    counted-more (at-loop .before .before .args .edition) bytes (at-loop .loop .rows) (at-loop .loop .place) _ _ (at-loop .loop .inv) (omega arith)
+    (row (c .before))
 
 returns : tie.Need-returns Inv-loop μ-loop
 returns c =
     let at-number = c .before in
     let at-loop = at-number .before .before .before .before in
     let bytes = now (at-loop .before .before .args .bytes) in
-    let judged = rw (at-number .number .given .1) at (at-number .before .before .read-row .ensures) in
-    (counted-refused bytes (at-loop .loop .rows) (at-loop .loop .place) _ (at-loop .loop .inv) (omega arith) judged, refl)
+    let judged = rw (at-number .number .given .1) at (at-number .before .before .read-row .ensures) in (
+      counted-refused (at-loop .before .before .args .edition) bytes (at-loop .loop .rows) (at-loop .loop .place) _ (at-loop .loop .inv) (omega arith)
+          judged,
+      refl,
+    )
 
 returns-2 : tie.Need-returns-2 Inv-loop μ-loop
 returns-2 c =
     let at-loop = c .before in
-    counted-end (now (at-loop .before .before .args .bytes)) (at-loop .loop .rows) (at-loop .loop .place) (at-loop .loop .inv) (c .loop-test .left)
+    counted-end (at-loop .before .before .args .edition) (now (at-loop .before .before .args .bytes)) (at-loop .loop .rows) (at-loop .loop .place)
+    (at-loop .loop .inv) (c .loop-test .left)
 
 pub judge-rows-spec : {M : Type 1} → statement M
 judge-rows-spec =
     tie.close
-    (tie.spec Inv-loop μ-loop (λ c. counted-start (now (c .before .args .bytes)) (omega arith)) (λ c κs. tt) (λ c. search needs)
+    (tie.spec Inv-loop μ-loop (λ c. counted-start (c .before .args .edition) (now (c .before .args .bytes)) (omega arith)) (λ c κs. tt)
+    (λ c. search needs)
     (λ c. let at-loop = c .before .before .before .before .before in omega (arith, at-loop .loop .inv .room))
     (λ c. let read = row (c .before) in omega (arith, read .2)) loop-again (λ c. search needs) returns returns-2)

@@ -1,5 +1,5 @@
 -- Where a row is whole, its body is the part behind the length field, and it is read as the row that it stands for.
-use Rattle.constraint.proofs.Library.{arith, needs, refl, ap, subst⁻¹, _∙_, now}
+use Rattle.constraint.proofs.Library.{ℕ, arith, needs, refl, ap, subst⁻¹, _∙_, now}
 use Rattle.constraint.specs.Bytes.{Bytes}
 use Rattle.constraint.specs.Table.{bodyAt, WholeAt, RowAt}
 use Rattle.constraint.proofs.Judged.{passed, failed, free}
@@ -12,10 +12,11 @@ whole : (c : tie.Else1) → WholeAt (now (c .before .before .before .args .bytes
 whole c = passed (c .before .whole-at .result) (c .before .whole-at .ensures) (c .if1 .left)
 
 -- a slice of bytes holds bytes, so the row at the place is the one that the body is read as
-row : (c : tie.After-shared-slice-known)
-    → RowAt (now (c .before .args .bytes)) (c .before .args .place) (constraintOf (bodyAt (now (c .before .args .bytes)) (c .before .args .place)))
+row : (c : tie.After-shared-slice-known) (edition : ℕ)
+    → RowAt edition (now (c .before .args .bytes)) (c .before .args .place)
+    (constraintOf (bodyAt (now (c .before .args .bytes)) (c .before .args .place)))
 unfolding Bytes
-row c = let a = c .before .args in row-at (now (a .bytes)) (a .place) (λ i h. omega (arith, c .shared-slice-known .given i))
+row c edition = let a = c .before .args in row-at edition (now (a .bytes)) (a .place) (λ i h. omega (arith, c .shared-slice-known .given i))
 
 returns : tie.Need-returns
 returns c =
@@ -35,7 +36,7 @@ returns-2 c =
     let same = c .row-of .ensures ∙ ap constraintOf (part-body (now (a .bytes)) (a .place) (size .result) (size .ensures)) in
     record {
       read = λ there. same;
-      stands = λ there. subst⁻¹ (RowAt (now (a .bytes)) (a .place)) same (row (c .before .before .before .before .before));
+      stands = λ there edition. subst⁻¹ (RowAt edition (now (a .bytes)) (a .place)) same (row (c .before .before .before .before .before) edition);
       behind = λ there. omega (arith, size .ensures);
       none = λ not-whole. absurd (not-whole (whole (c .before .before .before)));
     }

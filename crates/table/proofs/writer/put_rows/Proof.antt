@@ -2,7 +2,7 @@
 use Rattle.constraint.proofs.Library.{arith, _+_, _-_, _^_, _≤_, _<_, _≡_, refl, sym, ap, _∙_, List, length, getD, drop, length-map}
 use Rattle.constraint.proofs.Library.{drop-of-length-le, sets}
 use Rattle.constraint.specs.Records.{rowsOf}
-use Rattle.constraint.specs.Table.{rowBody, rowsBytes, tableBytes}
+use Rattle.constraint.specs.Table.{rowBody, rowsBytes}
 use Rattle.constraint.specs.declared.Constraint.{Constraint}
 use Rattle.constraint.specs.declared.Constraint.the-variants.{Delay}
 use Rattle.constraint.proofs.Rows.{rows-length}
@@ -13,7 +13,7 @@ use Rattle.table.proofs.writer.put_rows.Tie as tie
 
 abbrev Inv-loop : tie.InvT-loop
 Inv-loop buffer₀ table count place₀ i₀ buffer place i =
-    (i ≤ count) × (length buffer ≡ length buffer₀) × (place + length (rowsBytes (drop i (rowsOf table))) ≡ length (tableBytes (rowsOf table)))
+    (i ≤ count) × (length buffer ≡ length buffer₀) × (place + length (rowsBytes (drop i (rowsOf table))) ≡ 1 + length (rowsBytes (rowsOf table)))
     × (sets buffer place (rowsBytes (drop i (rowsOf table))) ≡ sets buffer₀ 1 (rowsBytes (rowsOf table)))
 
 abbrev μ-loop : tie.MeasureT-loop
@@ -65,7 +65,6 @@ returns c =
     ∙ loop .inv .3
 
 pub put-rows-spec : {M : Type 1} → statement M
-unfolding tableBytes
 put-rows-spec =
     tie.close
     (tie.spec Inv-loop μ-loop (λ c. (omega arith, refl, omega arith, refl)) (λ c. omega arith) (λ c. omega arith) put-row-requires (λ c κs. tt)

@@ -1,7 +1,7 @@
 -- The loop adds row after row: the size so far and the bytes of the rows left are the whole.
 use Rattle.constraint.proofs.Library.{arith, _+_, _*_, _-_, _≤_, _≡_, sym, _∙_, [], length, drop, length-map, drop-of-length-le}
 use Rattle.constraint.specs.Records.{rowsOf}
-use Rattle.constraint.specs.Table.{rowsBytes, tableBytes}
+use Rattle.constraint.specs.Table.{rowsBytes}
 use Rattle.constraint.proofs.Rows.{rows-length}
 use Rattle.table.proofs.Standing.{body-short}
 use Rattle.table.proofs.Stores.{rows-size}
@@ -10,7 +10,7 @@ use Rattle.table.proofs.writer.size_of.Tie as tie
 
 abbrev Inv-loop : tie.InvT-loop
 Inv-loop table count size₀ i₀ size i = (i ≤ count) × (size ≤ 1 + 40 * i)
-    × (size + length (rowsBytes (drop i (rowsOf table))) ≡ length (tableBytes (rowsOf table)))
+    × (size + length (rowsBytes (drop i (rowsOf table))) ≡ 1 + length (rowsBytes (rowsOf table)))
 
 abbrev μ-loop : tie.MeasureT-loop
 μ-loop table count size₀ i₀ size i = count - i
@@ -41,7 +41,6 @@ returns c =
     omega (arith, rw none at (at-loop .loop .inv .2))
 
 pub size-of-spec : {M : Type 1} → statement M
-unfolding tableBytes
 size-of-spec =
     tie.close
     (tie.spec Inv-loop μ-loop (λ c. (omega arith, omega arith, omega arith)) (λ c. omega arith) (λ c. omega arith) (λ c κs. tt)

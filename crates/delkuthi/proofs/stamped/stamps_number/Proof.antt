@@ -1,12 +1,12 @@
 -- The number is that of the word, or that of the refusal, which is above 0, and its place.
 use Rattle.constraint.proofs.Library.{arith, needs, ℕ, _<_, _≡_, now}
-use Rattle.constraint.specs.Stamps.{AnswersStamps}
+use Rattle.constraint.specs.Stamps.{AnswersStampsUpTo}
 use Rattle.constraint.specs.declared.StampedAnswer.{StampedAnswer}
 use Rattle.constraint.proofs.Judged.{never}
 use Rattle.queue.proofs.Shared.{free}
 use Rattle.delkuthi.proofs.RecordNumbers.{stamped-above}
-use Rattle.delkuthi.proofs.stamped.delkuthi_stamps.Statement.{statement}
-use Rattle.delkuthi.proofs.stamped.delkuthi_stamps.Tie as tie
+use Rattle.delkuthi.proofs.stamped.stamps_number.Statement.{statement}
+use Rattle.delkuthi.proofs.stamped.stamps_number.Tie as tie
 
 -- the number of a refusal is small
 refusal-small : (n place m at : ℕ) → 0 < n → n < 256 → StampedAnswer.Refused n place ≡ StampedAnswer.Refused m at → (0 < m) × (m < 256)
@@ -27,7 +27,7 @@ returns-2 c =
     let at-answer = c .before .before in
     let args = at-answer .before .before .before .before .before .args in
     let given = at-answer .answer2 .given in
-    let says : AnswersStamps (now (args .table)) (now (args .recording)) (args .row) (args .late)
+    let says : AnswersStampsUpTo (args .newest) (now (args .table)) (now (args .recording)) (args .row) (args .late)
     (StampedAnswer.Refused (given .0 .0) (given .0 .1 .0)) =
     rw (given .1) at (at-answer .before .before .read .ensures) in
     record {
@@ -37,6 +37,6 @@ returns-2 c =
       small = λ n place e. refusal-small (given .0 .0) (given .0 .1 .0) n place (stamped-above _ _ _ _ _ _ says) (omega arith) e;
     }
 
-pub delkuthi-stamps-spec : {M : Type 1} → statement M
-delkuthi-stamps-spec =
+pub stamps-number-spec : {M : Type 1} → statement M
+stamps-number-spec =
     tie.close (tie.spec free (λ c. search needs) free (λ c. search needs) free (λ c. search needs) (λ c. search needs) returns returns-2)

@@ -1,6 +1,6 @@
 -- The table's answer is that of its questions; over an accepted table all its rows are taken, and otherwise none.
 use Rattle.constraint.proofs.Library.{arith, needs, ap, _∙_, take-all}
-use Rattle.constraint.specs.Accepted.{Accepted}
+use Rattle.constraint.specs.Accepted.{AcceptedIn}
 use Rattle.constraint.specs.Promise.{play}
 use Rattle.constraint.specs.Records.{rowsOf}
 use Rattle.constraint.proofs.Judged.{never}
@@ -8,17 +8,17 @@ use Rattle.constraint.proofs.Rows.{rows-length}
 use Rattle.monitor.specs.Machine.{monitorOf}
 use Rattle.monitor.specs.Contract.{after}
 use Rattle.monitor.proofs.Demand.{accepted-few}
-use Rattle.monitor.proofs.Monitor.fresh.Statement.{statement}
-use Rattle.monitor.proofs.Monitor.fresh.Tie as tie
+use Rattle.monitor.proofs.Monitor.fresh_in.Statement.{statement}
+use Rattle.monitor.proofs.Monitor.fresh_in.Tie as tie
 
 -- the answer is "taken"
-taken : (c : tie.After-enum-told) → Accepted (rowsOf (c .before .before .before .args .table))
+taken : (c : tie.After-enum-told) → AcceptedIn (c .before .before .before .args .edition) (rowsOf (c .before .before .before .args .table))
 taken c = rw (c .enum-told .given .1) at (c .before .before .judge .ensures)
 
 over-requires-2 : tie.Need-over-requires-2
 over-requires-2 c κs =
     let table = c .before .before .before .args .table in
-    (omega arith, omega (arith, accepted-few (rowsOf table) (taken c), rows-length table))
+    (omega arith, omega (arith, accepted-few (rowsOf table) (_, taken c), rows-length table))
 
 returns : tie.Need-returns
 unfolding after play
@@ -40,6 +40,6 @@ returns-2 c =
       refused = λ n e. never (cc);
     }
 
-pub fresh-spec : {M : Type 1} → statement M
-fresh-spec =
+pub fresh-in-spec : {M : Type 1} → statement M
+fresh-in-spec =
     tie.close (tie.spec (λ c κs. search needs) (λ c. search needs) (λ c κs. search needs) (λ c. search needs) over-requires-2 returns returns-2)

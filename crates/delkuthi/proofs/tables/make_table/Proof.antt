@@ -1,8 +1,8 @@
 -- A table that is written is so short that 256 times its length is a number of 64 bits; the number of a refusal says its row.
 use Rattle.constraint.proofs.Library.{arith, needs, now}
 use Rattle.delkuthi.proofs.Refusals.{raw-short, makes-written, makes-refused}
-use Rattle.delkuthi.proofs.tables.delkuthi_table.Statement.{statement}
-use Rattle.delkuthi.proofs.tables.delkuthi_table.Tie as tie
+use Rattle.delkuthi.proofs.tables.make_table.Statement.{statement}
+use Rattle.delkuthi.proofs.tables.make_table.Tie as tie
 
 mul-length : tie.Need-mul-length
 mul-length c =
@@ -10,7 +10,7 @@ mul-length c =
     let a = c .before .before .before .before .before .before .before .before .before .args in
     omega (
       arith,
-      raw-short (now (a .rows)) (now (a .table)) (w .last .1 .0) (w .result) (c .before .count .given .0 .0) (c .before .count .given .1)
+      raw-short (now (a .rows)) (now (a .table)) (w .last .1 .1 .0) (w .result) (c .before .count .given .0 .0) (c .before .count .given .1)
           (w .ensures),
     )
 
@@ -18,7 +18,7 @@ returns : tie.Need-returns
 returns c =
     let w = c .before .before .before .before .before .write in
     let a = c .before .before .before .before .before .before .before .before .before .args in
-    makes-written (now (a .rows)) (now (a .table)) (w .last .1 .0) (w .result) (c .before .count .given .0 .0) (c .before .count .given .1)
+    makes-written (now (a .rows)) (now (a .table)) (w .last .1 .1 .0) (w .result) (c .before .count .given .0 .0) (c .before .count .given .1)
     (w .ensures)
 
 returns-2 : tie.Need-returns-2
@@ -27,12 +27,12 @@ returns-2 c =
     let at-write = at-number .before .before .before .before in
     let w = at-write .write in
     let a = at-write .before .before .before .before .args in
-    makes-refused (now (a .rows)) (now (a .table)) (w .last .1 .0) (w .result) (at-number .number .given .0 .0) (c .before .refused-row .result)
+    makes-refused (now (a .rows)) (now (a .table)) (w .last .1 .1 .0) (w .result) (at-number .number .given .0 .0) (c .before .refused-row .result)
     (c .row-number .result)
     (omega arith) (at-number .number .given .1) (w .ensures) (c .before .refused-row .ensures) (c .row-number .ensures)
 
-pub delkuthi-table-spec : {M : Type 1} → statement M
-delkuthi-table-spec =
+pub make-table-spec : {M : Type 1} → statement M
+make-table-spec =
     tie.close
     (tie.spec (λ c κs. search needs) (λ c. search needs) mul-length (λ c. search needs) (λ c κs. search needs) (λ c κs. search needs)
     (λ c. search needs)

@@ -1,0 +1,51 @@
+-- What the second edition leaves as it was: a table of the first is read as before by a call that takes both, and its rows are accepted in the
+-- second too, since that has all types of the first.
+use Prim.Native.Nat.{ℕ, _+_, _≤_, _<_}
+use native.Mathlib.Omega.{arith}
+use mathlib.Core.Path.{_≡_}
+use mathlib.Core.List.{List, [], _∷_}
+use mathlib.Core.Logic.{_↔_}
+use Rattle.constraint.specs.Limits.{rowLimit}
+use Rattle.constraint.specs.Steps.{at}
+use Rattle.constraint.specs.Questions.{Judged}
+use Rattle.constraint.specs.Types.{typeOf, lastType}
+use Rattle.constraint.specs.Accepted.{rowQuestions, rowsQuestions, AcceptedIn}
+use Rattle.constraint.specs.Table.{TableRead, VersionUpTo, ReadsTableUpTo, version-refused, version-taken, ReadsTable}
+use Rattle.constraint.specs.declared.Answer.the-variants.{Taken}
+use Rattle.constraint.specs.declared.Constraint.{Constraint}
+use Rattle.constraint.proofs.Judged.{judged-yes, judged-all, judged-parts}
+use Rattle.constraint.proofs.Accepted.{rows-taken}
+
+-- ---- bytes
+
+-- calls that both take the edition of a table read it alike
+module _ (one other : ℕ) (bytes : List ℕ) (known : at bytes 0 ≤ one) (known′ : at bytes 0 ≤ other) where
+  version-same : VersionUpTo other bytes → VersionUpTo one bytes
+  version-same version = (version .0, version .1, known)
+
+  pub reads-same : {read : TableRead} → ReadsTableUpTo one bytes read → ReadsTableUpTo other bytes read
+  reads-same (version-refused refused) = version-refused (λ version. refused (version-same version))
+  reads-same (version-taken version rows) = version-taken (version .0, version .1, known′) rows
+
+-- §4.15: bytes whose first byte is 1 are read by the calls that take both editions as by those that take the first alone
+pub reads-as-before : (bytes : List ℕ) → at bytes 0 ≡ 1 → (read : TableRead) → ReadsTableUpTo 2 bytes read ↔ ReadsTable bytes read
+reads-as-before bytes first read =
+    (reads-same 2 1 bytes (omega (arith, first)) (omega (arith, first)), reads-same 1 2 bytes (omega (arith, first)) (omega (arith, first)))
+
+-- ---- rows
+
+-- rows that are accepted in an edition are accepted in one that has its types
+module _ (edition later : ℕ) (more : lastType edition ≤ lastType later) where
+  rows-later : (i : ℕ) (rows : List Constraint) → Judged (rowsQuestions edition i rows []) Taken → Judged (rowsQuestions later i rows []) Taken
+  unfolding rowsQuestions
+  rows-later i [] judged = judged
+  rows-later i (c ∷ rows) judged =
+      let room = judged-all 3 (i < rowLimit) _ judged in
+      let known = judged-all 4 (typeOf c ≤ lastType edition) _ (room .1) in
+      let parts = judged-parts (rowQuestions c) (rowsQuestions edition (i + 1) rows []) (known .1) in
+      rows-taken later i c rows [] Taken (room .0) (judged-yes 4 _ _ Taken (omega (arith, known .0, more)) (parts .0))
+      (rows-later (i + 1) rows (parts .1))
+
+-- §4.14: those of the first edition are accepted in the second
+pub accepted-later : (rows : List Constraint) → AcceptedIn 1 rows → AcceptedIn 2 rows
+accepted-later rows accepted = rows-later 1 2 (omega arith) 0 rows accepted

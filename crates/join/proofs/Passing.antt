@@ -1,26 +1,12 @@
 -- A record that is taken adds its kind to those marked, and the first one of a kind to avoid is kept.
-use Rattle.constraint.proofs.Library.{ℕ, _+_, _≤_, _<_, arith, _≡_, refl, sym, ap, subst, _∙_, List, [], _∷_, _++_, append-nil, _⊎_, inl, inr, length}
-use Rattle.constraint.proofs.Library.{set, replicate, length-set, length-replicate, getD-replicate, List·getD-eq-default, set-out, getD-set-same}
-use Rattle.constraint.proofs.Library.{getD-set-other, eqb, lt-ltb, eq-eqb, ne-eqb, eqb-true, eqb-false}
-use mathlib.Core.Bool.{Bool, true, false, cond, _||_, or-true as either-true}
-use Rattle.constraint.specs.Limits.{lastKind}
-use Rattle.constraint.specs.Streams.{stream, kindOf}
-use Rattle.constraint.specs.Steps.{Step, event, tick, close, at, among}
-use Rattle.constraint.specs.Questions.{Judged}
-use Rattle.constraint.specs.Run.{stepFor, questions}
-use Rattle.constraint.specs.Table.{lengthAt}
-use Rattle.constraint.specs.Recording.{VersionKnown, callAt, recordQuestions, ReadsInOrder, recording-of, recording-refused}
-use Rattle.constraint.specs.declared.Answer.the-variants.{Taken}
-use Rattle.constraint.specs.declared.Call.{Call}
-use Rattle.constraint.proofs.Lists.{split, both}
-use Rattle.constraint.proofs.Streams.{plain-kind, stream-kind}
-use Rattle.constraint.proofs.Judged.{judged-all}
-use Rattle.clock.specs.Clock.{After, ReadsNext}
-use Rattle.clock.specs.declared.Clock.{Clock}
-use Rattle.clock.specs.declared.RecordRead.{RecordRead}
-use Rattle.clock.proofs.Laws.{ReadUpTo, up-to-start, up-to-more, up-to-refused, up-to-end}
-use Rattle.constraint.specs.Joined.{kindsOf, ofKinds, FirstOf, here, later}
-use Rattle.join.specs.Walk.{callKind, Marks, Found, firstCommon}
+use Rattle.join.proofs.Names.{After, Call, Clock, FirstOf, Found, Judged, List, List·getD-eq-default, Marks, ReadUpTo, ReadsInOrder, ReadsNext}
+use Rattle.join.proofs.Names.{RecordRead, Step, Taken, VersionKnown, [], _++_, _+_, _<_, _∙_, _∷_, _≡_, _≤_, _⊎_, among, ap, append-nil, arith}
+use Rattle.join.proofs.Names.{at, both, callAt, callKind, close, either-true, eq-eqb, eqb, eqb-false, eqb-true, event, firstCommon}
+use Rattle.join.proofs.Names.{getD-replicate, getD-set-other, getD-set-same, here, inl, inr, judged-all, kindOf, kindsOf, lastKind, later}
+use Rattle.join.proofs.Names.{length, length-replicate, length-set, lengthAt, lt-ltb, ne-eqb, ofKinds, plain-kind, questions, recordQuestions}
+use Rattle.join.proofs.Names.{recording-of, recording-refused, refl, replicate, set, set-out, split, stepFor, stream, stream-kind, subst, sym}
+use Rattle.join.proofs.Names.{tick, up-to-end, up-to-more, up-to-refused, up-to-start, ℕ}
+use mathlib.Core.Bool.{Bool, _||_, cond, false, true}
 
 -- ---- one more of some kinds
 

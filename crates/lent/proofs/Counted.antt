@@ -1,21 +1,9 @@
 -- The numbers of a call that is taken are stored before its rows take the step: the words say the same of the rows then, and with the rows after
 -- the step they are the monitor after the call.
-use Rattle.constraint.proofs.Library.{ℕ, _≤_, arith, _≡_, refl, _∙_, ap₂, List, length, getD}
-use Rattle.constraint.specs.Limits.{streamCount}
-use Rattle.constraint.specs.declared.Call.{Call}
-use Rattle.row.specs.declared.Before.{Before}
-use Rattle.row.specs.declared.Occurrence.{Occurrence}
-use Rattle.row.specs.declared.Row.{Row}
-use Rattle.monitor.specs.Machine.{mapFirst, zipFirst, nextStep, steppedBy}
-use Rattle.monitor.specs.Parts.{withRows}
-use Rattle.questions.specs.declared.Undo.{Undo}
-use Rattle.monitor.specs.declared.Monitor.{Monitor}
-use Rattle.monitor.proofs.First.{map-all, zip-all}
-use Rattle.lent.specs.Layout.{Lent, heldRows}
-use Rattle.lent.specs.Steps.{withMonitor, withRoom}
-use Rattle.lent.specs.Contract.{steppedFrom, Roomy, Indexes}
-use Rattle.lent.proofs.Hearing.{moved, saves}
-use Rattle.lent.proofs.Listing.{same-rows}
+use Rattle.lent.proofs.Names.{Before, Call, Indexes, Lent, List, Monitor, Occurrence, Roomy, Row, Undo, _∙_, _≡_, _≤_, ap₂, arith, getD}
+use Rattle.lent.proofs.Names.{heldRows, length, map-all, mapFirst, nextStep, refl, steppedBy, steppedFrom, streamCount, withMonitor, withRoom}
+use Rattle.lent.proofs.Names.{withRows, zip-all, zipFirst, ℕ}
+use Rattle.lent.proofs.{Hearing.moved, Hearing.saves, Listing.same-rows}
 
 -- ---- the numbers stored
 

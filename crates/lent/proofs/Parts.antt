@@ -1,25 +1,13 @@
 -- The words beside the rows, read and written: each stands at a place of the last three blocks, and a store there is a store in one part of the
 -- record.
-use Rattle.constraint.proofs.Library.{ℕ, zero, suc, _+_, _-_, _<_, _/_, _%_, min, arith, suc-add, zero-add, ℕ-discrete, _≡_, refl, sym, ap, ap₂}
-use Rattle.constraint.proofs.Library.{subst, subst₂, _∙_, by-cases, Bool, true, false, cond, _||_, List, [], _∷_, _++_, length, getD, set, take, drop}
-use Rattle.constraint.proofs.Library.{length-set, getD-set-same, getD-set-other, getD-take, getD-drop, getD-append-add, take-set-lt, take-set-le}
-use Rattle.constraint.proofs.Library.{drop-set-lt, drop-set-add, ltb, ltb-true, ltb-false}
-use Rattle.constraint.proofs.Lists.{split}
-use Rattle.row.specs.Apart.{endsBy, endedState}
-use Rattle.row.specs.Machine.{eventAt, tickAt}
-use Rattle.row.specs.declared.Before.{Before}
-use Rattle.row.specs.declared.Occurrence.{Occurrence}
-use Rattle.row.specs.declared.Row.{Row}
-use Rattle.row.specs.Stored.{RestZero}
-use Rattle.row.specs.Undo.{noBefore}
-use Rattle.row.proofs.Kept.{rest-zero-event, rest-zero-ended, rest-zero-without}
-use Rattle.machine.specs.Parts.{plus}
-use Rattle.monitor.specs.Machine.{noRow}
-use Rattle.monitor.specs.declared.Monitor.{Monitor}
-use Rattle.lent.specs.Layout.{Lent, Words, halves, numberArray, numberBlock, wordsOf, rowBlocks, Shaped, rowNamed, startOf, heldRows}
-use Rattle.lent.specs.Layout.{rowAt, keptAt}
-use Rattle.lent.specs.Steps.{withRow, withSoonest, withRoom, withNext, countedOn, countedTo, visited, ended, backed, soonestAll, passed, begun}
-use Rattle.lent.specs.Steps.{crowdedAt, crowded, endAt, rowCount}
+use Rattle.lent.proofs.Names.{Before, Bool, Lent, List, Monitor, Occurrence, RestZero, Row, Shaped, Words, [], _%_, _++_, _+_, _-_, _/_, _<_}
+use Rattle.lent.proofs.Names.{_||_, _∙_, _∷_, _≡_, ap, ap₂, arith, backed, begun, by-cases, cond, countedOn, countedTo, crowded, crowdedAt}
+use Rattle.lent.proofs.Names.{drop, drop-set-add, drop-set-lt, endAt, ended, endedState, endsBy, eventAt, false, getD, getD-append-add}
+use Rattle.lent.proofs.Names.{getD-drop, getD-set-other, getD-set-same, getD-take, halves, heldRows, keptAt, length, length-set, ltb}
+use Rattle.lent.proofs.Names.{ltb-false, ltb-true, min, noBefore, noRow, numberArray, numberBlock, passed, plus, refl, rest-zero-ended}
+use Rattle.lent.proofs.Names.{rest-zero-event, rest-zero-without, rowAt, rowBlocks, rowCount, rowNamed, set, soonestAll, split, startOf, subst}
+use Rattle.lent.proofs.Names.{subst₂, suc, suc-add, sym, take, take-set-le, take-set-lt, tickAt, true, visited, withNext, withRoom, withRow}
+use Rattle.lent.proofs.Names.{withSoonest, wordsOf, zero, zero-add, ℕ, ℕ-discrete}
 use Rattle.lent.proofs.Blocks.{last-read, last-written}
 
 -- ---- two halves

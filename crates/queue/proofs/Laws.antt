@@ -1,21 +1,10 @@
 -- Laws of `ring`, the times of a list of 64 from a place on, and of what an edit makes of a ring.
-use mathlib.Core.Path.{_≡_, refl, sym, ap, _∙_, subst}
-use mathlib.Core.Bool.{Bool, true, false, cond}
-use mathlib.Core.Logic.{_≢_, _⊎_, inl, inr, ⊎-elim, by-cases}
-use mathlib.Core.List.{List, [], _∷_, _++_, append-assoc}
-use Prim.Native.Nat.{ℕ, zero, suc, _+_, _-_, _%_, _≤_, _<_}
-use native.Mathlib.Nat.{add-zero, suc-add, add-suc, add-assoc}
-use native.Mathlib.Numerals.{add-one}
-use native.Mathlib.Omega.{arith}
-use borrow.Author.Tests.{ltb-true, ltb-false, lt-ltb, le-ltb, eqb-true}
-use lib.Dec.{ltb, eqb}
-use lib.ListN.{length, getD, set, drop, replicate, length-append, length-drop, length-set, drop-of-length-le}
-use lib.Seq.{drop-cons, getD-set-same, getD-set-other, set-out, ext-getD}
-use native.Mathlib.Decide.{ℕ-discrete}
-use Rattle.queue.specs.declared.Edit.{Edit}
-use Rattle.queue.specs.declared.Edit.the-variants.{Drop, Push, PushTwo, Store}
-use Rattle.queue.specs.Ring.{Ring, ringOf, ring, ringPlace, headAfter, timeAt, items, changed, dropRing, pushRing, putRing, edited}
-use Rattle.queue.specs.Ring.{editPlace, twoFrom, secondAt, putBack}
+use Rattle.queue.proofs.Names.{Bool, Drop, Edit, List, Push, PushTwo, Ring, Store, [], _%_, _++_, _+_, _-_, _<_, _∙_, _∷_, _≡_, _≢_, _≤_, _⊎_}
+use Rattle.queue.proofs.Names.{add-assoc, add-one, add-suc, add-zero, ap, append-assoc, arith, by-cases, changed, cond, drop, drop-cons}
+use Rattle.queue.proofs.Names.{drop-of-length-le, dropRing, editPlace, edited, eqb, eqb-true, ext-getD, false, getD, getD-set-other}
+use Rattle.queue.proofs.Names.{getD-set-same, headAfter, inl, inr, items, le-ltb, length, length-append, length-drop, length-set, lt-ltb, ltb}
+use Rattle.queue.proofs.Names.{ltb-false, ltb-true, pushRing, putBack, putRing, refl, replicate, ring, ringOf, ringPlace, secondAt, set}
+use Rattle.queue.proofs.Names.{set-out, subst, suc, suc-add, sym, timeAt, true, twoFrom, zero, ℕ, ℕ-discrete, ⊎-elim}
 
 -- ---- Rings
 

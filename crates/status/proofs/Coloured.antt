@@ -1,30 +1,10 @@
 -- An event of a coloured kind crowds no row: nothing waits in a Reaction, and to a row of any other type it is no event of its own.
-use Rattle.constraint.proofs.Library.{ℕ, _≤_, _<_, arith, _≡_, refl, false, List, [], _∷_, _++_, eqb, ne-eqb}
-use Rattle.constraint.specs.Limits.{firstColoured}
-use Rattle.constraint.specs.Streams.{stream}
-use Rattle.constraint.specs.Steps.{Step, event, among}
-use Rattle.constraint.specs.Accepted.{KindsSuit, Accepted}
-use Rattle.constraint.specs.Questions.{Judged}
-use Rattle.constraint.specs.Run.{stepFor, questions, Request, Left}
-use Rattle.constraint.specs.Waiting.{waiting}
-use Rattle.constraint.specs.declared.Answer.the-variants.{Refused}
-use Rattle.constraint.specs.declared.Call.{Call}
-use Rattle.constraint.specs.declared.Constraint.{Constraint}
-use Rattle.constraint.specs.declared.Constraint.the-variants.{Delay, StrongDelay, Repeat, Sporadic, Burst, Order, ExecutionTime, Reaction, Repetition}
-use Rattle.constraint.specs.declared.Constraint.the-variants.{StrongSynchronization2, StrongSynchronization3, StrongSynchronization4}
-use Rattle.constraint.proofs.Streams.{streams}
-use Rattle.constraint.proofs.History.{own-other}
-use Rattle.constraint.proofs.Continuations.{open-before}
-use Rattle.constraint.proofs.Waitings.{waiting-same}
-use Rattle.row.proofs.Engine.{engine}
-use Rattle.row.proofs.Steps.{fits-room}
-use Rattle.monitor.specs.Contract.{Remains}
-use Rattle.monitor.specs.declared.Monitor.{Monitor}
-use Rattle.monitor.proofs.Following.{Follows}
-use Rattle.monitor.proofs.Withdrawing.{after-follows}
-use Rattle.status.specs.Contract.{CrowdedRow, crowded, none-crowded}
-use Rattle.status.proofs.Crowded.{accepts-crowded, crowded-says}
-use Rattle.status.proofs.Theorem.{fit-at}
+use Rattle.status.proofs.Names.{Accepted, Burst, Call, Constraint, CrowdedRow, Delay, ExecutionTime, Follows, Judged, KindsSuit, Left, List}
+use Rattle.status.proofs.Names.{Monitor, Order, Reaction, Refused, Remains, Repeat, Repetition, Request, Sporadic, Step, StrongDelay}
+use Rattle.status.proofs.Names.{StrongSynchronization2, StrongSynchronization3, StrongSynchronization4, [], _++_, _<_, _∷_, _≡_, _≤_}
+use Rattle.status.proofs.Names.{after-follows, among, arith, crowded, engine, eqb, event, false, firstColoured, fits-room, ne-eqb}
+use Rattle.status.proofs.Names.{none-crowded, open-before, own-other, questions, refl, stepFor, stream, streams, waiting, waiting-same, ℕ}
+use Rattle.status.proofs.{Crowded.accepts-crowded, Crowded.crowded-says, Theorem.fit-at}
 
 -- ---- what waits in a row stays as it is
 

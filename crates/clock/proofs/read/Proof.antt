@@ -1,9 +1,8 @@
 -- A record that is whole is asked its call; any other is refused by 14, and the clock is as it was.
-use Rattle.constraint.proofs.Library.{arith, ap, now}
+use Rattle.clock.proofs.{Laws.read-call, Laws.read-none, read.Statement.statement}
+use Rattle.constraint.proofs.Library.{ap, arith, now}
 use Rattle.queue.proofs.Shared.{free}
 use Rattle.recording.specs.declared.CallRead.{CallRead}
-use Rattle.clock.proofs.Laws.{read-none, read-call}
-use Rattle.clock.proofs.read.Statement.{statement}
 use Rattle.clock.proofs.read.Tie as tie
 
 returns : tie.Need-returns

@@ -1,9 +1,6 @@
 -- The first recording's record comes next where it is there and the other is not, or is no earlier; else the second's does.
-use Rattle.constraint.proofs.Library.{_≡_, sym, _∙_, not, _&&_, _||_, leb, now}
-use Rattle.constraint.specs.Run.{stepFor}
-use Rattle.queue.proofs.Shared.{free}
-use Rattle.constraint.specs.Joined.{timeOf}
-use Rattle.join.proofs.Walking.{isRead, comes-true, comes-false, next-first, next-second}
+use Rattle.join.proofs.Names.{_&&_, _||_, _∙_, _≡_, free, leb, not, now, stepFor, sym, timeOf}
+use Rattle.join.proofs.Walking.{comes-false, comes-true, isRead, next-first, next-second}
 use Rattle.join.proofs.following.Statement.{statement}
 use Rattle.join.proofs.following.Tie as tie
 

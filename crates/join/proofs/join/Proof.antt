@@ -1,7 +1,6 @@
 -- Each answer is that of the first "no"; where there is none the joined recording is measured and then written.
-use Rattle.constraint.proofs.Library.{arith, needs, not-true, not-false, now}
-use Rattle.queue.proofs.Shared.{free}
-use Rattle.join.proofs.Answers.{answer-first, answer-second, answer-common, answer-short, answer-written}
+use Rattle.join.proofs.Names.{arith, free, needs, not-false, not-true, now}
+use Rattle.join.proofs.Answers.{answer-common, answer-first, answer-second, answer-short, answer-written}
 use Rattle.join.proofs.join.Statement.{statement}
 use Rattle.join.proofs.join.Tie as tie
 

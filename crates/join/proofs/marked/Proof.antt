@@ -1,5 +1,5 @@
 -- Past the last kind there is no mark.
-use Rattle.constraint.proofs.Library.{arith, needs, List·getD-eq-default}
+use Rattle.join.proofs.Names.{List·getD-eq-default, arith, needs}
 use Rattle.join.proofs.marked.Statement.{statement}
 use Rattle.join.proofs.marked.Tie as tie
 

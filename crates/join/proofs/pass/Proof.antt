@@ -1,9 +1,6 @@
 -- The loop reads record after record: the kinds of those read are marked, and the first one to avoid is kept.
-use Rattle.constraint.proofs.Library.{arith, _-_, length, now}
-use Rattle.constraint.specs.Recording.{version-refused}
-use Rattle.constraint.proofs.Judged.{passed, failed}
-use Rattle.queue.proofs.Shared.{free}
-use Rattle.join.proofs.Passing.{PassedTo, pass-start, pass-more, pass-refused, pass-end}
+use Rattle.join.proofs.Names.{_-_, arith, failed, free, length, now, passed, version-refused}
+use Rattle.join.proofs.Passing.{PassedTo, pass-end, pass-more, pass-refused, pass-start}
 use Rattle.join.proofs.pass.Statement.{statement}
 use Rattle.join.proofs.pass.Tie as tie
 

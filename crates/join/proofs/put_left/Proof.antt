@@ -1,11 +1,7 @@
 -- A record that is dropped is not stored.
-use Rattle.constraint.proofs.Library.{needs, sym, _∙_}
-use Rattle.queue.proofs.Shared.{free}
+use Rattle.join.proofs.Names.{_∙_, free, needs, sym}
 use Rattle.join.proofs.put_left.Statement.{statement}
 use Rattle.join.proofs.put_left.Tie as tie
-
-returns : tie.Need-returns
-returns c = rw (sym (c .before .falls-away .ensures) ∙ c .if1 .taken)
 
 put-call-requires : tie.Need-put-call-requires
 put-call-requires c κs =
@@ -20,4 +16,4 @@ returns-2 c =
 
 pub put-left-spec : {M : Type 1} → statement M
 put-left-spec =
-    tie.close (tie.spec free returns put-call-requires (λ c. search needs) returns-2)
+    tie.close (tie.spec free (λ c. rw (sym (c .before .falls-away .ensures) ∙ c .if1 .taken)) put-call-requires (λ c. search needs) returns-2)

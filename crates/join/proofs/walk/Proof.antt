@@ -1,13 +1,7 @@
 -- The version is stored, and then, turn by turn, what is left of the record that comes next.
-use Rattle.constraint.proofs.Library.{ℕ, _+_, _-_, _≤_, arith, _≡_, refl, sym, ap, _∙_, List, [], _∷_, length, sets, length-sets, not-false, not-true}
-use Rattle.constraint.proofs.Library.{now}
-use Rattle.constraint.specs.Steps.{Step}
-use Rattle.constraint.proofs.Lists.{both}
-use Rattle.queue.proofs.Shared.{free}
-use Rattle.constraint.specs.Joined.{joined, stepsBytes}
-use Rattle.join.specs.Walk.{leftBytes, Records}
-use Rattle.join.proofs.Walking.{Walking, walk-start, walk-end, walk-more, walk-short}
-use Rattle.join.proofs.walk.Statement.{statement}
+use Rattle.join.proofs.Names.{List, Records, Step, [], _+_, _-_, _∙_, _∷_, _≡_, _≤_, ap, arith, both, free, joined, leftBytes, length}
+use Rattle.join.proofs.Names.{length-sets, not-false, not-true, now, refl, sets, stepsBytes, sym, ℕ}
+use Rattle.join.proofs.{Walking.Walking, Walking.walk-end, Walking.walk-more, Walking.walk-short, Walking.walk-start, walk.Statement.statement}
 use Rattle.join.proofs.walk.Tie as tie
 
 abbrev Inv-loop : tie.InvT-loop
@@ -85,12 +79,6 @@ returns-3 c =
           (omega (arith, c .if3 .taken, sized .left-size .ensures));
     }
 
-put-left-requires : tie.Need-put-left-requires Inv-loop μ-loop
-put-left-requires c κs = omega (arith, c .before .before .left-size .ensures, c .before .if3 .left)
-
-add-size : tie.Need-add-size Inv-loop μ-loop
-add-size c = omega (arith, c .before .before .before .before .if3 .left)
-
 loop-less : tie.Need-loop-less Inv-loop μ-loop
 loop-less c =
     let sized = c .before .before .before .before .before .before in
@@ -119,4 +107,5 @@ loop-again c =
 pub walk-spec : {M : Type 1} → statement M
 walk-spec =
     tie.close (tie.spec Inv-loop μ-loop returns free free loop-holds free same-length returns-2 free (λ c. omega arith) same-length-2 returns-3
-    put-left-requires add-size free loop-less loop-again)
+    (λ c κs. omega (arith, c .before .before .left-size .ensures, c .before .if3 .left))
+    (λ c. omega (arith, c .before .before .before .before .if3 .left)) free loop-less loop-again)

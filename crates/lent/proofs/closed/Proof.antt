@@ -1,7 +1,6 @@
 -- The word for "open" stands at its place.
-use Rattle.constraint.proofs.Library.{ap, _∙_, ℕ, _-_, now, needs}
-use Rattle.lent.proofs.Parts.{number-at}
-use Rattle.lent.proofs.closed.Statement.{statement}
+use Rattle.lent.proofs.Names.{_-_, _∙_, ap, needs, now, ℕ}
+use Rattle.lent.proofs.{Parts.number-at, closed.Statement.statement}
 use Rattle.lent.proofs.closed.Tie as tie
 
 returns : tie.Need-returns

@@ -1,5 +1,5 @@
 -- Past the end nothing is stored.
-use Rattle.constraint.proofs.Library.{needs, sym, set-out, now}
+use Rattle.constraint.proofs.Library.{needs, now, set-out, sym}
 use Rattle.number.proofs.put_byte.Statement.{statement}
 use Rattle.number.proofs.put_byte.Tie as tie
 

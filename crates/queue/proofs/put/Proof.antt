@@ -1,9 +1,6 @@
 -- The place is that of `putRing`, and the test is its test.
-use borrow.Author.Needs.{needs}
-use borrow.Author.Tests.{lt-ltb, le-ltb}
-use Rattle.queue.specs.Ring.{putRing}
-use Rattle.queue.proofs.Shared.{free}
-use Rattle.queue.proofs.put.Statement.{statement}
+use Rattle.queue.proofs.Names.{le-ltb, lt-ltb, needs, putRing}
+use Rattle.queue.proofs.{Shared.free, put.Statement.statement}
 use Rattle.queue.proofs.put.Tie as tie
 
 returns : tie.Need-returns

@@ -1,9 +1,6 @@
 -- Each word is stored at its place; the test is that of `putBack`.
-use borrow.Author.Needs.{needs}
-use borrow.Author.Tests.{lt-ltb, le-ltb}
-use Rattle.queue.specs.Ring.{putBack}
-use Rattle.queue.proofs.Shared.{free}
-use Rattle.queue.proofs.put_back.Statement.{statement}
+use Rattle.queue.proofs.Names.{le-ltb, lt-ltb, needs, putBack}
+use Rattle.queue.proofs.{Shared.free, put_back.Statement.statement}
 use Rattle.queue.proofs.put_back.Tie as tie
 
 returns : tie.Need-returns

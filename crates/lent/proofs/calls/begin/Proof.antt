@@ -1,7 +1,6 @@
 -- The soonest due time that is stored says whether a row may be overdue.
-use Rattle.constraint.proofs.Library.{ℕ, _≡_, sym, ap, _∙_, true, false, ltb, now, lt-ltb, le-ltb, needs}
-use Rattle.lent.proofs.Parts.{number-at}
-use Rattle.lent.proofs.calls.begin.Statement.{statement}
+use Rattle.lent.proofs.Names.{_∙_, _≡_, ap, false, le-ltb, lt-ltb, ltb, needs, now, sym, true, ℕ}
+use Rattle.lent.proofs.{Parts.number-at, calls.begin.Statement.statement}
 use Rattle.lent.proofs.calls.begin.Tie as tie
 
 returns : tie.Need-returns

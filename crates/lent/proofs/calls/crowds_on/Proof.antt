@@ -1,10 +1,6 @@
 -- While there is room nothing is looked at; else the rows are asked, and where none is crowded the mark for room is set.
-use Rattle.constraint.proofs.Library.{ℕ, _≡_, refl, sym, ap, _∙_, true, false, ltb, now, lt-ltb, le-ltb, needs}
-use Rattle.constraint.proofs.Lists.{both}
-use Rattle.lent.specs.Layout.{Lent, wordsOf, Shaped}
-use Rattle.lent.specs.Steps.{withRoom}
-use Rattle.lent.proofs.Parts.{number-at}
-use Rattle.lent.proofs.calls.crowds_on.Statement.{statement}
+use Rattle.lent.proofs.Names.{Lent, Shaped, _∙_, _≡_, ap, both, false, le-ltb, lt-ltb, ltb, needs, now, refl, sym, true, withRoom, wordsOf, ℕ}
+use Rattle.lent.proofs.{Parts.number-at, calls.crowds_on.Statement.statement}
 use Rattle.lent.proofs.calls.crowds_on.Tie as tie
 
 returns : tie.Need-returns

@@ -1,8 +1,6 @@
 -- The questions are put first; the kind of one that is answered has rows of its own.
-use Rattle.constraint.proofs.Library.{arith, now, needs}
-use Rattle.constraint.specs.declared.Call.{Call}
-use Rattle.lent.proofs.Asked.{refused-stores, taken-stores}
-use Rattle.lent.proofs.calls.event.Statement.{statement}
+use Rattle.lent.proofs.Names.{Call, arith, needs, now}
+use Rattle.lent.proofs.{Asked.refused-stores, Asked.taken-stores, calls.event.Statement.statement}
 use Rattle.lent.proofs.calls.event.Tie as tie
 
 returns : tie.Need-returns

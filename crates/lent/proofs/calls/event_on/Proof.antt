@@ -1,9 +1,7 @@
 -- Where the event crowds a row nothing is stored; else the numbers, the rows to which the clock goes, and the rows of its kind, one after the other.
-use Rattle.constraint.proofs.Library.{_≡_, refl, sym, ap, _∙_, true, false, needs}
-use Rattle.row.specs.Machine.{eventAt}
-use Rattle.lent.specs.Layout.{wordsOf}
-use Rattle.lent.specs.Steps.{heardOn, crowdedOn, roomed, roomFor, countedOn, begun}
-use Rattle.lent.proofs.Parts.{shaped-room, shaped-counted, shaped-begun, begun-alone, begun-count, begun-ends, same-rows}
+use Rattle.lent.proofs.Names.{_∙_, _≡_, ap, begun, countedOn, crowdedOn, eventAt, false, heardOn, needs, refl, roomFor, roomed, sym, true}
+use Rattle.lent.proofs.Names.{wordsOf}
+use Rattle.lent.proofs.Parts.{begun-alone, begun-count, begun-ends, same-rows, shaped-begun, shaped-counted, shaped-room}
 use Rattle.lent.proofs.calls.event_on.Statement.{statement}
 use Rattle.lent.proofs.calls.event_on.Tie as tie
 

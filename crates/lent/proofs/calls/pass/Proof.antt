@@ -1,10 +1,7 @@
 -- Where the soonest due time is past, the rows that are overdue end; else it is stored.
-use Rattle.constraint.proofs.Library.{ℕ, _≡_, sym, ap, ap₂, _∙_, true, false, ltb, now, lt-ltb, le-ltb, needs}
-use Rattle.row.specs.Machine.{tickAt}
-use Rattle.lent.specs.Layout.{wordsOf, heldRows}
-use Rattle.lent.specs.Steps.{withSoonest, ended, soonestAll, soonestOf}
-use Rattle.lent.proofs.Parts.{number-at, shaped-ended}
-use Rattle.lent.proofs.calls.pass.Statement.{statement}
+use Rattle.lent.proofs.Names.{_∙_, _≡_, ap, ap₂, ended, false, heldRows, le-ltb, lt-ltb, ltb, needs, now, soonestAll, soonestOf, sym, tickAt}
+use Rattle.lent.proofs.Names.{true, withSoonest, wordsOf, ℕ}
+use Rattle.lent.proofs.{Parts.number-at, Parts.shaped-ended, calls.pass.Statement.statement}
 use Rattle.lent.proofs.calls.pass.Tie as tie
 
 returns : tie.Need-returns

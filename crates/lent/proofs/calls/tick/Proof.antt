@@ -1,10 +1,6 @@
 -- The questions are put first; then the numbers are counted on, and the clock goes to the rows.
-use Rattle.constraint.proofs.Library.{refl, arith, now, needs}
-use Rattle.constraint.specs.declared.Call.{Call}
-use Rattle.lent.specs.Steps.{countedTo}
-use Rattle.lent.proofs.Parts.{shaped-to}
-use Rattle.lent.proofs.Asked.{refused-stores, taken-stores}
-use Rattle.lent.proofs.calls.tick.Statement.{statement}
+use Rattle.lent.proofs.Names.{Call, arith, countedTo, needs, now, refl}
+use Rattle.lent.proofs.{Asked.refused-stores, Asked.taken-stores, Parts.shaped-to, calls.tick.Statement.statement}
 use Rattle.lent.proofs.calls.tick.Tie as tie
 
 returns : tie.Need-returns

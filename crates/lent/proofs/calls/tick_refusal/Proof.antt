@@ -1,10 +1,6 @@
 -- The questions are put in their order, and the first "no" gives the number.
-use Rattle.constraint.proofs.Library.{_<_, _≤_, refl, arith, now, lt-ltb, le-ltb, le-leb, lt-leb, needs}
-use Rattle.constraint.specs.Limits.{lastTime}
-use Rattle.constraint.specs.declared.Call.{Call}
-use Rattle.lent.proofs.Parts.{number-at}
-use Rattle.lent.proofs.Asked.{first-number, own-number}
-use Rattle.lent.proofs.calls.tick_refusal.Statement.{statement}
+use Rattle.lent.proofs.Names.{Call, _<_, _≤_, arith, lastTime, le-leb, le-ltb, lt-leb, lt-ltb, needs, now, refl}
+use Rattle.lent.proofs.{Asked.first-number, Asked.own-number, Parts.number-at, calls.tick_refusal.Statement.statement}
 use Rattle.lent.proofs.calls.tick_refusal.Tie as tie
 
 returns : tie.Need-returns

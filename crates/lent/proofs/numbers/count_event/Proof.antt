@@ -1,10 +1,7 @@
 -- The first free time of the stream is stored, and then the numbers are counted on.
-use Rattle.constraint.proofs.Library.{ℕ, refl, sym, ap, ap₂, _∙_, List, [], _∷_, getD, set, take, needs}
-use Rattle.machine.specs.Parts.{plus}
-use Rattle.lent.specs.Layout.{Words, wordsOf, numberArray}
-use Rattle.lent.specs.Steps.{withMonitor, withNext, countedMonitor}
-use Rattle.lent.proofs.Parts.{numbers-read, block-written, shaped-next}
-use Rattle.lent.proofs.numbers.count_event.Statement.{statement}
+use Rattle.lent.proofs.Names.{List, Words, [], _∙_, _∷_, ap, ap₂, countedMonitor, getD, needs, numberArray, plus, refl, set, sym, take}
+use Rattle.lent.proofs.Names.{withMonitor, withNext, wordsOf, ℕ}
+use Rattle.lent.proofs.{Parts.block-written, Parts.numbers-read, Parts.shaped-next, numbers.count_event.Statement.statement}
 use Rattle.lent.proofs.numbers.count_event.Tie as tie
 
 returns : tie.Need-returns

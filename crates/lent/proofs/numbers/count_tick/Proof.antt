@@ -1,9 +1,7 @@
 -- The numbers are counted on, with the first free time of stream 0 as it is.
-use Rattle.constraint.proofs.Library.{ℕ, refl, ap, ap₂, _∙_, List, [], _∷_, getD, set, take, needs}
-use Rattle.lent.specs.Layout.{Words, wordsOf, numberArray}
-use Rattle.lent.specs.Steps.{countedMonitor, countedTo}
-use Rattle.lent.proofs.Parts.{numbers-read, block-written}
-use Rattle.lent.proofs.numbers.count_tick.Statement.{statement}
+use Rattle.lent.proofs.Names.{List, Words, [], _∙_, _∷_, ap, ap₂, countedMonitor, countedTo, getD, needs, numberArray, refl, set, take}
+use Rattle.lent.proofs.Names.{wordsOf, ℕ}
+use Rattle.lent.proofs.{Parts.block-written, Parts.numbers-read, numbers.count_tick.Statement.statement}
 use Rattle.lent.proofs.numbers.count_tick.Tie as tie
 
 returns : tie.Need-returns

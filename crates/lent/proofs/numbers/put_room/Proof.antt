@@ -1,7 +1,6 @@
 -- The number is stored at its place.
-use Rattle.constraint.proofs.Library.{ap, _∙_, [], getD, set, needs}
-use Rattle.lent.proofs.Parts.{room-written}
-use Rattle.lent.proofs.numbers.put_room.Statement.{statement}
+use Rattle.lent.proofs.Names.{[], _∙_, ap, getD, needs, set}
+use Rattle.lent.proofs.{Parts.room-written, numbers.put_room.Statement.statement}
 use Rattle.lent.proofs.numbers.put_room.Tie as tie
 
 returns : tie.Need-returns

@@ -1,7 +1,6 @@
 -- The time is stored at its place.
-use Rattle.constraint.proofs.Library.{ap, _∙_, [], getD, set, needs}
-use Rattle.lent.proofs.Parts.{soonest-written}
-use Rattle.lent.proofs.numbers.put_soonest.Statement.{statement}
+use Rattle.lent.proofs.Names.{[], _∙_, ap, getD, needs, set}
+use Rattle.lent.proofs.{Parts.soonest-written, numbers.put_soonest.Statement.statement}
 use Rattle.lent.proofs.numbers.put_soonest.Tie as tie
 
 returns : tie.Need-returns

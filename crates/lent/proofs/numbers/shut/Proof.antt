@@ -1,9 +1,6 @@
 -- The word for "open" is stored as 0.
-use Rattle.constraint.proofs.Library.{ℕ, refl, ap, _∙_, List, [], getD, set, needs}
-use Rattle.lent.specs.Layout.{Words, wordsOf}
-use Rattle.lent.specs.Steps.{withClosed}
-use Rattle.lent.proofs.Parts.{numbers-read, block-written}
-use Rattle.lent.proofs.numbers.shut.Statement.{statement}
+use Rattle.lent.proofs.Names.{List, Words, [], _∙_, ap, getD, needs, refl, set, withClosed, wordsOf, ℕ}
+use Rattle.lent.proofs.{Parts.block-written, Parts.numbers-read, numbers.shut.Statement.statement}
 use Rattle.lent.proofs.numbers.shut.Tie as tie
 
 returns : tie.Need-returns

@@ -1,10 +1,7 @@
 -- Entry after entry: before the turn of a place none of the rows of the entries before it is crowded, and the first that is ends the search.
-use Rattle.constraint.proofs.Library.{ℕ, suc, _+_, _-_, _≤_, _≡_, sym, ap, ap₂, _∙_, arith, Bool, false, _||_, now, needs}
-use Rattle.lent.specs.Layout.{Lent, wordsOf, Shaped, rowNamed, rowAt, keptAt}
-use Rattle.lent.specs.Steps.{crowdedAt, crowded}
-use Rattle.lent.proofs.Blocks.{row-lies}
-use Rattle.lent.proofs.Parts.{crowded-there}
-use Rattle.lent.proofs.rows.crowds.Statement.{statement}
+use Rattle.lent.proofs.Names.{Bool, Lent, Shaped, _+_, _-_, _||_, _∙_, _≡_, _≤_, ap, ap₂, arith, crowded, crowdedAt, false, keptAt, needs, now}
+use Rattle.lent.proofs.Names.{rowAt, rowNamed, suc, sym, wordsOf, ℕ}
+use Rattle.lent.proofs.{Blocks.row-lies, Parts.crowded-there, rows.crowds.Statement.statement}
 use Rattle.lent.proofs.rows.crowds.Tie as tie
 
 abbrev Inv-loop : tie.InvT-loop

@@ -1,6 +1,5 @@
 -- The rows of a kind are those that its entries name.
-use Rattle.constraint.proofs.Library.{_-_, _∙_, needs}
-use Rattle.lent.specs.Steps.{crowded}
+use Rattle.lent.proofs.Names.{_-_, _∙_, crowded, needs}
 use Rattle.lent.proofs.rows.crowds_of.Statement.{statement}
 use Rattle.lent.proofs.rows.crowds_of.Tie as tie
 

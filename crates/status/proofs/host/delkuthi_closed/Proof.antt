@@ -1,8 +1,6 @@
 -- Of the mark of the close it is asked whether it is 0.
-use Rattle.constraint.proofs.Library.{needs, arith, refl, lt-ltb, le-ltb}
-use Rattle.status.proofs.Places.{closed-lies}
-use Rattle.status.proofs.Theorem.{closed-asked}
-use Rattle.status.proofs.host.delkuthi_closed.Statement.{statement}
+use Rattle.status.proofs.Names.{arith, le-ltb, lt-ltb, needs, refl}
+use Rattle.status.proofs.{Places.closed-lies, Theorem.closed-asked, host.delkuthi_closed.Statement.statement}
 use Rattle.status.proofs.host.delkuthi_closed.Tie as tie
 
 returns : tie.Need-returns

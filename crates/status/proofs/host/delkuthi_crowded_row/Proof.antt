@@ -1,10 +1,7 @@
 -- Where another question is answered "no" the event is not refused with 12; else the first row is found that it crowds.
-use Rattle.constraint.proofs.Library.{needs, arith, lt-ltb, le-ltb, now}
-use Rattle.constraint.specs.declared.Call.{Call}
-use Rattle.status.proofs.Places.{held-lies, refusal-lies, few-wait, rows-there}
-use Rattle.status.proofs.Theorem.{crowded-row-asked}
-use Rattle.status.proofs.There.{first-crowded-is}
-use Rattle.status.proofs.host.delkuthi_crowded_row.Statement.{statement}
+use Rattle.status.proofs.Names.{Call, arith, le-ltb, lt-ltb, needs, now}
+use Rattle.status.proofs.Places.{few-wait, held-lies, refusal-lies, rows-there}
+use Rattle.status.proofs.{Theorem.crowded-row-asked, There.first-crowded-is, host.delkuthi_crowded_row.Statement.statement}
 use Rattle.status.proofs.host.delkuthi_crowded_row.Tie as tie
 
 returns : tie.Need-returns

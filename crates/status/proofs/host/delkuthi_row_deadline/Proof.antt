@@ -1,9 +1,7 @@
 -- A row that is there has the deadline of its numbers, and any other none.
-use Rattle.constraint.proofs.Library.{needs, arith, now}
-use Rattle.status.proofs.Places.{held-lies}
-use Rattle.status.proofs.Theorem.{row-deadline-asked}
+use Rattle.status.proofs.Names.{arith, needs, now}
 use Rattle.status.proofs.There.{is-there, not-there}
-use Rattle.status.proofs.host.delkuthi_row_deadline.Statement.{statement}
+use Rattle.status.proofs.{Places.held-lies, Theorem.row-deadline-asked, host.delkuthi_row_deadline.Statement.statement}
 use Rattle.status.proofs.host.delkuthi_row_deadline.Tie as tie
 
 returns : tie.Need-returns

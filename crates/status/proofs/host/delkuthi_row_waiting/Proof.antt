@@ -1,9 +1,7 @@
 -- In a row that is there as many wait as its numbers say, and in any other none.
-use Rattle.constraint.proofs.Library.{needs, arith, now}
-use Rattle.status.proofs.Places.{held-lies, closed-lies, numbers-lie}
-use Rattle.status.proofs.Theorem.{waiting-asked}
-use Rattle.status.proofs.There.{is-there, not-there}
-use Rattle.status.proofs.host.delkuthi_row_waiting.Statement.{statement}
+use Rattle.status.proofs.Names.{arith, needs, now}
+use Rattle.status.proofs.Places.{closed-lies, held-lies, numbers-lie}
+use Rattle.status.proofs.{Theorem.waiting-asked, There.is-there, There.not-there, host.delkuthi_row_waiting.Statement.statement}
 use Rattle.status.proofs.host.delkuthi_row_waiting.Tie as tie
 
 returns : tie.Need-returns

@@ -1,7 +1,7 @@
 -- One byte is a word of one byte.
-use borrow.Author.Needs.{needs}
-use Rattle.text.specs.Content.{extended}
 use Rattle.text.proofs.Text.push.Statement.{statement}
+use Rattle.text.specs.Content.{extended}
+use borrow.Author.Needs.{needs}
 use Rattle.text.proofs.Text.push.Tie as tie
 
 returns : tie.Need-returns

@@ -8,8 +8,8 @@ pub use Rattle.constraint.proofs.Library.{Bool, List, List·getD-eq-default, []
 pub use Rattle.constraint.proofs.Library.{_⊎_, ap, append-assoc, append-nil, append-snoc, arith, cond, drop, drop-at, drop-drop, eq-eqb, eqb}
 pub use Rattle.constraint.proofs.Library.{eqb-false, eqb-true, false, getD-replicate, getD-set-other, getD-set-same, inl, inr, le-ltb, leb, leb-false}
 pub use Rattle.constraint.proofs.Library.{leb-true, length, length-append, length-drop, length-replicate, length-set, length-sets, lt-leb, lt-ltb}
-pub use Rattle.constraint.proofs.Library.{ltb, ltb-false, ltb-true, max, ne-eqb, needs, not, not-false, not-true, now, refl, replicate, set, set-out}
-pub use Rattle.constraint.proofs.Library.{sets, subst, suc, sym, true, ℕ, ⊎-elim}
+pub use Rattle.constraint.proofs.Library.{ltb, ltb-false, ltb-true, max, ne-eqb, needs, not, not-false, not-true, now, or-true as either-true, refl}
+pub use Rattle.constraint.proofs.Library.{replicate, set, set-out, sets, subst, suc, sym, true, ℕ, ⊎-elim}
 pub use Rattle.constraint.proofs.Lists.{Rising, both, or-false, or-true, rising-across, split}
 pub use Rattle.constraint.proofs.{Runs.accepts-taken, Streams.coloured-kind, Streams.kind-small, Streams.plain-kind, Streams.stream-kind}
 pub use Rattle.constraint.specs.Joined.{AnswersJoin, FirstOf, colouredBytes, eventBytes, here, in-common, isDropped, joined, joinedBytes, kindsOf}
@@ -28,7 +28,6 @@ pub use Rattle.number.proofs.{Numbers.number-of-bytes, Stores.stores-append, St
 pub use Rattle.queue.proofs.Shared.{free}
 pub use Rattle.recording.proofs.Records.{record-judged}
 pub use Rattle.recording.specs.{Record.CallAt, Record.ReadsCall, declared.CallRead.CallRead}
-pub use mathlib.Core.Bool.{or-true as either-true}
 unfoldable pub use Rattle.constraint.specs.Joined.{NoneInCommon, merged, stepBytes, stepsBytes, undropped}
 unfoldable pub use Rattle.constraint.specs.Steps.{clockFrom, closed, times}
 unfoldable pub use Rattle.constraint.specs.{Bytes.bytesOf, Bytes.numberBehind, Recording.recordQuestions, Run.Room, Run.questions}

@@ -1,12 +1,11 @@
 -- A record that is taken adds its kind to those marked, and the first one of a kind to avoid is kept.
-use Rattle.join.proofs.Names.{After, Call, Clock, FirstOf, Found, Judged, List, List·getD-eq-default, Marks, ReadUpTo, ReadsInOrder, ReadsNext}
-use Rattle.join.proofs.Names.{RecordRead, Step, Taken, VersionKnown, [], _++_, _+_, _<_, _∙_, _∷_, _≡_, _≤_, _⊎_, among, ap, append-nil, arith}
-use Rattle.join.proofs.Names.{at, both, callAt, callKind, close, either-true, eq-eqb, eqb, eqb-false, eqb-true, event, firstCommon}
-use Rattle.join.proofs.Names.{getD-replicate, getD-set-other, getD-set-same, here, inl, inr, judged-all, kindOf, kindsOf, lastKind, later}
-use Rattle.join.proofs.Names.{length, length-replicate, length-set, lengthAt, lt-ltb, ne-eqb, ofKinds, plain-kind, questions, recordQuestions}
-use Rattle.join.proofs.Names.{recording-of, recording-refused, refl, replicate, set, set-out, split, stepFor, stream, stream-kind, subst, sym}
-use Rattle.join.proofs.Names.{tick, up-to-end, up-to-more, up-to-refused, up-to-start, ℕ}
-use mathlib.Core.Bool.{Bool, _||_, cond, false, true}
+use Rattle.join.proofs.Names.{After, Bool, Call, Clock, FirstOf, Found, Judged, List, List·getD-eq-default, Marks, ReadUpTo, ReadsInOrder}
+use Rattle.join.proofs.Names.{ReadsNext, RecordRead, Step, Taken, VersionKnown, [], _++_, _+_, _<_, _||_, _∙_, _∷_, _≡_, _≤_, _⊎_, among, ap}
+use Rattle.join.proofs.Names.{append-nil, arith, at, both, callAt, callKind, close, cond, either-true, eq-eqb, eqb, eqb-false, eqb-true, event}
+use Rattle.join.proofs.Names.{false, firstCommon, getD-replicate, getD-set-other, getD-set-same, here, inl, inr, judged-all, kindOf, kindsOf}
+use Rattle.join.proofs.Names.{lastKind, later, length, length-replicate, length-set, lengthAt, lt-ltb, ne-eqb, ofKinds, plain-kind, questions}
+use Rattle.join.proofs.Names.{recordQuestions, recording-of, recording-refused, refl, replicate, set, set-out, split, stepFor, stream}
+use Rattle.join.proofs.Names.{stream-kind, subst, sym, tick, true, up-to-end, up-to-more, up-to-refused, up-to-start, ℕ}
 
 -- ---- one more of some kinds
 
@@ -95,8 +94,7 @@ Search ks bytes place steps common =
     ⊎ ((0 < common) × FirstOf ks bytes 1 common × ((k : ℕ) × (among k ks ≡ true) × (among k (kindsOf steps) ≡ true)))
 
 module _ (ks bytes : List ℕ) (place : ℕ) (steps : List Step) (s : Step) (k : ℕ)
-    (is : KindIs s k) (at-place : s ≡ stepFor (callAt bytes place)) (within : place < length bytes)
-    (positive : 1 ≤ place) where
+    (is : KindIs s k) (at-place : s ≡ stepFor (callAt bytes place)) (within : place < length bytes) (positive : 1 ≤ place) where
   all-kinds : (j : ℕ) → among j (kindsOf (steps ++ (s ∷ []))) ≡ among j (kindsOf steps ++ kindsOf (s ∷ []))
   all-kinds j = ap (among j) (kinds-append steps (s ∷ []))
 

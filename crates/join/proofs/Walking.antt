@@ -231,8 +231,7 @@ module _ (one two before : List ℕ) where
             is = all-is ∙ ap (λ (n : ℕ). again ++ undropped n (merged (b .rest) (b .other))) (sym c);
             size-is = s ∙ sym size-more;
             stored = stored-behind before buffer buffer′ 1 (length (stepsBytes (w .done))) (stepsBytes (w .done)) (leftBytes clock (r .call)) refl
-                (w .stored)
-                (stored ∙ ap (λ (n : ℕ). sets buffer n (leftBytes clock (r .call))) (w .size-is))
+                (w .stored) (stored ∙ ap (λ (n : ℕ). sets buffer n (leftBytes clock (r .call))) (w .size-is))
                 ∙ ap (λ (l : List ℕ). sets before 1 l) (sym bytes-are);
           }
 

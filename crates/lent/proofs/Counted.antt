@@ -3,14 +3,13 @@
 use Rattle.lent.proofs.Names.{Before, Call, Indexes, Lent, List, Monitor, Occurrence, Roomy, Row, Undo, _∙_, _≡_, _≤_, ap₂, arith, getD}
 use Rattle.lent.proofs.Names.{heldRows, length, map-all, mapFirst, nextStep, refl, steppedBy, steppedFrom, streamCount, withMonitor, withRoom}
 use Rattle.lent.proofs.Names.{withRows, zip-all, zipFirst, ℕ}
-use Rattle.lent.proofs.{Hearing.moved, Hearing.saves, Listing.same-rows}
+use Rattle.lent.proofs.{Hearing.moved, Hearing.saves, Listing.same-rows, Parts.shaped-same}
 
 -- ---- the numbers stored
 
 -- other numbers beside the rows, and less room, change nothing of what the words say
 module _ (h : Lent) (ix : Indexes h) (room : ℕ) (few : Roomy (withRoom h room)) (next : List ℕ) (wide : length next ≡ streamCount)
-    (clock count closed : ℕ) (undo : Undo)
-    (marked : closed ≤ 1) (then-marked : undo .closed ≤ 1) where
+    (clock count closed : ℕ) (undo : Undo) (marked : closed ≤ 1) (then-marked : undo .closed ≤ 1) where
   abbrev pub renumbered : Lent
   renumbered =
       withMonitor (withRoom h room) (record {
@@ -27,14 +26,7 @@ module _ (h : Lent) (ix : Indexes h) (room : ℕ) (few : Roomy (withRoom h room)
   pub renumbered-indexes : Indexes renumbered
   renumbered-indexes =
       record {
-        shaped = record {
-          rows-there = ix .shaped .rows-there;
-          kept-there = ix .shaped .kept-there;
-          next-there = wide;
-          ends-there = ix .shaped .ends-there;
-          entries-there = ix .shaped .entries-there;
-          rest-zero = ix .shaped .rest-zero;
-        };
+        shaped = shaped-same h renumbered refl refl wide (ix .shaped .ends-there) (ix .shaped .entries-there) (ix .shaped);
         sound = record { rows-few = ix .sound .rows-few; closed-mark = marked; closed-then = then-marked };
         listed = λ kind small. same-rows h renumbered refl refl kind ∙ ix .listed kind small;
         no-ticks = ix .no-ticks;

@@ -213,8 +213,7 @@ module _ (c : Lent) (ix : Indexes c) (o : Occurrence) (above : 0 < c .monitor .c
         }
 
     -- the clock can go to no row, as none is due before a time
-    not-late : (s : ℕ) → o .closes ≡ false → ltb s (o .time) ≡ false → ((i : ℕ) → i < n → s ≤ rowAt m i .now .due)
-        → Heard (withSoonest c s)
+    not-late : (s : ℕ) → o .closes ≡ false → ltb s (o .time) ≡ false → ((i : ℕ) → i < n → s ≤ rowAt m i .now .due) → Heard (withSoonest c s)
     not-late s going e least =
         list-steps (withSoonest c s) (λ r. r) (λ r b. b) (record { room-is = refl; ends-are = refl; entries-are = refl })
         (sym (ap (λ (rows : List Row). withRows m rows (zipFirst n (λ r b. b) (m .rows) (m .before))) (map-none n (m .rows))

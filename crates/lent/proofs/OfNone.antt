@@ -69,5 +69,4 @@ module _ (h : Lent) (ix : Indexes h) (call : Call) (o : Occurrence) (no-event : 
   pub on-close : Answered h call 0 (withSoonest (ended c (heldRows m) o (nextStep m)) 0)
   on-close =
       on-none (withSoonest (ended c (heldRows m) o (nextStep m)) 0)
-      (shaped-soonest _ 0 (shaped-ended c (heldRows m) o (nextStep m) (counted .shaped)))
-      (some-late c counted o above 0 0 none-listed room .stepped)
+      (shaped-soonest _ 0 (shaped-ended c (heldRows m) o (nextStep m) (counted .shaped))) (some-late c counted o above 0 0 none-listed room .stepped)

@@ -99,8 +99,7 @@ module _ (h : Lent) (ix : Indexes h) (kind stream time : ℕ) (small : kind < 64
 
   -- of the rows of the kind, of all rows
   listed-crowd : crowded h (startOf h kind) (rowCount h kind) stream time ≡ anyIn (λ i. crowdedAt h i stream time) (numbers test held)
-  listed-crowd =
-      crowd-is h (startOf h kind) (rowCount h kind) stream time ∙ ap (anyIn (λ i. crowdedAt h i stream time)) (ix .listed kind small)
+  listed-crowd = crowd-is h (startOf h kind) (rowCount h kind) stream time ∙ ap (anyIn (λ i. crowdedAt h i stream time)) (ix .listed kind small)
 
   all-crowd : anyIn (λ i. crowdedAt h i stream time) (numbers test held) ≡ anyFirst held (crowds o) (h .monitor .rows)
   all-crowd =

@@ -27,8 +27,7 @@ unfolding numberBehind
 behind high [] = omega arith
 behind high (byte ∷ bytes) =
     let power = 256 ^ length bytes in
-    rw (pow-succ' 256 (length bytes), behind (high * 256 + byte) bytes, behind (0 + byte) bytes, zero-add byte)
-    (omega (arith, place high byte power))
+    rw (pow-succ' 256 (length bytes), behind (high * 256 + byte) bytes, behind (0 + byte) bytes, zero-add byte) (omega (arith, place high byte power))
 
 pub number-below : (bytes : List ℕ) → Bytes bytes → number bytes < 256 ^ length bytes
 unfolding numberBehind Bytes

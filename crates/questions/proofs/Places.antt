@@ -14,5 +14,4 @@ place-small call =
     (λ e. omega arith)
 
 pub place-in-small : (place : ℕ) → placeIn place < streamCount
-place-in-small place =
-    split (ltb place streamCount) (λ x. cond x place 0 < streamCount) (λ e. ltb-true place streamCount e) (λ e. omega arith)
+place-in-small place = split (ltb place streamCount) (λ x. cond x place 0 < streamCount) (λ e. ltb-true place streamCount e) (λ e. omega arith)

@@ -111,8 +111,7 @@ ring-put l f (suc n) (suc i) t size few h =
     )
 
 ring-push : (l : List ℕ) (f n p t : ℕ) → length l ≡ 64 → n < 64 → p ≡ (f + n) % 64 → ring (set l p t) f (n + 1) ≡ ring l f n ++ t ∷ []
-ring-push l f n p t size room e =
-    rw (add-one, ring-snoc, ring-set l f n p t (λ i k. omega arith), ← e, getD-set-same l p t 0 (omega arith))
+ring-push l f n p t size room e = rw (add-one, ring-snoc, ring-set l f n p t (λ i k. omega arith), ← e, getD-set-same l p t 0 (omega arith))
 
 -- ---- Edits
 
@@ -216,8 +215,7 @@ near-set p a b i word at n =
     }
 
 -- with the words of the one stored into the other they are the same
-both-back : (p : ℕ) (a b : List ℕ) → length b ≡ 64 → Near p a b
-    → set (set a (ringPlace p 0) (timeAt b p 0)) (ringPlace p 1) (timeAt b p 1) ≡ b
+both-back : (p : ℕ) (a b : List ℕ) → length b ≡ 64 → Near p a b → set (set a (ringPlace p 0) (timeAt b p 0)) (ringPlace p 1) (timeAt b p 1) ≡ b
 both-back p a b size n =
     ext-getD 0 _ b (length-set once (ringPlace p 1) (timeAt b p 1) ∙ length-set a (ringPlace p 0) (timeAt b p 0) ∙ n .size) (λ j small. by-place j)
   where
@@ -327,8 +325,7 @@ near-stored q place first second =
 two-place : (p i : ℕ) → ringPlace (twoFrom p) i ≡ ringPlace p i
 two-place p i = omega arith
 
-two-back : (p : ℕ) (a b : List ℕ) → length b ≡ 64 → Near p a b
-    → putBack (twoFrom p) (timeAt b (twoFrom p) 0) (secondAt b (twoFrom p)) a ≡ b
+two-back : (p : ℕ) (a b : List ℕ) → length b ≡ 64 → Near p a b → putBack (twoFrom p) (timeAt b (twoFrom p) 0) (secondAt b (twoFrom p)) a ≡ b
 unfolding putBack
 two-back p a b size n = rw (le-ltb (twoFrom p) 64 (omega arith), two-place p 0, two-place p 1) (both-back p a b size n)
 

@@ -18,8 +18,7 @@ module _ (f : Row → Bool) where
       rw (parts .0) (none-marked n (i + 1) rows (parts .1))
 
 module _ (engine : (c : Constraint) → Sound c → Exact c) (steps : List Step) (valid : Valid steps) (call : Call) (number : ℕ)
-    (counted : number ≡ length steps + 1)
-    (accepts : Accepts steps (stepFor call)) where
+    (counted : number ≡ length steps + 1) (accepts : Accepts steps (stepFor call)) where
   abbrev full : Row → Bool
   full r = rowStep r (seen steps (stepFor call)) number .crowded
 
@@ -84,8 +83,7 @@ Passed (q ∷ later) = cond (eqb (q .0) 12) (Unit {0}) (q .1 × Passed later)
 passed : (asked : List Question) → Judged asked (Refused 12) → Passed asked
 unfolding Judged Passed
 passed [] e = never (cc)
-passed (q ∷ later) (inl h) =
-    split (eqb (q .0) 12) (λ b. cond b (Unit {0}) (q .1 × Passed later)) (λ _. tt) (λ _. (h .0, passed later (h .1)))
+passed (q ∷ later) (inl h) = split (eqb (q .0) 12) (λ b. cond b (Unit {0}) (q .1 × Passed later)) (λ _. tt) (λ _. (h .0, passed later (h .1)))
 passed (q ∷ later) (inr h) = let same : q .0 ≡ 12 = cc (h .1) in rw (eq-eqb (q .0) 12 same) tt
 
 pub accepts-crowded : (rows : List Constraint) (steps : List Step) (call : Call) → Judged (questions rows steps call) (Refused 12)

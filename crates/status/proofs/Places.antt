@@ -34,8 +34,7 @@ module _ (words : Words) (m : Monitor) (holds : Holds words m) where
   pub count-lies : getD (getD (getD words 32 []) 0 []) 1 0 ≡ m .count
   count-lies = said (λ x. getD (getD (getD words 32 []) 0 []) 1 0 ≡ x .count) (λ h e s. number-at h s words e 1)
 
-  pub refusal-lies : (call : Call) (n : ℕ) → ((h : Lent) → words ≡ wordsOf h → Shaped h → n ≡ refusalOf h call)
-      → n ≡ refusalFor m call
+  pub refusal-lies : (call : Call) (n : ℕ) → ((h : Lent) → words ≡ wordsOf h → Shaped h → n ≡ refusalOf h call) → n ≡ refusalFor m call
   refusal-lies call n = said (λ x. n ≡ refusalFor x call)
 
   pub few-wait : (i : ℕ) → i < heldRows m → rowAt m i .now .len ≤ waitingLimit

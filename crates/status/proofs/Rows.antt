@@ -17,8 +17,7 @@ module _ (c : Constraint) (exact : Exact c) (steps : List Step) (valid : Valid s
     -- the clock before or at a time, and the due time not before it
     open-until : (later : List Step) → Past later → closed later ≡ false → own (streams c) steps ≡ own (streams c) later → clock later ≤ s .due
         → Open c later
-    open-until later past o same soon =
-        exact .is-open past o (exact .same same (g .live)) (subst (λ (n : ℕ). clock later ≤ n) (g .due-is) soon)
+    open-until later past o same soon = exact .is-open past o (exact .same same (g .live)) (subst (λ (n : ℕ). clock later ≤ n) (g .due-is) soon)
 
     open-now : closed steps ≡ false → Open c steps
     open-now o = open-until steps (past-of valid) o refl (g .in-time)

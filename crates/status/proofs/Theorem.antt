@@ -36,15 +36,13 @@ module _ (rows : List Constraint) (steps : List Step) (m : Monitor) (f : Follows
   deadline-says : (i : ℕ) → RowDeadline rows steps i (deadlineOf m i)
   deadline-says i =
       by-row i (λ b. RowDeadline rows steps i (cond b (deadlineBy (m .closed) (rowAt m i .now .broken) (rowAt m i .now .due)) noLimit))
-      (λ c small is sound fit. row c is (fits-deadline c (engine c sound) steps (f .valid) (rowAt m i) fit (m .closed) (f .closed-is)))
-      no-row
+      (λ c small is sound fit. row c is (fits-deadline c (engine c sound) steps (f .valid) (rowAt m i) fit (m .closed) (f .closed-is))) no-row
 
   waiting-says : (i : ℕ) → RowWaiting rows steps i (waitingOf m i)
   waiting-says i =
       by-row i (λ b. RowWaiting rows steps i (cond b
       (waitingBy (m .closed) (rowAt m i .now .broken) (rowAt m i .rule .form) (rowAt m i .now .len)) 0))
-      (λ c small is sound fit. fits-waiting c (engine c sound) steps (f .valid) (rowAt m i) fit rows i is (m .closed) (f .closed-is))
-      C.no-row
+      (λ c small is sound fit. fits-waiting c (engine c sound) steps (f .valid) (rowAt m i) fit rows i is (m .closed) (f .closed-is)) C.no-row
 
   -- ---- the least deadline
 

@@ -1,6 +1,6 @@
 -- Only a tick can be dropped, and it is where it is not later than the clock.
+use Rattle.join.proofs.Names.{needs}
 use Rattle.join.proofs.falls_away.Statement.{statement}
-use borrow.Author.Needs.{needs}
 use Rattle.join.proofs.falls_away.Tie as tie
 
 pub falls-away-spec : {M : Type 1} → statement M

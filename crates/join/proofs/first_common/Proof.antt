@@ -1,6 +1,6 @@
 -- The tests are those of `firstCommon`.
+use Rattle.join.proofs.Names.{le-ltb, lt-ltb}
 use Rattle.join.proofs.first_common.Statement.{statement}
-use borrow.Author.Tests.{le-ltb, lt-ltb}
 use Rattle.join.proofs.first_common.Tie as tie
 
 pub first-common-spec : {M : Type 1} → statement M

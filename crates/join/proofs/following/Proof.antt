@@ -13,9 +13,7 @@ tested c = rw (c .before .before .before .time-of .ensures, c .before .time-of2 
 
 returns : tie.Need-returns
 returns c =
-    let comes = c .before in
-    let second = comes .before .before .before .before .before in
-    let first = second .before in
+    let comes = c .before in let second = comes .before .before .before .before .before in let first = second .before in
     let args = first .before .before .before .args in
     let (there, soon) = comes-true _ _ _ (sym (tested comes) ∙ c .if1 .taken) in
     next-first (now (args .first)) (now (args .second)) (args .place) (args .other) (first .call-at .result) (second .call-at2 .result)
@@ -23,9 +21,7 @@ returns c =
 
 returns-2 : tie.Need-returns-2
 returns-2 c =
-    let comes = c .before .before in
-    let second = comes .before .before .before .before .before in
-    let first = second .before in
+    let comes = c .before .before in let second = comes .before .before .before .before .before in let first = second .before in
     let args = first .before .before .before .args in
     next-second (now (args .first)) (now (args .second)) (args .place) (args .other) (first .call-at .result) (second .call-at2 .result)
     (first .call-at .ensures) (second .call-at2 .ensures) (comes-false _ _ _ (sym (tested comes) ∙ c .before .if1 .left))

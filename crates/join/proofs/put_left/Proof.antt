@@ -10,8 +10,7 @@ put-call-requires c κs =
 
 returns-2 : tie.Need-returns-2
 returns-2 c =
-    let put = c .before .before in
-    let kept = put .before .before in
+    let put = c .before .before in let kept = put .before .before in
     rw (sym (kept .before .falls-away .ensures) ∙ kept .if1 .left) (put .put-call .ensures)
 
 pub put-left-spec : {M : Type 1} → statement M

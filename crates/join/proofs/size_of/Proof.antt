@@ -1,7 +1,6 @@
 -- The length field has two bytes, a time eight, a kind and a colour one each.
-use Rattle.join.proofs.Names.{bytesOf}
+use Rattle.join.proofs.Names.{bytesOf, needs}
 use Rattle.join.proofs.size_of.Statement.{statement}
-use borrow.Author.Needs.{needs}
 use Rattle.join.proofs.size_of.Tie as tie
 
 returns : tie.Need-returns

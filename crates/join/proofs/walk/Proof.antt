@@ -12,13 +12,9 @@ Inv-loop first second buffer₀ limit place₀ other₀ clock₀ size₀ buffer 
 abbrev μ-loop : tie.MeasureT-loop
 μ-loop first second buffer₀ limit place₀ other₀ clock₀ size₀ buffer place other clock size = (length first - place) + (length second - other)
 
-returns : tie.Need-returns Inv-loop μ-loop
-returns c = record { fits = λ e. both (sym e); short = λ e a b records others. omega (arith, c .if1 .taken) }
-
 loop-holds : tie.Need-loop-holds Inv-loop μ-loop
 loop-holds c =
-    let started = c .before .before .before .before .before in
-    let args = started .before .before .before .before .args in
+    let started = c .before .before .before .before .before in let args = started .before .before .before .before .args in
     (omega (arith, started .if1 .left), refl, walk-start (now (args .first)) (now (args .second)) _)
 
 -- storing the version leaves the length
@@ -31,17 +27,13 @@ all-stored l b after v w bytes e same later = later ∙ ap (λ (x : List ℕ). s
 
 same-length : tie.Need-same-length Inv-loop μ-loop
 same-length c =
-    let at-loop = c .before .before .before in
-    let put = at-loop .before .before .before in
+    let at-loop = c .before .before .before in let put = at-loop .before .before .before in
     at-loop .loop .inv .1 ∙ headed (now (put .before .before .before .before .before .before .before .args .buffer)) (put .put-byte .last .0)
     (put .before .version .result) (put .put-byte .ensures)
 
 returns-2 : tie.Need-returns-2 Inv-loop μ-loop
 returns-2 c =
-    let next = c .before .before in
-    let at-loop = next .before in
-    let loop = at-loop .loop in
-    let put = at-loop .before .before .before in
+    let next = c .before .before in let at-loop = next .before in let loop = at-loop .loop in let put = at-loop .before .before .before in
     let args = put .before .before .before .before .before .before .before .args in
     record {
       fits = λ e a b records others.
@@ -58,19 +50,14 @@ returns-2 c =
 
 same-length-2 : tie.Need-same-length-2 Inv-loop μ-loop
 same-length-2 c =
-    let at-loop = c .before .before .before .before .before in
-    let put = at-loop .before .before .before in
+    let at-loop = c .before .before .before .before .before in let put = at-loop .before .before .before in
     at-loop .loop .inv .1 ∙ headed (now (put .before .before .before .before .before .before .before .args .buffer)) (put .put-byte .last .0)
     (put .before .version .result) (put .put-byte .ensures)
 
 returns-3 : tie.Need-returns-3 Inv-loop μ-loop
 returns-3 c =
-    let sized = c .before in
-    let there = sized .before in
-    let next = there .before .before in
-    let at-loop = next .before in
-    let loop = at-loop .loop in
-    let args = at-loop .before .before .before .before .before .before .before .before .before .before .args in
+    let sized = c .before in let there = sized .before in let next = there .before .before in let at-loop = next .before in
+    let loop = at-loop .loop in let args = at-loop .before .before .before .before .before .before .before .before .before .before .args in
     record {
       fits = λ e. both (sym e);
       short = λ e a b records others. walk-short (now (args .first)) (now (args .second)) _ (loop .place) (loop .other) (loop .clock) (loop .size)
@@ -81,19 +68,13 @@ returns-3 c =
 
 loop-less : tie.Need-loop-less Inv-loop μ-loop
 loop-less c =
-    let sized = c .before .before .before .before .before .before in
-    let there = sized .before in
+    let sized = c .before .before .before .before .before .before in let there = sized .before in
     there .before .before .following .ensures .less (not-false _ (there .if2 .left))
 
 loop-again : tie.Need-loop-again Inv-loop μ-loop
 loop-again c =
-    let put = c .before .before .before in
-    let kept = put .before .before in
-    let sized = kept .before in
-    let there = sized .before in
-    let next = there .before .before in
-    let at-loop = next .before in
-    let loop = at-loop .loop in
+    let put = c .before .before .before in let kept = put .before .before in let sized = kept .before in let there = sized .before in
+    let next = there .before .before in let at-loop = next .before in let loop = at-loop .loop in
     let args = at-loop .before .before .before .before .before .before .before .before .before .before .args in (
       omega (arith, kept .if3 .left),
       ap length (put .put-left .ensures) ∙ length-sets (loop .buffer) (loop .size) (leftBytes (loop .clock) (next .following .result .call))
@@ -106,6 +87,7 @@ loop-again c =
 
 pub walk-spec : {M : Type 1} → statement M
 walk-spec =
-    tie.close (tie.spec Inv-loop μ-loop returns free free loop-holds free same-length returns-2 free (λ c. omega arith) same-length-2 returns-3
+    tie.close (tie.spec Inv-loop μ-loop (λ c. record { fits = λ e. both (sym e); short = λ e a b records others. omega (arith, c .if1 .taken) }) free
+    free loop-holds free same-length returns-2 free (λ c. omega arith) same-length-2 returns-3
     (λ c κs. omega (arith, c .before .before .left-size .ensures, c .before .if3 .left))
     (λ c. omega (arith, c .before .before .before .before .if3 .left)) free loop-less loop-again)

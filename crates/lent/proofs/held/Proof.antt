@@ -20,5 +20,4 @@ returns-2 c = (
 )
 
 pub held-spec : {M : Type 1} → statement M
-held-spec =
-    tie.close (tie.spec (λ c. search needs) (λ c. search needs) (λ c. search needs) returns returns-2)
+held-spec = tie.close (tie.spec (λ c. search needs) (λ c. search needs) (λ c. search needs) returns returns-2)

@@ -14,15 +14,12 @@ abbrev μ-loop : tie.MeasureT-loop
 
 returns : tie.Need-returns Inv-loop μ-loop
 returns c =
-    let loop = c .before .before .loop in
-    let bytes = c .before .before .before .before .args .bytes .now in
+    let loop = c .before .before .loop in let bytes = c .before .before .before .before .args .bytes .now in
     sym (number-end bytes (loop .value) (loop .next) (loop .left) (c .if1 .taken)) ∙ loop .inv .2
 
 loop-again : tie.Need-loop-again Inv-loop μ-loop
 loop-again c =
-    let at-loop = c .before .before .before .before in
-    let loop = at-loop .loop in
-    let args = at-loop .before .before .args in
+    let at-loop = c .before .before .before .before in let loop = at-loop .loop in let args = at-loop .before .before .args in
     let bytes = args .bytes .now in
     let one = at bytes (loop .next) in
     let byte : one < 256 = c .before .shared-slice-known2 .given (loop .next) .fits in

@@ -17,8 +17,7 @@ returns c =
 
 loop-again : tie.Need-loop-again Inv-loop μ-loop
 loop-again c =
-    let loop = c .before .before .before .loop in
-    let bytes = c .before .before .before .before .args .bytes .now in
+    let loop = c .before .before .before .loop in let bytes = c .before .before .before .before .args .bytes .now in
     let one = getD bytes (loop .i) 0 in (
       omega arith,
       length-set (loop .buffer) (loop .next) one ∙ loop .inv .1,
@@ -27,8 +26,7 @@ loop-again c =
 
 returns-2 : tie.Need-returns-2 Inv-loop μ-loop
 returns-2 c =
-    let loop = c .before .loop in
-    let bytes = c .before .before .args .bytes .now in
+    let loop = c .before .loop in let bytes = c .before .before .args .bytes .now in
     sym (ap (λ (left : List ℕ). sets (loop .buffer) (loop .next) left) (drop-of-length-le bytes {i = loop .i} (omega arith))) ∙ loop .inv .2
 
 pub put-spec : {M : Type 1} → statement M

@@ -1,6 +1,6 @@
 -- Each part is what `eventAt` says.
+use Rattle.constraint.proofs.Library.{needs}
 use Rattle.questions.proofs.event_of.Statement.{statement}
-use borrow.Author.Needs.{needs}
 use Rattle.questions.proofs.event_of.Tie as tie
 
 pub event-of-spec : {M : Type 1} → statement M

@@ -1,6 +1,6 @@
 -- After an event its time is taken.
+use Rattle.constraint.proofs.Library.{needs}
 use Rattle.questions.proofs.free.Statement.{statement}
-use borrow.Author.Needs.{needs}
 use Rattle.questions.proofs.free.Tie as tie
 
 pub free-spec : {M : Type 1} → statement M

@@ -1,6 +1,6 @@
 -- Each call has its own questions.
+use Rattle.constraint.proofs.Library.{needs}
 use Rattle.questions.proofs.own_refusal.Statement.{statement}
-use borrow.Author.Needs.{needs}
 use Rattle.questions.proofs.own_refusal.Tie as tie
 
 returns-3 : tie.Need-returns-3

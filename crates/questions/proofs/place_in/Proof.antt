@@ -1,6 +1,6 @@
 -- The test is that of `placeIn`.
+use Rattle.constraint.proofs.Library.{le-ltb, lt-ltb}
 use Rattle.questions.proofs.place_in.Statement.{statement}
-use borrow.Author.Tests.{le-ltb, lt-ltb}
 use Rattle.questions.proofs.place_in.Tie as tie
 
 pub place-in-spec : {M : Type 1} → statement M

@@ -1,6 +1,6 @@
 -- Each call has its own stream.
+use Rattle.constraint.proofs.Library.{needs}
 use Rattle.questions.proofs.stream.Statement.{statement}
-use borrow.Author.Needs.{needs}
 use Rattle.questions.proofs.stream.Tie as tie
 
 pub stream-spec : {M : Type 1} → statement M

@@ -1,6 +1,6 @@
 -- The tests are those of `ownRefusal`, in its order.
+use Rattle.constraint.proofs.Library.{le-leb, le-ltb, lt-leb, lt-ltb}
 use Rattle.questions.proofs.tick_refusal.Statement.{statement}
-use borrow.Author.Tests.{le-leb, le-ltb, lt-leb, lt-ltb}
 use Rattle.questions.proofs.tick_refusal.Tie as tie
 
 pub tick-refusal-spec : {M : Type 1} → statement M

@@ -12,5 +12,4 @@ unfolding putRing
 returns-2 c = rw (le-ltb _ _ (c .if1 .left))
 
 pub put-spec : {M : Type 1} → statement M
-put-spec =
-    tie.close (tie.spec free (λ c. search needs) (λ c. search needs) returns returns-2)
+put-spec = tie.close (tie.spec free (λ c. search needs) (λ c. search needs) returns returns-2)

@@ -12,5 +12,4 @@ unfolding putBack
 returns-2 c = rw (le-ltb _ _ (c .before .if1 .left), ← c .before .before .place-of .ensures, ← c .place-of2 .ensures)
 
 pub put-back-spec : {M : Type 1} → statement M
-put-back-spec =
-    tie.close (tie.spec free (λ c. search needs) (λ c. search needs) returns free (λ c. search needs) (λ c. search needs) returns-2)
+put-back-spec = tie.close (tie.spec free (λ c. search needs) (λ c. search needs) returns free (λ c. search needs) (λ c. search needs) returns-2)

@@ -11,8 +11,7 @@ returns c =
 
 returns-2 : tie.Need-returns-2
 returns-2 c =
-    let at-record = c .before .before .before in
-    let args = at-record .before .before .before .before .before .args in
+    let at-record = c .before .before .before in let args = at-record .before .before .before .before .before .args in
     rw (c .refused2 .ensures) (reads-refused (now (args .bytes)) (args .place) (at-record .read-record .ensures .none (c .before .if2 .taken)))
 
 -- the record is whole
@@ -27,8 +26,7 @@ whole : (c : tie.After-struct-known2)
       next = c .before .before .before .before .before .before .before .before .args .place + c .before .before .before .read-record .result .next;
     })
 whole c =
-    let at-record = c .before .before .before in
-    let args = at-record .before .before .before .before .before .args in
+    let at-record = c .before .before .before in let args = at-record .before .before .before .before .before .args in
     let read = at-record .read-record .ensures .whole (omega (arith, c .before .if2 .left)) in
     reads-whole (now (args .bytes)) (args .place) _ _ (read .0) (rw (at-record .before .before .version .ensures) at (read .1)) (read .2)
 

@@ -1,6 +1,6 @@
 -- The test is that of `colourIn`.
+use Rattle.constraint.proofs.Library.{eq-eqb, ne-eqb}
 use Rattle.recording.proofs.colour_in.Statement.{statement}
-use borrow.Author.Tests.{eq-eqb, ne-eqb}
 use Rattle.recording.proofs.colour_in.Tie as tie
 
 pub colour-in-spec : {M : Type 1} → statement M

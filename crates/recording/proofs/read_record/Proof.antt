@@ -11,8 +11,7 @@ whole c = c .before .size-of .ensures .whole (omega (arith, c .if1 .left))
 
 returns : tie.Need-returns
 returns c =
-    let asked = c .before .before in
-    let args = asked .before .before .args in
+    let asked = c .before .before in let args = asked .before .before .args in
     rw (c .refused .ensures) (record-none (args .version) (now (args .stretch)) (asked .size-of .ensures .none (c .before .if1 .taken)))
 
 call-of-requires : tie.Need-call-of-requires

@@ -25,5 +25,4 @@ returns-2 c = rw (c .before .version .ensures) (second (now (c .before .before .
     (λ one. c .if1 .left (c .before .version .ensures ∙ one)))
 
 pub version-known-spec : {M : Type 1} → statement M
-version-known-spec =
-    tie.close (tie.spec (λ c κs. search needs) returns returns-2)
+version-known-spec = tie.close (tie.spec (λ c κs. search needs) returns returns-2)

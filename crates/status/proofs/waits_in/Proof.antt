@@ -1,6 +1,6 @@
 -- The tests are those of `waitsIn`, in its order.
+use Rattle.status.proofs.Names.{eq-eqb, ne-eqb}
 use Rattle.status.proofs.waits_in.Statement.{statement}
-use borrow.Author.Tests.{eq-eqb, ne-eqb}
 use Rattle.status.proofs.waits_in.Tie as tie
 
 pub waits-in-spec : {M : Type 1} → statement M

@@ -10,8 +10,7 @@ number-is c = rw (c .before .before .place .ensures) at (c .refusal .ensures)
 
 returns : tie.Need-returns
 returns c =
-    let asked = c .before in
-    let args = asked .before .before .before .args in
+    let asked = c .before in let args = asked .before .before .before .args in
     takes-refused (args .t1) (args .call) (asked .refusal .result) (number-is asked) (c .if1 .taken)
 
 mul-clock : tie.Need-mul-clock
@@ -24,10 +23,7 @@ element-write-clock c = let placed = c .before .before .before .before .before i
 
 returns-2 : tie.Need-returns-2
 returns-2 c =
-    let added = c .before in
-    let freed = added .before in
-    let seen = freed .before in
-    let asked = seen .before .before in
+    let added = c .before in let freed = added .before in let seen = freed .before in let asked = seen .before .before in
     let args = asked .before .before .before .args in
     takes-taken (args .t1) (args .call) (asked .refusal .result) (number-is asked) (seen .before .if1 .left) _
     (simp (c .closed .ensures, added .plus .ensures, freed .free .ensures, seen .occurrence .ensures, asked .before .before .place .ensures))

@@ -5,8 +5,7 @@ use Rattle.lent.proofs.calls.begin.Tie as tie
 
 returns : tie.Need-returns
 returns c h e s =
-    let i = c .before .before in
-    let a = i .before .before .args in
+    let i = c .before .before in let a = i .before .before .args in
     let past : ltb (h .soonest) (a .time) ≡ true = ap (λ (x : ℕ). ltb x (a .time)) (sym (number-at h s (now (a .m)) e 4))
     ∙ lt-ltb _ _ (i .if1 .taken) in
     rw past (c .pass .ensures h e s)
@@ -19,5 +18,4 @@ returns-2 c h e s =
     rw not-past e
 
 pub begin-spec : {M : Type 1} → statement M
-begin-spec =
-    tie.close (tie.spec (λ c. search needs) (λ c. search needs) (λ c. search needs) (λ c κs. search needs) returns returns-2)
+begin-spec = tie.close (tie.spec (λ c. search needs) (λ c. search needs) (λ c. search needs) (λ c κs. search needs) returns returns-2)

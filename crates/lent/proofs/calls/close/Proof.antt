@@ -6,21 +6,13 @@ use Rattle.lent.proofs.calls.close.Tie as tie
 
 returns : tie.Need-returns
 returns c =
-    let f = c .before in
-    let a = f .before .before .args in
+    let f = c .before in let a = f .before .before .args in
     refused-stores (now (a .m)) Call.Close _ (λ h e s. first-number h Call.Close _ (f .first-refusal .ensures h e s) (c .if1 .taken)) (c .if1 .taken)
 
 returns-2 : tie.Need-returns-2
 returns-2 c =
-    let d = c .before .before in
-    let w = d .before in
-    let n = w .before .before .before in
-    let u = n .before in
-    let k = u .before .before in
-    let v = k .before .before in
-    let i = v .before in
-    let f = i .before in
-    let a = f .before .before .args in
+    let d = c .before .before in let w = d .before in let n = w .before .before .before in let u = n .before in let k = u .before .before in
+    let v = k .before .before in let i = v .before in let f = i .before in let a = f .before .before .args in
     taken-stores (now (a .m)) Call.Close 0
     (λ h e s. own-number h Call.Close _ 0 (f .first-refusal .ensures h e s) (omega (arith, i .if1 .left)) refl) 0 (c .put-soonest .last .0)
     (omega arith) (λ some. absurd (some refl))

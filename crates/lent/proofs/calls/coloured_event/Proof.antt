@@ -10,14 +10,11 @@ returns c =
 
 returns-2 : tie.Need-returns-2
 returns-2 c =
-    let t = c .before .before in
-    let i = t .before in
-    let a = i .before .before .before .args in
+    let t = c .before .before in let i = t .before in let a = i .before .before .before .args in
     let on = subst (λ (s : ℕ). OnStream (now (a .m)) (a .kind) s (a .time) (c .event-on .result) (c .event-on .last .0)) (t .stream-of .ensures .0)
     (c .event-on .ensures) in
     taken-stores (now (a .m)) (Call.ColouredEvent (a .kind) (a .colour) (a .time)) _ (i .before .coloured-refusal .ensures .1) (c .event-on .result)
-    (c .event-on .last .0)
-    (omega (arith, i .if1 .left)) (on .untouched) (on .stores)
+    (c .event-on .last .0) (omega (arith, i .if1 .left)) (on .untouched) (on .stores)
 
 pub coloured-event-spec : {M : Type 1} → statement M
 coloured-event-spec =

@@ -49,10 +49,7 @@ returns-4 c =
 
 returns-5 : tie.Need-returns-5
 returns-5 c =
-    let q = c .before in
-    let t = q .before .before in
-    let i = t .before in
-    let f = i .before .before .before .before in
+    let q = c .before in let t = q .before .before in let i = t .before in let f = i .before .before .before .before in
     let a = f .before .args in (
       λ z. (omega (arith, i .before .if3 .left), (omega (arith, i .before .before .if2 .left), omega (arith, i .if4 .left))),
       λ h e s.

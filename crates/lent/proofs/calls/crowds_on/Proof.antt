@@ -16,9 +16,7 @@ returns c =
 
 returns-2 : tie.Need-returns-2
 returns-2 c =
-    let q = c .before in
-    let i = q .before .before in
-    let a = i .before .before .args in
+    let q = c .before in let i = q .before .before in let a = i .before .before .args in
     let none : (h : Lent) → now (a .m) ≡ wordsOf h → Shaped h → ltb 0 (h .room) ≡ false =
     λ h e s. ap (ltb 0) (sym (number-at h s (now (a .m)) e 11)) ∙ le-ltb _ _ (i .if1 .left) in
     record {
@@ -29,11 +27,7 @@ returns-2 c =
 
 returns-3 : tie.Need-returns-3
 returns-3 c =
-    let f = c .before in
-    let j = f .before .before .before in
-    let q = j .before in
-    let i = q .before .before in
-    let a = i .before .before .args in
+    let f = c .before in let j = f .before .before .before in let q = j .before in let i = q .before .before in let a = i .before .before .args in
     let none : (h : Lent) → now (a .m) ≡ wordsOf h → Shaped h → ltb 0 (h .room) ≡ false =
     λ h e s. ap (ltb 0) (sym (number-at h s (now (a .m)) e 11)) ∙ le-ltb _ _ (i .if1 .left) in
     record {

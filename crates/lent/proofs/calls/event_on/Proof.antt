@@ -7,8 +7,7 @@ use Rattle.lent.proofs.calls.event_on.Tie as tie
 
 returns : tie.Need-returns
 returns c =
-    let w = c .before in
-    let a = w .before .before .args in
+    let w = c .before in let a = w .before .before .args in
     let same = w .crowds-on .ensures .untouched (c .if1 .taken) in
     record {
       untouched = λ _. same;
@@ -19,11 +18,7 @@ returns c =
 
 returns-2 : tie.Need-returns-2
 returns-2 c =
-    let b = c .before .before in
-    let k = b .before .before in
-    let i = k .before .before in
-    let w = i .before in
-    let a = w .before .before .args in
+    let b = c .before .before in let k = b .before .before in let i = k .before .before in let w = i .before in let a = w .before .before .args in
     let o = eventAt (a .stream) (a .time) in
     record {
       untouched = λ some. absurd (some refl);
@@ -46,5 +41,4 @@ returns-2 c =
     }
 
 pub event-on-spec : {M : Type 1} → statement M
-event-on-spec =
-    tie.close (tie.spec (λ c κs. search needs) returns (λ c κs. search needs) (λ c κs. search needs) (λ c κs. search needs) returns-2)
+event-on-spec = tie.close (tie.spec (λ c κs. search needs) returns (λ c κs. search needs) (λ c κs. search needs) (λ c κs. search needs) returns-2)

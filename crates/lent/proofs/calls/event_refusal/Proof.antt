@@ -32,10 +32,7 @@ returns-3 c =
 
 returns-4 : tie.Need-returns-4
 returns-4 c =
-    let q = c .before in
-    let i = q .before .before in
-    let f = i .before .before .before in
-    let a = f .before .args in
+    let q = c .before in let i = q .before .before in let f = i .before .before .before in let a = f .before .args in
     let small : a .kind < 48 = omega (arith, i .if3 .left) in (
       λ z. small,
       λ h e s.

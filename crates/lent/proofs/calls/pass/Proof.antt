@@ -6,10 +6,7 @@ use Rattle.lent.proofs.calls.pass.Tie as tie
 
 returns : tie.Need-returns
 returns c h e s =
-    let d = c .before .before in
-    let i = d .before .before .before in
-    let t = i .before in
-    let k = t .before .before in
+    let d = c .before .before in let i = d .before .before .before in let t = i .before in let k = t .before .before in
     let a = k .before .before .args in
     let held = k .held .ensures .1 h e s in
     let soon : t .soonest .result ≡ soonestAll h = t .soonest .ensures h e s ∙ ap (soonestOf (h .monitor .rows)) held in
@@ -20,10 +17,7 @@ returns c h e s =
 
 returns-2 : tie.Need-returns-2
 returns-2 c h e s =
-    let i = c .before .before in
-    let t = i .before in
-    let k = t .before .before in
-    let a = k .before .before .args in
+    let i = c .before .before in let t = i .before in let k = t .before .before in let a = k .before .before .args in
     let soon : t .soonest .result ≡ soonestAll h = t .soonest .ensures h e s ∙ ap (soonestOf (h .monitor .rows)) (k .held .ensures .1 h e s) in
     let not-past : ltb (soonestAll h) (a .time) ≡ false = ap (λ (x : ℕ). ltb x (a .time)) (sym soon) ∙ le-ltb _ _ (i .if1 .left) in
     rw not-past (c .put-soonest2 .ensures h e s ∙ ap (λ (x : ℕ). wordsOf (withSoonest h x)) soon)

@@ -5,11 +5,7 @@ use Rattle.lent.proofs.calls.room_found.Tie as tie
 
 returns : tie.Need-returns
 returns c h e s =
-    let u = c .before in
-    let f = u .before in
-    let d = f .before in
-    let t = d .before in
-    let a = t .before .before .args in
+    let u = c .before in let f = u .before in let d = f .before in let t = d .before in let a = t .before .before .args in
     let due : eqb (h .monitor .count % 32) 0 ≡ true =
     ap (λ (n : ℕ). eqb (n % 32) 0) (sym (number-at h s (now (a .m)) e 1)) ∙ eq-eqb _ _ (t .if1 .taken) in
     rw due

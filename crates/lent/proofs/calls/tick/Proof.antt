@@ -10,14 +10,10 @@ returns c =
 
 returns-2 : tie.Need-returns-2
 returns-2 c =
-    let k = c .before .before in
-    let i = k .before .before in
-    let f = i .before in
-    let a = f .before .before .args in
+    let k = c .before .before in let i = k .before .before in let f = i .before in let a = f .before .before .args in
     taken-stores (now (a .m)) (Call.Tick (a .time)) _ (f .tick-refusal .ensures) 0 (c .begin .last .0) (omega (arith, i .if1 .left))
     (λ some. absurd (some refl))
     (λ h e s going. (refl, c .begin .ensures (countedTo h (a .time) 0) (k .count-tick .ensures h e s going) (shaped-to h (a .time) 0 s)))
 
 pub tick-spec : {M : Type 1} → statement M
-tick-spec =
-    tie.close (tie.spec (λ c κs. search needs) returns (λ c κs. search needs) (λ c κs. search needs) returns-2)
+tick-spec = tie.close (tie.spec (λ c κs. search needs) returns (λ c κs. search needs) (λ c κs. search needs) returns-2)

@@ -14,9 +14,7 @@ returns-2 c h e s =
 
 returns-3 : tie.Need-returns-3
 returns-3 c h e s =
-    let i = c .before .before in
-    let f = i .before .before in
-    let a = f .before .args in
+    let i = c .before .before in let f = i .before .before in let a = f .before .args in
     let clock = number-at h s (now (a .m)) e 0 in
     let early : a .time ≤ h .monitor .clock = omega (arith, clock, c .if3 .taken) in
     own-number h (Call.Tick (a .time)) _ _ (f .first-refusal .ensures h e s) (omega (arith, i .before .if1 .left))
@@ -24,9 +22,7 @@ returns-3 c h e s =
 
 returns-4 : tie.Need-returns-4
 returns-4 c h e s =
-    let i = c .before .before in
-    let f = i .before .before in
-    let a = f .before .args in
+    let i = c .before .before in let f = i .before .before in let a = f .before .args in
     let clock = number-at h s (now (a .m)) e 0 in
     let later : h .monitor .clock < a .time = omega (arith, clock, c .if3 .left) in
     own-number h (Call.Tick (a .time)) _ _ (f .first-refusal .ensures h e s) (omega (arith, i .before .if1 .left))

@@ -30,14 +30,8 @@ put-free-requires c κs = rw (c .before .before .place-in .ensures)
 
 returns-2 : tie.Need-returns-2
 returns-2 c =
-    let p = c .before .before in
-    let f = p .before .before in
-    let q = f .before in
-    let b = q .before .before in
-    let w = b .before in
-    let n = w .before .before .before in
-    let i = n .before in
-    let a = i .before .before .args in
+    let p = c .before .before in let f = p .before .before in let q = f .before in let b = q .before .before in let w = b .before in
+    let n = w .before .before .before in let i = n .before in let a = i .before .before .args in
     record {
       untouched = λ some. absurd (some refl);
       stores = λ h e s.

@@ -6,10 +6,7 @@ use Rattle.lent.proofs.numbers.count_event.Tie as tie
 
 returns : tie.Need-returns
 returns c h e s going =
-    let p = c .before .before in
-    let v = p .before in
-    let f = v .before .before in
-    let a = f .before .before .args in
+    let p = c .before .before in let v = p .before in let f = v .before .before in let a = f .before .before .args in
     let h₁ = withNext h (set (h .monitor .next) (a .stream) (plus (a .time) 1)) in
     let stored = p .put-free .ensures h e s ∙ ap (λ (t : ℕ). wordsOf (withNext h (set (h .monitor .next) (a .stream) t))) (v .plus .ensures) in
     let wide = shaped-next h (a .stream) (plus (a .time) 1) s in

@@ -6,8 +6,7 @@ use Rattle.lent.proofs.numbers.count_tick.Tie as tie
 
 returns : tie.Need-returns
 returns c h e s going =
-    let f = c .before .before in
-    let a = f .before .before .args in
+    let f = c .before .before in let a = f .before .before .args in
     let block = ap (λ m. getD m 32 []) e ∙ numbers-read h s in
     let counted = c .count .ensures (h .monitor) (h .soonest) (h .room) (take 48 (h .monitor .next)) (h .ends) block going in
     let free = f .free-at .ensures h e s in
@@ -17,5 +16,4 @@ returns c h e s going =
     ∙ block-written h s (countedTo h (a .time) 0) refl refl refl
 
 pub count-tick-spec : {M : Type 1} → statement M
-count-tick-spec =
-    tie.close (tie.spec (λ c κs. search needs) (λ c. search needs) (λ c κs. search needs) returns)
+count-tick-spec = tie.close (tie.spec (λ c κs. search needs) (λ c. search needs) (λ c κs. search needs) returns)

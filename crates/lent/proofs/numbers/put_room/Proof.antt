@@ -7,5 +7,4 @@ returns : tie.Need-returns
 returns c h e s = ap (λ m. set m 32 (set (getD m 32 []) 0 (set (getD (getD m 32 []) 0 []) 11 (c .args .room)))) e ∙ room-written h s (c .args .room)
 
 pub put-room-spec : {M : Type 1} → statement M
-put-room-spec =
-    tie.close (tie.spec (λ c. search needs) (λ c. search needs) (λ c. search needs) returns)
+put-room-spec = tie.close (tie.spec (λ c. search needs) (λ c. search needs) (λ c. search needs) returns)

@@ -10,5 +10,4 @@ returns c h e s =
     ∙ block-written h s (withClosed h 1) refl refl refl
 
 pub shut-spec : {M : Type 1} → statement M
-shut-spec =
-    tie.close (tie.spec (λ c. search needs) (λ c. search needs) (λ c. search needs) returns)
+shut-spec = tie.close (tie.spec (λ c. search needs) (λ c. search needs) (λ c. search needs) returns)

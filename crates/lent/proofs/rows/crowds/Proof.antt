@@ -20,23 +20,16 @@ loop-holds c =
 
 -- whether the row of the entry is crowded
 asked : (c : tie.After-full-for Inv-loop μ-loop) (h : Lent) →
-    let l = c .before .before .before .before in
-    let a = l .before .args in
+    let l = c .before .before .before .before in let a = l .before .args in
     now (a .m) ≡ wordsOf h → Shaped h → c .full-for .result ≡ crowdedAt h (rowNamed h (l .loop .place)) (a .stream) (a .t)
 asked c h e s =
-    let d = c .before .before in
-    let l = d .before .before in
-    let a = l .before .args in
-    let i = d .named .result in
+    let d = c .before .before in let l = d .before .before in let a = l .before .args in let i = d .named .result in
     c .full-for .ensures (rowAt (h .monitor) i) (keptAt (h .monitor) i) (row-lies h s (now (a .m)) e i (d .named .ensures .0))
     ∙ ap (λ (k : ℕ). crowdedAt h k (a .stream) (a .t)) (d .named .ensures .1 h e s)
 
 returns : tie.Need-returns Inv-loop μ-loop
 returns c h e s =
-    let q = c .before in
-    let l = q .before .before .before .before in
-    let a = l .before .args in
-    let place = l .loop .place in
+    let q = c .before in let l = q .before .before .before .before in let a = l .before .args in let place = l .loop .place in
     let there : a .first + (place - a .first) ≡ place = omega (arith, l .loop .inv .0) in
     sym (crowded-there h (a .first) (place - a .first) (a .stream) (a .t)
     (ap (λ (k : ℕ). crowdedAt h (rowNamed h k) (a .stream) (a .t)) there ∙ sym (asked q h e s) ∙ c .if1 .taken) (a .end - a .first)
@@ -44,10 +37,7 @@ returns c h e s =
 
 loop-again : tie.Need-loop-again Inv-loop μ-loop
 loop-again c =
-    let q = c .before in
-    let l = q .before .before .before .before in
-    let a = l .before .args in
-    let place = l .loop .place in
+    let q = c .before in let l = q .before .before .before .before in let a = l .before .args in let place = l .loop .place in
     let there : a .first + (place - a .first) ≡ place = omega (arith, l .loop .inv .0) in
     let next : place + 1 - a .first ≡ suc (place - a .first) = omega (arith, l .loop .inv .0) in (
       omega (arith, l .loop .inv .0),
@@ -62,8 +52,7 @@ loop-again c =
 
 returns-2 : tie.Need-returns-2 Inv-loop μ-loop
 returns-2 c h e s =
-    let l = c .before in
-    let a = l .before .args in
+    let l = c .before in let a = l .before .args in
     let at-end : l .loop .place - a .first ≡ a .end - a .first = omega (arith, l .loop .inv .1 .0) in
     sym (l .loop .inv .1 .1 h e s) ∙ ap (λ (k : ℕ). crowded h (a .first) k (a .stream) (a .t)) at-end
 

@@ -22,5 +22,4 @@ returns-2 c =
     )
 
 pub end-of-spec : {M : Type 1} → statement M
-end-of-spec =
-    tie.close (tie.spec (λ c. search needs) (λ c. search needs) (λ c. search needs) (λ c. search needs) returns returns-2)
+end-of-spec = tie.close (tie.spec (λ c. search needs) (λ c. search needs) (λ c. search needs) (λ c. search needs) returns returns-2)

@@ -12,9 +12,7 @@ abbrev μ-loop : tie.MeasureT-loop
 
 loop-again : tie.Need-loop-again Inv-loop μ-loop
 loop-again c =
-    let l = c .before .before in
-    let a = l .before .before .args in
-    let i = l .before .loop .i in
+    let l = c .before .before in let a = l .before .before .args in let i = l .before .loop .i in
     let m = l .before .loop .m in (
       omega arith,
       λ h e s.
@@ -31,8 +29,7 @@ loop-again c =
 
 returns : tie.Need-returns Inv-loop μ-loop
 returns c h e s =
-    let l = c .before .loop in
-    let a = c .before .before .args in
+    let l = c .before .loop in let a = c .before .before .args in
     let at-end : l .i ≡ a .n = omega arith in
     l .inv .1 h e s ∙ ap (λ (k : ℕ). wordsOf (ended h k (a .o) (a .number))) at-end
 

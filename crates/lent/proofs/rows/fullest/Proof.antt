@@ -12,9 +12,7 @@ abbrev μ-loop : tie.MeasureT-loop
 
 loop-again : tie.Need-loop-again Inv-loop μ-loop
 loop-again c =
-    let f = c .before in
-    let l = f .before .before in
-    let a = l .before .before .args in
+    let f = c .before in let l = f .before .before in let a = l .before .before .args in
     let i = l .before .loop .i in (
       omega arith,
       λ h e s.
@@ -25,8 +23,7 @@ loop-again c =
 
 returns : tie.Need-returns Inv-loop μ-loop
 returns c h e s =
-    let l = c .before .loop in
-    let a = c .before .before .args in
+    let l = c .before .loop in let a = c .before .before .args in
     let at-end : l .i ≡ a .n = omega arith in
     l .inv .1 h e s ∙ ap (fullest (h .monitor)) at-end
 

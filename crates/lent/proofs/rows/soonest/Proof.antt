@@ -14,8 +14,7 @@ abbrev μ-loop : tie.MeasureT-loop
 loop-again : tie.Need-loop-again Inv-loop μ-loop
 unfolding Stored.wordsOf rowWords numberWords
 loop-again c =
-    let l = c .before .before in
-    let a = l .before .before .args in
+    let l = c .before .before in let a = l .before .before .args in
     let i = l .before .loop .i in (
       omega arith,
       λ h e s.
@@ -26,8 +25,7 @@ loop-again c =
 
 returns : tie.Need-returns Inv-loop μ-loop
 returns c h e s =
-    let l = c .before .loop in
-    let a = c .before .before .args in
+    let l = c .before .loop in let a = c .before .before .args in
     let at-end : l .i ≡ a .n = omega arith in
     l .inv .1 h e s ∙ ap (soonestOf (h .monitor .rows)) at-end
 

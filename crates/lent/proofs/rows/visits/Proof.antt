@@ -43,12 +43,8 @@ loop-holds c =
 loop-again : tie.Need-loop-again Inv-loop μ-loop
 unfolding Stored.wordsOf rowWords numberWords
 loop-again c =
-    let w = c .before .before in
-    let v = w .before .before in
-    let d = v .before .before in
-    let l = d .before .before in
-    let a = l .before .before .before .before .args in
-    let place = l .before .loop .place in
+    let w = c .before .before in let v = w .before .before in let d = v .before .before in let l = d .before .before in
+    let a = l .before .before .before .before .args in let place = l .before .loop .place in
     let j = place - a .first in
     let o = eventAt (a .stream) (a .t) in
     let i = d .named .result in
@@ -93,8 +89,7 @@ loop-again c =
 
 returns : tie.Need-returns Inv-loop μ-loop
 returns c h e s =
-    let l = c .before .loop in
-    let a = c .before .before .before .before .args in
+    let l = c .before .loop in let a = c .before .before .before .before .args in
     let o = eventAt (a .stream) (a .t) in
     let j = l .place - a .first in
     let at-end : j ≡ a .end - a .first = omega (arith, l .inv .1 .0) in

@@ -5,9 +5,7 @@ use Rattle.lent.proofs.rows.visits_of.Tie as tie
 
 returns : tie.Need-returns
 returns c h e s =
-    let n = c .before .before .before in
-    let f = n .before .before in
-    let a = f .before .before .args in
+    let n = c .before .before .before in let f = n .before .before in let a = f .before .before .args in
     let first = f .start-of .ensures .1 h e s in
     let end = n .end-of .ensures .1 h e s in
     let number = number-at h s (now (a .m)) e 1 in

@@ -1,6 +1,6 @@
 -- The clock stands at its place.
+use Rattle.status.proofs.Names.{needs}
 use Rattle.status.proofs.{Places.clock-lies, Theorem.clock-asked, host.delkuthi_clock.Statement.statement}
-use borrow.Author.Needs.{needs}
 use Rattle.status.proofs.host.delkuthi_clock.Tie as tie
 
 pub delkuthi-clock-spec : {M : Type 1} → statement M

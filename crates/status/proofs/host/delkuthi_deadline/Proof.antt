@@ -12,8 +12,7 @@ abbrev μ-loop : tie.MeasureT-loop
 
 loop-again : tie.Need-loop-again Inv-loop μ-loop
 loop-again c =
-    let at-loop = c .before .before .before in
-    let at-held = at-loop .before in
+    let at-loop = c .before .before .before in let at-held = at-loop .before in
     let i = at-loop .loop .i in (
       omega arith,
       λ n holds.
@@ -29,8 +28,7 @@ loop-again c =
 
 returns : tie.Need-returns Inv-loop μ-loop
 returns c n holds =
-    let loop = c .before .loop in
-    let at-held = c .before .before in
+    let loop = c .before .loop in let at-held = c .before .before in
     let held = held-lies (now (at-held .before .args .m)) n holds _ (at-held .held .ensures .1) in
     deadline-asked n (loop .inv .1 n holds ∙ least-all n (loop .i) (omega (arith, held)))
 

@@ -12,8 +12,7 @@ returns c n holds =
 
 returns-2 : tie.Need-returns-2
 returns-2 c n holds =
-    let at-held = c .before .before in
-    let args = at-held .before .args in
+    let at-held = c .before .before in let args = at-held .before .args in
     let held = held-lies (now (args .m)) n holds _ (at-held .held .ensures .1) in
     row-deadline-asked n (args .row)
     (rw (is-there (args .row) (n .len) (omega (arith, held, c .before .if1 .left))) (c .deadline-at .ensures n holds))

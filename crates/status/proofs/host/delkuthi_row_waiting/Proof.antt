@@ -12,9 +12,7 @@ returns c n holds =
 
 returns-2 : tie.Need-returns-2
 returns-2 c n holds =
-    let k = c .before .before .before .before in
-    let at-held = k .before .before in
-    let args = at-held .before .args in
+    let k = c .before .before .before .before in let at-held = k .before .before in let args = at-held .before .args in
     let m = now (args .m) in
     let held = held-lies m n holds _ (at-held .held .ensures .1) in
     let row = numbers-lie m n holds (args .row) (omega (arith, k .before .if1 .left, at-held .held .ensures .0)) in

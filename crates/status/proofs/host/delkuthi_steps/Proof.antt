@@ -1,6 +1,6 @@
 -- The count stands at its place.
+use Rattle.status.proofs.Names.{needs}
 use Rattle.status.proofs.{Places.count-lies, Theorem.steps-asked, host.delkuthi_steps.Statement.statement}
-use borrow.Author.Needs.{needs}
 use Rattle.status.proofs.host.delkuthi_steps.Tie as tie
 
 pub delkuthi-steps-spec : {M : Type 1} → statement M

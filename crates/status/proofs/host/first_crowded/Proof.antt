@@ -16,9 +16,6 @@ Inv-loop m rows o i₀ i =
 abbrev μ-loop : tie.MeasureT-loop
 μ-loop m rows o i₀ i = rows - i
 
-loop-holds : tie.Need-loop-holds Inv-loop μ-loop
-loop-holds c = let all : c .args .rows - 0 ≡ c .args .rows = omega arith in (omega arith, λ n holds. rw all)
-
 -- the test of row i, and what is found from there on
 found : (c : tie.After-crowds Inv-loop μ-loop) (n : Monitor) → Holds (now (c .before .before .before .before .args .m)) n
     → firstMarked (c .before .before .before .before .args .rows) (test (c .before .before .before .before .args .o)) 0 (n .rows)
@@ -26,9 +23,7 @@ found : (c : tie.After-crowds Inv-loop μ-loop) (n : Monitor) → Holds (now (c 
     (c .before .before .before .before .args .rows - (c .before .before .before .loop .i + 1)) (test (c .before .before .before .before .args .o))
     (c .before .before .before .loop .i + 1) (drop (c .before .before .before .loop .i + 1) (n .rows)))
 found c n holds =
-    let l = c .before .before .before in
-    let a = l .before .args in
-    let i = l .loop .i in
+    let l = c .before .before .before in let a = l .before .args in let i = l .loop .i in
     let m = now (a .m) in
     let there : i < 32 = omega arith in
     rw (c .crowds .ensures (rowAt n i) (keptAt n i) (block-lies m n holds i there))
@@ -36,12 +31,12 @@ found c n holds =
 
 returns-2 : tie.Need-returns-2 Inv-loop μ-loop
 returns-2 c =
-    let l = c .before in
-    let a = l .before .args in
+    let l = c .before in let a = l .before .args in
     (omega arith, λ n holds. sym (l .loop .inv .1 n holds ∙ first-none (test (a .o)) (a .rows) (l .loop .i) (n .rows) (omega arith)))
 
 pub first-crowded-spec : {M : Type 1} → statement M
 first-crowded-spec =
-    tie.close (tie.spec Inv-loop μ-loop loop-holds (λ c. omega arith) (λ c. omega arith) (λ c κs. search needs) (λ c. omega arith)
+    tie.close (tie.spec Inv-loop μ-loop (λ c. let all : c .args .rows - 0 ≡ c .args .rows = omega arith in (omega arith, λ n holds. rw all))
+    (λ c. omega arith) (λ c. omega arith) (λ c κs. search needs) (λ c. omega arith)
     (λ c. (omega arith, λ n holds. sym (rw (c .if1 .taken) at (found (c .before) n holds)))) (λ c. omega arith) (λ c. omega arith)
     (λ c. (omega arith, λ n holds. rw (c .if1 .left) at (found (c .before) n holds))) returns-2)

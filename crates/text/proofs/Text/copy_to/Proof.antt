@@ -16,8 +16,7 @@ within c =
 held : (c : tie.Joined1) → take (c .if1 .len) (c .before .before .before .before .args .self .bytes)
     ≡ content (c .before .before .before .before .args .self)
 held c =
-    let start = c .before .before .before .before in
-    let bytes = start .args .self .bytes in
+    let start = c .before .before .before .before in let bytes = start .args .self .bytes in
     ⊎-elim (λ w. rw (w .1))
     (λ w. rw (w .1) (take-all textLimit bytes (omega (arith, size start))
     ∙ sym (take-all (start .args .self .len) bytes (omega (arith, size start)))))
@@ -36,8 +35,7 @@ returns c =
 
 returns-2 : tie.Need-returns-2
 returns-2 c =
-    let joined = c .before .before .before .before .before .before in
-    let start = joined .before .before .before .before in
+    let joined = c .before .before .before .before .before .before in let start = joined .before .before .before .before in
     rw (c .before .before .put .ensures, held joined, counted joined)
     (copied-all (content (start .args .self)) (now (start .args .buffer)) (omega (arith, counted joined)))
 

@@ -18,8 +18,7 @@ returns c =
 
 loop-again : tie.Need-loop-again Inv-loop μ-loop
 loop-again c =
-    let at-loop = c .before .before .before in
-    let loop = at-loop .loop in
+    let at-loop = c .before .before .before in let loop = at-loop .loop in
     (omega arith, sym (extended-next (at-loop .before .args .word .now) (loop .i) (loop .self) (omega arith) (omega arith)) ∙ loop .inv .1)
 
 returns-2 : tie.Need-returns-2 Inv-loop μ-loop

@@ -8,8 +8,8 @@
 
 What is looked for: a line of more than 150 characters, a tab, a blank at a line's end, a name that a file of code or of proofs imports and does not
 use, and one that a file of definitions or proofs declares and that nothing else uses, cites in a contract or names in a document. Rows of a table in
-a document may be long, and so may what it shows as it is printed. What a file exports again (`pub use`) is never unused. The allowance has, for a
-folder that is not clean, how many of each it may have: what is above that is wrong, so the numbers only fall.
+a document may be long, and so may what it shows as it is printed. What a file passes on (`pub use`) is used where another file imports it from
+there. The allowance has, for a folder that is not clean, how many of each it may have: what is above that is wrong, so the numbers only fall.
 """
 import re
 import subprocess
@@ -22,8 +22,10 @@ ENDINGS = {".rt", ".antt", ".rs", ".py", ".c", ".h", ".hpp", ".cpp", ".md"}
 IMPORTING = {".rt", ".antt"}
 SORTS = {"long": "long lines", "unused": "unused imports", "idle": "names that nothing uses"}
 WIDTH = 150
-# One line is one import, of proofs or of code: a module and names in braces, a module by another name, or one name of code.
-IMPORT = re.compile(r"^(?P<before>(?:ghost )?use )(?P<module>[^\s{;]+?)(?:\.\{(?P<names>[^}]*)\}| as (?P<alias>[^\s;]+))?(?P<after>;?)$")
+# One line is one import, of proofs or of code: a module and names in braces, each by itself or behind a path, a module by another name, or one name
+# of code.
+IMPORT = re.compile(r"^(?P<before>(?:ghost |(?:unfoldable )?pub )?use )(?P<module>[^\s{;]+?)"
+                    r"(?:\.\{(?P<names>[^}]*)\}| as (?P<alias>[^\s;]+))?(?P<after>;?)$")
 # What stands between two names of the proof language, of which `[]` is one; in code a name ends at other signs too.
 TOKENS = re.compile(r"\[\]|[^\s(){};,.\"⌜⌝⟦⟧@]+")
 # What a line of proofs declares; what the proof of a function is called goes by the function's name.
@@ -72,15 +74,47 @@ def imported_by(line):
     return [found["alias"] or found["module"].split("::")[-1]]
 
 
-def unused(text):
-    """For the number of each line with an import what is not used of it; `a as b` is used as b."""
+def spelling(item):
+    """The name under which an import brings an item: `a as b` brings b, and `M.a` brings a."""
+    return item.split(" as ")[-1].strip().split(".")[-1]
+
+
+def module_names(file):
+    """What a file of definitions or proofs is called in imports of its own crate and of others."""
+    parts = file.relative_to(ROOT).with_suffix("").parts
+    if len(parts) < 4 or parts[0] != "crates":
+        return []
+    return [".".join([f"Rattle.{parts[1]}.{parts[2]}", *parts[2:]]), ".".join([f"Rattle.{parts[1]}", *parts[2:]])]
+
+
+def brought(texts):
+    """Everything that some texts import, as a module and a name there."""
+    found = set()
+    for text in texts:
+        for line in text.splitlines():
+            imported = IMPORT.match(line)
+            for item in imported_by(line) if imported and imported["names"] is not None else []:
+                steps = item.split(" as ")[0].strip().split(".")
+                found.add((".".join([imported["module"], *steps[:-1]]), steps[-1]))
+    return found
+
+
+def unused(text, is_taken=lambda name: True):
+    """For the number of each line with an import what is not used of it. What proofs pass on is used where a file takes it, what code does always."""
     there = tokens(text)
     found = {}
     for number, line in enumerate(text.splitlines()):
-        dead = [item for item in imported_by(line) if not is_used(item.split(" as ")[-1].strip(), there)]
+        passes_on = line.startswith(("pub ", "unfoldable "))
+        taken = (lambda name: line.endswith(";") or is_taken(name)) if passes_on else (lambda name: False)
+        dead = [item for item in imported_by(line) if not is_used(spelling(item), there) and not taken(spelling(item))]
         if dead:
             found[number] = dead
     return found
+
+
+def unused_in(file, text, taken):
+    """The same for a file, where `taken` has what all files import."""
+    return unused(text, lambda name: any((module, name) in taken for module in module_names(file)))
 
 
 def without(line, dead):
@@ -99,20 +133,22 @@ def without(line, dead):
     return lines
 
 
-def fixed(text):
-    """A text with its imports as they should be."""
-    found = unused(text)
+def fixed(text, found=None):
+    """A text with its imports as they should be, without those that are found to be unused."""
+    found = unused(text) if found is None else found
     parts = (without(line, found.get(number, [])) if IMPORT.match(line) else [line] for number, line in enumerate(text.splitlines()))
     return "".join(f"{line}\n" for part in parts for line in part)
 
 
 def fix(folders):
     """Writes the files below some folders with their imports as they should be."""
+    taken = brought(file.read_text(encoding="utf-8") for file in sources(["crates"]) if file.suffix in IMPORTING)
     for file in sources(folders):
         if file.suffix in IMPORTING:
             text = file.read_text(encoding="utf-8")
-            if fixed(text) != text:
-                file.write_text(fixed(text), encoding="utf-8")
+            better = fixed(text, unused_in(file, text, taken))
+            if better != text:
+                file.write_text(better, encoding="utf-8")
                 print(file.relative_to(ROOT))
 
 
@@ -164,7 +200,7 @@ def look():
     """What is wrong in each folder: long lines, unused imports and idle names, which may be allowed, and what never is."""
     counted, never = {}, []
     texts = {file: file.read_text(encoding="utf-8") for file in sources([])}
-    idle_names = idle(texts)
+    idle_names, taken = idle(texts), brought(text for file, text in texts.items() if file.suffix in IMPORTING)
     for file, text in texts.items():
         name = file.relative_to(ROOT)
         found = counted.setdefault(folder_of(file), {sort: [] for sort in SORTS})
@@ -176,7 +212,7 @@ def look():
             if line != line.rstrip():
                 never.append(f"{name}:{number}: a blank at the end")
         if file.suffix in IMPORTING:
-            found["unused"] += [f"{name}:{number + 1}: {item} is not used" for number, dead in unused(text).items() for item in dead]
+            found["unused"] += [f"{name}:{number + 1}: {item} is not used" for number, dead in unused_in(file, text, taken).items() for item in dead]
         found["idle"] += [f"{name}:{number}: nothing uses {item}" for item, number in idle_names.get(file, [])]
     return counted, never
 

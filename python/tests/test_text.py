@@ -35,6 +35,15 @@ def test_a_name_is_used_by_itself_by_its_parts_or_before_a_dot():
     assert program().unused(PROOF) == {1: ["zero", "_<_"], 2: ["_∷_"], 3: ["unseen"], 4: ["Other"], 6: ["Words"]}
 
 
+def test_what_is_passed_on_is_used_where_another_file_takes_it():
+    found = program()
+    names, file = "pub use A.{a, b}\nunfoldable pub use A.B.{c as d}\npub use A.{B.e, B.f}\n", found.ROOT / "crates/some/proofs/Names.antt"
+    users = ["use Rattle.some.proofs.Names.{a}\n", "use Rattle.some.proofs.{Names.d, Names.e}\n", "use Rattle.other.proofs.Names.{b}\n"]
+    assert found.unused_in(file, names, found.brought(users)) == {0: ["b"], 2: ["B.f"]}
+    assert found.fixed(names, {0: ["b"], 2: ["B.f"]}) == "pub use A.{a}\nunfoldable pub use A.B.{c as d}\npub use A.{B.e}\n"
+    assert found.unused("use A.{M.a, M.b}\nlaw : ℕ\nlaw = a\n") == {0: ["M.b"]}
+
+
 CODE = """// unseen
 use constraint::NO_LIMIT;
 use machine::words;

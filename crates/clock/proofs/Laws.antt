@@ -1,39 +1,23 @@
 -- A monitor over no rows has no row to crowd, so its clock, count, first free times and mark of the close alone answer each call; and what reading
 -- gives from a place on, over the steps read before it, is what it gives from the start.
-use Rattle.constraint.proofs.Library.{ℕ, _+_, _≤_, _<_, arith, _≡_, refl, sym, ap, subst, _∙_, false, List, [], _∷_, _++_, map, length, getD, set}
-use Rattle.constraint.proofs.Library.{replicate, lt-ltb}
-use Rattle.constraint.specs.Steps.{Step, at, clock}
-use Rattle.constraint.specs.Questions.{Judged}
-use Rattle.constraint.specs.Accepted.{rowsQuestions, Accepted}
-use Rattle.constraint.specs.Run.{stepFor, questions, asks, Left, done}
-use Rattle.constraint.specs.Promise.{play}
-use Rattle.constraint.specs.Limits.{streamCount}
-use Rattle.constraint.specs.Table.{lengthAt}
-use Rattle.constraint.specs.Recording.{callAt, RecordAt, recordQuestions, RecordingRead, recording-of, recording-refused, ReadsRecords, no-more}
-use Rattle.constraint.specs.Recording.{record-refused, record-taken}
-use Rattle.constraint.specs.Recording.{VersionKnown, ReadsInOrder, version-taken}
-use Rattle.constraint.specs.declared.Answer.the-variants.{Taken, Refused}
-use Rattle.constraint.specs.declared.Call.{Call}
-use Rattle.constraint.proofs.Judged.{judged-none}
-use Rattle.constraint.proofs.History.{Valid, valid-none}
-use Rattle.constraint.proofs.Runs.{run-valid}
-use Rattle.constraint.proofs.Sanity.{run-once}
+use Rattle.clock.specs.Clock.{After, AsksCall, ReadsNext, TakesCall, clockOf, refusedRead}
+use Rattle.clock.specs.{declared.Clock.Clock, declared.RecordRead.RecordRead}
+use Rattle.constraint.proofs.Library.{List, [], _++_, _+_, _<_, _∙_, _∷_, _≡_, _≤_, ap, arith, false, getD, length, lt-ltb, map, refl, replicate, set}
+use Rattle.constraint.proofs.Library.{subst, sym, ℕ}
+use Rattle.constraint.proofs.{History.Valid, History.valid-none, Judged.judged-none, Runs.run-valid, Sanity.run-once}
+use Rattle.constraint.specs.Recording.{ReadsInOrder, ReadsRecords, RecordAt, RecordingRead, VersionKnown, callAt, no-more, record-refused}
+use Rattle.constraint.specs.Recording.{record-taken, recordQuestions, recording-of, recording-refused, version-taken}
+use Rattle.constraint.specs.{Accepted.Accepted, Accepted.rowsQuestions, Limits.streamCount, Promise.play, Questions.Judged, Run.Left, Run.asks}
+use Rattle.constraint.specs.{Run.done, Run.questions, Run.stepFor, Steps.Step, Steps.at, Steps.clock, Table.lengthAt}
+use Rattle.constraint.specs.{declared.Answer.the-variants.Refused, declared.Answer.the-variants.Taken, declared.Call.Call}
 use Rattle.machine.specs.Parts.{plus}
-use Rattle.row.proofs.Engine.{engine}
-use Rattle.questions.specs.Questions.{placeFor, refusalBy, occurrenceBy, freeAfter, closedAfter}
-use Rattle.monitor.specs.Machine.{monitorOf, anyFirst, refuses, takes, takenCall}
-use Rattle.monitor.specs.Machine.{steppedBy, stepOf}
-use Rattle.monitor.specs.Contract.{after, Steps}
-use Rattle.monitor.specs.Beside.{allTaken}
-use Rattle.monitor.specs.declared.Monitor.{Monitor}
-use Rattle.monitor.specs.declared.Stepped.{Stepped}
-use Rattle.monitor.proofs.Following.{Follows}
-use Rattle.monitor.proofs.Withdrawing.{takes-more, after-call, remains-follows, steps-keep}
-use Rattle.recording.specs.Record.{CallAt}
+use Rattle.monitor.proofs.{Following.Follows, Withdrawing.after-call, Withdrawing.remains-follows, Withdrawing.steps-keep, Withdrawing.takes-more}
+use Rattle.monitor.specs.Machine.{anyFirst, monitorOf, refuses, stepOf, steppedBy, takenCall, takes}
+use Rattle.monitor.specs.{Beside.allTaken, Contract.Steps, Contract.after, declared.Monitor.Monitor, declared.Stepped.Stepped}
+use Rattle.questions.specs.Questions.{closedAfter, freeAfter, occurrenceBy, placeFor, refusalBy}
 use Rattle.recording.proofs.Records.{record-judged, record-refused as record-not-there}
-use Rattle.clock.specs.Clock.{clockOf, After, TakesCall, refusedRead, AsksCall, ReadsNext}
-use Rattle.clock.specs.declared.RecordRead.{RecordRead}
-use Rattle.clock.specs.declared.Clock.{Clock}
+use Rattle.recording.specs.Record.{CallAt}
+use Rattle.row.proofs.Engine.{engine}
 
 -- ---- a call, on the clock's numbers
 

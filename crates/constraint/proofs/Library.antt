@@ -18,7 +18,7 @@ pub use mathlib.Core.Logic.{Iff·trans, _↔_, _≢_, _⊎_, by-cases, inl, inr,
 pub use mathlib.Core.Option.{Option, none, some}
 pub use mathlib.Core.Path.{_∙_, _≡_, ap, ap₂, refl, subst, subst⁻¹, subst₂, sym, transport}
 pub use native.Mathlib.Decide.{decLt, ℕ-discrete}
-pub use native.Mathlib.Nat.{add-assoc, add-mul, add-sub-cancel-left, add-suc, add-zero, div-one, le-of-suc-le-suc, le-trans, lt-of-le-of-lt}
+pub use native.Mathlib.Nat.{add-mul, add-sub-cancel-left, add-suc, add-zero, div-one, le-of-suc-le-suc, le-trans, lt-of-le-of-lt}
 pub use native.Mathlib.Nat.{mod-eq-of-lt, mul-add, mul-assoc, mul-le-mul-left, mul-le-mul-right, mul-one, mul-suc, not-suc-le-zero, one-le-pow}
 pub use native.Mathlib.Nat.{one-mul, pow-le-pow-right, pow-suc, pow-succ', suc-add, zero-add, zero-mul}
 pub use native.Mathlib.Numerals.{add-one, one-add}

@@ -1,14 +1,7 @@
 -- The answer is put together in the order of the questions: the first recording's, the second's, 20 and 16.
-use Rattle.constraint.proofs.Library.{ℕ, _<_, arith, _≡_, sym, subst, _∙_, true, false, List, ⊎-elim, length, replicate}
-use Rattle.constraint.specs.Steps.{Step}
-use Rattle.constraint.specs.Recording.{ReadsInOrder, recording-of}
-use Rattle.constraint.proofs.Lists.{split, both}
-use Rattle.number.proofs.Stores.{stores-front}
-use Rattle.constraint.specs.Joined.{kindsOf, NoneInCommon, joinedBytes, AnswersJoin, no-first, no-second, in-common, too-short, written}
-use Rattle.join.specs.Walk.{Records, Walks, Passes, Found}
-use Rattle.constraint.specs.declared.JoinAnswer.{JoinAnswer}
-use Rattle.join.specs.declared.Passed.{Passed}
-use Rattle.join.specs.declared.Walked.{Walked}
+use Rattle.join.proofs.Names.{AnswersJoin, Found, JoinAnswer, List, NoneInCommon, Passed, Passes, ReadsInOrder, Records, Step, Walked, Walks}
+use Rattle.join.proofs.Names.{_<_, _∙_, _≡_, arith, both, false, in-common, joinedBytes, kindsOf, length, no-first, no-second, recording-of}
+use Rattle.join.proofs.Names.{replicate, split, stores-front, subst, sym, too-short, true, written, ℕ, ⊎-elim}
 use Rattle.join.proofs.Records.{whole}
 
 module _ (one two before : List ℕ) (p : Passed) (first-passes : Passes one (replicate 64 0) p) where

@@ -1,25 +1,11 @@
 -- The bytes of a record read as its step, wherever they stand; so the bytes of steps each of which could be taken read as these steps.
-use Rattle.constraint.proofs.Library.{ℕ, suc, _+_, _-_, _%_, _≤_, _<_, arith, _≡_, refl, sym, ap, subst, _∙_, cond, List, [], _∷_, _++_, append-nil}
-use Rattle.constraint.proofs.Library.{append-assoc, length, drop, length-append, length-drop, append-snoc, drop-at, drop-drop, ltb, ltb-true}
-use Rattle.constraint.proofs.Library.{ltb-false, ne-eqb}
-use Rattle.constraint.specs.Limits.{firstColoured, lastTime}
-use Rattle.constraint.specs.Streams.{kindOf, stream}
-use Rattle.constraint.specs.Steps.{Step, event, tick, close, at}
-use Rattle.constraint.specs.Bytes.{bytesOf, numberBehind, number}
-use Rattle.constraint.specs.Questions.{Judged}
-use Rattle.constraint.specs.Run.{stepFor, Room, questions}
-use Rattle.constraint.specs.Table.{lengthAt, bodyAt}
-use Rattle.constraint.specs.Recording.{callOf, callAt, RecordingRead, recording-of, ReadsRecords, no-more, record-taken, ReadsInOrder, version-taken}
-use Rattle.constraint.specs.declared.Answer.the-variants.{Taken}
-use Rattle.constraint.specs.declared.Call.{Call}
-use Rattle.constraint.proofs.Lists.{split}
-use Rattle.constraint.proofs.Streams.{coloured-kind, kind-small}
-use Rattle.constraint.proofs.Judged.{never, judged-none, judged-yes}
-use Rattle.constraint.proofs.History.{Accepts, Valid, valid-none, valid-more}
-use Rattle.number.proofs.Numbers.{number-of-bytes}
-use Rattle.recording.specs.Record.{CallAt}
-use Rattle.recording.proofs.Records.{record-judged}
-use Rattle.constraint.specs.Joined.{timeOf, eventBytes, colouredBytes, tickBytes, stepBytes, stepsBytes, recordingBytes}
+use Rattle.join.proofs.Names.{Accepts, Call, CallAt, Judged, List, ReadsInOrder, ReadsRecords, RecordingRead, Room, Step, Taken, Valid, []}
+use Rattle.join.proofs.Names.{_%_, _++_, _+_, _-_, _<_, _∙_, _∷_, _≡_, _≤_, ap, append-assoc, append-nil, append-snoc, arith, at, bodyAt}
+use Rattle.join.proofs.Names.{bytesOf, callAt, callOf, close, coloured-kind, colouredBytes, cond, drop, drop-at, drop-drop, event, eventBytes}
+use Rattle.join.proofs.Names.{firstColoured, judged-none, judged-yes, kind-small, kindOf, lastTime, length, length-append, length-drop}
+use Rattle.join.proofs.Names.{lengthAt, ltb, ltb-false, ltb-true, ne-eqb, never, no-more, number, number-of-bytes, numberBehind, questions}
+use Rattle.join.proofs.Names.{record-judged, record-taken, recording-of, recordingBytes, refl, split, stepBytes, stepFor, stepsBytes, stream}
+use Rattle.join.proofs.Names.{subst, suc, sym, tick, tickBytes, timeOf, valid-more, valid-none, version-taken, ℕ}
 use Rattle.join.proofs.Merging.{Fits, Line}
 
 -- the call that a step was

@@ -1,11 +1,8 @@
 -- A tick of the first is later than all that stands before it, and so never falls away; one of the second falls away just where a record of the
 -- first stands at its time.
-use Rattle.constraint.proofs.Library.{ℕ, _≤_, _<_, arith, _≡_, refl, sym, subst, Bool, true, false, cond, _||_, List, [], _∷_, _⊎_, inl, inr, ⊎-elim}
-use Rattle.constraint.proofs.Library.{leb, eqb, leb-true, leb-false, lt-leb, eq-eqb, eqb-true}
-use Rattle.constraint.specs.Steps.{Step, event, tick, close, among}
-use Rattle.constraint.proofs.Lists.{split, both, or-true}
-use Rattle.constraint.specs.Joined.{timeOf, merged, undropped, joined}
-use Rattle.join.specs.Held.{Interleaves, no-record, of-first, of-second, timesOf, without}
+use Rattle.join.proofs.Names.{Bool, Interleaves, List, Step, [], _<_, _||_, _∷_, _≡_, _≤_, _⊎_, among, arith, both, close, cond, eq-eqb, eqb}
+use Rattle.join.proofs.Names.{eqb-true, event, false, inl, inr, joined, leb, leb-false, leb-true, lt-leb, merged, no-record, of-first}
+use Rattle.join.proofs.Names.{of-second, or-true, refl, split, subst, sym, tick, timeOf, timesOf, true, undropped, without, ℕ, ⊎-elim}
 use Rattle.join.proofs.Merging.{Comes, Strict}
 
 -- as `Strict`, but the first may be a tick at the clock

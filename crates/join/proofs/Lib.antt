@@ -1,4 +1,5 @@
 -- Why the joined recording is valid and is what the walk writes.
+mod Names
 pub mod Merging
 pub mod Bytes
 pub mod Records

@@ -1,16 +1,11 @@
 -- Two lists of steps whose times never fall merge into one, a stream's events all come from one of them, and a tick that is left is later than the
 -- clock: so what is
 -- left is a list of steps each of which was accepted after those before it.
-use Rattle.constraint.proofs.Library.{ℕ, _≤_, _<_, arith, _≡_, refl, sym, ap, subst, _∙_, false, cond, List, [], _∷_, _++_, append-nil, length}
-use Rattle.constraint.proofs.Library.{length-append, append-snoc, leb, eqb, leb-true, leb-false, eq-eqb, eqb-true}
-use Rattle.constraint.specs.Limits.{firstColoured, streamCount, lastTime, lastCount}
-use Rattle.constraint.specs.Streams.{kindOf}
-use Rattle.constraint.specs.Steps.{Step, event, tick, close, among, times, clockFrom, clock, closed}
-use Rattle.constraint.proofs.Lists.{split, both, or-false, Rising, rising-across}
-use Rattle.constraint.proofs.Judged.{never}
-use Rattle.constraint.proofs.History.{times-append, clock-event, clock-tick, closed-event, closed-tick, AcceptsEvent, Valid, valid-none, valid-more}
-use Rattle.constraint.proofs.History.{past-of}
-use Rattle.constraint.specs.Joined.{timeOf, merged, undropped, joined, kindsOf, NoneInCommon}
+use Rattle.join.proofs.Names.{AcceptsEvent, List, NoneInCommon, Rising, Step, Valid, [], _++_, _<_, _∙_, _∷_, _≡_, _≤_, among, ap, append-nil}
+use Rattle.join.proofs.Names.{append-snoc, arith, both, clock, clock-event, clock-tick, clockFrom, close, closed, closed-event, closed-tick}
+use Rattle.join.proofs.Names.{cond, eq-eqb, eqb, eqb-true, event, false, firstColoured, joined, kindOf, kindsOf, lastCount, lastTime, leb}
+use Rattle.join.proofs.Names.{leb-false, leb-true, length, length-append, merged, never, or-false, past-of, refl, rising-across, split}
+use Rattle.join.proofs.Names.{streamCount, subst, sym, tick, timeOf, times, times-append, undropped, valid-more, valid-none, ℕ}
 
 -- a step that a record of a version can hold: version 1 has no colours
 abbrev pub Fits : ℕ → Step → Type 0

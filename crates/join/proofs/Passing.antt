@@ -1,26 +1,11 @@
 -- A record that is taken adds its kind to those marked, and the first one of a kind to avoid is kept.
-use Rattle.constraint.proofs.Library.{ℕ, _+_, _≤_, _<_, arith, _≡_, refl, sym, ap, subst, _∙_, List, [], _∷_, _++_, append-nil, _⊎_, inl, inr, length}
-use Rattle.constraint.proofs.Library.{set, replicate, length-set, length-replicate, getD-replicate, List·getD-eq-default, set-out, getD-set-same}
-use Rattle.constraint.proofs.Library.{getD-set-other, eqb, lt-ltb, eq-eqb, ne-eqb, eqb-true, eqb-false}
-use mathlib.Core.Bool.{Bool, true, false, cond, _||_, or-true as either-true}
-use Rattle.constraint.specs.Limits.{lastKind}
-use Rattle.constraint.specs.Streams.{stream, kindOf}
-use Rattle.constraint.specs.Steps.{Step, event, tick, close, at, among}
-use Rattle.constraint.specs.Questions.{Judged}
-use Rattle.constraint.specs.Run.{stepFor, questions}
-use Rattle.constraint.specs.Table.{lengthAt}
-use Rattle.constraint.specs.Recording.{VersionKnown, callAt, recordQuestions, ReadsInOrder, recording-of, recording-refused}
-use Rattle.constraint.specs.declared.Answer.the-variants.{Taken}
-use Rattle.constraint.specs.declared.Call.{Call}
-use Rattle.constraint.proofs.Lists.{split, both}
-use Rattle.constraint.proofs.Streams.{plain-kind, stream-kind}
-use Rattle.constraint.proofs.Judged.{judged-all}
-use Rattle.clock.specs.Clock.{After, ReadsNext}
-use Rattle.clock.specs.declared.Clock.{Clock}
-use Rattle.clock.specs.declared.RecordRead.{RecordRead}
-use Rattle.clock.proofs.Laws.{ReadUpTo, up-to-start, up-to-more, up-to-refused, up-to-end}
-use Rattle.constraint.specs.Joined.{kindsOf, ofKinds, FirstOf, here, later}
-use Rattle.join.specs.Walk.{callKind, Marks, Found, firstCommon}
+use Rattle.join.proofs.Names.{After, Bool, Call, Clock, FirstOf, Found, Judged, List, List·getD-eq-default, Marks, ReadUpTo, ReadsInOrder}
+use Rattle.join.proofs.Names.{ReadsNext, RecordRead, Step, Taken, VersionKnown, [], _++_, _+_, _<_, _||_, _∙_, _∷_, _≡_, _≤_, _⊎_, among, ap}
+use Rattle.join.proofs.Names.{append-nil, arith, at, both, callAt, callKind, close, cond, either-true, eq-eqb, eqb, eqb-false, eqb-true, event}
+use Rattle.join.proofs.Names.{false, firstCommon, getD-replicate, getD-set-other, getD-set-same, here, inl, inr, judged-all, kindOf, kindsOf}
+use Rattle.join.proofs.Names.{lastKind, later, length, length-replicate, length-set, lengthAt, lt-ltb, ne-eqb, ofKinds, plain-kind, questions}
+use Rattle.join.proofs.Names.{recordQuestions, recording-of, recording-refused, refl, replicate, set, set-out, split, stepFor, stream}
+use Rattle.join.proofs.Names.{stream-kind, subst, sym, tick, true, up-to-end, up-to-more, up-to-refused, up-to-start, ℕ}
 
 -- ---- one more of some kinds
 
@@ -109,8 +94,7 @@ Search ks bytes place steps common =
     ⊎ ((0 < common) × FirstOf ks bytes 1 common × ((k : ℕ) × (among k ks ≡ true) × (among k (kindsOf steps) ≡ true)))
 
 module _ (ks bytes : List ℕ) (place : ℕ) (steps : List Step) (s : Step) (k : ℕ)
-    (is : KindIs s k) (at-place : s ≡ stepFor (callAt bytes place)) (within : place < length bytes)
-    (positive : 1 ≤ place) where
+    (is : KindIs s k) (at-place : s ≡ stepFor (callAt bytes place)) (within : place < length bytes) (positive : 1 ≤ place) where
   all-kinds : (j : ℕ) → among j (kindsOf (steps ++ (s ∷ []))) ≡ among j (kindsOf steps ++ kindsOf (s ∷ []))
   all-kinds j = ap (among j) (kinds-append steps (s ∷ []))
 

@@ -1,23 +1,11 @@
 -- A recording that is read gives its records one after the other, and each is a step that could be taken after those before it.
-use Rattle.constraint.proofs.Library.{ℕ, _+_, _-_, _/_, _%_, _≤_, _<_, arith, _≡_, refl, sym, subst, _∙_, Bool, true, false, cond, List, [], _∷_}
-use Rattle.constraint.proofs.Library.{_++_, append-nil, length, append-snoc, eqb, eq-eqb, lt-ltb, le-ltb}
-use Rattle.constraint.specs.Limits.{firstColoured, lastColour}
-use Rattle.constraint.specs.Streams.{stream}
-use Rattle.constraint.specs.Steps.{Step, event, tick, close, at, clockFrom, clock}
-use Rattle.constraint.specs.Bytes.{numberAt}
-use Rattle.constraint.specs.Questions.{Judged}
-use Rattle.constraint.specs.Run.{stepFor, questions}
-use Rattle.constraint.specs.Table.{lengthAt, bodyAt}
-use Rattle.constraint.specs.Recording.{colourIn, callOf, callAt, recordQuestions, recording-of, VersionKnown, ReadsRecords, no-more, record-taken}
-use Rattle.constraint.specs.Recording.{ReadsInOrder, version-taken}
-use Rattle.constraint.specs.declared.Answer.the-variants.{Taken}
-use Rattle.constraint.specs.declared.Call.{Call}
-use Rattle.constraint.proofs.Judged.{judged-all}
-use Rattle.constraint.proofs.History.{clock-event, clock-tick, Accepts, Valid, valid-none, valid-more}
-use Rattle.constraint.proofs.Runs.{accepts-taken}
-use Rattle.constraint.specs.Joined.{timeOf, stepBytes}
-use Rattle.join.specs.Walk.{callBytes, Records, none, more}
-use Rattle.join.proofs.Merging.{Fits, Line, Comes, Strict}
+use Rattle.join.proofs.Names.{Accepts, Bool, Call, Judged, List, ReadsInOrder, ReadsRecords, Records, Step, Taken, Valid, VersionKnown, []}
+use Rattle.join.proofs.Names.{_%_, _++_, _+_, _-_, _/_, _<_, _∙_, _∷_, _≡_, _≤_, accepts-taken, append-nil, append-snoc, arith, at, bodyAt}
+use Rattle.join.proofs.Names.{callAt, callBytes, callOf, clock, clock-event, clock-tick, clockFrom, close, colourIn, cond, eq-eqb, eqb, event}
+use Rattle.join.proofs.Names.{false, firstColoured, judged-all, lastColour, le-ltb, length, lengthAt, lt-ltb, more, no-more, none, numberAt}
+use Rattle.join.proofs.Names.{questions, record-taken, recordQuestions, recording-of, refl, stepBytes, stepFor, stream, subst, sym, tick}
+use Rattle.join.proofs.Names.{timeOf, true, valid-more, valid-none, version-taken, ℕ}
+use Rattle.join.proofs.Merging.{Comes, Fits, Line, Strict}
 
 -- ---- what a record that is taken holds
 

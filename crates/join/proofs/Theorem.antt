@@ -1,13 +1,8 @@
 -- What the joined recording is: valid, of the higher version, and with the records of both.
-use Rattle.constraint.proofs.Library.{ℕ, _<_, _^_, max, arith, _≡_, refl, List, length}
-use Rattle.constraint.specs.Steps.{Step, at}
-use Rattle.constraint.specs.Recording.{ReadsInOrder, recording-of}
-use Rattle.constraint.specs.Joined.{joined, joinedBytes, NoneInCommon}
-use Rattle.join.specs.Held.{Interleaves, timesOf, without}
-use Rattle.join.proofs.Merging.{line-other, joined-valid, joined-line}
-use Rattle.join.proofs.Bytes.{reads-back, steps-few}
-use Rattle.join.proofs.Records.{whole}
-use Rattle.join.proofs.Holding.{joined-interleaves}
+use Rattle.join.proofs.Names.{Interleaves, List, NoneInCommon, ReadsInOrder, Step, _<_, _^_, _≡_, arith, at, joined, joinedBytes, length, max}
+use Rattle.join.proofs.Names.{recording-of, refl, timesOf, without, ℕ}
+use Rattle.join.proofs.Merging.{joined-line, joined-valid, line-other}
+use Rattle.join.proofs.{Bytes.reads-back, Bytes.steps-few, Holding.joined-interleaves, Records.whole}
 
 module _ (one two : List ℕ) (first second : List Step) (read : ReadsInOrder one (recording-of first))
     (also : ReadsInOrder two (recording-of second)) where

@@ -1,16 +1,8 @@
 -- Each turn of the walk takes the record that stands next in the merged list; what is left of it is stored behind what is left of those before it.
-use Rattle.constraint.proofs.Library.{ℕ, _+_, _-_, _<_, arith, _≡_, refl, sym, ap, subst, _∙_, Bool, true, false, cond, not, _&&_, _||_, List, []}
-use Rattle.constraint.proofs.Library.{_∷_, _++_, append-nil, append-assoc, length, length-append, sets, eqb, leb, eqb-true, eqb-false}
-use Rattle.constraint.specs.Steps.{Step}
-use Rattle.constraint.specs.Run.{stepFor}
-use Rattle.constraint.specs.declared.Call.{Call}
-use Rattle.constraint.proofs.Lists.{split, both}
-use Rattle.number.proofs.Stores.{stores-append}
-use Rattle.recording.specs.Record.{CallAt, ReadsCall}
-use Rattle.recording.specs.declared.CallRead.{CallRead}
-use Rattle.constraint.specs.Joined.{timeOf, merged, isDropped, undropped, joined, stepBytes, stepsBytes, joinedBytes}
-use Rattle.join.specs.Walk.{callBytes, leftBytes, leftClock, Records, none, more, Behind, Nexts}
-use Rattle.join.specs.declared.Next.{Next}
+use Rattle.join.proofs.Names.{Behind, Bool, Call, CallAt, CallRead, List, Next, Nexts, ReadsCall, Records, Step, [], _&&_, _++_, _+_, _-_, _<_}
+use Rattle.join.proofs.Names.{_||_, _∙_, _∷_, _≡_, ap, append-assoc, append-nil, arith, both, callBytes, cond, eqb, eqb-false, eqb-true, false}
+use Rattle.join.proofs.Names.{isDropped, joined, joinedBytes, leb, leftBytes, leftClock, length, length-append, merged, more, none, not, refl}
+use Rattle.join.proofs.Names.{sets, split, stepBytes, stepFor, stepsBytes, stores-append, subst, sym, timeOf, true, undropped, ℕ}
 use Rattle.join.proofs.Bytes.{bytes-append}
 
 -- ---- the record at a place
@@ -239,8 +231,7 @@ module _ (one two before : List ℕ) where
             is = all-is ∙ ap (λ (n : ℕ). again ++ undropped n (merged (b .rest) (b .other))) (sym c);
             size-is = s ∙ sym size-more;
             stored = stored-behind before buffer buffer′ 1 (length (stepsBytes (w .done))) (stepsBytes (w .done)) (leftBytes clock (r .call)) refl
-                (w .stored)
-                (stored ∙ ap (λ (n : ℕ). sets buffer n (leftBytes clock (r .call))) (w .size-is))
+                (w .stored) (stored ∙ ap (λ (n : ℕ). sets buffer n (leftBytes clock (r .call))) (w .size-is))
                 ∙ ap (λ (l : List ℕ). sets before 1 l) (sym bytes-are);
           }
 

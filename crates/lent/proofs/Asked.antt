@@ -1,14 +1,7 @@
 -- The questions 8 and 24 come first: where one is answered "no" that is the number, and else the call's own questions give it.
-use Rattle.constraint.proofs.Library.{ℕ, _<_, _≤_, arith, _≡_, refl, sym, ap, _∙_, Bool, true, false, cond, ltb, leb, lt-ltb, le-ltb, ltb-false}
-use Rattle.constraint.specs.Limits.{lastCount}
-use Rattle.constraint.specs.Run.{asks}
-use Rattle.constraint.specs.declared.Call.{Call}
-use Rattle.constraint.proofs.Lists.{split}
-use Rattle.queue.proofs.Shared.{cond-true, cond-false}
-use Rattle.questions.specs.Questions.{ownRefusal}
-use Rattle.monitor.specs.Machine.{nextFor}
-use Rattle.lent.specs.Layout.{Lent, Words, wordsOf, Shaped}
-use Rattle.lent.specs.Steps.{refusalOf, answerTo, leftAfter, Stores}
+use Rattle.lent.proofs.Names.{Bool, Call, Lent, Shaped, Stores, Words, _<_, _∙_, _≡_, _≤_, answerTo, ap, arith, asks, cond, cond-false}
+use Rattle.lent.proofs.Names.{cond-true, false, lastCount, le-ltb, leb, leftAfter, lt-ltb, ltb, ltb-false, nextFor, ownRefusal, refl}
+use Rattle.lent.proofs.Names.{refusalOf, split, sym, true, wordsOf, ℕ}
 
 first-no : (a b : Bool) (n own : ℕ) → n ≡ cond a 8 (cond b 24 0) → 0 < n → n ≡ cond a 8 (cond b 24 own)
 first-no true b n own e l = e

@@ -1,13 +1,8 @@
 -- The blocks of a lent monitor, read and written one at a time: those below 32 are the rows', and the last three stand behind them.
-use Rattle.constraint.proofs.Library.{ℕ, zero, suc, _+_, _<_, arith, suc-add, zero-add, _≡_, refl, ap, ap₂, _∙_, List, [], _∷_, _++_, length, getD}
-use Rattle.constraint.proofs.Library.{set}
-use Rattle.row.specs.Undo.{noBefore}
+use Rattle.lent.proofs.Names.{Before, Lent, List, Row, Shaped, Words, [], _++_, _+_, _<_, _∙_, _∷_, _≡_, ap, ap₂, arith, getD, keptAt}
+use Rattle.lent.proofs.Names.{lastBlocks, length, noBefore, noRow, refl, rowAt, rowBlocks, set, suc, suc-add, withRow, wordsOf, zero, zero-add}
+use Rattle.lent.proofs.Names.{ℕ}
 use Rattle.row.specs.Stored as Stored
-use Rattle.row.specs.declared.Before.{Before}
-use Rattle.row.specs.declared.Row.{Row}
-use Rattle.monitor.specs.Machine.{noRow}
-use Rattle.lent.specs.Layout.{Lent, Words, rowBlocks, lastBlocks, wordsOf, Shaped, rowAt, keptAt}
-use Rattle.lent.specs.Steps.{withRow}
 
 -- ---- the rows' blocks
 

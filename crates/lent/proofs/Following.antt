@@ -1,20 +1,9 @@
 -- One row after the other of a list of rows takes a step. Where the others would be left as they are by it, that is the step of all rows.
-use Rattle.constraint.proofs.Library.{ℕ, zero, suc, _+_, _<_, _≤_, min, not-suc-le-zero, le-of-suc-le-suc, add-one, arith, _≡_, refl, sym, _∙_, ap}
-use Rattle.constraint.proofs.Library.{ap₂, subst, Bool, true, false, cond, _||_, List, [], _∷_, _++_, append-nil, length, getD, set, length-set}
-use Rattle.constraint.proofs.Library.{getD-set-same, getD-set-other, set-getD, ltb, ltb-true, ltb-false}
-use Rattle.constraint.proofs.Lists.{split, both, or-false}
-use Rattle.row.specs.Undo.{noBefore}
-use Rattle.row.specs.declared.Before.{Before}
-use Rattle.row.specs.declared.Row.{Row}
-use Rattle.row.specs.Stored.{roomIn}
-use Rattle.row.proofs.Filling.{taken, room-less, room-fits}
-use Rattle.monitor.specs.Machine.{noRow, mapFirst, zipFirst, anyFirst}
-use Rattle.monitor.specs.Parts.{withRows}
-use Rattle.monitor.specs.declared.Monitor.{Monitor}
-use Rattle.monitor.proofs.First.{map-behind, zip-none, zip-behind, zip-next}
-use Rattle.lent.specs.Layout.{Lent, rowAt, keptAt, dueAt}
-use Rattle.lent.specs.Steps.{withSoonest, withRow}
-use Rattle.lent.specs.Contract.{numbers}
+use Rattle.lent.proofs.Names.{Before, Bool, Lent, List, Monitor, Row, [], _++_, _+_, _<_, _||_, _∙_, _∷_, _≡_, _≤_, add-one, anyFirst, ap}
+use Rattle.lent.proofs.Names.{append-nil, ap₂, arith, both, cond, dueAt, false, getD, getD-set-other, getD-set-same, keptAt, le-of-suc-le-suc}
+use Rattle.lent.proofs.Names.{length, length-set, ltb, ltb-false, ltb-true, map-behind, mapFirst, min, noBefore, noRow, not-suc-le-zero}
+use Rattle.lent.proofs.Names.{numbers, or-false, refl, room-fits, room-less, roomIn, rowAt, set, set-getD, split, subst, suc, sym, taken, true}
+use Rattle.lent.proofs.Names.{withRow, withRows, withSoonest, zero, zip-behind, zip-next, zip-none, zipFirst, ℕ}
 
 -- ---- the first rows
 

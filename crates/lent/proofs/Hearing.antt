@@ -1,19 +1,10 @@
 -- A step of a row is what the clock and the close do to it, and then what an event does that concerns it: a row that is not concerned is changed
 -- by the first part alone, and one that is hears the event, as it has room and is broken or in time.
-use Rattle.constraint.proofs.Library.{ℕ, _<_, arith, _≡_, refl, sym, _∙_, ap, subst, Bool, true, false, cond, _⊎_, inl, inr, ⊎-elim, ltb, eqb, lt-ltb}
-use Rattle.constraint.proofs.Library.{ltb-true, ltb-false, eq-eqb, ne-eqb}
-use Rattle.constraint.proofs.Lists.{split, both}
-use Rattle.machine.specs.declared.Rule.{Rule}
-use Rattle.row.specs.Machine.{concerns, rowFrom, brokenState, brokenRow, rowStep}
-use Rattle.row.specs.Undo.{movesBy, savedAt, savedRow, savedBy}
-use Rattle.row.specs.Apart.{endsBy, endedState, heardRow, heardBefore}
-use Rattle.row.specs.Stored.{eventRow, eventSaves, endedRow, endedSaves}
-use Rattle.row.specs.declared.Before.{Before}
-use Rattle.row.specs.declared.Occurrence.{Occurrence}
-use Rattle.row.specs.declared.Row.{Row}
-use Rattle.row.proofs.Undo.{still}
-use Rattle.row.proofs.Crowding.{crowds, step-crowds}
-use Rattle.row.proofs.Apart.{rule-stays, step-heard, saved-heard, step-ended, saved-ended}
+use Rattle.lent.proofs.Names.{Before, Bool, Occurrence, Row, Rule, _<_, _∙_, _≡_, _⊎_, ap, arith, both, brokenRow, brokenState, concerns, cond}
+use Rattle.lent.proofs.Names.{crowds, endedRow, endedSaves, endedState, endsBy, eq-eqb, eqb, eventRow, eventSaves, false, heardBefore}
+use Rattle.lent.proofs.Names.{heardRow, inl, inr, lt-ltb, ltb, ltb-false, ltb-true, movesBy, ne-eqb, refl, rowFrom, rowStep, rule-stays}
+use Rattle.lent.proofs.Names.{saved-ended, saved-heard, savedAt, savedBy, savedRow, split, step-crowds, step-ended, step-heard, still, subst}
+use Rattle.lent.proofs.Names.{sym, true, ℕ, ⊎-elim}
 
 -- ---- what a step makes of a row
 

@@ -1,28 +1,13 @@
 -- What a call and a withdrawal leave of the words of a monitor is what the monitor's step makes of it, and of that the words say what is so: by
 -- the kind of the call, where no question refuses it.
-use Rattle.constraint.proofs.Library.{ℕ, zero, suc, _<_, arith, _≡_, refl, sym, ap, ap₂, subst, Bool, true, false, cond, List, set, set-getD, ltb}
-use Rattle.constraint.proofs.Library.{leb, lt-ltb, ltb-false, leb-false}
-use Rattle.constraint.specs.Limits.{lastKind, firstColoured, lastColour, streamCount, lastCount}
-use Rattle.constraint.specs.Run.{Request, asks, withdraws}
-use Rattle.constraint.specs.Streams.{stream}
-use Rattle.constraint.specs.declared.Call.{Call}
-use Rattle.constraint.proofs.Streams.{plain-kind, stream-kind, stream-below}
-use Rattle.machine.specs.Parts.{plus}
-use Rattle.row.specs.Machine.{eventAt, tickAt, closeAt}
-use Rattle.row.specs.declared.Occurrence.{Occurrence}
-use Rattle.questions.specs.Questions.{timeRefusal, ownRefusal}
-use Rattle.monitor.specs.Machine.{refuses, takes, nextFor, takenCall, steppedBy, stepOf, withdrawOf, withdrawn}
-use Rattle.monitor.specs.Contract.{Steps}
-use Rattle.monitor.specs.declared.Monitor.{Monitor}
-use Rattle.monitor.proofs.Theorem.{step-kept}
-use Rattle.lent.specs.Layout.{Lent, Words}
-use Rattle.lent.specs.Steps.{withdrawnLent, refusalOf, answerTo, leftAfter, numberOf, leaves, Stores}
-use Rattle.lent.specs.Contract.{steppedFrom, Indexes, Takes}
-use Rattle.lent.proofs.Asked.{not-closed}
-use Rattle.lent.proofs.Withdrawn.{withdrawn-is, withdrawn-indexes}
-use Rattle.lent.proofs.Counted.{takenFrom, Answered}
-use Rattle.lent.proofs.OfStream.{on-stream}
-use Rattle.lent.proofs.OfNone.{on-tick, on-close}
+use Rattle.lent.proofs.Names.{Bool, Call, Indexes, Lent, List, Monitor, Occurrence, Request, Steps, Stores, Takes, Words, _<_, _≡_, answerTo}
+use Rattle.lent.proofs.Names.{ap, ap₂, arith, asks, closeAt, cond, eventAt, false, firstColoured, lastColour, lastCount, lastKind, leaves, leb}
+use Rattle.lent.proofs.Names.{leb-false, leftAfter, lt-ltb, ltb, ltb-false, nextFor, numberOf, ownRefusal, plain-kind, plus, refl, refusalOf}
+use Rattle.lent.proofs.Names.{refuses, set, set-getD, step-kept, stepOf, steppedBy, steppedFrom, stream, stream-below, stream-kind}
+use Rattle.lent.proofs.Names.{streamCount, subst, suc, sym, takenCall, takes, tickAt, timeRefusal, true, withdrawOf, withdrawn, withdrawnLent}
+use Rattle.lent.proofs.Names.{withdraws, zero, ℕ}
+use Rattle.lent.proofs.{Asked.not-closed, Counted.Answered, Counted.takenFrom, OfNone.on-close, OfNone.on-tick, OfStream.on-stream}
+use Rattle.lent.proofs.{Withdrawn.withdrawn-indexes, Withdrawn.withdrawn-is}
 
 -- ---- a call that no other question refuses
 

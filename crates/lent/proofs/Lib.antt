@@ -1,4 +1,5 @@
 -- Why a call on a lent monitor is the monitor's.
+mod Names
 pub mod Blocks
 pub mod Parts
 pub mod Asked

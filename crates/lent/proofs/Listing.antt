@@ -1,33 +1,18 @@
 -- A call goes to the rows of its kind, after the clock and the close have done their part. Where the lists are the monitor's that is the step of
 -- all rows: a row that is not listed is not concerned, so that it is changed by that part alone; one that is hears the event, as it has room.
-use Rattle.constraint.proofs.Library.{ℕ, zero, suc, _+_, _-_, _%_, _<_, _≤_, min, arith, _≡_, refl, sym, _∙_, ap, ap₂, subst, Bool, true, false, cond}
-use Rattle.constraint.proofs.Library.{List, [], _∷_, _++_, length, getD, ltb, le-ltb, ltb-true, ltb-false}
-use Rattle.constraint.specs.Limits.{waitingLimit}
-use Rattle.constraint.proofs.Lists.{split}
-use Rattle.machine.specs.declared.Rule.{Rule}
-use Rattle.row.specs.Machine.{concerns, noEvent}
-use Rattle.row.specs.Undo.{noBefore, movesBy}
-use Rattle.row.specs.Stored.{eventRow, eventSaves, endedRow, endedSaves, roomIn}
-use Rattle.row.specs.declared.Before.{Before}
-use Rattle.row.specs.declared.Occurrence.{Occurrence}
-use Rattle.row.specs.declared.Row.{Row}
-use Rattle.row.proofs.Undo.{still}
-use Rattle.row.proofs.Crowding.{crowds}
-use Rattle.row.proofs.Filling.{taken}
-use Rattle.row.proofs.Apart.{rule-stays, step-few, saved-few, saved-state}
-use Rattle.monitor.specs.Machine.{noRow, mapFirst, zipFirst}
-use Rattle.monitor.specs.Parts.{withRows}
-use Rattle.monitor.proofs.First.{zip-length}
-use Rattle.monitor.specs.declared.Monitor.{Monitor}
-use Rattle.lent.specs.Layout.{Lent, Shaped, rowNamed, startOf, heldRows, rowAt, keptAt, dueAt}
-use Rattle.lent.specs.Steps.{withSoonest, withRoom, visitAt, visited, roomAfter, ended, soonestOf, rowCount, soonestAll, passed, begun}
-use Rattle.lent.specs.Contract.{namedRows, rowsOf, numbers, isOf, takenIn, Roomy, Sound, Indexes}
+use Rattle.lent.proofs.Names.{Before, Bool, Indexes, Lent, List, Monitor, Occurrence, Roomy, Row, Rule, Shaped, Sound, [], _%_, _++_, _+_, _-_}
+use Rattle.lent.proofs.Names.{_<_, _∙_, _∷_, _≡_, _≤_, ap, ap₂, arith, begun, concerns, cond, crowds, dueAt, ended, endedRow, endedSaves}
+use Rattle.lent.proofs.Names.{eventRow, eventSaves, false, getD, heldRows, isOf, keptAt, le-ltb, length, ltb, ltb-false, ltb-true, mapFirst}
+use Rattle.lent.proofs.Names.{min, movesBy, namedRows, noBefore, noEvent, noRow, numbers, passed, refl, roomAfter, roomIn, rowAt, rowCount}
+use Rattle.lent.proofs.Names.{rowNamed, rowsOf, rule-stays, saved-few, saved-state, soonestAll, soonestOf, split, startOf, step-few, still}
+use Rattle.lent.proofs.Names.{subst, suc, sym, taken, takenIn, true, visitAt, visited, waitingLimit, withRoom, withRows, withSoonest, zero}
+use Rattle.lent.proofs.Names.{zip-length, zipFirst, ℕ}
+use Rattle.lent.proofs.Following.{Beside, map-length, map-twice, mapped, room-left, rooms, rooms-last, row-more, row-none, same-beside, visits}
+use Rattle.lent.proofs.Following.{visits-beside, visits-last, visits-same, zip-twice, zipped}
+use Rattle.lent.proofs.Hearing.{ended-late, heard-late, heard-moved, late, late-first, late-saves, late-saves-first, late-still, late-unsaved}
+use Rattle.lent.proofs.Hearing.{moved, no-ends, saved-late, saves, unconcerned, unsaved}
 use Rattle.lent.proofs.Parts.{shaped-room}
 use Rattle.lent.proofs.Following as Following
-use Rattle.lent.proofs.Following.{mapped, map-length, map-twice, zipped, zip-twice, row-none, row-more, visits, visits-last, visits-beside}
-use Rattle.lent.proofs.Following.{visits-same, rooms, rooms-last, room-left, Beside, same-beside}
-use Rattle.lent.proofs.Hearing.{unconcerned, no-ends, moved, late, saves, late-saves, ended-late, saved-late, late-first}
-use Rattle.lent.proofs.Hearing.{late-saves-first, late-still, unsaved, late-unsaved, heard-moved, heard-late}
 
 -- ---- the rows that are listed
 
@@ -228,8 +213,7 @@ module _ (c : Lent) (ix : Indexes c) (o : Occurrence) (above : 0 < c .monitor .c
         }
 
     -- the clock can go to no row, as none is due before a time
-    not-late : (s : ℕ) → o .closes ≡ false → ltb s (o .time) ≡ false → ((i : ℕ) → i < n → s ≤ rowAt m i .now .due)
-        → Heard (withSoonest c s)
+    not-late : (s : ℕ) → o .closes ≡ false → ltb s (o .time) ≡ false → ((i : ℕ) → i < n → s ≤ rowAt m i .now .due) → Heard (withSoonest c s)
     not-late s going e least =
         list-steps (withSoonest c s) (λ r. r) (λ r b. b) (record { room-is = refl; ends-are = refl; entries-are = refl })
         (sym (ap (λ (rows : List Row). withRows m rows (zipFirst n (λ r b. b) (m .rows) (m .before))) (map-none n (m .rows))

@@ -1,25 +1,13 @@
 -- A tick and the close concern no row, so that they crowd none, and what the clock or the close does to each row is the whole step.
-use Rattle.constraint.proofs.Library.{ℕ, zero, suc, _+_, _<_, _≤_, arith, subst, _≡_, refl, sym, _∙_, ap, Bool, false, cond, [], _∷_, _++_}
-use Rattle.constraint.proofs.Library.{append-nil}
-use Rattle.constraint.specs.declared.Call.{Call}
-use Rattle.row.specs.Machine.{noEvent, rowStep}
-use Rattle.row.specs.declared.Occurrence.{Occurrence}
-use Rattle.row.proofs.Crowding.{crowds}
-use Rattle.row.proofs.Filling.{quiet-taken}
+use Rattle.lent.proofs.Names.{Bool, Call, Indexes, Lent, Monitor, Occurrence, Shaped, [], _++_, _+_, _<_, _∙_, _∷_, _≡_, _≤_, anyFirst, ap}
+use Rattle.lent.proofs.Names.{append-nil, arith, begun, cond, countedTo, crowds, ended, false, heldRows, isOf, nextStep, noEvent, numbers}
+use Rattle.lent.proofs.Names.{occurrenceBy, quiet-taken, refl, refuses, rowAt, rowStep, subst, suc, sym, takenCall, takenIn, takes, withRoom}
+use Rattle.lent.proofs.Names.{withSoonest, zero, ℕ}
+use Rattle.lent.proofs.Counted.{Answered, all-rows, renumbered-indexes, takenFrom, undoAt}
+use Rattle.lent.proofs.{Following.any-numbers, Following.anyIn, Hearing.calm, Hearing.moved, Hearing.saves, Listing.all-stepped}
+use Rattle.lent.proofs.{Listing.some-late, Listing.step-indexes, Parts.shaped-begun, Parts.shaped-ended, Parts.shaped-soonest, Room.step-crowd}
 use Rattle.monitor.specs.Machine as Machine
-use Rattle.questions.specs.Questions.{occurrenceBy}
-use Rattle.monitor.specs.Machine.{anyFirst, refuses, takes, nextStep, takenCall}
-use Rattle.monitor.specs.declared.Monitor.{Monitor}
-use Rattle.lent.specs.Layout.{Lent, Shaped, heldRows, rowAt}
-use Rattle.lent.specs.Steps.{withRoom, withSoonest, ended, begun, countedTo}
-use Rattle.lent.specs.Contract.{numbers, isOf, takenIn, Indexes}
-use Rattle.lent.proofs.Following.{anyIn, any-numbers}
-use Rattle.lent.proofs.Hearing.{moved, saves, calm}
-use Rattle.lent.proofs.Parts.{shaped-soonest, shaped-ended, shaped-begun}
 use Rattle.lent.proofs.Listing as Listing
-use Rattle.lent.proofs.Listing.{all-stepped, some-late, step-indexes}
-use Rattle.lent.proofs.Room.{step-crowd}
-use Rattle.lent.proofs.Counted.{undoAt, takenFrom, all-rows, Answered, renumbered-indexes}
 
 none-pass : (test : ℕ → Bool) (n : ℕ) → ((i : ℕ) → i < n → test i ≡ false) → numbers test n ≡ []
 none-pass test zero out = refl
@@ -81,5 +69,4 @@ module _ (h : Lent) (ix : Indexes h) (call : Call) (o : Occurrence) (no-event : 
   pub on-close : Answered h call 0 (withSoonest (ended c (heldRows m) o (nextStep m)) 0)
   on-close =
       on-none (withSoonest (ended c (heldRows m) o (nextStep m)) 0)
-      (shaped-soonest _ 0 (shaped-ended c (heldRows m) o (nextStep m) (counted .shaped)))
-      (some-late c counted o above 0 0 none-listed room .stepped)
+      (shaped-soonest _ 0 (shaped-ended c (heldRows m) o (nextStep m) (counted .shaped))) (some-late c counted o above 0 0 none-listed room .stepped)

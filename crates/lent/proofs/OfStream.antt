@@ -1,27 +1,14 @@
 -- An event of a stream: the rows of its kind take the step, after those to which the clock goes, and that is the step of all rows; the question
 -- for 64 is answered as all rows would answer it.
-use Rattle.constraint.proofs.Library.{ℕ, _+_, _<_, _≤_, arith, _≡_, refl, sym, _∙_, ap, Bool, false, cond, set, length-set}
-use Rattle.constraint.specs.Streams.{stream, kindOf}
-use Rattle.constraint.specs.declared.Call.{Call}
-use Rattle.constraint.proofs.Lists.{split}
-use Rattle.machine.specs.Parts.{plus}
-use Rattle.row.specs.Machine.{eventAt, rowStep}
-use Rattle.row.specs.declared.Occurrence.{Occurrence}
-use Rattle.row.proofs.Crowding.{crowds}
-use Rattle.row.proofs.Filling.{quiet-taken}
+use Rattle.lent.proofs.Names.{Bool, Call, Indexes, Lent, Monitor, Occurrence, Shaped, _+_, _<_, _∙_, _≡_, _≤_, anyFirst, ap, arith, begun}
+use Rattle.lent.proofs.Names.{cond, countedOn, crowdedOn, crowds, eventAt, false, heldRows, isOf, kindOf, leftOn, length-set, namedRows}
+use Rattle.lent.proofs.Names.{nextStep, numbers, occurrenceBy, plus, quiet-taken, refl, refuses, roomFor, roomed, rowAt, rowCount, rowStep}
+use Rattle.lent.proofs.Names.{set, split, startOf, stream, sym, takenCall, takenIn, takes, visited, ℕ}
+use Rattle.lent.proofs.Counted.{Answered, all-rows, renumbered-indexes, takenFrom, undoAt}
+use Rattle.lent.proofs.{Hearing.moved, Hearing.saves, Listing.all-stepped, Listing.same-named, Listing.step-indexes, Parts.shaped-begun}
+use Rattle.lent.proofs.{Parts.shaped-visited, Room.crowd-known, Room.each-free, Room.roomed-roomy, Room.step-crowd}
 use Rattle.monitor.specs.Machine as Machine
-use Rattle.questions.specs.Questions.{occurrenceBy}
-use Rattle.monitor.specs.Machine.{anyFirst, refuses, takes, nextStep, takenCall}
-use Rattle.monitor.specs.declared.Monitor.{Monitor}
-use Rattle.lent.specs.Layout.{Lent, Shaped, startOf, heldRows, rowAt}
-use Rattle.lent.specs.Steps.{visited, roomFor, roomed, countedOn, begun, rowCount, crowdedOn, leftOn}
-use Rattle.lent.specs.Contract.{namedRows, numbers, isOf, takenIn, Indexes}
-use Rattle.lent.proofs.Hearing.{moved, saves}
-use Rattle.lent.proofs.Parts.{shaped-visited, shaped-begun}
 use Rattle.lent.proofs.Listing as Listing
-use Rattle.lent.proofs.Listing.{same-named, all-stepped, step-indexes}
-use Rattle.lent.proofs.Room.{roomed-roomy, crowd-known, step-crowd, each-free}
-use Rattle.lent.proofs.Counted.{undoAt, takenFrom, all-rows, Answered, renumbered-indexes}
 
 module _ (h : Lent) (ix : Indexes h) (call : Call) (kind stream time : ℕ) (small : kind < 64) (kind-is : kindOf stream ≡ kind)
     (seen : occurrenceBy call (h .monitor .clock) ≡ eventAt stream time)

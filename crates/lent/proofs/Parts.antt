@@ -1,25 +1,13 @@
 -- The words beside the rows, read and written: each stands at a place of the last three blocks, and a store there is a store in one part of the
 -- record.
-use Rattle.constraint.proofs.Library.{ℕ, zero, suc, _+_, _-_, _<_, _/_, _%_, min, arith, suc-add, zero-add, ℕ-discrete, _≡_, refl, sym, ap, ap₂}
-use Rattle.constraint.proofs.Library.{subst, subst₂, _∙_, by-cases, Bool, true, false, cond, _||_, List, [], _∷_, _++_, length, getD, set, take, drop}
-use Rattle.constraint.proofs.Library.{length-set, getD-set-same, getD-set-other, getD-take, getD-drop, getD-append-add, take-set-lt, take-set-le}
-use Rattle.constraint.proofs.Library.{drop-set-lt, drop-set-add, ltb, ltb-true, ltb-false}
-use Rattle.constraint.proofs.Lists.{split}
-use Rattle.row.specs.Apart.{endsBy, endedState}
-use Rattle.row.specs.Machine.{eventAt, tickAt}
-use Rattle.row.specs.declared.Before.{Before}
-use Rattle.row.specs.declared.Occurrence.{Occurrence}
-use Rattle.row.specs.declared.Row.{Row}
-use Rattle.row.specs.Stored.{RestZero}
-use Rattle.row.specs.Undo.{noBefore}
-use Rattle.row.proofs.Kept.{rest-zero-event, rest-zero-ended, rest-zero-without}
-use Rattle.machine.specs.Parts.{plus}
-use Rattle.monitor.specs.Machine.{noRow}
-use Rattle.monitor.specs.declared.Monitor.{Monitor}
-use Rattle.lent.specs.Layout.{Lent, Words, halves, numberArray, numberBlock, wordsOf, rowBlocks, Shaped, rowNamed, startOf, heldRows}
-use Rattle.lent.specs.Layout.{rowAt, keptAt}
-use Rattle.lent.specs.Steps.{withRow, withSoonest, withRoom, withNext, countedOn, countedTo, visited, ended, backed, soonestAll, passed, begun}
-use Rattle.lent.specs.Steps.{crowdedAt, crowded, endAt, rowCount}
+use Rattle.lent.proofs.Names.{Before, Bool, Lent, List, Monitor, Occurrence, RestZero, Row, Shaped, Words, [], _%_, _++_, _+_, _-_, _/_, _<_}
+use Rattle.lent.proofs.Names.{_||_, _∙_, _∷_, _≡_, ap, ap₂, arith, backed, begun, by-cases, cond, countedOn, countedTo, crowded, crowdedAt}
+use Rattle.lent.proofs.Names.{drop, drop-set-add, drop-set-lt, endAt, ended, endedState, endsBy, eventAt, false, getD, getD-append-add}
+use Rattle.lent.proofs.Names.{getD-drop, getD-set-other, getD-set-same, getD-take, halves, heldRows, keptAt, length, length-set, ltb}
+use Rattle.lent.proofs.Names.{ltb-false, ltb-true, min, noBefore, noRow, numberArray, numberBlock, passed, plus, refl, rest-zero-ended}
+use Rattle.lent.proofs.Names.{rest-zero-event, rest-zero-without, rowAt, rowBlocks, rowCount, rowNamed, set, soonestAll, split, startOf}
+use Rattle.lent.proofs.Names.{streamCount, subst, subst₂, suc, suc-add, sym, take, take-set-le, take-set-lt, tickAt, true, visited, withNext}
+use Rattle.lent.proofs.Names.{withRoom, withRow, withSoonest, wordsOf, zero, zero-add, ℕ, ℕ-discrete}
 use Rattle.lent.proofs.Blocks.{last-read, last-written}
 
 -- ---- two halves
@@ -36,8 +24,7 @@ half-read l j small =
     let place : 64 + j % 64 ≡ j = omega (arith, ltb-false j 64 e, small) in
     ap (λ (a : ℕ). getD (getD (halves l) a []) (j % 64) 0) high ∙ getD-drop 64 l (j % 64) 0 ∙ ap (λ (k : ℕ). getD l k 0) place)
 
-pub half-written : (l : List ℕ) (j v : ℕ) → j < 128
-    → set (halves l) (j / 64) (set (getD (halves l) (j / 64) []) (j % 64) v) ≡ halves (set l j v)
+pub half-written : (l : List ℕ) (j v : ℕ) → j < 128 → set (halves l) (j / 64) (set (getD (halves l) (j / 64) []) (j % 64) v) ≡ halves (set l j v)
 half-written l j v small =
     split (ltb j 64) (λ _. set (halves l) (j / 64) (set (getD (halves l) (j / 64) []) (j % 64) v) ≡ halves (set l j v))
     (λ e.
@@ -178,38 +165,28 @@ begun-alone h s t =
 
 -- ---- each part keeps its size, and in each row what its type never stores is 0
 
-pub shaped-next : (h : Lent) (i v : ℕ) → Shaped h → Shaped (withNext h (set (h .monitor .next) i v))
-shaped-next h i v s =
+-- it hangs on the rows, and on how long the lists are
+pub shaped-same : (h x : Lent) → x .monitor .rows ≡ h .monitor .rows → x .monitor .before ≡ h .monitor .before
+    → length (x .monitor .next) ≡ streamCount → length (x .ends) ≡ 64 → length (x .entries) ≡ 128 → Shaped h → Shaped x
+shaped-same h x rows kept next ends entries s =
     record {
-      rows-there = s .rows-there;
-      kept-there = s .kept-there;
-      next-there = length-set (h .monitor .next) i v ∙ s .next-there;
-      ends-there = s .ends-there;
-      entries-there = s .entries-there;
-      rest-zero = s .rest-zero;
+      rows-there = ap (λ (l : List Row). length l) rows ∙ s .rows-there;
+      kept-there = ap (λ (l : List Before). length l) kept ∙ s .kept-there;
+      next-there = next;
+      ends-there = ends;
+      entries-there = entries;
+      rest-zero = λ i l. subst₂ (λ (a : List Row) (b : List Before). RestZero (getD a i noRow) (getD b i noBefore)) (sym rows) (sym kept)
+          (s .rest-zero i l);
     }
+
+pub shaped-next : (h : Lent) (i v : ℕ) → Shaped h → Shaped (withNext h (set (h .monitor .next) i v))
+shaped-next h i v s = shaped-same h _ refl refl (length-set (h .monitor .next) i v ∙ s .next-there) (s .ends-there) (s .entries-there) s
 
 pub shaped-soonest : (h : Lent) (time : ℕ) → Shaped h → Shaped (withSoonest h time)
-shaped-soonest h time s =
-    record {
-      rows-there = s .rows-there;
-      kept-there = s .kept-there;
-      next-there = s .next-there;
-      ends-there = s .ends-there;
-      entries-there = s .entries-there;
-      rest-zero = s .rest-zero;
-    }
+shaped-soonest h time s = shaped-same h _ refl refl (s .next-there) (s .ends-there) (s .entries-there) s
 
 pub shaped-room : (h : Lent) (room : ℕ) → Shaped h → Shaped (withRoom h room)
-shaped-room h room s =
-    record {
-      rows-there = s .rows-there;
-      kept-there = s .kept-there;
-      next-there = s .next-there;
-      ends-there = s .ends-there;
-      entries-there = s .entries-there;
-      rest-zero = s .rest-zero;
-    }
+shaped-room h room s = shaped-same h _ refl refl (s .next-there) (s .ends-there) (s .entries-there) s
 
 -- with a row put at a place in which what its type never stores is 0
 pub shaped-row : (h : Lent) (i : ℕ) (r : Row) (b : Before) → (i < 32 → RestZero r b) → Shaped h → Shaped (withRow h i r b)
@@ -253,25 +230,10 @@ visited-named h first (suc n) o number place = visited-named h first n o number 
 
 pub shaped-counted : (h : Lent) (stream time : ℕ) → Shaped h → Shaped (countedOn h stream time)
 shaped-counted h stream time s =
-    record {
-      rows-there = s .rows-there;
-      kept-there = s .kept-there;
-      next-there = length-set (h .monitor .next) stream (plus time 1) ∙ s .next-there;
-      ends-there = s .ends-there;
-      entries-there = s .entries-there;
-      rest-zero = s .rest-zero;
-    }
+    shaped-same h _ refl refl (length-set (h .monitor .next) stream (plus time 1) ∙ s .next-there) (s .ends-there) (s .entries-there) s
 
 pub shaped-to : (h : Lent) (time closed : ℕ) → Shaped h → Shaped (countedTo h time closed)
-shaped-to h time closed s =
-    record {
-      rows-there = s .rows-there;
-      kept-there = s .kept-there;
-      next-there = s .next-there;
-      ends-there = s .ends-there;
-      entries-there = s .entries-there;
-      rest-zero = s .rest-zero;
-    }
+shaped-to h time closed s = shaped-same h _ refl refl (s .next-there) (s .ends-there) (s .entries-there) s
 
 -- ---- the rows to which the clock goes
 

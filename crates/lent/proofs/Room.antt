@@ -1,21 +1,11 @@
 -- Whether an event crowds a row of its kind is whether it crowds any row; and where each row has room for the events that may come, it crowds
 -- none, so that the question need not be asked.
-use Rattle.constraint.proofs.Library.{ℕ, zero, suc, _+_, _-_, _%_, _<_, _≤_, min, le-trans, arith, _≡_, refl, sym, _∙_, ap, subst, Bool, true, false}
-use Rattle.constraint.proofs.Library.{cond, _||_, List, [], _∷_, length, ltb, eqb, ltb-true, ltb-false}
-use Rattle.constraint.proofs.Lists.{split}
-use Rattle.row.specs.Machine.{rowStep, eventAt}
-use Rattle.row.specs.Stored.{larger, filledIn}
-use Rattle.row.specs.declared.Occurrence.{Occurrence}
-use Rattle.row.proofs.Crowding.{crowds, step-crowds, full-known}
-use Rattle.row.proofs.Filling.{room-free, taken-few}
-use Rattle.monitor.specs.Machine.{noRow, anyFirst}
-use Rattle.monitor.specs.declared.Monitor.{Monitor}
-use Rattle.monitor.proofs.First.{any-all}
-use Rattle.lent.specs.Layout.{Lent, rowNamed, startOf, heldRows, rowAt, keptAt}
-use Rattle.lent.specs.Steps.{crowdedAt, crowded, fullest, roomFor, roomed, rowCount, crowdedOn}
-use Rattle.lent.specs.Contract.{namedRows, numbers, isOf, takenIn, Roomy, Indexes}
-use Rattle.lent.proofs.Following.{anyIn, any-last, any-same, any-numbers, any-none}
-use Rattle.lent.proofs.Hearing.{calm}
+use Rattle.lent.proofs.Names.{Bool, Indexes, Lent, List, Monitor, Occurrence, Roomy, [], _%_, _+_, _-_, _<_, _||_, _∙_, _∷_, _≡_, _≤_, any-all}
+use Rattle.lent.proofs.Names.{anyFirst, ap, arith, cond, crowded, crowdedAt, crowdedOn, crowds, eqb, eventAt, false, filledIn, full-known}
+use Rattle.lent.proofs.Names.{fullest, heldRows, isOf, keptAt, larger, le-trans, length, ltb, ltb-false, ltb-true, min, namedRows, noRow}
+use Rattle.lent.proofs.Names.{numbers, refl, room-free, roomFor, roomed, rowAt, rowCount, rowNamed, rowStep, split, startOf, step-crowds}
+use Rattle.lent.proofs.Names.{subst, suc, sym, taken-few, takenIn, true, zero, ℕ}
+use Rattle.lent.proofs.{Following.any-last, Following.any-none, Following.any-numbers, Following.any-same, Following.anyIn, Hearing.calm}
 
 -- ---- the fullest row
 
@@ -109,8 +99,7 @@ module _ (h : Lent) (ix : Indexes h) (kind stream time : ℕ) (small : kind < 64
 
   -- of the rows of the kind, of all rows
   listed-crowd : crowded h (startOf h kind) (rowCount h kind) stream time ≡ anyIn (λ i. crowdedAt h i stream time) (numbers test held)
-  listed-crowd =
-      crowd-is h (startOf h kind) (rowCount h kind) stream time ∙ ap (anyIn (λ i. crowdedAt h i stream time)) (ix .listed kind small)
+  listed-crowd = crowd-is h (startOf h kind) (rowCount h kind) stream time ∙ ap (anyIn (λ i. crowdedAt h i stream time)) (ix .listed kind small)
 
   all-crowd : anyIn (λ i. crowdedAt h i stream time) (numbers test held) ≡ anyFirst held (crowds o) (h .monitor .rows)
   all-crowd =

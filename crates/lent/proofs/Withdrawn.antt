@@ -1,27 +1,11 @@
 -- A withdrawal puts each row back, and the numbers beside them. The rows keep their rules, so that the lists are theirs; what waits in one now
 -- waited in it before, or nothing is kept of it; and no row is due before time 0.
-use Rattle.constraint.proofs.Library.{ℕ, zero, suc, _+_, _<_, _≤_, add-one, arith, _≡_, refl, sym, _∙_, ap, subst, Bool, true, false, cond, List, []}
-use Rattle.constraint.proofs.Library.{_∷_, length, getD, set, length-set, eqb}
-use Rattle.constraint.specs.Limits.{rowLimit}
-use Rattle.machine.specs.declared.Rule.{Rule}
-use Rattle.machine.specs.declared.State.{State}
-use Rattle.row.specs.Machine.{concerns, noEvent}
-use Rattle.row.specs.Undo.{noBefore, noState, backRow, rowWithout, keptWithout}
-use Rattle.row.specs.declared.Before.{Before}
-use Rattle.row.specs.declared.Row.{Row}
-use Rattle.row.proofs.Apart.{without-state, kept-state}
-use Rattle.row.proofs.Filling.{taken-rises}
-use Rattle.questions.specs.Questions.{placeIn}
-use Rattle.monitor.specs.Machine.{noRow, zipFirst, withdrawn}
-use Rattle.monitor.specs.Parts.{rowsWithout}
-use Rattle.monitor.specs.declared.Monitor.{Monitor}
-use Rattle.monitor.proofs.First.{zip-length, without-none, without-next, without-all}
-use Rattle.lent.specs.Layout.{Lent, heldRows, rowAt, keptAt}
-use Rattle.lent.specs.Steps.{withNext, backed, backRows, uncountedMonitor, withdrawnLent}
-use Rattle.lent.specs.Contract.{numbers, isOf, takenIn, Roomy, Sound, Indexes}
-use Rattle.lent.proofs.Parts.{shaped-backed}
-use Rattle.lent.proofs.Following.{Beside, same-beside}
-use Rattle.lent.proofs.Listing.{same-rows, same-numbers}
+use Rattle.lent.proofs.Names.{Before, Bool, Indexes, Lent, List, Monitor, Roomy, Row, Rule, Sound, State, [], _+_, _<_, _∙_, _∷_, _≡_, _≤_}
+use Rattle.lent.proofs.Names.{add-one, ap, arith, backRow, backRows, backed, concerns, cond, eqb, false, getD, heldRows, isOf, kept-state}
+use Rattle.lent.proofs.Names.{keptAt, keptWithout, length, length-set, noBefore, noEvent, noRow, noState, numbers, placeIn, refl, rowAt}
+use Rattle.lent.proofs.Names.{rowLimit, rowWithout, rowsWithout, set, subst, suc, sym, taken-rises, takenIn, true, uncountedMonitor, withNext}
+use Rattle.lent.proofs.Names.{withdrawn, withdrawnLent, without-all, without-next, without-none, without-state, zero, zip-length, zipFirst, ℕ}
+use Rattle.lent.proofs.{Following.Beside, Following.same-beside, Listing.same-numbers, Listing.same-rows, Parts.shaped-backed}
 
 -- ---- the rows put back
 

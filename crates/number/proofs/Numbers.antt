@@ -1,10 +1,9 @@
 -- A number and its n bytes say the same: each byte is the number's digit to base 256, so either gives back the other.
-use Rattle.constraint.proofs.Library.{ℕ, zero, suc, _+_, _*_, _/_, _%_, _-_, _^_, _≤_, _<_, _≡_, refl, ap, ap₂, _∙_, List, [], _∷_, pow-succ'}
-use Rattle.constraint.proofs.Library.{pow-le-pow-right, one-le-pow, one-mul, mod-eq-of-lt, mul-assoc, mul-le-mul-left, mul-le-mul-right, add-mul}
-use Rattle.constraint.proofs.Library.{zero-add, le-trans, add-one, arith, length, drop-of-length-le, drop-cons, take-nil}
-use lib.Arith.{digits-lt, digits-div, mod-mul}
-use Rattle.constraint.specs.Bytes.{Bytes, numberBehind, number, bytesOf, bytesAt}
-use Rattle.constraint.specs.Steps.{at}
+use Rattle.constraint.proofs.Library.{List, [], _%_, _*_, _+_, _-_, _/_, _<_, _^_, _∙_, _∷_, _≡_, _≤_, add-mul, add-one, ap, ap₂, arith, drop-cons}
+use Rattle.constraint.proofs.Library.{drop-of-length-le, le-trans, length, mod-eq-of-lt, mul-assoc, mul-le-mul-left, mul-le-mul-right, one-le-pow}
+use Rattle.constraint.proofs.Library.{one-mul, pow-le-pow-right, pow-succ', refl, suc, take-nil, zero, zero-add, ℕ}
+use Rattle.constraint.specs.{Bytes.Bytes, Bytes.bytesAt, Bytes.bytesOf, Bytes.number, Bytes.numberBehind, Steps.at}
+use lib.Arith.{digits-div, digits-lt, mod-mul}
 
 power-positive : (n : ℕ) → 0 < 256 ^ n
 power-positive n = one-le-pow n 256 (omega arith)
@@ -28,8 +27,7 @@ unfolding numberBehind
 behind high [] = omega arith
 behind high (byte ∷ bytes) =
     let power = 256 ^ length bytes in
-    rw (pow-succ' 256 (length bytes), behind (high * 256 + byte) bytes, behind (0 + byte) bytes, zero-add byte)
-    (omega (arith, place high byte power))
+    rw (pow-succ' 256 (length bytes), behind (high * 256 + byte) bytes, behind (0 + byte) bytes, zero-add byte) (omega (arith, place high byte power))
 
 pub number-below : (bytes : List ℕ) → Bytes bytes → number bytes < 256 ^ length bytes
 unfolding numberBehind Bytes

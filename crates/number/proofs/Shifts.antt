@@ -1,9 +1,8 @@
 -- A shift by eight bits for each of n bytes divides by 256 ^ n, so it cuts a number where the definition cuts it.
-use Rattle.constraint.proofs.Library.{ℕ, zero, suc, _+_, _*_, _/_, _%_, _-_, _^_, _≤_, _<_, _≡_, refl, ap, List, [], _∷_, div-one, mod-eq-of-lt}
-use Rattle.constraint.proofs.Library.{mul-suc, pow-suc, add-one, arith, getD, set, sets}
-use lib.Bits.{bitOr, or-shifted}
-use lib.Pow.{pow-add}
+use Rattle.constraint.proofs.Library.{List, [], _%_, _*_, _+_, _-_, _/_, _<_, _^_, _∷_, _≡_, _≤_, add-one, ap, arith, div-one, getD, mod-eq-of-lt}
+use Rattle.constraint.proofs.Library.{mul-suc, pow-suc, refl, set, sets, suc, zero, ℕ}
 use Rattle.constraint.specs.Bytes.{bytesOf}
+use lib.{Bits.bitOr, Bits.or-shifted, Pow.pow-add}
 
 power-of-bytes : (n : ℕ) → 2 ^ (8 * n) ≡ 256 ^ n
 power-of-bytes zero = refl

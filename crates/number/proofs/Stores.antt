@@ -1,6 +1,6 @@
 -- Stores one after the other: a list of bytes is stored as its parts are, and nothing is stored past the end.
-use Rattle.constraint.proofs.Library.{ℕ, suc, _+_, _≤_, _<_, _≡_, refl, _∙_, List, [], _∷_, _++_, add-zero, add-suc, suc-add, zero-add, add-one}
-use Rattle.constraint.proofs.Library.{arith, length, getD, set, drop, sets, sets-eq, set-out, drop-cons}
+use Rattle.constraint.proofs.Library.{List, [], _++_, _+_, _<_, _∙_, _∷_, _≡_, _≤_, add-one, add-suc, add-zero, arith, drop, drop-cons, getD, length}
+use Rattle.constraint.proofs.Library.{refl, set, set-out, sets, sets-eq, suc, suc-add, zero-add, ℕ}
 
 pub stores-past : (l : List ℕ) (i : ℕ) (vs : List ℕ) → length l ≤ i → sets l i vs ≡ l
 stores-past l i [] h = refl

@@ -1,9 +1,8 @@
 -- A place is a stream that was tested to be one, or 0.
-use Rattle.constraint.proofs.Library.{ℕ, _<_, arith, _≡_, cond, ltb, ltb-true, lt-ltb}
-use Rattle.constraint.specs.Limits.{streamCount}
-use Rattle.constraint.specs.declared.Call.{Call}
+use Rattle.constraint.proofs.Library.{_<_, _≡_, arith, cond, lt-ltb, ltb, ltb-true, ℕ}
 use Rattle.constraint.proofs.Lists.{split}
-use Rattle.questions.specs.Questions.{streamFor, placeFor, placeIn}
+use Rattle.constraint.specs.{Limits.streamCount, declared.Call.Call}
+use Rattle.questions.specs.Questions.{placeFor, placeIn, streamFor}
 
 -- a stream is its own place
 pub stream-place : (call : Call) → streamFor call < streamCount → placeFor call ≡ streamFor call
@@ -15,5 +14,4 @@ place-small call =
     (λ e. omega arith)
 
 pub place-in-small : (place : ℕ) → placeIn place < streamCount
-place-in-small place =
-    split (ltb place streamCount) (λ x. cond x place 0 < streamCount) (λ e. ltb-true place streamCount e) (λ e. omega arith)
+place-in-small place = split (ltb place streamCount) (λ x. cond x place 0 < streamCount) (λ e. ltb-true place streamCount e) (λ e. omega arith)

@@ -1,21 +1,10 @@
 -- Laws of `ring`, the times of a list of 64 from a place on, and of what an edit makes of a ring.
-use mathlib.Core.Path.{_≡_, refl, sym, ap, _∙_, subst}
-use mathlib.Core.Bool.{Bool, true, false, cond}
-use mathlib.Core.Logic.{_≢_, _⊎_, inl, inr, ⊎-elim, by-cases}
-use mathlib.Core.List.{List, [], _∷_, _++_, append-assoc}
-use Prim.Native.Nat.{ℕ, zero, suc, _+_, _-_, _%_, _≤_, _<_}
-use native.Mathlib.Nat.{add-zero, suc-add, add-suc, add-assoc}
-use native.Mathlib.Numerals.{add-one}
-use native.Mathlib.Omega.{arith}
-use borrow.Author.Tests.{ltb-true, ltb-false, lt-ltb, le-ltb, eqb-true}
-use lib.Dec.{ltb, eqb}
-use lib.ListN.{length, getD, set, drop, replicate, length-append, length-drop, length-set, drop-of-length-le}
-use lib.Seq.{drop-cons, getD-set-same, getD-set-other, set-out, ext-getD}
-use native.Mathlib.Decide.{ℕ-discrete}
-use Rattle.queue.specs.declared.Edit.{Edit}
-use Rattle.queue.specs.declared.Edit.the-variants.{Drop, Push, PushTwo, Store}
-use Rattle.queue.specs.Ring.{Ring, ringOf, ring, ringPlace, headAfter, timeAt, items, changed, dropRing, pushRing, putRing, edited}
-use Rattle.queue.specs.Ring.{editPlace, twoFrom, secondAt, putBack}
+use Rattle.queue.proofs.Names.{Bool, Drop, Edit, List, Push, PushTwo, Ring, Store, [], _%_, _++_, _+_, _-_, _<_, _∙_, _∷_, _≡_, _≢_, _≤_, _⊎_}
+use Rattle.queue.proofs.Names.{add-assoc, add-one, add-suc, add-zero, ap, append-assoc, arith, by-cases, changed, cond, drop, drop-cons}
+use Rattle.queue.proofs.Names.{drop-of-length-le, dropRing, editPlace, edited, eqb, eqb-true, ext-getD, false, getD, getD-set-other}
+use Rattle.queue.proofs.Names.{getD-set-same, headAfter, inl, inr, items, le-ltb, length, length-append, length-drop, length-set, lt-ltb, ltb}
+use Rattle.queue.proofs.Names.{ltb-false, ltb-true, pushRing, putBack, putRing, refl, replicate, ring, ringOf, ringPlace, secondAt, set}
+use Rattle.queue.proofs.Names.{set-out, subst, suc, suc-add, sym, timeAt, true, twoFrom, zero, ℕ, ℕ-discrete, ⊎-elim}
 
 -- ---- Rings
 
@@ -122,8 +111,7 @@ ring-put l f (suc n) (suc i) t size few h =
     )
 
 ring-push : (l : List ℕ) (f n p t : ℕ) → length l ≡ 64 → n < 64 → p ≡ (f + n) % 64 → ring (set l p t) f (n + 1) ≡ ring l f n ++ t ∷ []
-ring-push l f n p t size room e =
-    rw (add-one, ring-snoc, ring-set l f n p t (λ i k. omega arith), ← e, getD-set-same l p t 0 (omega arith))
+ring-push l f n p t size room e = rw (add-one, ring-snoc, ring-set l f n p t (λ i k. omega arith), ← e, getD-set-same l p t 0 (omega arith))
 
 -- ---- Edits
 
@@ -227,8 +215,7 @@ near-set p a b i word at n =
     }
 
 -- with the words of the one stored into the other they are the same
-both-back : (p : ℕ) (a b : List ℕ) → length b ≡ 64 → Near p a b
-    → set (set a (ringPlace p 0) (timeAt b p 0)) (ringPlace p 1) (timeAt b p 1) ≡ b
+both-back : (p : ℕ) (a b : List ℕ) → length b ≡ 64 → Near p a b → set (set a (ringPlace p 0) (timeAt b p 0)) (ringPlace p 1) (timeAt b p 1) ≡ b
 both-back p a b size n =
     ext-getD 0 _ b (length-set once (ringPlace p 1) (timeAt b p 1) ∙ length-set a (ringPlace p 0) (timeAt b p 0) ∙ n .size) (λ j small. by-place j)
   where
@@ -338,8 +325,7 @@ near-stored q place first second =
 two-place : (p i : ℕ) → ringPlace (twoFrom p) i ≡ ringPlace p i
 two-place p i = omega arith
 
-two-back : (p : ℕ) (a b : List ℕ) → length b ≡ 64 → Near p a b
-    → putBack (twoFrom p) (timeAt b (twoFrom p) 0) (secondAt b (twoFrom p)) a ≡ b
+two-back : (p : ℕ) (a b : List ℕ) → length b ≡ 64 → Near p a b → putBack (twoFrom p) (timeAt b (twoFrom p) 0) (secondAt b (twoFrom p)) a ≡ b
 unfolding putBack
 two-back p a b size n = rw (le-ltb (twoFrom p) 64 (omega arith), two-place p 0, two-place p 1) (both-back p a b size n)
 

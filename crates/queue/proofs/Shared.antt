@@ -1,9 +1,5 @@
 -- What the proofs of code share, here and in the crates above: a call that asks for nothing, and tests that say the same.
-use Prim.Native.Nat.{ℕ, _<_, _≤_}
-use mathlib.Core.Path.{_≡_, refl, sym}
-use mathlib.Core.Bool.{Bool, true, false, cond}
-use borrow.Author.Tests.{leb-true, leb-false, le-leb, lt-leb}
-use lib.Dec.{leb}
+use Rattle.queue.proofs.Names.{Bool, _<_, _≡_, _≤_, cond, false, le-leb, leb, leb-false, leb-true, lt-leb, refl, sym, true, ℕ}
 
 -- what a callee asks that requires nothing
 pub free : {A K : Type 0} → A → K → Unit {0}

@@ -1,20 +1,12 @@
 -- A record's call, read from its own stretch, is that of the record in the whole recording; and what that says of its questions.
-use Rattle.constraint.proofs.Library.{ℕ, _+_, _-_, _≤_, _≡_, refl, sym, subst, _∙_, Bool, true, false, cond, List, [], _∷_, _++_, arith, length, take}
-use Rattle.constraint.proofs.Library.{drop, length-drop, length-take-le, take-all, drop-drop, eqb}
+use Rattle.constraint.proofs.Library.{Bool, List, [], _++_, _+_, _-_, _∙_, _∷_, _≡_, _≤_, arith, cond, drop, drop-drop, eqb, false, length}
+use Rattle.constraint.proofs.Library.{length-drop, length-take-le, refl, subst, sym, take, take-all, true, ℕ}
+use Rattle.constraint.proofs.{History.closed-event, History.closed-tick, Judged.judged-no, Judged.judged-yes}
+use Rattle.constraint.specs.Recording.{RecordAt, callAt, callOf, colourIn, recordQuestions}
 use Rattle.constraint.specs.Steps.{Step, at, closed}
-use Rattle.constraint.specs.Streams.{stream}
-use Rattle.constraint.specs.Questions.{Judged}
-use Rattle.constraint.specs.Run.{stepFor, questions}
-use Rattle.constraint.specs.Bytes.{numberAt}
-use Rattle.constraint.specs.Table.{lengthAt, bodyAt}
-use Rattle.constraint.specs.Recording.{colourIn, callOf, callAt, RecordAt, recordQuestions}
-use Rattle.constraint.specs.declared.Call.{Call}
-use Rattle.constraint.specs.declared.Answer.{Answer}
-use Rattle.constraint.specs.declared.Answer.the-variants.{Refused}
-use Rattle.constraint.specs.declared.Constraint.{Constraint}
-use Rattle.constraint.proofs.History.{closed-event, closed-tick}
-use Rattle.constraint.proofs.Judged.{judged-yes, judged-no}
-use Rattle.recording.specs.Record.{CallAt, noRecord, ReadsRecord, ReadsCall}
+use Rattle.constraint.specs.{Bytes.numberAt, Questions.Judged, Run.questions, Run.stepFor, Streams.stream, Table.bodyAt, Table.lengthAt}
+use Rattle.constraint.specs.{declared.Answer.Answer, declared.Answer.the-variants.Refused, declared.Call.Call, declared.Constraint.Constraint}
+use Rattle.recording.specs.Record.{CallAt, ReadsCall, ReadsRecord, noRecord}
 
 -- A record's own stretch
 

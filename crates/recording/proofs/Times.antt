@@ -1,7 +1,6 @@
 -- Eight bytes, each counted by its place, add up to their number.
-use Rattle.constraint.proofs.Library.{ℕ, suc, _+_, _*_, _≤_, _<_, _≡_, _∙_, List, mul-le-mul-right, arith, length, drop-cons}
-use Rattle.constraint.specs.Steps.{at}
-use Rattle.constraint.specs.Bytes.{numberBehind, bytesAt, numberAt}
+use Rattle.constraint.proofs.Library.{List, _*_, _+_, _<_, _∙_, _≡_, _≤_, arith, drop-cons, length, mul-le-mul-right, suc, ℕ}
+use Rattle.constraint.specs.{Bytes.bytesAt, Bytes.numberAt, Bytes.numberBehind, Steps.at}
 
 -- what a byte counts for at most
 pub digit-most : (byte unit : ℕ) → byte < 256 → byte * unit ≤ 255 * unit

@@ -1,30 +1,11 @@
 -- The first row that the machine finds crowded is the first that the call would leave open with more than 64 waiting: so it is row by row.
-use Rattle.constraint.proofs.Library.{ℕ, zero, suc, _+_, _<_, arith, _≡_, refl, sym, _∙_, subst, Bool, true, false, cond, _||_, List, [], _∷_, _++_}
-use Rattle.constraint.proofs.Library.{inl, inr, some, length, getElem?, leb, ltb, eqb, eq-eqb}
-use Rattle.constraint.specs.Limits.{lastKind, firstColoured, lastColour, lastTime, lastCount, rowLimit}
-use Rattle.constraint.specs.Steps.{Step}
-use Rattle.constraint.specs.Questions.{Question, Judged}
-use Rattle.constraint.specs.Run.{stepFor, questions}
-use Rattle.constraint.specs.declared.Answer.{Answer}
-use Rattle.constraint.specs.declared.Answer.the-variants.{Taken, Refused}
-use Rattle.constraint.specs.declared.Call.{Call}
-use Rattle.constraint.specs.declared.Constraint.{Constraint}
-use Rattle.constraint.proofs.Lists.{split, both, or-false}
-use Rattle.constraint.proofs.History.{Accepts, Valid, valid-more, counted-of}
-use Rattle.constraint.proofs.Streams.{stream-below}
-use Rattle.constraint.proofs.Judged.{never, judged-once}
-use Rattle.row.specs.Machine.{rowStep}
-use Rattle.row.specs.declared.Row.{Row}
-use Rattle.row.proofs.Exact.{Sound, Exact}
-use Rattle.row.proofs.Steps.{After, seen, fits-room, fits-step}
-use Rattle.questions.specs.Questions.{ownRefusal, timeRefusal}
-use Rattle.monitor.specs.Machine.{anyFirst, nextStep, nextFor, occurrenceOf, crowds, stepOf, refuses, takes, refusalFor}
-use Rattle.monitor.specs.Machine.{takenCall}
-use Rattle.monitor.specs.declared.Monitor.{Monitor}
-use Rattle.monitor.proofs.FittingRows.{FitRows}
-use Rattle.monitor.proofs.Following.{Follows, step-is, seen-is, step-answered}
-use Rattle.status.specs.Numbers.{firstMarked, crowdedFirst, crowdedRowOf}
-use Rattle.status.specs.Contract.{Crowds, CrowdedRow, crowded, none-crowded}
+use Rattle.status.proofs.Names.{Accepts, After, Answer, Bool, Call, Constraint, CrowdedRow, Crowds, Exact, FitRows, Follows, Judged, List}
+use Rattle.status.proofs.Names.{Monitor, Question, Refused, Row, Sound, Step, Taken, Valid, [], _++_, _+_, _<_, _||_, _∙_, _∷_, _≡_, anyFirst}
+use Rattle.status.proofs.Names.{arith, both, cond, counted-of, crowded, crowdedFirst, crowdedRowOf, crowds, eq-eqb, eqb, false, firstColoured}
+use Rattle.status.proofs.Names.{firstMarked, fits-room, fits-step, getElem?, inl, inr, judged-once, lastColour, lastCount, lastKind, lastTime}
+use Rattle.status.proofs.Names.{leb, length, ltb, never, nextFor, nextStep, none-crowded, occurrenceOf, or-false, ownRefusal, questions, refl}
+use Rattle.status.proofs.Names.{refusalFor, refuses, rowLimit, rowStep, seen, seen-is, some, split, step-answered, step-is, stepFor, stepOf}
+use Rattle.status.proofs.Names.{stream-below, subst, suc, sym, takenCall, takes, timeRefusal, true, valid-more, zero, ℕ}
 
 -- the first row that has a mark, as a statement: row i + k, or none of them
 module _ (f : Row → Bool) where
@@ -37,8 +18,7 @@ module _ (f : Row → Bool) where
       rw (parts .0) (none-marked n (i + 1) rows (parts .1))
 
 module _ (engine : (c : Constraint) → Sound c → Exact c) (steps : List Step) (valid : Valid steps) (call : Call) (number : ℕ)
-    (counted : number ≡ length steps + 1)
-    (accepts : Accepts steps (stepFor call)) where
+    (counted : number ≡ length steps + 1) (accepts : Accepts steps (stepFor call)) where
   abbrev full : Row → Bool
   full r = rowStep r (seen steps (stepFor call)) number .crowded
 
@@ -103,8 +83,7 @@ Passed (q ∷ later) = cond (eqb (q .0) 12) (Unit {0}) (q .1 × Passed later)
 passed : (asked : List Question) → Judged asked (Refused 12) → Passed asked
 unfolding Judged Passed
 passed [] e = never (cc)
-passed (q ∷ later) (inl h) =
-    split (eqb (q .0) 12) (λ b. cond b (Unit {0}) (q .1 × Passed later)) (λ _. tt) (λ _. (h .0, passed later (h .1)))
+passed (q ∷ later) (inl h) = split (eqb (q .0) 12) (λ b. cond b (Unit {0}) (q .1 × Passed later)) (λ _. tt) (λ _. (h .0, passed later (h .1)))
 passed (q ∷ later) (inr h) = let same : q .0 ≡ 12 = cc (h .1) in rw (eq-eqb (q .0) 12 same) tt
 
 pub accepts-crowded : (rows : List Constraint) (steps : List Step) (call : Call) → Judged (questions rows steps call) (Refused 12)

@@ -1,4 +1,5 @@
 -- Why the numbers are what the definitions say.
+mod Names
 pub mod Rows
 pub mod There
 pub mod Crowded

@@ -1,16 +1,8 @@
 -- The words of a lent monitor at their places are the numbers of the monitor that lies there.
-use Rattle.constraint.proofs.Library.{ℕ, _-_, _≤_, _<_, arith, _≡_, ap, subst, List, [], length, getD}
-use Rattle.constraint.specs.Limits.{rowLimit, waitingLimit}
-use Rattle.constraint.specs.declared.Call.{Call}
-use Rattle.machine.specs.Words.{rowWords, numberWords}
+use Rattle.status.proofs.Names.{Call, Holds, Lent, List, Monitor, Shaped, Words, [], _-_, _<_, _≡_, _≤_, ap, arith, getD, heldRows, keptAt}
+use Rattle.status.proofs.Names.{length, number-at, numberWords, refusalFor, refusalOf, row-lies, rowAt, rowLimit, rowWords, subst}
+use Rattle.status.proofs.Names.{waitingLimit, wordsOf, ℕ}
 use Rattle.row.specs.Stored as Stored
-use Rattle.monitor.specs.Machine.{refusalFor}
-use Rattle.monitor.specs.declared.Monitor.{Monitor}
-use Rattle.lent.specs.Layout.{Lent, Words, wordsOf, Shaped, heldRows, rowAt, keptAt}
-use Rattle.lent.specs.Steps.{refusalOf}
-use Rattle.lent.specs.Contract.{Holds}
-use Rattle.lent.proofs.Blocks.{row-lies}
-use Rattle.lent.proofs.Parts.{number-at}
 
 -- the numbers of row i that are read
 pub record RowLies (words : Words) (m : Monitor) (i : ℕ) : Type 0 where
@@ -42,8 +34,7 @@ module _ (words : Words) (m : Monitor) (holds : Holds words m) where
   pub count-lies : getD (getD (getD words 32 []) 0 []) 1 0 ≡ m .count
   count-lies = said (λ x. getD (getD (getD words 32 []) 0 []) 1 0 ≡ x .count) (λ h e s. number-at h s words e 1)
 
-  pub refusal-lies : (call : Call) (n : ℕ) → ((h : Lent) → words ≡ wordsOf h → Shaped h → n ≡ refusalOf h call)
-      → n ≡ refusalFor m call
+  pub refusal-lies : (call : Call) (n : ℕ) → ((h : Lent) → words ≡ wordsOf h → Shaped h → n ≡ refusalOf h call) → n ≡ refusalFor m call
   refusal-lies call n = said (λ x. n ≡ refusalFor x call)
 
   pub few-wait : (i : ℕ) → i < heldRows m → rowAt m i .now .len ≤ waitingLimit

@@ -1,27 +1,11 @@
 -- What a row that fits the steps says of them. Until its due time a tick leaves it as it is, so that it is open, and a tick past it leaves no
 -- continuation; of the times that it keeps all wait or none; and it is broken where no continuation is left.
-use Rattle.constraint.proofs.Library.{ℕ, _+_, _≤_, _<_, decLt, arith, _≡_, refl, sym, ap, _∙_, subst, Bool, true, false, cond, List, [], _∷_, _++_}
-use Rattle.constraint.proofs.Library.{_⊎_, inl, inr, ⊎-elim, by-cases, some, getElem?, ltb, ltb-true, ltb-false, lt-ltb, le-ltb}
-use Rattle.constraint.specs.Limits.{lastTime, noLimit}
-use Rattle.constraint.specs.Steps.{Step, tick, own, clock, closed}
-use Rattle.constraint.specs.Continuation.{Open}
-use Rattle.constraint.specs.Waiting.{waiting}
-use Rattle.constraint.specs.declared.Constraint.{Constraint}
-use Rattle.constraint.proofs.Streams.{streams}
-use Rattle.constraint.proofs.Lists.{split, both}
-use Rattle.constraint.proofs.Judged.{never}
-use Rattle.constraint.proofs.History.{own-tick, clock-tick, closed-tick, Valid, Past, past-tick, past-of}
-use Rattle.constraint.proofs.Verdicts.{broken-shut, open-of-meets}
-use Rattle.queue.proofs.Laws.{ring-length}
-use Rattle.machine.specs.Rule.{ruleOf, waitsIn}
-use Rattle.machine.specs.declared.Rule.{Rule}
-use Rattle.machine.specs.declared.State.{State}
-use Rattle.row.specs.declared.Row.{Row}
-use Rattle.row.proofs.Exact.{Exact, Waits}
-use Rattle.row.proofs.Steps.{Going, Broken, Fits}
-use Rattle.status.specs.Deadlines.{DeadlineWhileOpen, until, endless, Deadline, running, over, RowDeadline, row, no-row}
-use Rattle.status.specs.Numbers.{deadlineBy, waitingBy}
-use Rattle.status.specs.Contract.{RowWaiting, open-row, other-row}
+use Rattle.status.proofs.Names.{Bool, Broken, Constraint, Deadline, DeadlineWhileOpen, Exact, Fits, Going, List, Open, Past, Row, RowDeadline}
+use Rattle.status.proofs.Names.{RowWaiting, Rule, State, Step, Valid, Waits, [], _++_, _+_, _<_, _∙_, _∷_, _≡_, _≤_, _⊎_, ap, arith, both}
+use Rattle.status.proofs.Names.{broken-shut, by-cases, clock, clock-tick, closed, closed-tick, cond, deadlineBy, decLt, endless, false}
+use Rattle.status.proofs.Names.{getElem?, inl, inr, lastTime, le-ltb, lt-ltb, ltb, ltb-false, ltb-true, never, no-row, noLimit, open-of-meets}
+use Rattle.status.proofs.Names.{open-row, other-row, over, own, own-tick, past-of, past-tick, refl, ring-length, row, ruleOf, running, some}
+use Rattle.status.proofs.Names.{split, streams, subst, sym, tick, true, until, waiting, waitingBy, waitsIn, ℕ, ⊎-elim}
 
 -- of n times, all or none
 waits-are : (b : Bool) (waiting n : ℕ) → Waits b waiting n → waiting ≡ cond b n 0
@@ -33,8 +17,7 @@ module _ (c : Constraint) (exact : Exact c) (steps : List Step) (valid : Valid s
     -- the clock before or at a time, and the due time not before it
     open-until : (later : List Step) → Past later → closed later ≡ false → own (streams c) steps ≡ own (streams c) later → clock later ≤ s .due
         → Open c later
-    open-until later past o same soon =
-        exact .is-open past o (exact .same same (g .live)) (subst (λ (n : ℕ). clock later ≤ n) (g .due-is) soon)
+    open-until later past o same soon = exact .is-open past o (exact .same same (g .live)) (subst (λ (n : ℕ). clock later ≤ n) (g .due-is) soon)
 
     open-now : closed steps ≡ false → Open c steps
     open-now o = open-until steps (past-of valid) o refl (g .in-time)

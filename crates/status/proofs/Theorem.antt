@@ -1,33 +1,14 @@
 -- After any list of requests over an accepted table each number is what the definitions say of the steps that are left: a monitor follows them.
-use Rattle.constraint.proofs.Library.{ℕ, zero, suc, _≤_, _<_, min, decLt, arith, _≡_, refl, sym, ap, _∙_, subst, Bool, true, false, cond, _&&_, List}
-use Rattle.constraint.proofs.Library.{[], _∷_, by-cases, none, some, length, getD, getElem?, ltb, lt-ltb, le-ltb}
-use Rattle.constraint.specs.Limits.{noLimit, rowLimit}
-use Rattle.constraint.specs.Steps.{Step, closed}
-use Rattle.constraint.specs.Continuation.{Open}
-use Rattle.status.specs.Deadlines.{RowDeadline, row, no-row, LeastDeadline}
-use Rattle.constraint.specs.declared.Call.{Call}
-use Rattle.constraint.specs.declared.Constraint.{Constraint}
-use Rattle.constraint.proofs.Lists.{split}
-use Rattle.constraint.proofs.Judged.{never}
-use Rattle.row.specs.Machine.{mark}
-use Rattle.row.specs.declared.Row.{Row}
-use Rattle.row.proofs.Exact.{Sound}
-use Rattle.row.proofs.Engine.{engine}
-use Rattle.row.proofs.Steps.{Fits}
-use Rattle.monitor.specs.Machine.{noRow}
-use Rattle.monitor.specs.declared.Monitor.{Monitor}
-use Rattle.monitor.proofs.Demand.{has-row, has-none}
-use Rattle.monitor.proofs.FittingRows.{FitRows}
-use Rattle.monitor.proofs.Following.{Follows}
-use Rattle.monitor.proofs.Withdrawing.{after-follows}
-use Rattle.lent.specs.Layout.{rowAt}
-use Rattle.status.specs.Numbers.{there, deadlineBy, deadlineOf, leastOf, waitingBy, waitingOf, brokenMark, brokenRowsOf, crowdedRowOf}
+use Rattle.status.proofs.Names.{Asked, AsksBrokenRows, AsksClock, AsksClosed, AsksCrowdedRow, AsksDeadline, AsksRowDeadline, AsksSteps}
+use Rattle.status.proofs.Names.{AsksWaiting, Bool, BrokenRows, Call, Constraint, FitRows, Fits, Follows, LeastDeadline, List, Monitor, Open}
+use Rattle.status.proofs.Names.{Row, RowDeadline, RowWaiting, Sound, Step, [], _&&_, _<_, _∙_, _∷_, _≡_, _≤_, after-follows, ap, arith}
+use Rattle.status.proofs.Names.{brokenMark, brokenRowsOf, by-cases, closed, cond, crowdedRowOf, deadlineBy, deadlineOf, decLt, engine, false}
+use Rattle.status.proofs.Names.{getD, getElem?, has-none, has-row, le-ltb, leastOf, length, lt-ltb, ltb, mark, min, never, no-row, noLimit}
+use Rattle.status.proofs.Names.{noRow, none, refl, row, rowAt, rowLimit, some, split, subst, suc, sym, there, true, waitingBy, waitingOf, zero}
+use Rattle.status.proofs.Names.{ℕ}
+use Rattle.status.proofs.Rows.{fits-broken, fits-deadline, fits-waiting, row-deadline-once}
+use Rattle.status.proofs.{Crowded.crowded-says, There.bit-is, There.least-limit, There.marks-below}
 use Rattle.status.specs.Contract as C
-use Rattle.status.specs.Contract.{BrokenRows, RowWaiting, Asked, AsksClock, AsksSteps, AsksClosed, AsksBrokenRows, AsksWaiting, AsksRowDeadline}
-use Rattle.status.specs.Contract.{AsksDeadline, AsksCrowdedRow}
-use Rattle.status.proofs.Rows.{fits-deadline, fits-waiting, fits-broken, row-deadline-once}
-use Rattle.status.proofs.There.{least-limit, bit-is, marks-below}
-use Rattle.status.proofs.Crowded.{crowded-says}
 
 -- the row of a number fits the steps
 pub fit-at : (steps : List Step) (cs : List Constraint) (rows : List Row) → FitRows engine steps cs rows → (i : ℕ) (c : Constraint) → getElem? cs i
@@ -55,15 +36,13 @@ module _ (rows : List Constraint) (steps : List Step) (m : Monitor) (f : Follows
   deadline-says : (i : ℕ) → RowDeadline rows steps i (deadlineOf m i)
   deadline-says i =
       by-row i (λ b. RowDeadline rows steps i (cond b (deadlineBy (m .closed) (rowAt m i .now .broken) (rowAt m i .now .due)) noLimit))
-      (λ c small is sound fit. row c is (fits-deadline c (engine c sound) steps (f .valid) (rowAt m i) fit (m .closed) (f .closed-is)))
-      no-row
+      (λ c small is sound fit. row c is (fits-deadline c (engine c sound) steps (f .valid) (rowAt m i) fit (m .closed) (f .closed-is))) no-row
 
   waiting-says : (i : ℕ) → RowWaiting rows steps i (waitingOf m i)
   waiting-says i =
       by-row i (λ b. RowWaiting rows steps i (cond b
       (waitingBy (m .closed) (rowAt m i .now .broken) (rowAt m i .rule .form) (rowAt m i .now .len)) 0))
-      (λ c small is sound fit. fits-waiting c (engine c sound) steps (f .valid) (rowAt m i) fit rows i is (m .closed) (f .closed-is))
-      C.no-row
+      (λ c small is sound fit. fits-waiting c (engine c sound) steps (f .valid) (rowAt m i) fit rows i is (m .closed) (f .closed-is)) C.no-row
 
   -- ---- the least deadline
 

@@ -1,17 +1,9 @@
 -- A row that is there has the numbers that its words say, and the rows behind the last add nothing: so what is found row after row is what is asked.
-use Rattle.constraint.proofs.Library.{ℕ, zero, suc, _+_, _*_, _/_, _%_, _-_, _^_, _≤_, _<_, min, decLt, add-one, arith, _≡_, refl, sym, ap, ap₂, _∙_}
-use Rattle.constraint.proofs.Library.{Bool, true, false, cond, _&&_, List, [], _∷_, by-cases, length, getD, drop, ltb, lt-ltb, le-ltb}
-use Rattle.constraint.specs.Limits.{noLimit, rowLimit, waitingLimit}
-use Rattle.constraint.specs.declared.Call.{Call}
-use Rattle.row.specs.Apart.{crowdedBy}
-use Rattle.row.specs.Machine.{mark, rowStep}
-use Rattle.row.specs.declared.Row.{Row}
-use Rattle.row.proofs.Crowding.{step-crowds, crowded-known}
-use Rattle.monitor.specs.Machine.{noRow, nextStep, occurrenceOf}
-use Rattle.monitor.specs.declared.Monitor.{Monitor}
-use Rattle.lent.specs.Layout.{rowAt, heldRows}
-use Rattle.status.specs.Numbers.{there, deadlineOf, leastOf, brokenMark, brokenMarks, firstMarked, crowdedFirst}
-use Rattle.status.specs.Contract.{bit}
+use Rattle.status.proofs.Names.{Bool, Call, List, Monitor, Row, [], _%_, _&&_, _*_, _+_, _-_, _/_, _<_, _^_, _∙_, _∷_, _≡_, _≤_, add-one, ap}
+use Rattle.status.proofs.Names.{ap₂, arith, bit, brokenMark, brokenMarks, by-cases, cond, crowded-known, crowdedBy, crowdedFirst, deadlineOf}
+use Rattle.status.proofs.Names.{decLt, drop, false, firstMarked, getD, heldRows, le-ltb, leastOf, length, lt-ltb, ltb, mark, min, nextStep}
+use Rattle.status.proofs.Names.{noLimit, noRow, occurrenceOf, refl, rowAt, rowLimit, rowStep, step-crowds, suc, sym, there, true, waitingLimit}
+use Rattle.status.proofs.Names.{zero, ℕ}
 
 pub is-there : (i len : ℕ) → i < min len rowLimit → there i len ≡ true
 is-there i len l = rw (lt-ltb i len (omega arith), lt-ltb i rowLimit (omega arith)) refl

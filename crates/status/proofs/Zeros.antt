@@ -1,17 +1,8 @@
 -- In memory of zeros lies a monitor without rows whose word for "open" is 0: so it reads as closed, and takes nothing.
-use Rattle.constraint.proofs.Library.{ℕ, _-_, _<_, min, arith, _≡_, refl, sym, ap, subst₂, [], replicate, getD-replicate}
-use Rattle.constraint.specs.Run.{asks, withdraws}
-use Rattle.constraint.specs.declared.Call.{Call}
-use Rattle.machine.specs.Words.{rowWords, numberWords}
-use Rattle.constraint.specs.Limits.{rowLimit}
-use Rattle.row.specs.Undo.{noBefore}
+use Rattle.status.proofs.Names.{AsksClosed, Call, Holds, Indexes, Lent, ReadOff, RestZero, Shaped, Takes, Words, [], _-_, _<_, _≡_, ap, arith}
+use Rattle.status.proofs.Names.{asks, endOf, getD-replicate, min, namedRows, noBefore, noRow, numberWords, refl, replicate, rowBlocks}
+use Rattle.status.proofs.Names.{rowLimit, rowWords, rowsOf, startOf, subst₂, sym, withdraws, wordsOf, zeroMonitor, zeroRow, zeros, ℕ}
 use Rattle.row.specs.Stored as Stored
-use Rattle.row.specs.Stored.{RestZero}
-use Rattle.monitor.specs.Machine.{noRow}
-use Rattle.lent.specs.Layout.{Lent, Words, rowBlocks, wordsOf, Shaped, startOf, endOf}
-use Rattle.lent.specs.Contract.{namedRows, rowsOf, Indexes, Takes, Holds, ReadOff}
-use Rattle.status.specs.Contract.{AsksClosed}
-use Rattle.status.specs.Zeros.{zeros, zeroRow, zeroMonitor}
 
 -- ---- the monitor that lies there
 

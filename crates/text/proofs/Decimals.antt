@@ -1,13 +1,11 @@
 -- Decimal digits: how the code takes them off one by one, how many there are, and what they stand for.
-use Rattle.constraint.proofs.Library.{ℕ, zero, suc, _+_, _-_, _*_, _/_, _%_, _^_, _≤_, _<_, _≡_, sym, ap, _∙_, List, [], _∷_, _++_, append-assoc}
-use Rattle.constraint.proofs.Library.{cond, pow-succ', arith, decLt, lt-ltb, le-ltb, ne-eqb, ltb, eqb, length, set, take, drop, replicate}
-use Rattle.constraint.proofs.Library.{length-append, length-set, length-drop, length-replicate, getD-replicate, take-append-drop, List·getD-append}
-use Rattle.constraint.proofs.Library.{length-take-le, drop-cons, getD-set-same, drop-set-lt, getD-take, ext-getD}
-use Rattle.constraint.specs.Steps.{at}
-use Rattle.constraint.specs.Report.{digits, decimal, blank}
-use Rattle.constraint.specs.Page.{rightIn}
+use Rattle.constraint.proofs.Library.{List, List·getD-append, [], _%_, _*_, _++_, _+_, _-_, _/_, _<_, _^_, _∙_, _∷_, _≡_, _≤_, ap, append-assoc}
+use Rattle.constraint.proofs.Library.{arith, cond, decLt, drop, drop-cons, drop-set-lt, eqb, ext-getD, getD-replicate, getD-set-same, getD-take}
+use Rattle.constraint.proofs.Library.{le-ltb, length, length-append, length-drop, length-replicate, length-set, length-take-le, lt-ltb, ltb, ne-eqb}
+use Rattle.constraint.proofs.Library.{pow-succ', replicate, set, suc, sym, take, take-append-drop, zero, ℕ}
+use Rattle.constraint.proofs.Lists.{Each, each-append, each-cons, each-none}
+use Rattle.constraint.specs.{Page.rightIn, Report.blank, Report.decimal, Report.digits, Steps.at}
 use Rattle.text.specs.Content.{numberFrom}
-use Rattle.constraint.proofs.Lists.{Each, each-none, each-cons, each-append}
 
 -- One by one from the last
 

@@ -1,9 +1,9 @@
 -- Bytes put behind a text, one after the other: what it holds then is what it held and those bytes, as long as there is room.
-use Rattle.constraint.proofs.Library.{ℕ, zero, suc, _+_, _≤_, _<_, _≡_, refl, ap, _∙_, List, [], _∷_, _++_, append-assoc, append-nil, add-one, arith}
-use Rattle.constraint.proofs.Library.{lt-ltb, le-ltb, length, getD, set, drop, replicate, length-append, length-set, length-replicate, length-take-le}
-use Rattle.constraint.proofs.Library.{drop-cons, take-suc-set, sets, getD-set-other}
-use Rattle.text.specs.Content.{textLimit, emptyText, withByte, extended, Holds, Copied}
+use Rattle.constraint.proofs.Library.{List, [], _++_, _+_, _<_, _∙_, _∷_, _≡_, _≤_, add-one, ap, append-assoc, append-nil, arith, drop, drop-cons}
+use Rattle.constraint.proofs.Library.{getD, getD-set-other, le-ltb, length, length-append, length-replicate, length-set, length-take-le, lt-ltb, refl}
+use Rattle.constraint.proofs.Library.{replicate, set, sets, suc, take-suc-set, zero, ℕ}
 use Rattle.number.proofs.Stores.{stores-front}
+use Rattle.text.specs.Content.{Copied, Holds, emptyText, extended, textLimit, withByte}
 use Rattle.text.specs.declared.Text.{Text}
 
 -- Bytes behind a text

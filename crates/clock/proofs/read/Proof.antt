@@ -1,22 +1,19 @@
 -- A record that is whole is asked its call; any other is refused by 14, and the clock is as it was.
-use Rattle.constraint.proofs.Library.{arith, ap, now}
+use Rattle.clock.proofs.{Laws.read-call, Laws.read-none, read.Statement.statement}
+use Rattle.constraint.proofs.Library.{ap, arith, now}
 use Rattle.queue.proofs.Shared.{free}
 use Rattle.recording.specs.declared.CallRead.{CallRead}
-use Rattle.clock.proofs.Laws.{read-none, read-call}
-use Rattle.clock.proofs.read.Statement.{statement}
 use Rattle.clock.proofs.read.Tie as tie
 
 returns : tie.Need-returns
 returns c =
-    let at-record = c .before .before .before in
-    let args = at-record .before .before .args in
+    let at-record = c .before .before .before in let args = at-record .before .before .args in
     let refused = at-record .call-at .ensures .none (c .before .if1 .taken) in
     rw (c .refused .ensures, ap (λ (r : CallRead). r .number) (refused .1)) (read-none (now (args .bytes)) (args .place) (args .clock) (refused .0))
 
 returns-2 : tie.Need-returns-2
 returns-2 c =
-    let at-record = c .before .before .before in
-    let args = at-record .before .before .args in
+    let at-record = c .before .before .before in let args = at-record .before .before .args in
     read-call (now (args .bytes)) (args .place) (args .clock) _ _ _ (at-record .call-at .ensures .whole (omega (arith, c .before .if1 .left)))
     (c .asked .ensures)
 

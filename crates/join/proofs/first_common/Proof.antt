@@ -1,16 +1,9 @@
 -- The tests are those of `firstCommon`.
-use borrow.Author.Tests.{lt-ltb, le-ltb}
+use Rattle.join.proofs.Names.{le-ltb, lt-ltb}
 use Rattle.join.proofs.first_common.Statement.{statement}
 use Rattle.join.proofs.first_common.Tie as tie
 
-returns : tie.Need-returns
-returns c = rw (lt-ltb _ _ (c .if1 .taken))
-
-returns-2 : tie.Need-returns-2
-returns-2 c = rw (le-ltb _ _ (c .before .if1 .left), c .if2 .taken)
-
-returns-3 : tie.Need-returns-3
-returns-3 c = rw (le-ltb _ _ (c .before .if1 .left), c .if2 .left)
-
 pub first-common-spec : {M : Type 1} → statement M
-first-common-spec = tie.close (tie.spec returns returns-2 returns-3)
+first-common-spec =
+    tie.close (tie.spec (λ c. rw (lt-ltb _ _ (c .if1 .taken))) (λ c. rw (le-ltb _ _ (c .before .if1 .left), c .if2 .taken))
+    (λ c. rw (le-ltb _ _ (c .before .if1 .left), c .if2 .left)))

@@ -1,9 +1,6 @@
 -- The first recording's record comes next where it is there and the other is not, or is no earlier; else the second's does.
-use Rattle.constraint.proofs.Library.{_≡_, sym, _∙_, not, _&&_, _||_, leb, now}
-use Rattle.constraint.specs.Run.{stepFor}
-use Rattle.queue.proofs.Shared.{free}
-use Rattle.constraint.specs.Joined.{timeOf}
-use Rattle.join.proofs.Walking.{isRead, comes-true, comes-false, next-first, next-second}
+use Rattle.join.proofs.Names.{_&&_, _||_, _∙_, _≡_, free, leb, not, now, stepFor, sym, timeOf}
+use Rattle.join.proofs.Walking.{comes-false, comes-true, isRead, next-first, next-second}
 use Rattle.join.proofs.following.Statement.{statement}
 use Rattle.join.proofs.following.Tie as tie
 
@@ -16,9 +13,7 @@ tested c = rw (c .before .before .before .time-of .ensures, c .before .time-of2 
 
 returns : tie.Need-returns
 returns c =
-    let comes = c .before in
-    let second = comes .before .before .before .before .before in
-    let first = second .before in
+    let comes = c .before in let second = comes .before .before .before .before .before in let first = second .before in
     let args = first .before .before .before .args in
     let (there, soon) = comes-true _ _ _ (sym (tested comes) ∙ c .if1 .taken) in
     next-first (now (args .first)) (now (args .second)) (args .place) (args .other) (first .call-at .result) (second .call-at2 .result)
@@ -26,9 +21,7 @@ returns c =
 
 returns-2 : tie.Need-returns-2
 returns-2 c =
-    let comes = c .before .before in
-    let second = comes .before .before .before .before .before in
-    let first = second .before in
+    let comes = c .before .before in let second = comes .before .before .before .before .before in let first = second .before in
     let args = first .before .before .before .args in
     next-second (now (args .first)) (now (args .second)) (args .place) (args .other) (first .call-at .result) (second .call-at2 .result)
     (first .call-at .ensures) (second .call-at2 .ensures) (comes-false _ _ _ (sym (tested comes) ∙ c .before .if1 .left))

@@ -1,9 +1,6 @@
 -- The loop reads record after record: the kinds of those read are marked, and the first one to avoid is kept.
-use Rattle.constraint.proofs.Library.{arith, _-_, length, now}
-use Rattle.constraint.specs.Recording.{version-refused}
-use Rattle.constraint.proofs.Judged.{passed, failed}
-use Rattle.queue.proofs.Shared.{free}
-use Rattle.join.proofs.Passing.{PassedTo, pass-start, pass-more, pass-refused, pass-end}
+use Rattle.join.proofs.Names.{_-_, arith, failed, free, length, now, passed, version-refused}
+use Rattle.join.proofs.Passing.{PassedTo, pass-end, pass-more, pass-refused, pass-start}
 use Rattle.join.proofs.pass.Statement.{statement}
 use Rattle.join.proofs.pass.Tie as tie
 
@@ -23,17 +20,13 @@ returns c =
 
 loop-holds : tie.Need-loop-holds Inv-loop μ-loop
 loop-holds c =
-    let checked = c .before in
-    let asked = checked .before in
-    let args = asked .before .before .args in
+    let checked = c .before in let asked = checked .before in let args = asked .before .before .args in
     pass-start (now (args .bytes)) (args .avoid) (passed (asked .version-known .result) (asked .version-known .ensures) (checked .if1 .left))
     (c .start .result) (c .start .ensures)
 
 returns-2 : tie.Need-returns-2 Inv-loop μ-loop
 returns-2 c =
-    let at-read = c .before .before in
-    let at-loop = at-read .before .before in
-    let args = at-loop .before .before .before .before .before .args in
+    let at-read = c .before .before in let at-loop = at-read .before .before in let args = at-loop .before .before .before .before .before .args in
     record {
       refused = λ more. pass-refused (now (args .bytes)) (args .avoid) (at-loop .loop .clock) (at-loop .loop .kinds) (at-loop .loop .common)
           (at-loop .loop .place) (at-loop .loop .inv)
@@ -43,22 +36,14 @@ returns-2 c =
 
 loop-less : tie.Need-loop-less Inv-loop μ-loop
 loop-less c =
-    let left = c .before .before .before .before .before in
-    let at-read = left .before .before in
-    let found = at-read .read .ensures in
+    let left = c .before .before .before .before .before in let at-read = left .before .before in let found = at-read .read .ensures in
     let next = found .next-is (found .there (omega (arith, left .if2 .left))) in
     omega (arith, next .0, next .1)
 
 loop-again : tie.Need-loop-again Inv-loop μ-loop
 loop-again c =
-    let marked = c .before in
-    let common = marked .before in
-    let avoided = common .before in
-    let kind = avoided .before in
-    let left = kind .before in
-    let at-read = left .before .before in
-    let at-loop = at-read .before .before in
-    let args = at-loop .before .before .before .before .before .args in
+    let marked = c .before in let common = marked .before in let avoided = common .before in let kind = avoided .before in let left = kind .before in
+    let at-read = left .before .before in let at-loop = at-read .before .before in let args = at-loop .before .before .before .before .before .args in
     pass-more (now (args .bytes)) (args .avoid) (at-loop .loop .clock) (at-loop .loop .kinds) (at-loop .loop .common) (at-loop .loop .place)
     (at-loop .loop .inv)
     (at-read .before .loop-test .taken) (at-read .read .result) (at-read .read .ensures) (omega (arith, left .if2 .left)) (kind .kind-of .result)
@@ -68,13 +53,11 @@ loop-again c =
 
 returns-3 : tie.Need-returns-3 Inv-loop μ-loop
 returns-3 c =
-    let at-loop = c .before in
-    let args = at-loop .before .before .before .before .before .args in
+    let at-loop = c .before in let args = at-loop .before .before .before .before .before .args in
     record {
       refused = λ more. absurd (omega (arith, more));
       taken = λ e. pass-end (now (args .bytes)) (args .avoid) (at-loop .loop .clock) (at-loop .loop .kinds) (at-loop .loop .common)
-          (at-loop .loop .place) (at-loop .loop .inv)
-          (c .loop-test .left);
+          (at-loop .loop .place) (at-loop .loop .inv) (c .loop-test .left);
     }
 
 pub pass-spec : {M : Type 1} → statement M

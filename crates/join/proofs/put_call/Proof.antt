@@ -1,9 +1,6 @@
 -- Length field, kind and colour are stored first, and the time behind them.
-use Rattle.constraint.proofs.Library.{arith, needs, refl, [], _∷_, now}
-use Rattle.constraint.specs.Bytes.{bytesOf}
-use Rattle.queue.proofs.Shared.{free}
-use Rattle.join.proofs.Walking.{stored-behind}
-use Rattle.join.proofs.put_call.Statement.{statement}
+use Rattle.join.proofs.Names.{[], _∷_, arith, bytesOf, free, needs, now, refl}
+use Rattle.join.proofs.{Walking.stored-behind, put_call.Statement.statement}
 use Rattle.join.proofs.put_call.Tie as tie
 
 add-put-eight : tie.Need-add-put-eight
@@ -29,9 +26,7 @@ add-put-eight-3 c =
 
 returns : tie.Need-returns
 returns c =
-    let last = c .before .before in
-    let first = last .before .before .before .before in
-    let told = first .before .before .before .before in
+    let last = c .before .before in let first = last .before .before .before .before in let told = first .before .before .before .before in
     let args = told .before .before .before .args in
     rw (told .call .given .1) (stored-behind (now (args .buffer)) (first .put .last .0) _ (args .place) 3 (0 ∷ 9 ∷ told .call .given .0 .0 ∷ [])
     (bytesOf 8 (told .call .given .0 .1 .0)) refl
@@ -39,9 +34,7 @@ returns c =
 
 returns-2 : tie.Need-returns-2
 returns-2 c =
-    let last = c .before .before in
-    let first = last .before .before .before .before in
-    let told = first .before .before .before .before in
+    let last = c .before .before in let first = last .before .before .before .before in let told = first .before .before .before .before in
     let args = told .before .before .before .args in
     rw (told .call2 .given .1) (stored-behind (now (args .buffer)) (first .put2 .last .0) _ (args .place) 4
     (0 ∷ 10 ∷ told .call2 .given .0 .0 ∷ told .call2 .given .0 .1 .0 ∷ []) (bytesOf 8 (told .call2 .given .0 .1 .1 .0)) refl
@@ -49,9 +42,7 @@ returns-2 c =
 
 returns-3 : tie.Need-returns-3
 returns-3 c =
-    let last = c .before .before in
-    let first = last .before .before .before .before in
-    let told = first .before .before .before .before in
+    let last = c .before .before in let first = last .before .before .before .before in let told = first .before .before .before .before in
     let args = told .before .before .before .args in
     rw (told .call3 .given .1) (stored-behind (now (args .buffer)) (first .put3 .last .0) _ (args .place) 2 (0 ∷ 8 ∷ [])
     (bytesOf 8 (told .call3 .given .0 .0)) refl

@@ -1,11 +1,7 @@
 -- A record that is dropped is not stored.
-use Rattle.constraint.proofs.Library.{needs, sym, _∙_}
-use Rattle.queue.proofs.Shared.{free}
+use Rattle.join.proofs.Names.{_∙_, free, needs, sym}
 use Rattle.join.proofs.put_left.Statement.{statement}
 use Rattle.join.proofs.put_left.Tie as tie
-
-returns : tie.Need-returns
-returns c = rw (sym (c .before .falls-away .ensures) ∙ c .if1 .taken)
 
 put-call-requires : tie.Need-put-call-requires
 put-call-requires c κs =
@@ -14,10 +10,9 @@ put-call-requires c κs =
 
 returns-2 : tie.Need-returns-2
 returns-2 c =
-    let put = c .before .before in
-    let kept = put .before .before in
+    let put = c .before .before in let kept = put .before .before in
     rw (sym (kept .before .falls-away .ensures) ∙ kept .if1 .left) (put .put-call .ensures)
 
 pub put-left-spec : {M : Type 1} → statement M
 put-left-spec =
-    tie.close (tie.spec free returns put-call-requires (λ c. search needs) returns-2)
+    tie.close (tie.spec free (λ c. rw (sym (c .before .falls-away .ensures) ∙ c .if1 .taken)) put-call-requires (λ c. search needs) returns-2)

@@ -1,6 +1,5 @@
 -- The length field has two bytes, a time eight, a kind and a colour one each.
-use borrow.Author.Needs.{needs}
-use Rattle.constraint.specs.Bytes.{bytesOf}
+use Rattle.join.proofs.Names.{bytesOf, needs}
 use Rattle.join.proofs.size_of.Statement.{statement}
 use Rattle.join.proofs.size_of.Tie as tie
 

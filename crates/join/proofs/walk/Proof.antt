@@ -1,13 +1,7 @@
 -- The version is stored, and then, turn by turn, what is left of the record that comes next.
-use Rattle.constraint.proofs.Library.{ℕ, _+_, _-_, _≤_, arith, _≡_, refl, sym, ap, _∙_, List, [], _∷_, length, sets, length-sets, not-false, not-true}
-use Rattle.constraint.proofs.Library.{now}
-use Rattle.constraint.specs.Steps.{Step}
-use Rattle.constraint.proofs.Lists.{both}
-use Rattle.queue.proofs.Shared.{free}
-use Rattle.constraint.specs.Joined.{joined, stepsBytes}
-use Rattle.join.specs.Walk.{leftBytes, Records}
-use Rattle.join.proofs.Walking.{Walking, walk-start, walk-end, walk-more, walk-short}
-use Rattle.join.proofs.walk.Statement.{statement}
+use Rattle.join.proofs.Names.{List, Records, Step, [], _+_, _-_, _∙_, _∷_, _≡_, _≤_, ap, arith, both, free, joined, leftBytes, length}
+use Rattle.join.proofs.Names.{length-sets, not-false, not-true, now, refl, sets, stepsBytes, sym, ℕ}
+use Rattle.join.proofs.{Walking.Walking, Walking.walk-end, Walking.walk-more, Walking.walk-short, Walking.walk-start, walk.Statement.statement}
 use Rattle.join.proofs.walk.Tie as tie
 
 abbrev Inv-loop : tie.InvT-loop
@@ -18,13 +12,9 @@ Inv-loop first second buffer₀ limit place₀ other₀ clock₀ size₀ buffer 
 abbrev μ-loop : tie.MeasureT-loop
 μ-loop first second buffer₀ limit place₀ other₀ clock₀ size₀ buffer place other clock size = (length first - place) + (length second - other)
 
-returns : tie.Need-returns Inv-loop μ-loop
-returns c = record { fits = λ e. both (sym e); short = λ e a b records others. omega (arith, c .if1 .taken) }
-
 loop-holds : tie.Need-loop-holds Inv-loop μ-loop
 loop-holds c =
-    let started = c .before .before .before .before .before in
-    let args = started .before .before .before .before .args in
+    let started = c .before .before .before .before .before in let args = started .before .before .before .before .args in
     (omega (arith, started .if1 .left), refl, walk-start (now (args .first)) (now (args .second)) _)
 
 -- storing the version leaves the length
@@ -37,17 +27,13 @@ all-stored l b after v w bytes e same later = later ∙ ap (λ (x : List ℕ). s
 
 same-length : tie.Need-same-length Inv-loop μ-loop
 same-length c =
-    let at-loop = c .before .before .before in
-    let put = at-loop .before .before .before in
+    let at-loop = c .before .before .before in let put = at-loop .before .before .before in
     at-loop .loop .inv .1 ∙ headed (now (put .before .before .before .before .before .before .before .args .buffer)) (put .put-byte .last .0)
     (put .before .version .result) (put .put-byte .ensures)
 
 returns-2 : tie.Need-returns-2 Inv-loop μ-loop
 returns-2 c =
-    let next = c .before .before in
-    let at-loop = next .before in
-    let loop = at-loop .loop in
-    let put = at-loop .before .before .before in
+    let next = c .before .before in let at-loop = next .before in let loop = at-loop .loop in let put = at-loop .before .before .before in
     let args = put .before .before .before .before .before .before .before .args in
     record {
       fits = λ e a b records others.
@@ -64,19 +50,14 @@ returns-2 c =
 
 same-length-2 : tie.Need-same-length-2 Inv-loop μ-loop
 same-length-2 c =
-    let at-loop = c .before .before .before .before .before in
-    let put = at-loop .before .before .before in
+    let at-loop = c .before .before .before .before .before in let put = at-loop .before .before .before in
     at-loop .loop .inv .1 ∙ headed (now (put .before .before .before .before .before .before .before .args .buffer)) (put .put-byte .last .0)
     (put .before .version .result) (put .put-byte .ensures)
 
 returns-3 : tie.Need-returns-3 Inv-loop μ-loop
 returns-3 c =
-    let sized = c .before in
-    let there = sized .before in
-    let next = there .before .before in
-    let at-loop = next .before in
-    let loop = at-loop .loop in
-    let args = at-loop .before .before .before .before .before .before .before .before .before .before .args in
+    let sized = c .before in let there = sized .before in let next = there .before .before in let at-loop = next .before in
+    let loop = at-loop .loop in let args = at-loop .before .before .before .before .before .before .before .before .before .before .args in
     record {
       fits = λ e. both (sym e);
       short = λ e a b records others. walk-short (now (args .first)) (now (args .second)) _ (loop .place) (loop .other) (loop .clock) (loop .size)
@@ -85,27 +66,15 @@ returns-3 c =
           (omega (arith, c .if3 .taken, sized .left-size .ensures));
     }
 
-put-left-requires : tie.Need-put-left-requires Inv-loop μ-loop
-put-left-requires c κs = omega (arith, c .before .before .left-size .ensures, c .before .if3 .left)
-
-add-size : tie.Need-add-size Inv-loop μ-loop
-add-size c = omega (arith, c .before .before .before .before .if3 .left)
-
 loop-less : tie.Need-loop-less Inv-loop μ-loop
 loop-less c =
-    let sized = c .before .before .before .before .before .before in
-    let there = sized .before in
+    let sized = c .before .before .before .before .before .before in let there = sized .before in
     there .before .before .following .ensures .less (not-false _ (there .if2 .left))
 
 loop-again : tie.Need-loop-again Inv-loop μ-loop
 loop-again c =
-    let put = c .before .before .before in
-    let kept = put .before .before in
-    let sized = kept .before in
-    let there = sized .before in
-    let next = there .before .before in
-    let at-loop = next .before in
-    let loop = at-loop .loop in
+    let put = c .before .before .before in let kept = put .before .before in let sized = kept .before in let there = sized .before in
+    let next = there .before .before in let at-loop = next .before in let loop = at-loop .loop in
     let args = at-loop .before .before .before .before .before .before .before .before .before .before .args in (
       omega (arith, kept .if3 .left),
       ap length (put .put-left .ensures) ∙ length-sets (loop .buffer) (loop .size) (leftBytes (loop .clock) (next .following .result .call))
@@ -118,5 +87,7 @@ loop-again c =
 
 pub walk-spec : {M : Type 1} → statement M
 walk-spec =
-    tie.close (tie.spec Inv-loop μ-loop returns free free loop-holds free same-length returns-2 free (λ c. omega arith) same-length-2 returns-3
-    put-left-requires add-size free loop-less loop-again)
+    tie.close (tie.spec Inv-loop μ-loop (λ c. record { fits = λ e. both (sym e); short = λ e a b records others. omega (arith, c .if1 .taken) }) free
+    free loop-holds free same-length returns-2 free (λ c. omega arith) same-length-2 returns-3
+    (λ c κs. omega (arith, c .before .before .left-size .ensures, c .before .if3 .left))
+    (λ c. omega (arith, c .before .before .before .before .if3 .left)) free loop-less loop-again)

@@ -1,7 +1,6 @@
 -- The number of rows stands at its place, and is cut at 32.
-use Rattle.constraint.proofs.Library.{ℕ, ap, _∙_, List, [], getD, arith, needs}
-use Rattle.lent.proofs.Parts.{numbers-read}
-use Rattle.lent.proofs.held.Statement.{statement}
+use Rattle.lent.proofs.Names.{List, [], _∙_, ap, arith, getD, needs, ℕ}
+use Rattle.lent.proofs.{Parts.numbers-read, held.Statement.statement}
 use Rattle.lent.proofs.held.Tie as tie
 
 returns : tie.Need-returns
@@ -21,5 +20,4 @@ returns-2 c = (
 )
 
 pub held-spec : {M : Type 1} → statement M
-held-spec =
-    tie.close (tie.spec (λ c. search needs) (λ c. search needs) (λ c. search needs) returns returns-2)
+held-spec = tie.close (tie.spec (λ c. search needs) (λ c. search needs) (λ c. search needs) returns returns-2)

@@ -1,10 +1,8 @@
 -- The loop reads byte after byte: the number read, behind which the bytes left stand, is the whole.
-use Rattle.constraint.proofs.Library.{arith, ℕ, _+_, _-_, _≤_, _<_, _≡_, refl, sym, ap, subst, _∙_}
-use Rattle.number.proofs.Numbers.{Room, room-first, room-now, room-next, number-more, number-end}
-use Rattle.number.proofs.Shifts.{shifted-up}
-use Rattle.constraint.specs.Bytes.{numberBehind, numberAt, bytesAt}
-use Rattle.constraint.specs.Steps.{at}
-use Rattle.number.proofs.number_at.Statement.{statement}
+use Rattle.constraint.proofs.Library.{_+_, _-_, _<_, _∙_, _≡_, _≤_, ap, arith, refl, subst, sym, ℕ}
+use Rattle.constraint.specs.{Bytes.bytesAt, Bytes.numberAt, Bytes.numberBehind, Steps.at}
+use Rattle.number.proofs.Numbers.{Room, number-end, number-more, room-first, room-next, room-now}
+use Rattle.number.proofs.{Shifts.shifted-up, number_at.Statement.statement}
 use Rattle.number.proofs.number_at.Tie as tie
 
 abbrev Inv-loop : tie.InvT-loop
@@ -14,20 +12,14 @@ Inv-loop bytes place width value₀ next₀ left₀ value next left =
 abbrev μ-loop : tie.MeasureT-loop
 μ-loop bytes place width value₀ next₀ left₀ value next left = left
 
-loop-holds : tie.Need-loop-holds Inv-loop μ-loop
-loop-holds c = (omega arith, room-first (c .before .args .width) (c .before .pre), refl)
-
 returns : tie.Need-returns Inv-loop μ-loop
 returns c =
-    let loop = c .before .before .loop in
-    let bytes = c .before .before .before .before .args .bytes .now in
+    let loop = c .before .before .loop in let bytes = c .before .before .before .before .args .bytes .now in
     sym (number-end bytes (loop .value) (loop .next) (loop .left) (c .if1 .taken)) ∙ loop .inv .2
 
 loop-again : tie.Need-loop-again Inv-loop μ-loop
 loop-again c =
-    let at-loop = c .before .before .before .before in
-    let loop = at-loop .loop in
-    let args = at-loop .before .before .args in
+    let at-loop = c .before .before .before .before in let loop = at-loop .loop in let args = at-loop .before .before .args in
     let bytes = args .bytes .now in
     let one = at bytes (loop .next) in
     let byte : one < 256 = c .before .shared-slice-known2 .given (loop .next) .fits in
@@ -49,5 +41,5 @@ returns-2 c =
 
 pub number-at-spec : {M : Type 1} → statement M
 number-at-spec =
-    tie.close (tie.spec Inv-loop μ-loop loop-holds returns (λ c. omega arith) (λ c κs. tt) (λ c. omega arith) (λ c. omega arith) (λ c. omega arith)
-    loop-again returns-2)
+    tie.close (tie.spec Inv-loop μ-loop (λ c. (omega arith, room-first (c .before .args .width) (c .before .pre), refl)) returns (λ c. omega arith)
+    (λ c κs. tt) (λ c. omega arith) (λ c. omega arith) (λ c. omega arith) loop-again returns-2)

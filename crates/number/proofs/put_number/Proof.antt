@@ -1,9 +1,7 @@
 -- The loop stores byte after byte, each cut out by a shift: storing those left in what there is now gives the whole.
-use Rattle.constraint.proofs.Library.{arith, ℕ, _≤_, _≡_, refl, sym, ap, _∙_, length, length-set, sets}
+use Rattle.constraint.proofs.Library.{_∙_, _≡_, _≤_, ap, arith, length, length-set, refl, sets, sym, ℕ}
 use Rattle.constraint.specs.Bytes.{bytesOf}
-use Rattle.number.proofs.Stores.{stores-past}
-use Rattle.number.proofs.Shifts.{stores-shifted}
-use Rattle.number.proofs.put_number.Statement.{statement}
+use Rattle.number.proofs.{Shifts.stores-shifted, Stores.stores-past, put_number.Statement.statement}
 use Rattle.number.proofs.put_number.Tie as tie
 
 abbrev Inv-loop : tie.InvT-loop
@@ -13,12 +11,6 @@ Inv-loop buffer₀ place x width next₀ left₀ buffer next left =
 abbrev μ-loop : tie.MeasureT-loop
 μ-loop buffer₀ place x width next₀ left₀ buffer next left = left
 
-loop-holds : tie.Need-loop-holds Inv-loop μ-loop
-loop-holds c = (c .before .pre, refl, refl)
-
-same-length : tie.Need-same-length Inv-loop μ-loop
-same-length c = c .before .before .loop .inv .1
-
 returns : tie.Need-returns Inv-loop μ-loop
 returns c =
     let loop = c .before .before .loop in
@@ -26,16 +18,12 @@ returns c =
 
 loop-again : tie.Need-loop-again Inv-loop μ-loop
 loop-again c =
-    let loop = c .before .before .before .loop in
-    let x = c .before .before .before .before .before .args .x in
+    let loop = c .before .before .before .loop in let x = c .before .before .before .before .before .args .x in
     let byte = c .low-byte .result in (
       omega arith,
       length-set (loop .buffer) (loop .next) byte ∙ loop .inv .1,
       sym (stores-shifted (loop .buffer) (loop .next) (loop .left) x byte (omega arith) (c .low-byte .ensures)) ∙ loop .inv .2,
     )
-
-same-length-2 : tie.Need-same-length-2 Inv-loop μ-loop
-same-length-2 c = c .before .loop .inv .1
 
 returns-2 : tie.Need-returns-2 Inv-loop μ-loop
 unfolding bytesOf
@@ -46,5 +34,6 @@ returns-2 c =
 
 pub put-number-spec : {M : Type 1} → statement M
 put-number-spec =
-    tie.close (tie.spec Inv-loop μ-loop loop-holds same-length returns (λ c. omega arith) (λ c. omega arith) (λ c. omega arith) (λ c κs. tt) (λ c.
-    omega arith) (λ c. omega arith) (λ c. omega arith) loop-again same-length-2 returns-2)
+    tie.close (tie.spec Inv-loop μ-loop (λ c. (c .before .pre, refl, refl)) (λ c. c .before .before .loop .inv .1) returns (λ c. omega arith)
+    (λ c. omega arith) (λ c. omega arith) (λ c κs. tt) (λ c. omega arith) (λ c. omega arith) (λ c. omega arith) loop-again
+    (λ c. c .before .loop .inv .1) returns-2)

@@ -1,16 +1,7 @@
 -- The tests are those of `ownRefusal`, in its order.
-use Rattle.constraint.proofs.Library.{needs, lt-ltb, le-ltb}
+use Rattle.constraint.proofs.Library.{le-ltb, lt-ltb, needs}
 use Rattle.questions.proofs.coloured_refusal.Statement.{statement}
 use Rattle.questions.proofs.coloured_refusal.Tie as tie
-
-returns : tie.Need-returns
-returns c = rw (lt-ltb _ _ (c .if1 .taken))
-
-returns-2 : tie.Need-returns-2
-returns-2 c = rw (le-ltb _ _ (c .before .if1 .left), lt-ltb _ _ (c .if2 .taken))
-
-returns-3 : tie.Need-returns-3
-returns-3 c = rw (le-ltb _ _ (c .before .before .if1 .left), le-ltb _ _ (c .before .if2 .left), lt-ltb _ _ (c .if3 .taken))
 
 returns-4 : tie.Need-returns-4
 returns-4 c =
@@ -19,4 +10,6 @@ returns-4 c =
 
 pub coloured-refusal-spec : {M : Type 1} → statement M
 coloured-refusal-spec =
-    tie.close (tie.spec returns returns-2 returns-3 (λ c κs. search needs) returns-4)
+    tie.close (tie.spec (λ c. rw (lt-ltb _ _ (c .if1 .taken))) (λ c. rw (le-ltb _ _ (c .before .if1 .left), lt-ltb _ _ (c .if2 .taken)))
+    (λ c. rw (le-ltb _ _ (c .before .before .if1 .left), le-ltb _ _ (c .before .if2 .left), lt-ltb _ _ (c .if3 .taken))) (λ c κs. search needs)
+    returns-4)

@@ -1,10 +1,7 @@
 -- Each part is what `undoBy` says.
-use Rattle.queue.proofs.Shared.{free}
 use Rattle.questions.proofs.undo_of.Statement.{statement}
+use Rattle.queue.proofs.Shared.{free}
 use Rattle.questions.proofs.undo_of.Tie as tie
 
-returns : tie.Need-returns
-returns c = rw (c .place .ensures)
-
 pub undo-of-spec : {M : Type 1} → statement M
-undo-of-spec = tie.close (tie.spec free returns)
+undo-of-spec = tie.close (tie.spec free (λ c. rw (c .place .ensures)))

@@ -1,9 +1,6 @@
 -- The place is that of `pushRing`, and the test is its test.
-use borrow.Author.Needs.{needs}
-use borrow.Author.Tests.{lt-ltb, le-ltb}
-use Rattle.queue.specs.Ring.{pushRing}
-use Rattle.queue.proofs.Shared.{free}
-use Rattle.queue.proofs.push.Statement.{statement}
+use Rattle.queue.proofs.Names.{le-ltb, lt-ltb, needs, pushRing}
+use Rattle.queue.proofs.{Shared.free, push.Statement.statement}
 use Rattle.queue.proofs.push.Tie as tie
 
 returns : tie.Need-returns
@@ -15,5 +12,4 @@ unfolding pushRing
 returns-2 c = rw (le-ltb _ _ (c .if1 .left))
 
 pub push-spec : {M : Type 1} → statement M
-push-spec =
-    tie.close (tie.spec free (λ c. search needs) (λ c. search needs) (λ c. search needs) returns returns-2)
+push-spec = tie.close (tie.spec free (λ c. search needs) (λ c. search needs) (λ c. search needs) returns returns-2)

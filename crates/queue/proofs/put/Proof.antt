@@ -1,9 +1,6 @@
 -- The place is that of `putRing`, and the test is its test.
-use borrow.Author.Needs.{needs}
-use borrow.Author.Tests.{lt-ltb, le-ltb}
-use Rattle.queue.specs.Ring.{putRing}
-use Rattle.queue.proofs.Shared.{free}
-use Rattle.queue.proofs.put.Statement.{statement}
+use Rattle.queue.proofs.Names.{le-ltb, lt-ltb, needs, putRing}
+use Rattle.queue.proofs.{Shared.free, put.Statement.statement}
 use Rattle.queue.proofs.put.Tie as tie
 
 returns : tie.Need-returns
@@ -15,5 +12,4 @@ unfolding putRing
 returns-2 c = rw (le-ltb _ _ (c .if1 .left))
 
 pub put-spec : {M : Type 1} → statement M
-put-spec =
-    tie.close (tie.spec free (λ c. search needs) (λ c. search needs) returns returns-2)
+put-spec = tie.close (tie.spec free (λ c. search needs) (λ c. search needs) returns returns-2)

@@ -1,9 +1,6 @@
 -- Each word is stored at its place; the test is that of `putBack`.
-use borrow.Author.Needs.{needs}
-use borrow.Author.Tests.{lt-ltb, le-ltb}
-use Rattle.queue.specs.Ring.{putBack}
-use Rattle.queue.proofs.Shared.{free}
-use Rattle.queue.proofs.put_back.Statement.{statement}
+use Rattle.queue.proofs.Names.{le-ltb, lt-ltb, needs, putBack}
+use Rattle.queue.proofs.{Shared.free, put_back.Statement.statement}
 use Rattle.queue.proofs.put_back.Tie as tie
 
 returns : tie.Need-returns
@@ -15,5 +12,4 @@ unfolding putBack
 returns-2 c = rw (le-ltb _ _ (c .before .if1 .left), ← c .before .before .place-of .ensures, ← c .place-of2 .ensures)
 
 pub put-back-spec : {M : Type 1} → statement M
-put-back-spec =
-    tie.close (tie.spec free (λ c. search needs) (λ c. search needs) returns free (λ c. search needs) (λ c. search needs) returns-2)
+put-back-spec = tie.close (tie.spec free (λ c. search needs) (λ c. search needs) returns free (λ c. search needs) (λ c. search needs) returns-2)

@@ -1,5 +1,5 @@
 -- The length decides which call it is, and the time stands in the last eight bytes whatever it is.
-use Rattle.constraint.proofs.Library.{arith, needs, _≡_, refl, length, now}
+use Rattle.constraint.proofs.Library.{_≡_, arith, length, needs, now, refl}
 use Rattle.recording.proofs.call_of.Statement.{statement}
 use Rattle.recording.proofs.call_of.Tie as tie
 

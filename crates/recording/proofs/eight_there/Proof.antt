@@ -1,7 +1,6 @@
 -- Added up byte by byte, each in its place, eight bytes are their number.
 use Rattle.constraint.proofs.Library.{arith, needs, now}
-use Rattle.recording.proofs.Times.{number-of-eight}
-use Rattle.recording.proofs.eight_there.Statement.{statement}
+use Rattle.recording.proofs.{Times.number-of-eight, eight_there.Statement.statement}
 use Rattle.recording.proofs.eight_there.Tie as tie
 
 returns : tie.Need-returns

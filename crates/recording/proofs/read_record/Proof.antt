@@ -1,9 +1,7 @@
 -- The bytes behind the length field are the record's body, whose call is the record's.
-use Rattle.constraint.proofs.Library.{arith, needs, _+_, _≡_, now}
-use Rattle.constraint.specs.Table.{lengthAt}
-use Rattle.constraint.specs.Recording.{RecordAt}
-use Rattle.recording.proofs.Records.{record-none, record-whole, body-length}
-use Rattle.recording.proofs.read_record.Statement.{statement}
+use Rattle.constraint.proofs.Library.{_+_, _≡_, arith, needs, now}
+use Rattle.constraint.specs.{Recording.RecordAt, Table.lengthAt}
+use Rattle.recording.proofs.{Records.body-length, Records.record-none, Records.record-whole, read_record.Statement.statement}
 use Rattle.recording.proofs.read_record.Tie as tie
 
 -- the record is whole
@@ -13,18 +11,8 @@ whole c = c .before .size-of .ensures .whole (omega (arith, c .if1 .left))
 
 returns : tie.Need-returns
 returns c =
-    let asked = c .before .before in
-    let args = asked .before .before .args in
+    let asked = c .before .before in let args = asked .before .before .args in
     rw (c .refused .ensures) (record-none (args .version) (now (args .stretch)) (asked .size-of .ensures .none (c .before .if1 .taken)))
-
-sub-call-of : tie.Need-sub-call-of
-sub-call-of c = omega (arith, whole c .1)
-
-part-call-of-start : tie.Need-part-call-of-start
-part-call-of-start c = omega (arith, whole c .1)
-
-part-call-of-end : tie.Need-part-call-of-end
-part-call-of-end c = omega (arith, whole c .0 .0 .1, whole c .1)
 
 call-of-requires : tie.Need-call-of-requires
 call-of-requires c κs =
@@ -40,5 +28,5 @@ returns-2 c =
 
 pub read-record-spec : {M : Type 1} → statement M
 read-record-spec =
-    tie.close (tie.spec (λ c κs. search needs) (λ c κs. search needs) returns sub-call-of part-call-of-start part-call-of-end call-of-requires
-    returns-2)
+    tie.close (tie.spec (λ c κs. search needs) (λ c κs. search needs) returns (λ c. omega (arith, whole c .1)) (λ c. omega (arith, whole c .1))
+    (λ c. omega (arith, whole c .0 .0 .1, whole c .1)) call-of-requires returns-2)

@@ -1,8 +1,6 @@
 -- The byte read past the end is 0, so a first byte of 1 or 2 is there.
-use Rattle.constraint.proofs.Library.{needs, arith, ℕ, _≤_, _≡_, _∙_, refl, Bool, true, false, List, [], _∷_, eqb, eqb-true, eqb-false, eq-eqb, now}
-use Rattle.constraint.specs.Steps.{at}
-use Rattle.constraint.specs.Records.{Decides}
-use Rattle.constraint.specs.Recording.{VersionKnown}
+use Rattle.constraint.proofs.Library.{Bool, List, [], _∙_, _∷_, _≡_, _≤_, arith, eq-eqb, eqb, eqb-false, eqb-true, false, needs, now, refl, true, ℕ}
+use Rattle.constraint.specs.{Recording.VersionKnown, Records.Decides, Steps.at}
 use Rattle.recording.proofs.version_known.Statement.{statement}
 use Rattle.recording.proofs.version_known.Tie as tie
 
@@ -27,5 +25,4 @@ returns-2 c = rw (c .before .version .ensures) (second (now (c .before .before .
     (λ one. c .if1 .left (c .before .version .ensures ∙ one)))
 
 pub version-known-spec : {M : Type 1} → statement M
-version-known-spec =
-    tie.close (tie.spec (λ c κs. search needs) returns returns-2)
+version-known-spec = tie.close (tie.spec (λ c κs. search needs) returns returns-2)

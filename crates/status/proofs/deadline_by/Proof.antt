@@ -1,19 +1,12 @@
 -- The tests are those of `deadlineBy`.
-use borrow.Author.Tests.{lt-ltb, le-ltb}
+use Rattle.status.proofs.Names.{le-ltb, lt-ltb}
 use Rattle.status.proofs.deadline_by.Statement.{statement}
 use Rattle.status.proofs.deadline_by.Tie as tie
-
-returns : tie.Need-returns
-returns c = simp (lt-ltb _ _ (c .if1 .taken))
-
-returns-2 : tie.Need-returns-2
-returns-2 c = simp (le-ltb _ _ (c .before .if1 .left), lt-ltb _ _ (c .if2 .taken))
 
 returns-3 : tie.Need-returns-3
 returns-3 c = simp (le-ltb _ _ (c .before .before .if1 .left), le-ltb _ _ (c .before .if2 .left), lt-ltb _ _ (c .if3 .taken))
 
-returns-4 : tie.Need-returns-4
-returns-4 c = simp (le-ltb _ _ (c .before .before .if1 .left), le-ltb _ _ (c .before .if2 .left), le-ltb _ _ (c .if3 .left))
-
 pub deadline-by-spec : {M : Type 1} → statement M
-deadline-by-spec = tie.close (tie.spec returns returns-2 returns-3 returns-4)
+deadline-by-spec =
+    tie.close (tie.spec (λ c. simp (lt-ltb _ _ (c .if1 .taken))) (λ c. simp (le-ltb _ _ (c .before .if1 .left), lt-ltb _ _ (c .if2 .taken))) returns-3
+    (λ c. simp (le-ltb _ _ (c .before .before .if1 .left), le-ltb _ _ (c .before .if2 .left), le-ltb _ _ (c .if3 .left))))

@@ -1,13 +1,7 @@
 -- The tests are those of `waitingBy`.
-use Rattle.constraint.proofs.Library.{needs, lt-ltb, le-ltb}
+use Rattle.status.proofs.Names.{le-ltb, lt-ltb, needs}
 use Rattle.status.proofs.waiting_by.Statement.{statement}
 use Rattle.status.proofs.waiting_by.Tie as tie
-
-returns : tie.Need-returns
-returns c = rw (lt-ltb _ _ (c .if1 .taken))
-
-returns-2 : tie.Need-returns-2
-returns-2 c = rw (le-ltb _ _ (c .before .if1 .left), lt-ltb _ _ (c .if2 .taken))
 
 returns-3 : tie.Need-returns-3
 returns-3 c =
@@ -20,4 +14,6 @@ returns-4 c =
     rw (le-ltb _ _ (w .before .before .if1 .left), le-ltb _ _ (w .before .if2 .left), ← w .waits-in .ensures, c .if3 .left)
 
 pub waiting-by-spec : {M : Type 1} → statement M
-waiting-by-spec = tie.close (tie.spec returns returns-2 (λ c κs. search needs) returns-3 returns-4)
+waiting-by-spec =
+    tie.close (tie.spec (λ c. rw (lt-ltb _ _ (c .if1 .taken))) (λ c. rw (le-ltb _ _ (c .before .if1 .left), lt-ltb _ _ (c .if2 .taken)))
+    (λ c κs. search needs) returns-3 returns-4)

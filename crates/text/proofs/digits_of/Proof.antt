@@ -1,9 +1,8 @@
 -- The loop takes off the last digit: those of what is left, and those stored, are those of the number. What is not yet stored is blank.
-use Rattle.constraint.proofs.Library.{arith, ℕ, _+_, _-_, _%_, _^_, _≤_, _<_, _++_, append-nil, _≡_, refl, sym, _∙_, length, set, drop, length-set}
-use Rattle.constraint.proofs.Library.{getD-replicate, getD-set-other}
-use Rattle.constraint.specs.Steps.{at}
-use Rattle.constraint.specs.Report.{digits, decimal, blank}
-use Rattle.text.proofs.Decimals.{digits-more, digits-one, digits-room, drop-stored, aligned-right}
+use Rattle.constraint.proofs.Library.{_%_, _++_, _+_, _-_, _<_, _^_, _∙_, _≡_, _≤_, append-nil, arith, drop, getD-replicate, getD-set-other, length}
+use Rattle.constraint.proofs.Library.{length-set, refl, set, sym, ℕ}
+use Rattle.constraint.specs.{Report.blank, Report.decimal, Report.digits, Steps.at}
+use Rattle.text.proofs.Decimals.{aligned-right, digits-more, digits-one, digits-room, drop-stored}
 use Rattle.text.proofs.digits_of.Statement.{statement}
 use Rattle.text.proofs.digits_of.Tie as tie
 

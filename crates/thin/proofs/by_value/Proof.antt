@@ -1,16 +1,12 @@
 -- The step by value keeps its contract, and its number says its answer: no refusal has the number 0.
-use Rattle.constraint.proofs.Library.{ℕ, zero, suc, arith, _≡_, refl, sym, _∙_, ap, subst, Bool, true, false, cond, needs}
-use Rattle.constraint.specs.Run.{asks}
-use Rattle.constraint.specs.declared.Answer.{Answer}
-use Rattle.constraint.specs.declared.Answer.the-variants.{Taken, Refused}
-use Rattle.constraint.specs.declared.Call.{Call}
-use Rattle.monitor.specs.Machine.{refuses, takes, crowds, takenCall, steppedBy, stepOf, refusalFor}
-use Rattle.monitor.specs.Contract.{Steps}
-use Rattle.monitor.specs.declared.Monitor.{Monitor}
-use Rattle.monitor.specs.declared.Stepped.{Stepped}
+use Rattle.constraint.proofs.Library.{Bool, _∙_, _≡_, ap, arith, cond, false, needs, refl, subst, suc, sym, true, zero, ℕ}
+use Rattle.constraint.specs.declared.Answer.the-variants.{Refused, Taken}
+use Rattle.constraint.specs.{Run.asks, declared.Answer.Answer, declared.Call.Call}
 use Rattle.monitor.proofs.Answers.{refused-by}
-use Rattle.thin.specs.Number.{answerFrom, steppedFrom}
+use Rattle.monitor.specs.Machine.{crowds, refusalFor, refuses, stepOf, steppedBy, takenCall, takes}
+use Rattle.monitor.specs.{Contract.Steps, declared.Monitor.Monitor, declared.Stepped.Stepped}
 use Rattle.thin.proofs.by_value.Statement.{statement}
+use Rattle.thin.specs.Number.{answerFrom, steppedFrom}
 use Rattle.thin.proofs.by_value.Tie as tie
 
 abbrev numberOf : Answer → ℕ
@@ -39,15 +35,6 @@ numbered m call s n steps e =
     subst (λ (a : Answer). Steps m (asks call) (record { answer = a; monitor = s .monitor }))
     (sym (ap answerFrom e ∙ subst Told (sym (steps .equals)) (step-told m call))) steps
 
-step-requires : tie.Need-step-requires
-step-requires c κs = search needs
-
-enum-told : tie.Need-enum-told
-enum-told c = search needs
-
-enum-known-answer : tie.Need-enum-known-answer
-enum-known-answer c = search needs
-
 returns : tie.Need-returns
 returns c =
     let stepped = c .before .before .before in
@@ -59,4 +46,4 @@ returns-2 c =
     numbered _ _ (stepped .step .result) (c .before .answer .given .0 .0) (stepped .step .ensures) (rw (c .before .answer .given .1))
 
 pub by-value-spec : {M : Type 1} → statement M
-by-value-spec = tie.close (tie.spec step-requires enum-told enum-known-answer returns returns-2)
+by-value-spec = tie.close (tie.spec (λ c κs. search needs) (λ c. search needs) (λ c. search needs) returns returns-2)

@@ -1,10 +1,6 @@
 -- A fresh monitor over no rows has this clock, these first free times and this mark.
-use Rattle.clock.proofs.Laws.{starts}
-use Rattle.clock.proofs.Clock.start.Statement.{statement}
+use Rattle.clock.proofs.{Clock.start.Statement.statement, Laws.starts}
 use Rattle.clock.proofs.Clock.start.Tie as tie
 
-returns : tie.Need-returns
-returns c = starts
-
 pub start-spec : {M : Type 1} → statement M
-start-spec = tie.close (tie.spec returns)
+start-spec = tie.close (tie.spec (λ c. starts))

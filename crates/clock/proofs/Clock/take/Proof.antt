@@ -1,24 +1,16 @@
 -- The number is that of the first "no"; where there is none the clock, the count, the first free time and the mark are those after the call.
-use Rattle.constraint.proofs.Library.{arith, needs, _≡_}
+use Rattle.clock.proofs.{Clock.take.Statement.statement, Laws.refusalOf, Laws.takes-refused, Laws.takes-taken}
+use Rattle.constraint.proofs.Library.{_≡_, arith, needs}
 use Rattle.questions.proofs.Places.{place-small}
-use Rattle.clock.proofs.Laws.{refusalOf, takes-refused, takes-taken}
-use Rattle.clock.proofs.Clock.take.Statement.{statement}
 use Rattle.clock.proofs.Clock.take.Tie as tie
 
 -- what is asked
 number-is : (c : tie.After-refusal) → c .refusal .result ≡ refusalOf (c .before .before .before .args .t1) (c .before .before .before .args .call)
 number-is c = rw (c .before .before .place .ensures) at (c .refusal .ensures)
 
-mul-next : tie.Need-mul-next
-mul-next c = omega (arith, c .place .ensures, place-small (c .before .args .call))
-
-element-copy-out-next : tie.Need-element-copy-out-next
-element-copy-out-next c = omega (arith, c .place .ensures, place-small (c .before .args .call))
-
 returns : tie.Need-returns
 returns c =
-    let asked = c .before in
-    let args = asked .before .before .before .args in
+    let asked = c .before in let args = asked .before .before .before .args in
     takes-refused (args .t1) (args .call) (asked .refusal .result) (number-is asked) (c .if1 .taken)
 
 mul-clock : tie.Need-mul-clock
@@ -31,15 +23,13 @@ element-write-clock c = let placed = c .before .before .before .before .before i
 
 returns-2 : tie.Need-returns-2
 returns-2 c =
-    let added = c .before in
-    let freed = added .before in
-    let seen = freed .before in
-    let asked = seen .before .before in
+    let added = c .before in let freed = added .before in let seen = freed .before in let asked = seen .before .before in
     let args = asked .before .before .before .args in
     takes-taken (args .t1) (args .call) (asked .refusal .result) (number-is asked) (seen .before .if1 .left) _
     (simp (c .closed .ensures, added .plus .ensures, freed .free .ensures, seen .occurrence .ensures, asked .before .before .place .ensures))
 
 pub take-spec : {M : Type 1} → statement M
 take-spec =
-    tie.close (tie.spec (λ c κs. search needs) mul-next element-copy-out-next (λ c κs. search needs) returns (λ c κs. search needs) (λ c κs. search
-    needs) mul-clock element-write-clock (λ c κs. search needs) (λ c κs. search needs) returns-2)
+    tie.close (tie.spec (λ c κs. search needs) (λ c. omega (arith, c .place .ensures, place-small (c .before .args .call)))
+    (λ c. omega (arith, c .place .ensures, place-small (c .before .args .call))) (λ c κs. search needs) returns (λ c κs. search needs)
+    (λ c κs. search needs) mul-clock element-write-clock (λ c κs. search needs) (λ c κs. search needs) returns-2)

@@ -1,13 +1,11 @@
 -- The soonest due time that is stored says whether a row may be overdue.
-use Rattle.constraint.proofs.Library.{ℕ, _≡_, sym, ap, _∙_, true, false, ltb, now, lt-ltb, le-ltb, needs}
-use Rattle.lent.proofs.Parts.{number-at}
-use Rattle.lent.proofs.calls.begin.Statement.{statement}
+use Rattle.lent.proofs.Names.{_∙_, _≡_, ap, false, le-ltb, lt-ltb, ltb, needs, now, sym, true, ℕ}
+use Rattle.lent.proofs.{Parts.number-at, calls.begin.Statement.statement}
 use Rattle.lent.proofs.calls.begin.Tie as tie
 
 returns : tie.Need-returns
 returns c h e s =
-    let i = c .before .before in
-    let a = i .before .before .args in
+    let i = c .before .before in let a = i .before .before .args in
     let past : ltb (h .soonest) (a .time) ≡ true = ap (λ (x : ℕ). ltb x (a .time)) (sym (number-at h s (now (a .m)) e 4))
     ∙ lt-ltb _ _ (i .if1 .taken) in
     rw past (c .pass .ensures h e s)
@@ -20,5 +18,4 @@ returns-2 c h e s =
     rw not-past e
 
 pub begin-spec : {M : Type 1} → statement M
-begin-spec =
-    tie.close (tie.spec (λ c. search needs) (λ c. search needs) (λ c. search needs) (λ c κs. search needs) returns returns-2)
+begin-spec = tie.close (tie.spec (λ c. search needs) (λ c. search needs) (λ c. search needs) (λ c κs. search needs) returns returns-2)

@@ -1,34 +1,18 @@
 -- The questions are put first; then the numbers are counted on, and the close goes to every row.
-use Rattle.constraint.proofs.Library.{ℕ, refl, ap, _∙_, arith, now, needs}
-use Rattle.constraint.specs.declared.Call.{Call}
-use Rattle.row.specs.Machine.{closeAt}
-use Rattle.lent.specs.Layout.{wordsOf, heldRows}
-use Rattle.lent.specs.Steps.{countedTo, ended, nextNumber}
-use Rattle.lent.proofs.Parts.{number-at, shaped-to, shaped-ended}
+use Rattle.lent.proofs.Names.{Call, _∙_, ap, arith, closeAt, countedTo, ended, heldRows, needs, nextNumber, now, refl, wordsOf, ℕ}
 use Rattle.lent.proofs.Asked.{first-number, own-number, refused-stores, taken-stores}
-use Rattle.lent.proofs.calls.close.Statement.{statement}
+use Rattle.lent.proofs.{Parts.number-at, Parts.shaped-ended, Parts.shaped-to, calls.close.Statement.statement}
 use Rattle.lent.proofs.calls.close.Tie as tie
 
 returns : tie.Need-returns
 returns c =
-    let f = c .before in
-    let a = f .before .before .args in
+    let f = c .before in let a = f .before .before .args in
     refused-stores (now (a .m)) Call.Close _ (λ h e s. first-number h Call.Close _ (f .first-refusal .ensures h e s) (c .if1 .taken)) (c .if1 .taken)
-
-ends-requires : tie.Need-ends-requires
-ends-requires c κs = c .held .ensures .0
 
 returns-2 : tie.Need-returns-2
 returns-2 c =
-    let d = c .before .before in
-    let w = d .before in
-    let n = w .before .before .before in
-    let u = n .before in
-    let k = u .before .before in
-    let v = k .before .before in
-    let i = v .before in
-    let f = i .before in
-    let a = f .before .before .args in
+    let d = c .before .before in let w = d .before in let n = w .before .before .before in let u = n .before in let k = u .before .before in
+    let v = k .before .before in let i = v .before in let f = i .before in let a = f .before .before .args in
     taken-stores (now (a .m)) Call.Close 0
     (λ h e s. own-number h Call.Close _ 0 (f .first-refusal .ensures h e s) (omega (arith, i .if1 .left)) refl) 0 (c .put-soonest .last .0)
     (omega arith) (λ some. absurd (some refl))
@@ -48,5 +32,6 @@ returns-2 c =
 
 pub close-spec : {M : Type 1} → statement M
 close-spec =
-    tie.close (tie.spec (λ c κs. search needs) returns (λ c. search needs) (λ c. search needs) (λ c. search needs) (λ c κs. search needs) (λ c κs.
-    search needs) (λ c. search needs) (λ c. search needs) (λ c. search needs) (λ c κs. search needs) ends-requires (λ c κs. search needs) returns-2)
+    tie.close (tie.spec (λ c κs. search needs) returns (λ c. search needs) (λ c. search needs) (λ c. search needs) (λ c κs. search needs)
+    (λ c κs. search needs) (λ c. search needs) (λ c. search needs) (λ c. search needs) (λ c κs. search needs) (λ c κs. c .held .ensures .0)
+    (λ c κs. search needs) returns-2)

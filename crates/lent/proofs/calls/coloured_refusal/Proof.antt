@@ -1,12 +1,7 @@
 -- The questions are put in their order, and the first "no" gives the number.
-use Rattle.constraint.proofs.Library.{ℕ, refl, ap, ap₂, _∙_, arith, now, lt-ltb, le-ltb, getD, needs}
-use Rattle.constraint.specs.Limits.{lastKind, firstColoured, lastColour, streamCount}
-use Rattle.questions.specs.Questions.{timeRefusal}
-use Rattle.constraint.specs.declared.Call.{Call}
-use Rattle.lent.proofs.Parts.{number-at}
-use Rattle.lent.proofs.Asked.{first-number, own-number}
-use Rattle.constraint.specs.Streams.{stream}
-use Rattle.lent.proofs.calls.coloured_refusal.Statement.{statement}
+use Rattle.lent.proofs.Names.{Call, _∙_, ap, ap₂, arith, firstColoured, getD, lastColour, lastKind, le-ltb, lt-ltb, needs, now, refl, stream}
+use Rattle.lent.proofs.Names.{streamCount, timeRefusal, ℕ}
+use Rattle.lent.proofs.{Asked.first-number, Asked.own-number, Parts.number-at, calls.coloured_refusal.Statement.statement}
 use Rattle.lent.proofs.calls.coloured_refusal.Tie as tie
 
 returns : tie.Need-returns
@@ -54,10 +49,7 @@ returns-4 c =
 
 returns-5 : tie.Need-returns-5
 returns-5 c =
-    let q = c .before in
-    let t = q .before .before in
-    let i = t .before in
-    let f = i .before .before .before .before in
+    let q = c .before in let t = q .before .before in let i = t .before in let f = i .before .before .before .before in
     let a = f .before .args in (
       λ z. (omega (arith, i .before .if3 .left), (omega (arith, i .before .before .if2 .left), omega (arith, i .if4 .left))),
       λ h e s.

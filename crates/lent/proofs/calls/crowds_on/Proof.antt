@@ -1,10 +1,6 @@
 -- While there is room nothing is looked at; else the rows are asked, and where none is crowded the mark for room is set.
-use Rattle.constraint.proofs.Library.{ℕ, _≡_, refl, sym, ap, _∙_, true, false, ltb, now, lt-ltb, le-ltb, needs}
-use Rattle.constraint.proofs.Lists.{both}
-use Rattle.lent.specs.Layout.{Lent, wordsOf, Shaped}
-use Rattle.lent.specs.Steps.{withRoom}
-use Rattle.lent.proofs.Parts.{number-at}
-use Rattle.lent.proofs.calls.crowds_on.Statement.{statement}
+use Rattle.lent.proofs.Names.{Lent, Shaped, _∙_, _≡_, ap, both, false, le-ltb, lt-ltb, ltb, needs, now, refl, sym, true, withRoom, wordsOf, ℕ}
+use Rattle.lent.proofs.{Parts.number-at, calls.crowds_on.Statement.statement}
 use Rattle.lent.proofs.calls.crowds_on.Tie as tie
 
 returns : tie.Need-returns
@@ -20,9 +16,7 @@ returns c =
 
 returns-2 : tie.Need-returns-2
 returns-2 c =
-    let q = c .before in
-    let i = q .before .before in
-    let a = i .before .before .args in
+    let q = c .before in let i = q .before .before in let a = i .before .before .args in
     let none : (h : Lent) → now (a .m) ≡ wordsOf h → Shaped h → ltb 0 (h .room) ≡ false =
     λ h e s. ap (ltb 0) (sym (number-at h s (now (a .m)) e 11)) ∙ le-ltb _ _ (i .if1 .left) in
     record {
@@ -33,11 +27,7 @@ returns-2 c =
 
 returns-3 : tie.Need-returns-3
 returns-3 c =
-    let f = c .before in
-    let j = f .before .before .before in
-    let q = j .before in
-    let i = q .before .before in
-    let a = i .before .before .args in
+    let f = c .before in let j = f .before .before .before in let q = j .before in let i = q .before .before in let a = i .before .before .args in
     let none : (h : Lent) → now (a .m) ≡ wordsOf h → Shaped h → ltb 0 (h .room) ≡ false =
     λ h e s. ap (ltb 0) (sym (number-at h s (now (a .m)) e 11)) ∙ le-ltb _ _ (i .if1 .left) in
     record {

@@ -1,8 +1,6 @@
 -- The questions are put first; the kind of one that is answered has rows of its own.
-use Rattle.constraint.proofs.Library.{arith, now, needs}
-use Rattle.constraint.specs.declared.Call.{Call}
-use Rattle.lent.proofs.Asked.{refused-stores, taken-stores}
-use Rattle.lent.proofs.calls.event.Statement.{statement}
+use Rattle.lent.proofs.Names.{Call, arith, needs, now}
+use Rattle.lent.proofs.{Asked.refused-stores, Asked.taken-stores, calls.event.Statement.statement}
 use Rattle.lent.proofs.calls.event.Tie as tie
 
 returns : tie.Need-returns
@@ -17,12 +15,9 @@ event-on-requires c κs =
 
 returns-2 : tie.Need-returns-2
 returns-2 c =
-    let i = c .before .before in
-    let a = i .before .before .before .args in
+    let i = c .before .before in let a = i .before .before .before .args in
     taken-stores (now (a .m)) (Call.Event (a .kind) (a .time)) _ (i .before .event-refusal .ensures .1) (c .event-on .result) (c .event-on .last .0)
-    (omega (arith, i .if1 .left))
-    (c .event-on .ensures .untouched) (c .event-on .ensures .stores)
+    (omega (arith, i .if1 .left)) (c .event-on .ensures .untouched) (c .event-on .ensures .stores)
 
 pub event-spec : {M : Type 1} → statement M
-event-spec =
-    tie.close (tie.spec (λ c κs. search needs) returns event-on-requires returns-2)
+event-spec = tie.close (tie.spec (λ c κs. search needs) returns event-on-requires returns-2)

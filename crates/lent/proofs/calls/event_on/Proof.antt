@@ -1,16 +1,13 @@
 -- Where the event crowds a row nothing is stored; else the numbers, the rows to which the clock goes, and the rows of its kind, one after the other.
-use Rattle.constraint.proofs.Library.{_≡_, refl, sym, ap, _∙_, true, false, needs}
-use Rattle.row.specs.Machine.{eventAt}
-use Rattle.lent.specs.Layout.{wordsOf}
-use Rattle.lent.specs.Steps.{heardOn, crowdedOn, roomed, roomFor, countedOn, begun}
-use Rattle.lent.proofs.Parts.{shaped-room, shaped-counted, shaped-begun, begun-alone, begun-count, begun-ends, same-rows}
+use Rattle.lent.proofs.Names.{_∙_, _≡_, ap, begun, countedOn, crowdedOn, eventAt, false, heardOn, needs, refl, roomFor, roomed, sym, true}
+use Rattle.lent.proofs.Names.{wordsOf}
+use Rattle.lent.proofs.Parts.{begun-alone, begun-count, begun-ends, same-rows, shaped-begun, shaped-counted, shaped-room}
 use Rattle.lent.proofs.calls.event_on.Statement.{statement}
 use Rattle.lent.proofs.calls.event_on.Tie as tie
 
 returns : tie.Need-returns
 returns c =
-    let w = c .before in
-    let a = w .before .before .args in
+    let w = c .before in let a = w .before .before .args in
     let same = w .crowds-on .ensures .untouched (c .if1 .taken) in
     record {
       untouched = λ _. same;
@@ -21,11 +18,7 @@ returns c =
 
 returns-2 : tie.Need-returns-2
 returns-2 c =
-    let b = c .before .before in
-    let k = b .before .before in
-    let i = k .before .before in
-    let w = i .before in
-    let a = w .before .before .args in
+    let b = c .before .before in let k = b .before .before in let i = k .before .before in let w = i .before in let a = w .before .before .args in
     let o = eventAt (a .stream) (a .time) in
     record {
       untouched = λ some. absurd (some refl);
@@ -48,5 +41,4 @@ returns-2 c =
     }
 
 pub event-on-spec : {M : Type 1} → statement M
-event-on-spec =
-    tie.close (tie.spec (λ c κs. search needs) returns (λ c κs. search needs) (λ c κs. search needs) (λ c κs. search needs) returns-2)
+event-on-spec = tie.close (tie.spec (λ c κs. search needs) returns (λ c κs. search needs) (λ c κs. search needs) (λ c κs. search needs) returns-2)

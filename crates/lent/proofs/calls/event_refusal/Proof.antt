@@ -1,11 +1,7 @@
 -- The questions are put in their order, and the first "no" gives the number.
-use Rattle.constraint.proofs.Library.{_<_, refl, ap₂, _∙_, arith, now, lt-ltb, le-ltb, le-leb, lt-leb, needs}
-use Rattle.constraint.specs.Limits.{lastKind, firstColoured, streamCount}
-use Rattle.questions.specs.Questions.{timeRefusal}
-use Rattle.constraint.specs.declared.Call.{Call}
-use Rattle.lent.proofs.Parts.{number-at}
-use Rattle.lent.proofs.Asked.{first-number, own-number}
-use Rattle.lent.proofs.calls.event_refusal.Statement.{statement}
+use Rattle.lent.proofs.Names.{Call, _<_, _∙_, ap₂, arith, firstColoured, lastKind, le-leb, le-ltb, lt-leb, lt-ltb, needs, now, refl}
+use Rattle.lent.proofs.Names.{streamCount, timeRefusal}
+use Rattle.lent.proofs.{Asked.first-number, Asked.own-number, Parts.number-at, calls.event_refusal.Statement.statement}
 use Rattle.lent.proofs.calls.event_refusal.Tie as tie
 
 returns : tie.Need-returns
@@ -36,10 +32,7 @@ returns-3 c =
 
 returns-4 : tie.Need-returns-4
 returns-4 c =
-    let q = c .before in
-    let i = q .before .before in
-    let f = i .before .before .before in
-    let a = f .before .args in
+    let q = c .before in let i = q .before .before in let f = i .before .before .before in let a = f .before .args in
     let small : a .kind < 48 = omega (arith, i .if3 .left) in (
       λ z. small,
       λ h e s.

@@ -1,18 +1,12 @@
 -- Where the soonest due time is past, the rows that are overdue end; else it is stored.
-use Rattle.constraint.proofs.Library.{ℕ, _≡_, sym, ap, ap₂, _∙_, true, false, ltb, now, lt-ltb, le-ltb, needs}
-use Rattle.row.specs.Machine.{tickAt}
-use Rattle.lent.specs.Layout.{wordsOf, heldRows}
-use Rattle.lent.specs.Steps.{withSoonest, ended, soonestAll, soonestOf}
-use Rattle.lent.proofs.Parts.{number-at, shaped-ended}
-use Rattle.lent.proofs.calls.pass.Statement.{statement}
+use Rattle.lent.proofs.Names.{_∙_, _≡_, ap, ap₂, ended, false, heldRows, le-ltb, lt-ltb, ltb, needs, now, soonestAll, soonestOf, sym, tickAt}
+use Rattle.lent.proofs.Names.{true, withSoonest, wordsOf, ℕ}
+use Rattle.lent.proofs.{Parts.number-at, Parts.shaped-ended, calls.pass.Statement.statement}
 use Rattle.lent.proofs.calls.pass.Tie as tie
 
 returns : tie.Need-returns
 returns c h e s =
-    let d = c .before .before in
-    let i = d .before .before .before in
-    let t = i .before in
-    let k = t .before .before in
+    let d = c .before .before in let i = d .before .before .before in let t = i .before in let k = t .before .before in
     let a = k .before .before .args in
     let held = k .held .ensures .1 h e s in
     let soon : t .soonest .result ≡ soonestAll h = t .soonest .ensures h e s ∙ ap (soonestOf (h .monitor .rows)) held in
@@ -23,10 +17,7 @@ returns c h e s =
 
 returns-2 : tie.Need-returns-2
 returns-2 c h e s =
-    let i = c .before .before in
-    let t = i .before in
-    let k = t .before .before in
-    let a = k .before .before .args in
+    let i = c .before .before in let t = i .before in let k = t .before .before in let a = k .before .before .args in
     let soon : t .soonest .result ≡ soonestAll h = t .soonest .ensures h e s ∙ ap (soonestOf (h .monitor .rows)) (k .held .ensures .1 h e s) in
     let not-past : ltb (soonestAll h) (a .time) ≡ false = ap (λ (x : ℕ). ltb x (a .time)) (sym soon) ∙ le-ltb _ _ (i .if1 .left) in
     rw not-past (c .put-soonest2 .ensures h e s ∙ ap (λ (x : ℕ). wordsOf (withSoonest h x)) soon)

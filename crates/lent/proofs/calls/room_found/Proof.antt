@@ -1,18 +1,11 @@
 -- At every 32nd step it is what the fullest row leaves.
-use Rattle.constraint.proofs.Library.{ℕ, _-_, _%_, min, _≡_, refl, sym, ap, _∙_, true, false, eqb, now, eq-eqb, ne-eqb, needs}
-use Rattle.constraint.specs.Limits.{waitingLimit}
-use Rattle.lent.specs.Steps.{fullest}
-use Rattle.lent.proofs.Parts.{number-at}
-use Rattle.lent.proofs.calls.room_found.Statement.{statement}
+use Rattle.lent.proofs.Names.{_%_, _-_, _∙_, _≡_, ap, eq-eqb, eqb, false, fullest, min, ne-eqb, needs, now, refl, sym, true, waitingLimit, ℕ}
+use Rattle.lent.proofs.{Parts.number-at, calls.room_found.Statement.statement}
 use Rattle.lent.proofs.calls.room_found.Tie as tie
 
 returns : tie.Need-returns
 returns c h e s =
-    let u = c .before in
-    let f = u .before in
-    let d = f .before in
-    let t = d .before in
-    let a = t .before .before .args in
+    let u = c .before in let f = u .before in let d = f .before in let t = d .before in let a = t .before .before .args in
     let due : eqb (h .monitor .count % 32) 0 ≡ true =
     ap (λ (n : ℕ). eqb (n % 32) 0) (sym (number-at h s (now (a .m)) e 1)) ∙ eq-eqb _ _ (t .if1 .taken) in
     rw due

@@ -1,10 +1,6 @@
 -- The questions are put first; then the numbers are counted on, and the clock goes to the rows.
-use Rattle.constraint.proofs.Library.{refl, arith, now, needs}
-use Rattle.constraint.specs.declared.Call.{Call}
-use Rattle.lent.specs.Steps.{countedTo}
-use Rattle.lent.proofs.Parts.{shaped-to}
-use Rattle.lent.proofs.Asked.{refused-stores, taken-stores}
-use Rattle.lent.proofs.calls.tick.Statement.{statement}
+use Rattle.lent.proofs.Names.{Call, arith, countedTo, needs, now, refl}
+use Rattle.lent.proofs.{Asked.refused-stores, Asked.taken-stores, Parts.shaped-to, calls.tick.Statement.statement}
 use Rattle.lent.proofs.calls.tick.Tie as tie
 
 returns : tie.Need-returns
@@ -14,14 +10,10 @@ returns c =
 
 returns-2 : tie.Need-returns-2
 returns-2 c =
-    let k = c .before .before in
-    let i = k .before .before in
-    let f = i .before in
-    let a = f .before .before .args in
+    let k = c .before .before in let i = k .before .before in let f = i .before in let a = f .before .before .args in
     taken-stores (now (a .m)) (Call.Tick (a .time)) _ (f .tick-refusal .ensures) 0 (c .begin .last .0) (omega (arith, i .if1 .left))
     (λ some. absurd (some refl))
     (λ h e s going. (refl, c .begin .ensures (countedTo h (a .time) 0) (k .count-tick .ensures h e s going) (shaped-to h (a .time) 0 s)))
 
 pub tick-spec : {M : Type 1} → statement M
-tick-spec =
-    tie.close (tie.spec (λ c κs. search needs) returns (λ c κs. search needs) (λ c κs. search needs) returns-2)
+tick-spec = tie.close (tie.spec (λ c κs. search needs) returns (λ c κs. search needs) (λ c κs. search needs) returns-2)

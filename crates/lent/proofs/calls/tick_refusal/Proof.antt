@@ -1,10 +1,6 @@
 -- The questions are put in their order, and the first "no" gives the number.
-use Rattle.constraint.proofs.Library.{_<_, _≤_, refl, arith, now, lt-ltb, le-ltb, le-leb, lt-leb, needs}
-use Rattle.constraint.specs.Limits.{lastTime}
-use Rattle.constraint.specs.declared.Call.{Call}
-use Rattle.lent.proofs.Parts.{number-at}
-use Rattle.lent.proofs.Asked.{first-number, own-number}
-use Rattle.lent.proofs.calls.tick_refusal.Statement.{statement}
+use Rattle.lent.proofs.Names.{Call, _<_, _≤_, arith, lastTime, le-leb, le-ltb, lt-leb, lt-ltb, needs, now, refl}
+use Rattle.lent.proofs.{Asked.first-number, Asked.own-number, Parts.number-at, calls.tick_refusal.Statement.statement}
 use Rattle.lent.proofs.calls.tick_refusal.Tie as tie
 
 returns : tie.Need-returns
@@ -18,9 +14,7 @@ returns-2 c h e s =
 
 returns-3 : tie.Need-returns-3
 returns-3 c h e s =
-    let i = c .before .before in
-    let f = i .before .before in
-    let a = f .before .args in
+    let i = c .before .before in let f = i .before .before in let a = f .before .args in
     let clock = number-at h s (now (a .m)) e 0 in
     let early : a .time ≤ h .monitor .clock = omega (arith, clock, c .if3 .taken) in
     own-number h (Call.Tick (a .time)) _ _ (f .first-refusal .ensures h e s) (omega (arith, i .before .if1 .left))
@@ -28,9 +22,7 @@ returns-3 c h e s =
 
 returns-4 : tie.Need-returns-4
 returns-4 c h e s =
-    let i = c .before .before in
-    let f = i .before .before in
-    let a = f .before .args in
+    let i = c .before .before in let f = i .before .before in let a = f .before .args in
     let clock = number-at h s (now (a .m)) e 0 in
     let later : h .monitor .clock < a .time = omega (arith, clock, c .if3 .left) in
     own-number h (Call.Tick (a .time)) _ _ (f .first-refusal .ensures h e s) (omega (arith, i .before .if1 .left))

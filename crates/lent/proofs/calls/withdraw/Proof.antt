@@ -1,12 +1,8 @@
 -- Where a step may be withdrawn, each row and then each number is put back.
-use Rattle.constraint.proofs.Library.{ℕ, zero, suc, _<_, _≡_, refl, sym, ap, ap₂, _∙_, arith, List, [], cond, getD, set, take, ltb, now, lt-ltb}
-use Rattle.constraint.proofs.Library.{le-ltb, ltb-true, needs}
-use Rattle.constraint.specs.Limits.{streamCount}
-use Rattle.constraint.proofs.Lists.{split}
-use Rattle.questions.specs.Questions.{placeIn}
-use Rattle.lent.specs.Layout.{Words, wordsOf, heldRows}
-use Rattle.lent.specs.Steps.{withMonitor, withSoonest, withNext, backed, backRows, uncountedMonitor}
-use Rattle.lent.proofs.Parts.{numbers-read, number-at, block-written, shaped-backed, shaped-next}
+use Rattle.lent.proofs.Names.{List, Words, [], _<_, _∙_, _≡_, ap, ap₂, arith, backRows, backed, cond, getD, heldRows, le-ltb, lt-ltb, ltb}
+use Rattle.lent.proofs.Names.{ltb-true, needs, now, placeIn, refl, set, split, streamCount, suc, sym, take, uncountedMonitor, withMonitor}
+use Rattle.lent.proofs.Names.{withNext, withSoonest, wordsOf, zero, ℕ}
+use Rattle.lent.proofs.Parts.{block-written, number-at, numbers-read, shaped-backed, shaped-next}
 use Rattle.lent.proofs.calls.withdraw.Statement.{statement}
 use Rattle.lent.proofs.calls.withdraw.Tie as tie
 
@@ -28,23 +24,14 @@ returns c =
           (rw none refl, rw none e);
     }
 
-back-requires : tie.Need-back-requires
-back-requires c κs = c .held .ensures .0
-
 put-free-requires : tie.Need-put-free-requires
 put-free-requires c κs = rw (c .before .before .place-in .ensures)
     (place-small (getD (getD (getD (c .before .before .before .before .back .last .0) 32 []) 0 []) 6 0))
 
 returns-2 : tie.Need-returns-2
 returns-2 c =
-    let p = c .before .before in
-    let f = p .before .before in
-    let q = f .before in
-    let b = q .before .before in
-    let w = b .before in
-    let n = w .before .before .before in
-    let i = n .before in
-    let a = i .before .before .args in
+    let p = c .before .before in let f = p .before .before in let q = f .before in let b = q .before .before in let w = b .before in
+    let n = w .before .before .before in let i = n .before in let a = i .before .before .args in
     record {
       untouched = λ some. absurd (some refl);
       stores = λ h e s.
@@ -70,6 +57,7 @@ returns-2 c =
 
 pub withdraw-spec : {M : Type 1} → statement M
 withdraw-spec =
-    tie.close (tie.spec (λ c. search needs) (λ c. search needs) (λ c. search needs) returns (λ c. search needs) (λ c. search needs) (λ c. search
-    needs) (λ c κs. search needs) back-requires (λ c. search needs) (λ c. search needs) (λ c. search needs) (λ c κs. search needs) (λ c. search
-    needs) (λ c. search needs) (λ c. search needs) put-free-requires (λ c. search needs) (λ c κs. search needs) returns-2)
+    tie.close (tie.spec (λ c. search needs) (λ c. search needs) (λ c. search needs) returns (λ c. search needs) (λ c. search needs)
+    (λ c. search needs) (λ c κs. search needs) (λ c κs. c .held .ensures .0) (λ c. search needs) (λ c. search needs) (λ c. search needs)
+    (λ c κs. search needs) (λ c. search needs) (λ c. search needs) (λ c. search needs) put-free-requires (λ c. search needs) (λ c κs. search needs)
+    returns-2)

@@ -1,18 +1,12 @@
 -- The first free time of the stream is stored, and then the numbers are counted on.
-use Rattle.constraint.proofs.Library.{ℕ, refl, sym, ap, ap₂, _∙_, List, [], _∷_, getD, set, take, needs}
-use Rattle.machine.specs.Parts.{plus}
-use Rattle.lent.specs.Layout.{Words, wordsOf, numberArray}
-use Rattle.lent.specs.Steps.{withMonitor, withNext, countedMonitor}
-use Rattle.lent.proofs.Parts.{numbers-read, block-written, shaped-next}
-use Rattle.lent.proofs.numbers.count_event.Statement.{statement}
+use Rattle.lent.proofs.Names.{List, Words, [], _∙_, _∷_, ap, ap₂, countedMonitor, getD, needs, numberArray, plus, refl, set, sym, take}
+use Rattle.lent.proofs.Names.{withMonitor, withNext, wordsOf, ℕ}
+use Rattle.lent.proofs.{Parts.block-written, Parts.numbers-read, Parts.shaped-next, numbers.count_event.Statement.statement}
 use Rattle.lent.proofs.numbers.count_event.Tie as tie
 
 returns : tie.Need-returns
 returns c h e s going =
-    let p = c .before .before in
-    let v = p .before in
-    let f = v .before .before in
-    let a = f .before .before .args in
+    let p = c .before .before in let v = p .before in let f = v .before .before in let a = f .before .before .args in
     let h₁ = withNext h (set (h .monitor .next) (a .stream) (plus (a .time) 1)) in
     let stored = p .put-free .ensures h e s ∙ ap (λ (t : ℕ). wordsOf (withNext h (set (h .monitor .next) (a .stream) t))) (v .plus .ensures) in
     let wide = shaped-next h (a .stream) (plus (a .time) 1) s in

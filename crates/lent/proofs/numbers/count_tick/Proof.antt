@@ -1,15 +1,12 @@
 -- The numbers are counted on, with the first free time of stream 0 as it is.
-use Rattle.constraint.proofs.Library.{ℕ, refl, ap, ap₂, _∙_, List, [], _∷_, getD, set, take, needs}
-use Rattle.lent.specs.Layout.{Words, wordsOf, numberArray}
-use Rattle.lent.specs.Steps.{countedMonitor, countedTo}
-use Rattle.lent.proofs.Parts.{numbers-read, block-written}
-use Rattle.lent.proofs.numbers.count_tick.Statement.{statement}
+use Rattle.lent.proofs.Names.{List, Words, [], _∙_, _∷_, ap, ap₂, countedMonitor, countedTo, getD, needs, numberArray, refl, set, take}
+use Rattle.lent.proofs.Names.{wordsOf, ℕ}
+use Rattle.lent.proofs.{Parts.block-written, Parts.numbers-read, numbers.count_tick.Statement.statement}
 use Rattle.lent.proofs.numbers.count_tick.Tie as tie
 
 returns : tie.Need-returns
 returns c h e s going =
-    let f = c .before .before in
-    let a = f .before .before .args in
+    let f = c .before .before in let a = f .before .before .args in
     let block = ap (λ m. getD m 32 []) e ∙ numbers-read h s in
     let counted = c .count .ensures (h .monitor) (h .soonest) (h .room) (take 48 (h .monitor .next)) (h .ends) block going in
     let free = f .free-at .ensures h e s in
@@ -19,5 +16,4 @@ returns c h e s going =
     ∙ block-written h s (countedTo h (a .time) 0) refl refl refl
 
 pub count-tick-spec : {M : Type 1} → statement M
-count-tick-spec =
-    tie.close (tie.spec (λ c κs. search needs) (λ c. search needs) (λ c κs. search needs) returns)
+count-tick-spec = tie.close (tie.spec (λ c κs. search needs) (λ c. search needs) (λ c κs. search needs) returns)

@@ -1,9 +1,7 @@
 -- A word of 0 says closed, and the count stands beside it.
-use Rattle.constraint.proofs.Library.{ℕ, zero, suc, _-_, _≤_, _<_, _≡_, refl, sym, ap, _∙_, arith, List, [], getD, lt-ltb, le-ltb, le-leb, lt-leb}
-use Rattle.constraint.proofs.Library.{needs}
-use Rattle.constraint.specs.Limits.{lastCount}
-use Rattle.lent.proofs.Parts.{numbers-read}
-use Rattle.lent.proofs.numbers.first_refusal.Statement.{statement}
+use Rattle.lent.proofs.Names.{List, [], _-_, _<_, _∙_, _≡_, _≤_, ap, arith, getD, lastCount, le-leb, le-ltb, lt-leb, lt-ltb, needs, refl, suc}
+use Rattle.lent.proofs.Names.{sym, zero, ℕ}
+use Rattle.lent.proofs.{Parts.numbers-read, numbers.first_refusal.Statement.statement}
 use Rattle.lent.proofs.numbers.first_refusal.Tie as tie
 
 -- a word that is not 0 says that the recording is not closed

@@ -1,7 +1,6 @@
 -- The first 48 streams stand behind the numbers, the others in a block of their own.
-use Rattle.constraint.proofs.Library.{ℕ, _+_, _-_, _<_, _/_, _%_, _≡_, ap, _∙_, arith, [], getD, needs}
-use Rattle.lent.proofs.Parts.{plain-free, coloured-free}
-use Rattle.lent.proofs.numbers.free_at.Statement.{statement}
+use Rattle.lent.proofs.Names.{[], _%_, _+_, _-_, _/_, _<_, _∙_, _≡_, ap, arith, getD, needs, ℕ}
+use Rattle.lent.proofs.{Parts.coloured-free, Parts.plain-free, numbers.free_at.Statement.statement}
 use Rattle.lent.proofs.numbers.free_at.Tie as tie
 
 returns : tie.Need-returns

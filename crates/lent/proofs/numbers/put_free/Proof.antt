@@ -1,9 +1,6 @@
 -- A store at the stream’s place is a store in the list of first free times.
-use Rattle.constraint.proofs.Library.{ℕ, _+_, _-_, _<_, _/_, _%_, _≡_, ap, _∙_, arith, [], getD, set, needs}
-use Rattle.lent.specs.Layout.{wordsOf}
-use Rattle.lent.specs.Steps.{withNext}
-use Rattle.lent.proofs.Parts.{plain-written, coloured-written}
-use Rattle.lent.proofs.numbers.put_free.Statement.{statement}
+use Rattle.lent.proofs.Names.{[], _%_, _+_, _-_, _/_, _<_, _∙_, _≡_, ap, arith, getD, needs, set, withNext, wordsOf, ℕ}
+use Rattle.lent.proofs.{Parts.coloured-written, Parts.plain-written, numbers.put_free.Statement.statement}
 use Rattle.lent.proofs.numbers.put_free.Tie as tie
 
 returns : tie.Need-returns

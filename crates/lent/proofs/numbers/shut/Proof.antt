@@ -1,9 +1,6 @@
 -- The word for "open" is stored as 0.
-use Rattle.constraint.proofs.Library.{ℕ, refl, ap, _∙_, List, [], getD, set, needs}
-use Rattle.lent.specs.Layout.{Words, wordsOf}
-use Rattle.lent.specs.Steps.{withClosed}
-use Rattle.lent.proofs.Parts.{numbers-read, block-written}
-use Rattle.lent.proofs.numbers.shut.Statement.{statement}
+use Rattle.lent.proofs.Names.{List, Words, [], _∙_, ap, getD, needs, refl, set, withClosed, wordsOf, ℕ}
+use Rattle.lent.proofs.{Parts.block-written, Parts.numbers-read, numbers.shut.Statement.statement}
 use Rattle.lent.proofs.numbers.shut.Tie as tie
 
 returns : tie.Need-returns
@@ -13,5 +10,4 @@ returns c h e s =
     ∙ block-written h s (withClosed h 1) refl refl refl
 
 pub shut-spec : {M : Type 1} → statement M
-shut-spec =
-    tie.close (tie.spec (λ c. search needs) (λ c. search needs) (λ c. search needs) returns)
+shut-spec = tie.close (tie.spec (λ c. search needs) (λ c. search needs) (λ c. search needs) returns)

@@ -1,18 +1,14 @@
 -- The rows of a kind are those that its entries name.
-use Rattle.constraint.proofs.Library.{_-_, _∙_, needs}
-use Rattle.lent.specs.Steps.{crowded}
+use Rattle.lent.proofs.Names.{_-_, _∙_, crowded, needs}
 use Rattle.lent.proofs.rows.crowds_of.Statement.{statement}
 use Rattle.lent.proofs.rows.crowds_of.Tie as tie
 
 returns : tie.Need-returns
 returns c h e s =
-    let n = c .before in
-    let f = n .before in
-    let a = f .before .args in
+    let n = c .before in let f = n .before in let a = f .before .args in
     let first = f .start-of .ensures .1 h e s in
     let end = n .end-of .ensures .1 h e s in
     c .crowds .ensures h e s ∙ (λ k. crowded h (first k) (end k - first k) (a .stream) (a .t))
 
 pub crowds-of-spec : {M : Type 1} → statement M
-crowds-of-spec =
-    tie.close (tie.spec (λ c κs. search needs) (λ c κs. search needs) (λ c κs. c .end-of .ensures .0) returns)
+crowds-of-spec = tie.close (tie.spec (λ c κs. search needs) (λ c κs. search needs) (λ c κs. c .end-of .ensures .0) returns)

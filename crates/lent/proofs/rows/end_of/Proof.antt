@@ -1,7 +1,6 @@
 -- The end stands at its place, and is cut at 128.
-use Rattle.constraint.proofs.Library.{ℕ, ap, _∙_, List, [], getD, arith, needs}
-use Rattle.lent.proofs.Parts.{numbers-read}
-use Rattle.lent.proofs.rows.end_of.Statement.{statement}
+use Rattle.lent.proofs.Names.{List, [], _∙_, ap, arith, getD, needs, ℕ}
+use Rattle.lent.proofs.{Parts.numbers-read, rows.end_of.Statement.statement}
 use Rattle.lent.proofs.rows.end_of.Tie as tie
 
 returns : tie.Need-returns
@@ -23,5 +22,4 @@ returns-2 c =
     )
 
 pub end-of-spec : {M : Type 1} → statement M
-end-of-spec =
-    tie.close (tie.spec (λ c. search needs) (λ c. search needs) (λ c. search needs) (λ c. search needs) returns returns-2)
+end-of-spec = tie.close (tie.spec (λ c. search needs) (λ c. search needs) (λ c. search needs) (λ c. search needs) returns returns-2)

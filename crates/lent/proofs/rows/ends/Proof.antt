@@ -1,11 +1,7 @@
 -- Row after row: before the turn of number i the first i have taken it.
-use Rattle.constraint.proofs.Library.{ℕ, _-_, _≤_, _<_, _≡_, sym, ap, _∙_, arith, add-one}
-use Rattle.row.specs.Stored.{endedRow, endedSaves}
-use Rattle.lent.specs.Layout.{Lent, wordsOf, Shaped, rowAt, keptAt}
-use Rattle.lent.specs.Steps.{ended}
-use Rattle.lent.proofs.Blocks.{row-lies, row-stored}
-use Rattle.lent.proofs.Parts.{shaped-ended}
-use Rattle.lent.proofs.rows.ends.Statement.{statement}
+use Rattle.lent.proofs.Names.{Lent, Shaped, _-_, _<_, _∙_, _≡_, _≤_, add-one, ap, arith, ended, endedRow, endedSaves, keptAt, rowAt, sym}
+use Rattle.lent.proofs.Names.{wordsOf, ℕ}
+use Rattle.lent.proofs.{Blocks.row-lies, Blocks.row-stored, Parts.shaped-ended, rows.ends.Statement.statement}
 use Rattle.lent.proofs.rows.ends.Tie as tie
 
 abbrev Inv-loop : tie.InvT-loop
@@ -14,14 +10,9 @@ Inv-loop m₀ n o number i₀ m i = (i ≤ n) × ((h : Lent) → m₀ ≡ wordsO
 abbrev μ-loop : tie.MeasureT-loop
 μ-loop m₀ n o number i₀ m i = n - i
 
-loop-holds : tie.Need-loop-holds Inv-loop μ-loop
-loop-holds c = (omega arith, λ h e s. e)
-
 loop-again : tie.Need-loop-again Inv-loop μ-loop
 loop-again c =
-    let l = c .before .before in
-    let a = l .before .before .args in
-    let i = l .before .loop .i in
+    let l = c .before .before in let a = l .before .before .args in let i = l .before .loop .i in
     let m = l .before .loop .m in (
       omega arith,
       λ h e s.
@@ -38,12 +29,11 @@ loop-again c =
 
 returns : tie.Need-returns Inv-loop μ-loop
 returns c h e s =
-    let l = c .before .loop in
-    let a = c .before .before .args in
+    let l = c .before .loop in let a = c .before .before .args in
     let at-end : l .i ≡ a .n = omega arith in
     l .inv .1 h e s ∙ ap (λ (k : ℕ). wordsOf (ended h k (a .o) (a .number))) at-end
 
 pub ends-spec : {M : Type 1} → statement M
 ends-spec =
-    tie.close (tie.spec Inv-loop μ-loop loop-holds (λ c. omega arith) (λ c. omega arith) (λ c κs. tt) (λ c. omega arith) (λ c. omega arith)
-    loop-again returns)
+    tie.close (tie.spec Inv-loop μ-loop (λ c. (omega arith, λ h e s. e)) (λ c. omega arith) (λ c. omega arith) (λ c κs. tt) (λ c. omega arith)
+    (λ c. omega arith) loop-again returns)

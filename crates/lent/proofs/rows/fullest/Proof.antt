@@ -1,10 +1,7 @@
 -- Row after row: before the turn of number i it is the number of the fullest of the first i.
-use Rattle.constraint.proofs.Library.{_-_, _≤_, _<_, _≡_, refl, sym, ap, ap₂, _∙_, arith, add-one, now}
-use Rattle.row.specs.Stored.{larger}
-use Rattle.lent.specs.Layout.{Lent, wordsOf, Shaped, rowAt, keptAt}
-use Rattle.lent.specs.Steps.{fullest}
-use Rattle.lent.proofs.Blocks.{row-lies}
-use Rattle.lent.proofs.rows.fullest.Statement.{statement}
+use Rattle.lent.proofs.Names.{Lent, Shaped, _-_, _<_, _∙_, _≡_, _≤_, add-one, ap, ap₂, arith, fullest, keptAt, larger, now, refl, rowAt, sym}
+use Rattle.lent.proofs.Names.{wordsOf}
+use Rattle.lent.proofs.{Blocks.row-lies, rows.fullest.Statement.statement}
 use Rattle.lent.proofs.rows.fullest.Tie as tie
 
 abbrev Inv-loop : tie.InvT-loop
@@ -13,14 +10,9 @@ Inv-loop m n most₀ i₀ most i = (i ≤ n) × ((h : Lent) → m ≡ wordsOf h 
 abbrev μ-loop : tie.MeasureT-loop
 μ-loop m n most₀ i₀ most i = n - i
 
-loop-holds : tie.Need-loop-holds Inv-loop μ-loop
-loop-holds c = (omega arith, λ h e s. refl)
-
 loop-again : tie.Need-loop-again Inv-loop μ-loop
 loop-again c =
-    let f = c .before in
-    let l = f .before .before in
-    let a = l .before .before .args in
+    let f = c .before in let l = f .before .before in let a = l .before .before .args in
     let i = l .before .loop .i in (
       omega arith,
       λ h e s.
@@ -31,12 +23,11 @@ loop-again c =
 
 returns : tie.Need-returns Inv-loop μ-loop
 returns c h e s =
-    let l = c .before .loop in
-    let a = c .before .before .args in
+    let l = c .before .loop in let a = c .before .before .args in
     let at-end : l .i ≡ a .n = omega arith in
     l .inv .1 h e s ∙ ap (fullest (h .monitor)) at-end
 
 pub fullest-spec : {M : Type 1} → statement M
 fullest-spec =
-    tie.close (tie.spec Inv-loop μ-loop loop-holds (λ c. omega arith) (λ c. omega arith) (λ c κs. tt) (λ c κs. tt) (λ c. omega arith) (λ c. omega
-    arith) loop-again returns)
+    tie.close (tie.spec Inv-loop μ-loop (λ c. (omega arith, λ h e s. refl)) (λ c. omega arith) (λ c. omega arith) (λ c κs. tt) (λ c κs. tt)
+    (λ c. omega arith) (λ c. omega arith) loop-again returns)

@@ -1,7 +1,6 @@
 -- An entry stands in one of two arrays.
-use Rattle.constraint.proofs.Library.{ℕ, _+_, _-_, _%_, _≡_, ap, _∙_, List, [], getD, getD-take, getD-drop, arith, needs}
-use Rattle.lent.proofs.Parts.{entries-read}
-use Rattle.lent.proofs.rows.named.Statement.{statement}
+use Rattle.lent.proofs.Names.{List, [], _%_, _+_, _-_, _∙_, _≡_, ap, arith, getD, getD-drop, getD-take, needs, ℕ}
+use Rattle.lent.proofs.{Parts.entries-read, rows.named.Statement.statement}
 use Rattle.lent.proofs.rows.named.Tie as tie
 
 returns : tie.Need-returns

@@ -1,11 +1,8 @@
 -- Row after row: before the turn of number i it is the soonest due time of the first i.
-use Rattle.constraint.proofs.Library.{ℕ, _-_, _≤_, _<_, _≡_, refl, sym, ap, _∙_, arith, add-one, ap₂, min, List, [], getD, now, needs}
-use Rattle.machine.specs.Words.{rowWords, numberWords}
+use Rattle.lent.proofs.Names.{Lent, List, Shaped, [], _-_, _<_, _∙_, _≡_, _≤_, add-one, ap, ap₂, arith, getD, min, needs, now, numberWords}
+use Rattle.lent.proofs.Names.{refl, rowWords, soonestOf, sym, wordsOf, ℕ}
+use Rattle.lent.proofs.{Blocks.row-lies, rows.soonest.Statement.statement}
 use Rattle.row.specs.Stored as Stored
-use Rattle.lent.specs.Layout.{Lent, wordsOf, Shaped}
-use Rattle.lent.specs.Steps.{soonestOf}
-use Rattle.lent.proofs.Blocks.{row-lies}
-use Rattle.lent.proofs.rows.soonest.Statement.{statement}
 use Rattle.lent.proofs.rows.soonest.Tie as tie
 
 abbrev Inv-loop : tie.InvT-loop
@@ -14,14 +11,10 @@ Inv-loop m n time₀ i₀ time i = (i ≤ n) × ((h : Lent) → m ≡ wordsOf h 
 abbrev μ-loop : tie.MeasureT-loop
 μ-loop m n time₀ i₀ time i = n - i
 
-loop-holds : tie.Need-loop-holds Inv-loop μ-loop
-loop-holds c = (omega arith, λ h e s. refl)
-
 loop-again : tie.Need-loop-again Inv-loop μ-loop
 unfolding Stored.wordsOf rowWords numberWords
 loop-again c =
-    let l = c .before .before in
-    let a = l .before .before .args in
+    let l = c .before .before in let a = l .before .before .args in
     let i = l .before .loop .i in (
       omega arith,
       λ h e s.
@@ -32,12 +25,11 @@ loop-again c =
 
 returns : tie.Need-returns Inv-loop μ-loop
 returns c h e s =
-    let l = c .before .loop in
-    let a = c .before .before .args in
+    let l = c .before .loop in let a = c .before .before .args in
     let at-end : l .i ≡ a .n = omega arith in
     l .inv .1 h e s ∙ ap (soonestOf (h .monitor .rows)) at-end
 
 pub soonest-spec : {M : Type 1} → statement M
 soonest-spec =
-    tie.close (tie.spec Inv-loop μ-loop loop-holds (λ c. omega arith) (λ c. omega arith) (λ c. search needs) (λ c. search needs) (λ c κs. tt) (λ c.
-    omega arith) (λ c. omega arith) loop-again returns)
+    tie.close (tie.spec Inv-loop μ-loop (λ c. (omega arith, λ h e s. refl)) (λ c. omega arith) (λ c. omega arith) (λ c. search needs)
+    (λ c. search needs) (λ c κs. tt) (λ c. omega arith) (λ c. omega arith) loop-again returns)

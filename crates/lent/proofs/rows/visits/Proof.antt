@@ -1,15 +1,11 @@
 -- Entry after entry: before the turn of a place the rows of the entries before it have taken the event; the soonest time is kept beside, and stored
 -- at the end.
-use Rattle.constraint.proofs.Library.{ℕ, suc, _+_, _-_, _≤_, _<_, min, _≡_, ap, ap₂, _∙_, arith, List, [], getD, set, now, needs}
-use Rattle.machine.specs.Words.{rowWords, numberWords}
-use Rattle.row.specs.Machine.{eventAt}
+use Rattle.lent.proofs.Names.{Lent, List, Shaped, Words, [], _+_, _-_, _<_, _∙_, _≡_, _≤_, ap, ap₂, arith, eventAt, getD, heardOn, keptAt, min}
+use Rattle.lent.proofs.Names.{needs, now, numberWords, rest-zero-event, rest-zero-keeps, roomAfter, rowAt, rowNamed, rowWords, set, suc}
+use Rattle.lent.proofs.Names.{visitAt, visited, withSoonest, wordsOf, ℕ}
+use Rattle.lent.proofs.Parts.{number-at, room-written, shaped-row, shaped-soonest, shaped-visited, soonest-written, visited-named}
+use Rattle.lent.proofs.{Blocks.row-lies, Blocks.row-stored, rows.visits.Statement.statement}
 use Rattle.row.specs.Stored as Stored
-use Rattle.row.proofs.Kept.{rest-zero-keeps, rest-zero-event}
-use Rattle.lent.specs.Layout.{Lent, Words, wordsOf, Shaped, rowNamed, rowAt, keptAt}
-use Rattle.lent.specs.Steps.{withSoonest, visitAt, visited, roomAfter, heardOn}
-use Rattle.lent.proofs.Blocks.{row-lies, row-stored}
-use Rattle.lent.proofs.Parts.{shaped-visited, shaped-soonest, shaped-row, visited-named, number-at, soonest-written, room-written}
-use Rattle.lent.proofs.rows.visits.Statement.{statement}
 use Rattle.lent.proofs.rows.visits.Tie as tie
 
 -- the rows of the first j entries have taken the event, and neither the soonest time nor the room is stored yet
@@ -44,33 +40,11 @@ loop-holds c =
       ),
     )
 
-mul-event : tie.Need-mul-event Inv-loop μ-loop
-mul-event c = omega (arith, c .named .ensures .0)
-
-index-1-event : tie.Need-index-1-event Inv-loop μ-loop
-index-1-event c = omega (arith, c .named .ensures .0)
-
-mul-smaller : tie.Need-mul-smaller Inv-loop μ-loop
-mul-smaller c = omega (arith, c .before .before .named .ensures .0)
-
-index-1-smaller : tie.Need-index-1-smaller Inv-loop μ-loop
-index-1-smaller c = omega (arith, c .before .before .named .ensures .0)
-
-mul-room-in : tie.Need-mul-room-in Inv-loop μ-loop
-mul-room-in c = omega (arith, c .before .before .before .before .named .ensures .0)
-
-index-1-room-in : tie.Need-index-1-room-in Inv-loop μ-loop
-index-1-room-in c = omega (arith, c .before .before .before .before .named .ensures .0)
-
 loop-again : tie.Need-loop-again Inv-loop μ-loop
 unfolding Stored.wordsOf rowWords numberWords
 loop-again c =
-    let w = c .before .before in
-    let v = w .before .before in
-    let d = v .before .before in
-    let l = d .before .before in
-    let a = l .before .before .before .before .args in
-    let place = l .before .loop .place in
+    let w = c .before .before in let v = w .before .before in let d = v .before .before in let l = d .before .before in
+    let a = l .before .before .before .before .args in let place = l .before .loop .place in
     let j = place - a .first in
     let o = eventAt (a .stream) (a .t) in
     let i = d .named .result in
@@ -115,8 +89,7 @@ loop-again c =
 
 returns : tie.Need-returns Inv-loop μ-loop
 returns c h e s =
-    let l = c .before .loop in
-    let a = c .before .before .before .before .args in
+    let l = c .before .loop in let a = c .before .before .before .before .args in
     let o = eventAt (a .stream) (a .t) in
     let j = l .place - a .first in
     let at-end : j ≡ a .end - a .first = omega (arith, l .inv .1 .0) in
@@ -131,7 +104,9 @@ returns c h e s =
 
 pub visits-spec : {M : Type 1} → statement M
 visits-spec =
-    tie.close (tie.spec Inv-loop μ-loop (λ c. search needs) (λ c. search needs) (λ c. search needs) (λ c. search needs) (λ c. search needs) (λ c.
-    search needs) loop-holds (λ c κs. omega arith) mul-event index-1-event (λ c κs. tt) mul-smaller index-1-smaller (λ c. search
-    needs) (λ c. search needs) (λ c κs. tt) mul-room-in index-1-room-in (λ c κs. tt) (λ c. omega arith) (λ c. omega arith) loop-again (λ c. search
-    needs) (λ c. search needs) (λ c. search needs) (λ c. search needs) (λ c. search needs) (λ c. search needs) returns)
+    tie.close (tie.spec Inv-loop μ-loop (λ c. search needs) (λ c. search needs) (λ c. search needs) (λ c. search needs) (λ c. search needs)
+    (λ c. search needs) loop-holds (λ c κs. omega arith) (λ c. omega (arith, c .named .ensures .0)) (λ c. omega (arith, c .named .ensures .0))
+    (λ c κs. tt) (λ c. omega (arith, c .before .before .named .ensures .0)) (λ c. omega (arith, c .before .before .named .ensures .0))
+    (λ c. search needs) (λ c. search needs) (λ c κs. tt) (λ c. omega (arith, c .before .before .before .before .named .ensures .0))
+    (λ c. omega (arith, c .before .before .before .before .named .ensures .0)) (λ c κs. tt) (λ c. omega arith) (λ c. omega arith) loop-again
+    (λ c. search needs) (λ c. search needs) (λ c. search needs) (λ c. search needs) (λ c. search needs) (λ c. search needs) returns)

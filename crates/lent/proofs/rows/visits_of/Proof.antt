@@ -1,17 +1,11 @@
 -- The rows of a kind are those that its entries name, and the number of the step stands at its place.
-use Rattle.constraint.proofs.Library.{_-_, _∙_, now, needs}
-use Rattle.row.specs.Machine.{eventAt}
-use Rattle.lent.specs.Layout.{wordsOf}
-use Rattle.lent.specs.Steps.{heardOn}
-use Rattle.lent.proofs.Parts.{number-at}
-use Rattle.lent.proofs.rows.visits_of.Statement.{statement}
+use Rattle.lent.proofs.Names.{_-_, _∙_, eventAt, heardOn, needs, now, wordsOf}
+use Rattle.lent.proofs.{Parts.number-at, rows.visits_of.Statement.statement}
 use Rattle.lent.proofs.rows.visits_of.Tie as tie
 
 returns : tie.Need-returns
 returns c h e s =
-    let n = c .before .before .before in
-    let f = n .before .before in
-    let a = f .before .before .args in
+    let n = c .before .before .before in let f = n .before .before in let a = f .before .before .args in
     let first = f .start-of .ensures .1 h e s in
     let end = n .end-of .ensures .1 h e s in
     let number = number-at h s (now (a .m)) e 1 in

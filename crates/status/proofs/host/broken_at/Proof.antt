@@ -1,7 +1,6 @@
 -- The step that broke the row stands at its place.
-use Rattle.constraint.proofs.Library.{needs, arith, refl, lt-ltb, le-ltb, now}
-use Rattle.status.proofs.Places.{numbers-lie}
-use Rattle.status.proofs.host.broken_at.Statement.{statement}
+use Rattle.status.proofs.Names.{arith, le-ltb, lt-ltb, needs, now, refl}
+use Rattle.status.proofs.{Places.numbers-lie, host.broken_at.Statement.statement}
 use Rattle.status.proofs.host.broken_at.Tie as tie
 
 returns : tie.Need-returns

@@ -1,7 +1,6 @@
 -- The numbers of the row stand at their places.
-use Rattle.constraint.proofs.Library.{needs, now}
-use Rattle.status.proofs.Places.{closed-lies, numbers-lie}
-use Rattle.status.proofs.host.deadline_at.Statement.{statement}
+use Rattle.status.proofs.Names.{needs, now}
+use Rattle.status.proofs.{Places.closed-lies, Places.numbers-lie, host.deadline_at.Statement.statement}
 use Rattle.status.proofs.host.deadline_at.Tie as tie
 
 returns : tie.Need-returns

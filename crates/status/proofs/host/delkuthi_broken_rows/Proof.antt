@@ -1,14 +1,7 @@
 -- From the last row to the first, each adds its bit below those behind it.
-use Rattle.constraint.proofs.Library.{needs, arith, _≡_, sym, _-_, _^_, _≤_, _<_, now}
-use Rattle.constraint.specs.Limits.{rowLimit}
-use Rattle.monitor.specs.declared.Monitor.{Monitor}
-use Rattle.lent.specs.Layout.{heldRows}
-use Rattle.lent.specs.Contract.{Holds}
-use Rattle.status.specs.Numbers.{brokenMarks}
-use Rattle.status.proofs.Places.{held-lies}
-use Rattle.status.proofs.Theorem.{broken-rows-asked}
-use Rattle.status.proofs.There.{marks-none, marks-next, power-some, bits-next, bits-room}
-use Rattle.status.proofs.host.delkuthi_broken_rows.Statement.{statement}
+use Rattle.status.proofs.Names.{Holds, Monitor, _-_, _<_, _^_, _≡_, _≤_, arith, brokenMarks, heldRows, needs, now, rowLimit, sym}
+use Rattle.status.proofs.There.{bits-next, bits-room, marks-next, marks-none, power-some}
+use Rattle.status.proofs.{Places.held-lies, Theorem.broken-rows-asked, host.delkuthi_broken_rows.Statement.statement}
 use Rattle.status.proofs.host.delkuthi_broken_rows.Tie as tie
 
 abbrev Inv-loop : tie.InvT-loop

@@ -1,24 +1,18 @@
 -- Where another question is answered "no" the event is not refused with 12; else the first row is found that it crowds.
-use Rattle.constraint.proofs.Library.{needs, arith, lt-ltb, le-ltb, now}
-use Rattle.constraint.specs.declared.Call.{Call}
-use Rattle.status.proofs.Places.{held-lies, refusal-lies, few-wait, rows-there}
-use Rattle.status.proofs.Theorem.{crowded-row-asked}
-use Rattle.status.proofs.There.{first-crowded-is}
-use Rattle.status.proofs.host.delkuthi_crowded_row.Statement.{statement}
+use Rattle.status.proofs.Names.{Call, arith, le-ltb, lt-ltb, needs, now}
+use Rattle.status.proofs.Places.{few-wait, held-lies, refusal-lies, rows-there}
+use Rattle.status.proofs.{Theorem.crowded-row-asked, There.first-crowded-is, host.delkuthi_crowded_row.Statement.statement}
 use Rattle.status.proofs.host.delkuthi_crowded_row.Tie as tie
 
 returns : tie.Need-returns
 returns c =
-    let refusal = c .before .event-refusal in
-    let args = c .before .before .args in
+    let refusal = c .before .event-refusal in let args = c .before .before .args in
     let call = Call.Event (args .kind) (args .time) in
     (omega arith, λ n holds. crowded-row-asked n call (rw (← refusal-lies _ n holds call _ (refusal .ensures .1), lt-ltb _ _ (c .if1 .taken))))
 
 returns-2 : tie.Need-returns-2
 returns-2 c =
-    let at-held = c .before .before in
-    let at-test = at-held .before in
-    let args = at-test .before .before .args in
+    let at-held = c .before .before in let at-test = at-held .before in let args = at-test .before .before .args in
     let m = now (args .m) in
     let call = Call.Event (args .kind) (args .time) in (
       c .first-crowded .ensures .0,

@@ -1,12 +1,7 @@
 -- Row after row: before the turn of number i it is the least deadline of the first i.
-use Rattle.constraint.proofs.Library.{needs, arith, _≡_, sym, _∙_, _-_, _≤_, now}
-use Rattle.monitor.specs.declared.Monitor.{Monitor}
-use Rattle.lent.specs.Contract.{Holds}
-use Rattle.status.specs.Numbers.{leastOf}
-use Rattle.status.proofs.Places.{held-lies}
-use Rattle.status.proofs.Theorem.{deadline-asked}
-use Rattle.status.proofs.There.{is-there, least-none, least-next, least-all}
-use Rattle.status.proofs.host.delkuthi_deadline.Statement.{statement}
+use Rattle.status.proofs.Names.{Holds, Monitor, _-_, _∙_, _≡_, _≤_, arith, leastOf, needs, now, sym}
+use Rattle.status.proofs.There.{is-there, least-all, least-next, least-none}
+use Rattle.status.proofs.{Places.held-lies, Theorem.deadline-asked, host.delkuthi_deadline.Statement.statement}
 use Rattle.status.proofs.host.delkuthi_deadline.Tie as tie
 
 abbrev Inv-loop : tie.InvT-loop
@@ -15,16 +10,9 @@ Inv-loop m rows least₀ i₀ least i = (i ≤ rows) × ((n : Monitor) → Holds
 abbrev μ-loop : tie.MeasureT-loop
 μ-loop m rows least₀ i₀ least i = rows - i
 
-loop-holds : tie.Need-loop-holds Inv-loop μ-loop
-loop-holds c = (omega arith, λ n holds. sym (least-none n))
-
-deadline-at-requires : tie.Need-deadline-at-requires Inv-loop μ-loop
-deadline-at-requires c κs = omega (arith, c .before .before .held .ensures .0)
-
 loop-again : tie.Need-loop-again Inv-loop μ-loop
 loop-again c =
-    let at-loop = c .before .before .before in
-    let at-held = at-loop .before in
+    let at-loop = c .before .before .before in let at-held = at-loop .before in
     let i = at-loop .loop .i in (
       omega arith,
       λ n holds.
@@ -40,13 +28,11 @@ loop-again c =
 
 returns : tie.Need-returns Inv-loop μ-loop
 returns c n holds =
-    let loop = c .before .loop in
-    let at-held = c .before .before in
+    let loop = c .before .loop in let at-held = c .before .before in
     let held = held-lies (now (at-held .before .args .m)) n holds _ (at-held .held .ensures .1) in
     deadline-asked n (loop .inv .1 n holds ∙ least-all n (loop .i) (omega (arith, held)))
 
 pub delkuthi-deadline-spec : {M : Type 1} → statement M
 delkuthi-deadline-spec =
-    tie.close
-    (tie.spec Inv-loop μ-loop (λ c κs. search needs) loop-holds deadline-at-requires (λ c κs. search needs) (λ c. omega arith) (λ c. omega arith)
-    loop-again returns)
+    tie.close (tie.spec Inv-loop μ-loop (λ c κs. search needs) (λ c. (omega arith, λ n holds. sym (least-none n)))
+    (λ c κs. omega (arith, c .before .before .held .ensures .0)) (λ c κs. search needs) (λ c. omega arith) (λ c. omega arith) loop-again returns)

@@ -1,9 +1,7 @@
 -- A row that is there has the deadline of its numbers, and any other none.
-use Rattle.constraint.proofs.Library.{needs, arith, now}
-use Rattle.status.proofs.Places.{held-lies}
-use Rattle.status.proofs.Theorem.{row-deadline-asked}
+use Rattle.status.proofs.Names.{arith, needs, now}
 use Rattle.status.proofs.There.{is-there, not-there}
-use Rattle.status.proofs.host.delkuthi_row_deadline.Statement.{statement}
+use Rattle.status.proofs.{Places.held-lies, Theorem.row-deadline-asked, host.delkuthi_row_deadline.Statement.statement}
 use Rattle.status.proofs.host.delkuthi_row_deadline.Tie as tie
 
 returns : tie.Need-returns
@@ -14,8 +12,7 @@ returns c n holds =
 
 returns-2 : tie.Need-returns-2
 returns-2 c n holds =
-    let at-held = c .before .before in
-    let args = at-held .before .args in
+    let at-held = c .before .before in let args = at-held .before .args in
     let held = held-lies (now (args .m)) n holds _ (at-held .held .ensures .1) in
     row-deadline-asked n (args .row)
     (rw (is-there (args .row) (n .len) (omega (arith, held, c .before .if1 .left))) (c .deadline-at .ensures n holds))

@@ -1,15 +1,7 @@
 -- Row after row: before the turn of number i none of the first i has the mark.
-use Rattle.constraint.proofs.Library.{needs, arith, _+_, _-_, _≤_, _<_, _≡_, sym, _∙_, Bool, cond, drop, now}
-use Rattle.row.specs.Apart.{crowdedBy}
-use Rattle.row.specs.declared.Occurrence.{Occurrence}
-use Rattle.row.specs.declared.Row.{Row}
-use Rattle.monitor.specs.declared.Monitor.{Monitor}
-use Rattle.lent.specs.Layout.{rowAt, keptAt}
-use Rattle.lent.specs.Contract.{Holds}
-use Rattle.status.specs.Numbers.{firstMarked}
-use Rattle.status.proofs.Places.{rows-there, block-lies}
-use Rattle.status.proofs.There.{first-here, first-none}
-use Rattle.status.proofs.host.first_crowded.Statement.{statement}
+use Rattle.status.proofs.Names.{Bool, Holds, Monitor, Occurrence, Row, _+_, _-_, _<_, _∙_, _≡_, _≤_, arith, cond, crowdedBy, drop, firstMarked}
+use Rattle.status.proofs.Names.{keptAt, needs, now, rowAt, sym}
+use Rattle.status.proofs.{Places.block-lies, Places.rows-there, There.first-here, There.first-none, host.first_crowded.Statement.statement}
 use Rattle.status.proofs.host.first_crowded.Tie as tie
 
 abbrev test : Occurrence → Row → Bool
@@ -24,9 +16,6 @@ Inv-loop m rows o i₀ i =
 abbrev μ-loop : tie.MeasureT-loop
 μ-loop m rows o i₀ i = rows - i
 
-loop-holds : tie.Need-loop-holds Inv-loop μ-loop
-loop-holds c = let all : c .args .rows - 0 ≡ c .args .rows = omega arith in (omega arith, λ n holds. rw all)
-
 -- the test of row i, and what is found from there on
 found : (c : tie.After-crowds Inv-loop μ-loop) (n : Monitor) → Holds (now (c .before .before .before .before .args .m)) n
     → firstMarked (c .before .before .before .before .args .rows) (test (c .before .before .before .before .args .o)) 0 (n .rows)
@@ -34,27 +23,20 @@ found : (c : tie.After-crowds Inv-loop μ-loop) (n : Monitor) → Holds (now (c 
     (c .before .before .before .before .args .rows - (c .before .before .before .loop .i + 1)) (test (c .before .before .before .before .args .o))
     (c .before .before .before .loop .i + 1) (drop (c .before .before .before .loop .i + 1) (n .rows)))
 found c n holds =
-    let l = c .before .before .before in
-    let a = l .before .args in
-    let i = l .loop .i in
+    let l = c .before .before .before in let a = l .before .args in let i = l .loop .i in
     let m = now (a .m) in
     let there : i < 32 = omega arith in
     rw (c .crowds .ensures (rowAt n i) (keptAt n i) (block-lies m n holds i there))
     (l .loop .inv .1 n holds ∙ first-here (test (a .o)) (a .rows) i (n .rows) (omega arith) (omega (arith, rows-there m n holds)))
 
-returns : tie.Need-returns Inv-loop μ-loop
-returns c = (omega arith, λ n holds. sym (rw (c .if1 .taken) at (found (c .before) n holds)))
-
-loop-again : tie.Need-loop-again Inv-loop μ-loop
-loop-again c = (omega arith, λ n holds. rw (c .if1 .left) at (found (c .before) n holds))
-
 returns-2 : tie.Need-returns-2 Inv-loop μ-loop
 returns-2 c =
-    let l = c .before in
-    let a = l .before .args in
+    let l = c .before in let a = l .before .args in
     (omega arith, λ n holds. sym (l .loop .inv .1 n holds ∙ first-none (test (a .o)) (a .rows) (l .loop .i) (n .rows) (omega arith)))
 
 pub first-crowded-spec : {M : Type 1} → statement M
 first-crowded-spec =
-    tie.close (tie.spec Inv-loop μ-loop loop-holds (λ c. omega arith) (λ c. omega arith) (λ c κs. search needs) (λ c. omega arith) returns (λ c.
-    omega arith) (λ c. omega arith) loop-again returns-2)
+    tie.close (tie.spec Inv-loop μ-loop (λ c. let all : c .args .rows - 0 ≡ c .args .rows = omega arith in (omega arith, λ n holds. rw all))
+    (λ c. omega arith) (λ c. omega arith) (λ c κs. search needs) (λ c. omega arith)
+    (λ c. (omega arith, λ n holds. sym (rw (c .if1 .taken) at (found (c .before) n holds)))) (λ c. omega arith) (λ c. omega arith)
+    (λ c. (omega arith, λ n holds. rw (c .if1 .left) at (found (c .before) n holds))) returns-2)

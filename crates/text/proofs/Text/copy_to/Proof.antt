@@ -1,8 +1,7 @@
 -- The bytes copied are those that the text holds, and also of a text whose length says more than there is.
-use Rattle.constraint.proofs.Library.{arith, _≤_, ⊎-elim, _≡_, sym, ap, _∙_, length, take, length-map, length-take-le, take-all, needs, now}
-use Rattle.text.specs.Content.{textLimit, content}
-use Rattle.text.proofs.Texts.{copied-all, copied-none}
-use Rattle.text.proofs.Text.copy_to.Statement.{statement}
+use Rattle.constraint.proofs.Library.{_∙_, _≡_, _≤_, ap, arith, length, length-map, length-take-le, needs, now, sym, take, take-all, ⊎-elim}
+use Rattle.text.proofs.{Text.copy_to.Statement.statement, Texts.copied-all, Texts.copied-none}
+use Rattle.text.specs.Content.{content, textLimit}
 use Rattle.text.proofs.Text.copy_to.Tie as tie
 
 size : (c : tie.Start) → length (c .args .self .bytes) ≡ textLimit
@@ -17,8 +16,7 @@ within c =
 held : (c : tie.Joined1) → take (c .if1 .len) (c .before .before .before .before .args .self .bytes)
     ≡ content (c .before .before .before .before .args .self)
 held c =
-    let start = c .before .before .before .before in
-    let bytes = start .args .self .bytes in
+    let start = c .before .before .before .before in let bytes = start .args .self .bytes in
     ⊎-elim (λ w. rw (w .1))
     (λ w. rw (w .1) (take-all textLimit bytes (omega (arith, size start))
     ∙ sym (take-all (start .args .self .len) bytes (omega (arith, size start)))))
@@ -35,19 +33,13 @@ returns c =
     let start = c .before .before .before .before .before in
     copied-none (content (start .args .self)) (now (start .args .buffer)) (omega (arith, counted (c .before)))
 
-array-share-prefix-bytes : tie.Need-array-share-prefix-bytes
-array-share-prefix-bytes c = within (c .before .before)
-
-slice-aggregate-put : tie.Need-slice-aggregate-put
-slice-aggregate-put c = sym (length-take-le _ _ (within (c .before .before .before)))
-
 returns-2 : tie.Need-returns-2
 returns-2 c =
-    let joined = c .before .before .before .before .before .before in
-    let start = joined .before .before .before .before in
+    let joined = c .before .before .before .before .before .before in let start = joined .before .before .before .before in
     rw (c .before .before .put .ensures, held joined, counted joined)
     (copied-all (content (start .args .self)) (now (start .args .buffer)) (omega (arith, counted joined)))
 
 pub copy-to-spec : {M : Type 1} → statement M
 copy-to-spec =
-    tie.close (tie.spec returns array-share-prefix-bytes slice-aggregate-put (λ c κs. search needs) (λ c. search needs) returns-2)
+    tie.close (tie.spec returns (λ c. within (c .before .before)) (λ c. sym (length-take-le _ _ (within (c .before .before .before))))
+    (λ c κs. search needs) (λ c. search needs) returns-2)

@@ -1,10 +1,7 @@
 -- The digits are those of the definition, and stand at the end of their bytes.
-use Rattle.constraint.proofs.Library.{arith, _-_, drop, length-drop, take-all, needs}
+use Rattle.constraint.proofs.Library.{_-_, arith, drop, length-drop, needs, take-all}
 use Rattle.text.proofs.Text.decimal.Statement.{statement}
 use Rattle.text.proofs.Text.decimal.Tie as tie
-
-part-word-end : tie.Need-part-word-end
-part-word-end c = omega (arith, c .before .before .digits-of .ensures .size)
 
 returns : tie.Need-returns
 returns c =
@@ -19,4 +16,5 @@ returns c =
 
 pub decimal-spec : {M : Type 1} → statement M
 decimal-spec =
-    tie.close (tie.spec (λ c κs. search needs) (λ c. search needs) (λ c. search needs) part-word-end (λ c κs. search needs) returns)
+    tie.close (tie.spec (λ c κs. search needs) (λ c. search needs) (λ c. search needs)
+    (λ c. omega (arith, c .before .before .digits-of .ensures .size)) (λ c κs. search needs) returns)

@@ -1,7 +1,7 @@
 -- One byte is a word of one byte.
-use borrow.Author.Needs.{needs}
-use Rattle.text.specs.Content.{extended}
+use Rattle.constraint.proofs.Library.{needs}
 use Rattle.text.proofs.Text.push.Statement.{statement}
+use Rattle.text.specs.Content.{extended}
 use Rattle.text.proofs.Text.push.Tie as tie
 
 returns : tie.Need-returns
@@ -9,5 +9,4 @@ unfolding extended
 returns c = c .word .ensures
 
 pub push-spec : {M : Type 1} → statement M
-push-spec =
-    tie.close (tie.spec (λ c. search needs) (λ c κs. search needs) returns)
+push-spec = tie.close (tie.spec (λ c. search needs) (λ c κs. search needs) returns)

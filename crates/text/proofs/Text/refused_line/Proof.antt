@@ -1,8 +1,7 @@
 -- The parts of the line are put behind one another.
-use borrow.Author.Needs.{needs}
+use Rattle.constraint.proofs.Library.{needs}
+use Rattle.text.proofs.{Text.refused_line.Statement.statement, Texts.extended-append}
 use Rattle.text.specs.Content.{extended}
-use Rattle.text.proofs.Texts.{extended-append}
-use Rattle.text.proofs.Text.refused_line.Statement.{statement}
 use Rattle.text.proofs.Text.refused_line.Tie as tie
 
 returns : tie.Need-returns

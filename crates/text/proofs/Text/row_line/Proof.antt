@@ -1,8 +1,7 @@
 -- The parts of the line are put behind one another, by the verdict.
-use borrow.Author.Needs.{needs}
+use Rattle.constraint.proofs.Library.{needs}
+use Rattle.text.proofs.{Text.row_line.Statement.statement, Texts.extended-append}
 use Rattle.text.specs.Content.{extended}
-use Rattle.text.proofs.Texts.{extended-append}
-use Rattle.text.proofs.Text.row_line.Statement.{statement}
 use Rattle.text.proofs.Text.row_line.Tie as tie
 
 returns : tie.Need-returns
@@ -14,16 +13,13 @@ returns c =
 returns-2 : tie.Need-returns-2
 unfolding extended
 returns-2 c =
-    let k = c .before .before .before in
-    let l = k .before .before in
+    let k = c .before .before .before in let l = k .before .before in
     rw (c .push3 .ensures, c .before .word .ensures, l .push .ensures, l .before .decimal .ensures, k .enum-told2 .given .1) (simp extended-append)
 
 returns-3 : tie.Need-returns-3
 unfolding extended
 returns-3 c =
-    let w = c .before .before in
-    let k = w .before .before .before in
-    let l = k .before .before in
+    let w = c .before .before in let k = w .before .before .before in let l = k .before .before in
     rw (c .push4 .ensures, c .before .decimal2 .ensures, w .word2 .ensures, l .push .ensures, l .before .decimal .ensures, k .verdict .given .1)
     (simp extended-append)
 

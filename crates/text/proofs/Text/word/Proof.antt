@@ -1,8 +1,7 @@
 -- The loop stores byte after byte: putting those left behind what there is now gives the whole, and a full text takes none of them.
-use Rattle.constraint.proofs.Library.{arith, _-_, _≤_, _≡_, refl, sym, _∙_, length, drop, drop-of-length-le}
+use Rattle.constraint.proofs.Library.{_-_, _∙_, _≡_, _≤_, arith, drop, drop-of-length-le, length, refl, sym}
+use Rattle.text.proofs.{Text.word.Statement.statement, Texts.extended-full, Texts.extended-next}
 use Rattle.text.specs.Content.{extended}
-use Rattle.text.proofs.Texts.{extended-next, extended-full}
-use Rattle.text.proofs.Text.word.Statement.{statement}
 use Rattle.text.proofs.Text.word.Tie as tie
 
 abbrev Inv-loop : tie.InvT-loop
@@ -10,9 +9,6 @@ Inv-loop word self₀ i₀ self i = (i ≤ length word) × (extended (drop i wor
 
 abbrev μ-loop : tie.MeasureT-loop
 μ-loop word self₀ i₀ self i = length word - i
-
-loop-holds : tie.Need-loop-holds Inv-loop μ-loop
-loop-holds c = (omega arith, refl)
 
 returns : tie.Need-returns Inv-loop μ-loop
 returns c =
@@ -22,8 +18,7 @@ returns c =
 
 loop-again : tie.Need-loop-again Inv-loop μ-loop
 loop-again c =
-    let at-loop = c .before .before .before in
-    let loop = at-loop .loop in
+    let at-loop = c .before .before .before in let loop = at-loop .loop in
     (omega arith, sym (extended-next (at-loop .before .args .word .now) (loop .i) (loop .self) (omega arith) (omega arith)) ∙ loop .inv .1)
 
 returns-2 : tie.Need-returns-2 Inv-loop μ-loop
@@ -34,5 +29,5 @@ returns-2 c =
 
 pub word-spec : {M : Type 1} → statement M
 word-spec =
-    tie.close (tie.spec Inv-loop μ-loop loop-holds returns (λ c. omega arith) (λ c. omega arith) (λ c. omega arith) (λ c. omega arith) (λ c. omega
-    arith) loop-again returns-2)
+    tie.close (tie.spec Inv-loop μ-loop (λ c. (omega arith, refl)) returns (λ c. omega arith) (λ c. omega arith) (λ c. omega arith) (λ c. omega arith)
+    (λ c. omega arith) loop-again returns-2)

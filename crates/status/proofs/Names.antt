@@ -1,18 +1,16 @@
 -- The names of the definitions and laws below this crate that its proofs use, passed on from one place.
-pub use Rattle.constraint.proofs.History.{Accepts, Past, Valid, clock-tick, closed-tick, counted-of, own-other, own-tick, past-of, past-tick}
+pub use Rattle.constraint.proofs.History.{Accepts, Past, Valid, clock-tick, closed-tick, counted-of, own-tick, past-of, past-tick}
 pub use Rattle.constraint.proofs.History.{valid-more}
 pub use Rattle.constraint.proofs.Library.{Bool, List, [], _%_, _&&_, _*_, _++_, _+_, _-_, _/_, _<_, _^_, _||_, _∙_, _∷_, _≡_, _≤_, _⊎_, add-one, ap}
 pub use Rattle.constraint.proofs.Library.{ap₂, arith, by-cases, cond, decLt, drop, eq-eqb, eqb, false, getD, getD-replicate, getElem?, inl, inr}
-pub use Rattle.constraint.proofs.Library.{le-ltb, leb, length, lt-ltb, ltb, ltb-false, ltb-true, min, ne-eqb, needs, none, now, refl, replicate, some}
+pub use Rattle.constraint.proofs.Library.{le-ltb, leb, length, lt-ltb, ltb, ltb-false, ltb-true, min, needs, none, now, refl, replicate, some}
 pub use Rattle.constraint.proofs.Library.{subst, subst₂, suc, sym, true, zero, ℕ, ⊎-elim}
-pub use Rattle.constraint.proofs.{Continuations.open-before, Judged.judged-once, Judged.never, Lists.both, Lists.or-false, Lists.split}
-pub use Rattle.constraint.proofs.{Streams.stream-below, Streams.streams, Verdicts.broken-shut, Verdicts.open-of-meets, Waitings.waiting-same}
+pub use Rattle.constraint.proofs.{Judged.judged-once, Judged.never, Lists.both, Lists.or-false, Lists.split}
+pub use Rattle.constraint.proofs.{Streams.stream-below, Streams.streams, Verdicts.broken-shut, Verdicts.open-of-meets}
 pub use Rattle.constraint.specs.Limits.{firstColoured, lastColour, lastCount, lastKind, lastTime, noLimit, rowLimit, waitingLimit}
-pub use Rattle.constraint.specs.Steps.{Step, among, clock, closed, event, own, tick}
-pub use Rattle.constraint.specs.declared.Constraint.the-variants.{Burst, Delay, ExecutionTime, Order, Reaction, Repeat, Repetition, Sporadic}
-pub use Rattle.constraint.specs.declared.Constraint.the-variants.{StrongDelay, StrongSynchronization2, StrongSynchronization3, StrongSynchronization4}
-pub use Rattle.constraint.specs.{Accepted.Accepted, Continuation.Open, Questions.Question, Run.Left, Run.Request, Run.asks, Run.stepFor}
-pub use Rattle.constraint.specs.{Run.withdraws, Streams.stream, declared.Answer.Answer, declared.Answer.the-variants.Refused}
+pub use Rattle.constraint.specs.Steps.{Step, clock, closed, own, tick}
+pub use Rattle.constraint.specs.{Continuation.Open, Questions.Question, Run.asks, Run.stepFor}
+pub use Rattle.constraint.specs.{Run.withdraws, declared.Answer.Answer, declared.Answer.the-variants.Refused}
 pub use Rattle.constraint.specs.{declared.Answer.the-variants.Taken, declared.Call.Call, declared.Constraint.Constraint}
 pub use Rattle.lent.proofs.{Blocks.row-lies, Parts.number-at}
 pub use Rattle.lent.specs.Layout.{Lent, Shaped, Words, endOf, heldRows, keptAt, rowAt, startOf}
@@ -21,7 +19,7 @@ pub use Rattle.machine.specs.{Rule.ruleOf, Rule.waitsIn, declared.Rule.Rule, de
 pub use Rattle.monitor.proofs.Following.{Follows, seen-is, step-answered, step-is}
 pub use Rattle.monitor.proofs.{Demand.has-none, Demand.has-row, FittingRows.FitRows, Withdrawing.after-follows}
 pub use Rattle.monitor.specs.Machine.{crowds, nextFor, nextStep, noRow, occurrenceOf, refusalFor, refuses, takenCall, takes}
-pub use Rattle.monitor.specs.{Contract.Remains, declared.Monitor.Monitor}
+pub use Rattle.monitor.specs.{declared.Monitor.Monitor}
 pub use Rattle.questions.specs.Questions.{ownRefusal, timeRefusal}
 pub use Rattle.queue.proofs.Laws.{ring-length}
 pub use Rattle.row.proofs.Steps.{After, Broken, Fits, Going, fits-room, fits-step, seen}
@@ -33,7 +31,7 @@ pub use Rattle.status.specs.Contract.{AsksWaiting, BrokenRows, CrowdedRo
 pub use Rattle.status.specs.Deadlines.{Deadline, DeadlineWhileOpen, LeastDeadline, RowDeadline, endless, no-row, over, row, running, until}
 pub use Rattle.status.specs.Numbers.{brokenMark, brokenRowsOf, crowdedFirst, crowdedRowOf, deadlineBy, deadlineOf, there, waitingBy, waitingOf}
 pub use Rattle.status.specs.Zeros.{zeroMonitor, zeroRow, zeros}
-unfoldable pub use Rattle.constraint.specs.{Accepted.KindsSuit, Questions.Judged, Run.questions, Waiting.waiting}
+unfoldable pub use Rattle.constraint.specs.{Questions.Judged, Run.questions, Waiting.waiting}
 unfoldable pub use Rattle.lent.specs.Layout.{rowBlocks, wordsOf}
 unfoldable pub use Rattle.machine.specs.Words.{numberWords, rowWords}
 unfoldable pub use Rattle.monitor.specs.Machine.{anyFirst, stepOf}

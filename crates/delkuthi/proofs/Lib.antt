@@ -11,4 +11,5 @@ pub mod Refusals
 pub mod JoinNumbers
 pub mod StampWords
 pub mod LentExact
+pub mod Editions
 pub mod RoundTrip

@@ -1,11 +1,12 @@
--- A row whose numbers are written out is accepted by computation: a test goes through its fields as questions 5, 18, 6 and 7 do.
+-- A row whose numbers are written out is accepted by computation: a test goes through its type and its fields as questions 4, 5, 18, 6 and 7 do.
 use Rattle.constraint.proofs.Library.{ℕ, _≤_, arith, _≡_, refl, sym, Bool, true, false, not, _&&_, _||_, List, [], _∷_, _++_, _⊎_, inl, inr, leb, ltb}
 use Rattle.constraint.proofs.Library.{eqb, leb-true, ltb-true, eqb-true, eqb-false, not-true}
 use Rattle.constraint.specs.Limits.{lastKind, firstColoured, lastTime, noLimit}
 use Rattle.constraint.specs.Questions.{Question, Judged}
-use Rattle.constraint.specs.Types.{kind, coloured, count, span, plain, lower, upper, upper-or-none, Field, byte, time, fieldsOf}
+use Rattle.constraint.specs.Types.{kind, coloured, count, span, plain, lower, upper, upper-or-none, Field, byte, time, typeOf, fieldsOf}
+use Rattle.constraint.specs.Types.{lastType}
 use Rattle.constraint.specs.Accepted.{kinds, KindsFit, SortsFit, KindsSuit, FieldsInRange, InRange, NotBelow, LowerFirst}
-use Rattle.constraint.specs.Accepted.{rowQuestions, rowsQuestions, Accepted}
+use Rattle.constraint.specs.Accepted.{rowQuestionsIn, rowsQuestions, Accepted}
 use Rattle.constraint.specs.Records.{Absent}
 use Rattle.constraint.specs.declared.Answer.the-variants.{Taken}
 use Rattle.constraint.specs.declared.Constraint.{Constraint}
@@ -54,9 +55,9 @@ lowerBy low (time lower x ∷ fields) = lowerBy x fields
 lowerBy low (time upper x ∷ fields) = leb low x
 lowerBy low (time upper-or-none x ∷ fields) = leb low x
 
--- questions 5, 18, 6 and 7
+-- question 4 in the second edition, then 5, 18, 6 and 7
 abbrev pub fits : Constraint → Bool
-fits c = kindsBy (kinds c) && (sortsBy (fieldsOf c) && (rangeBy (fieldsOf c) && lowerBy 0 (fieldsOf c)))
+fits c = leb (typeOf c) (lastType 2) && (kindsBy (kinds c) && (sortsBy (fieldsOf c) && (rangeBy (fieldsOf c) && lowerBy 0 (fieldsOf c))))
 
 -- ---- what they say
 
@@ -114,24 +115,28 @@ lower-by low (time lower x ∷ fields) e = lower-by x fields e
 lower-by low (time upper x ∷ fields) e = leb-true low x e
 lower-by low (time upper-or-none x ∷ fields) e = leb-true low x e
 
--- so the row is asked 5, 18, 6 and 7, and then come the later questions
-pub asked-by : (c : Constraint) → fits c ≡ true → (later : List Question) → Judged later Taken → Judged (rowQuestions c ++ later) Taken
+-- so the row is asked 4, 5, 18, 6 and 7, and then come the later questions
+pub asked-by : (c : Constraint) → fits c ≡ true → (later : List Question) → Judged later Taken → Judged (rowQuestionsIn 2 c ++ later) Taken
 unfolding Judged KindsSuit InRange LowerFirst
 asked-by c e later judged =
-    let parts = and-true (kindsBy (kinds c)) (sortsBy (fieldsOf c) && (rangeBy (fieldsOf c) && lowerBy 0 (fieldsOf c))) e in
+    let typed = and-true (leb (typeOf c) (lastType 2)) _ e in
+    let parts = and-true (kindsBy (kinds c)) (sortsBy (fieldsOf c) && (rangeBy (fieldsOf c) && lowerBy 0 (fieldsOf c))) (typed .1) in
     let rest = and-true (sortsBy (fieldsOf c)) (rangeBy (fieldsOf c) && lowerBy 0 (fieldsOf c)) (parts .1) in
     let last = and-true (rangeBy (fieldsOf c)) (lowerBy 0 (fieldsOf c)) (rest .1) in
     inl (
-      kinds-by (kinds c) (parts .0),
-      inl (sorts-by (fieldsOf c) (rest .0), inl (range-by (fieldsOf c) (last .0), inl (lower-by 0 (fieldsOf c) (last .1), judged))),
+      leb-true (typeOf c) (lastType 2) (typed .0),
+      inl (
+        kinds-by (kinds c) (parts .0),
+        inl (sorts-by (fieldsOf c) (rest .0), inl (range-by (fieldsOf c) (last .0), inl (lower-by 0 (fieldsOf c) (last .1), judged))),
+      ),
     )
 
 -- a table of this row alone is accepted
 pub accepted-by : (c : Constraint) → fits c ≡ true → Accepted (c ∷ [])
 unfolding Judged rowsQuestions
-accepted-by c e = inl (omega arith, asked-by c e [] refl)
+accepted-by c e = (2, inl (omega arith, asked-by c e [] refl))
 
 -- and one of two rows
 pub accepted-both : (c d : Constraint) → fits c ≡ true → fits d ≡ true → Accepted (c ∷ d ∷ [])
 unfolding Judged rowsQuestions
-accepted-both c d e f = inl (omega arith, asked-by c e (rowsQuestions 1 (d ∷ []) []) (inl (omega arith, asked-by d f [] refl)))
+accepted-both c d e f = (2, inl (omega arith, asked-by c e (rowsQuestions 2 1 (d ∷ []) []) (inl (omega arith, asked-by d f [] refl))))

@@ -1,1 +1,2 @@
 mod StretchNumbers
+pub mod Editions

@@ -1,11 +1,12 @@
 -- Each question about a stretch has a number above 0, and so has each refusal.
 use Rattle.constraint.proofs.Library.{ℕ, _<_, arith, List}
-use Rattle.constraint.specs.Stretches.{stretchQuestions, no-stretch, AnswersStretch, no-table, no-recording, answers}
+use Rattle.constraint.specs.Stretches.{stretchQuestions, no-stretch, AnswersStretchUpTo, no-table, no-recording, answers}
 use Rattle.constraint.specs.declared.StretchAnswer.{StretchAnswer}
 use Rattle.fresh.proofs.Refusals.{AllAbove, number-above, refused-small}
 use Rattle.delkuthi.proofs.RecordNumbers.{refusal-short}
 
-pub stretch-above : (table recording : List ℕ) (i n place : ℕ) → AnswersStretch table recording i (StretchAnswer.Refused n place) → 0 < n
+pub stretch-above : {newest : ℕ} (table recording : List ℕ) (i n place : ℕ)
+    → AnswersStretchUpTo newest table recording i (StretchAnswer.Refused n place) → 0 < n
 unfolding AllAbove
 stretch-above table recording i n place (no-table m at read) = refused-small table m at read .0
 stretch-above table recording i n place (no-recording rows m at read refused) = refusal-short recording m at refused .0

@@ -2,7 +2,7 @@
 use Prim.Native.Nat.{ℕ, _+_, _*_, _^_, _<_}
 use mathlib.Core.Path.{_≡_}
 use mathlib.Core.List.{List}
-use Rattle.constraint.specs.Stretches.{AnswersStretch}
+use Rattle.constraint.specs.Stretches.{AnswersStretchUpTo}
 use Rattle.constraint.specs.declared.StretchAnswer.{StretchAnswer}
 use Rattle.delkuthi.specs.Stamps.{placeNumber}
 
@@ -13,9 +13,13 @@ stretchNumber (StretchAnswer.Found first size tried) = first * 256 + size * 6553
 stretchNumber (StretchAnswer.Refused n place) = placeNumber place + n
 
 -- the number of the answer; it tells a refusal, whose number is from 1 to 255, from a stretch, and what is said of a stretch
-pub record NumbersStretch (table recording : List ℕ) (i number : ℕ) : Type 0 where
+pub record NumbersStretchUpTo (newest : ℕ) (table recording : List ℕ) (i number : ℕ) : Type 0 where
   pub answer : StretchAnswer
-  pub answers : AnswersStretch table recording i answer
+  pub answers : AnswersStretchUpTo newest table recording i answer
   pub equals : number ≡ stretchNumber answer
   pub small : (n place : ℕ) → answer ≡ StretchAnswer.Refused n place → (0 < n) × (n < 256)
   pub parts : (first size tried : ℕ) → answer ≡ StretchAnswer.Found first size tried → (first < 2 ^ 8) × (size < 2 ^ 16) × (tried < 2 ^ 32)
+
+-- for a table of the first edition
+abbrev pub NumbersStretch : List ℕ → List ℕ → ℕ → ℕ → Type 0
+NumbersStretch = NumbersStretchUpTo 1

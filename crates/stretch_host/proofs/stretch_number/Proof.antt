@@ -2,11 +2,11 @@
 use Rattle.constraint.proofs.Library.{arith, needs, ℕ, _<_, _≡_, refl, now}
 use Rattle.constraint.proofs.Judged.{never}
 use Rattle.queue.proofs.Shared.{free}
-use Rattle.constraint.specs.Stretches.{AnswersStretch}
+use Rattle.constraint.specs.Stretches.{AnswersStretchUpTo}
 use Rattle.constraint.specs.declared.StretchAnswer.{StretchAnswer}
 use Rattle.stretch_host.proofs.StretchNumbers.{stretch-above}
-use Rattle.stretch_host.proofs.delkuthi_shortest_stretch.Statement.{statement}
-use Rattle.stretch_host.proofs.delkuthi_shortest_stretch.Tie as tie
+use Rattle.stretch_host.proofs.stretch_number.Statement.{statement}
+use Rattle.stretch_host.proofs.stretch_number.Tie as tie
 
 -- the number of a refusal is small
 refusal-small : (n place m at : ℕ) → 0 < n → n < 256 → StretchAnswer.Refused n place ≡ StretchAnswer.Refused m at → (0 < m) × (m < 256)
@@ -40,7 +40,8 @@ returns-2 c =
     let at-answer = c .before .before in
     let args = at-answer .before .before .before .before .before .args in
     let given = at-answer .answer2 .given in
-    let says : AnswersStretch (now (args .table)) (now (args .recording)) (args .row) (StretchAnswer.Refused (given .0 .0) (given .0 .1 .0)) =
+    let says : AnswersStretchUpTo (args .newest) (now (args .table)) (now (args .recording)) (args .row)
+    (StretchAnswer.Refused (given .0 .0) (given .0 .1 .0)) =
     rw (given .1) at (at-answer .before .before .shortest .ensures) in
     record {
       answer = StretchAnswer.Refused (given .0 .0) (given .0 .1 .0);
@@ -50,7 +51,7 @@ returns-2 c =
       parts = λ first size tried e. never (cc);
     }
 
-pub delkuthi-shortest-stretch-spec : {M : Type 1} → statement M
-delkuthi-shortest-stretch-spec =
+pub stretch-number-spec : {M : Type 1} → statement M
+stretch-number-spec =
     tie.close (tie.spec free (λ c. search needs) (λ c. search needs) (λ c. search needs) (λ c. search needs) (λ c. search needs) (λ c. search needs)
     (λ c. search needs) (λ c. search needs) (λ c. search needs) (λ c. search needs) free (λ c. search needs) (λ c. search needs) returns returns-2)

@@ -78,7 +78,8 @@ def test_an_import_is_left_with_what_is_used():
 
 def test_what_nothing_uses():
     """A law that is used in its own proof alone is used by nothing; one that a contract cites or a document names is."""
-    proof = "again : (n : ℕ) → ℕ\nagain zero = zero\nagain (suc n) = again n\n\nlaw : ℕ\nlaw = 1\n\npub top : ℕ\ntop = law\n\npub cited : ℕ\ncited = 2\n"
+    proof = ("again : (n : ℕ) → ℕ\nagain zero = zero\nagain (suc n) = again n\n\nlaw : ℕ\nlaw = 1\n\n"
+             "pub top : ℕ\ntop = law\n\npub cited : ℕ\ncited = 2\n")
     texts = {Path("a/A.antt"): proof, Path("a/lib.rt"): "pub fn f() -> u64\n    ensures { λ r. ⌜ r ≡ cited ⌝ }\n{ 2 }\n", Path("b.md"): "See `top`."}
     assert program().idle(texts) == {Path("a/A.antt"): [("again", 1)]}
 

@@ -1,11 +1,11 @@
 -- What a call and a withdrawal make of a lent monitor, part by part.
-use Prim.Native.Nat.{ℕ, zero, suc, _+_, _-_, _%_, min}
+use Prim.Native.Nat.{ℕ, zero, suc, _+_, _-_, _%_, _≤_, _<_, min}
 use mathlib.Core.Path.{_≡_}
 use mathlib.Core.Bool.{Bool, true, false, cond, _||_}
-use mathlib.Core.List.{List}
+use mathlib.Core.List.{List, [], _∷_}
 use lib.ListN.{getD, set}
-use lib.Dec.{ltb, eqb}
-use Rattle.constraint.specs.Limits.{noLimit, waitingLimit}
+use lib.Dec.{ltb, leb, eqb}
+use Rattle.constraint.specs.Limits.{noLimit, waitingLimit, lastCount}
 use Rattle.constraint.specs.Streams.{stream}
 use Rattle.constraint.specs.declared.Call.{Call}
 use Rattle.constraint.specs.Run.{Request, asks, withdraws}
@@ -21,7 +21,7 @@ use Rattle.questions.specs.Questions.{noUndo, placeIn}
 use Rattle.monitor.specs.Machine.{noRow, refusalFor}
 use Rattle.monitor.specs.Parts.{withRows}
 use Rattle.monitor.specs.declared.Monitor.{Monitor}
-use Rattle.lent.specs.Layout.{Lent, Words, wordsOf, Shaped, rowNamed, startOf, endOf, heldRows, rowAt, keptAt, dueAt}
+use Rattle.lent.specs.Layout.{Lent, Words, wordsOf, Shaped, numberArray, rowNamed, startOf, endOf, heldRows, rowAt, keptAt, dueAt}
 
 -- ---- parts of the record
 
@@ -40,6 +40,14 @@ withRow h i r b = withMonitor h (withRows (h .monitor) (set (h .monitor .rows) i
 -- what a function on words promises that makes of each monitor another
 abbrev pub Turns : Words → (Lent → Lent) → Words → Type 0
 Turns entry turn exit = (h : Lent) → entry ≡ wordsOf h → Shaped h → exit ≡ wordsOf (turn h)
+
+-- of each that is not closed
+abbrev pub TurnsOpen : Words → (Lent → Lent) → Words → Type 0
+TurnsOpen entry turn exit = (h : Lent) → entry ≡ wordsOf h → Shaped h → h .monitor .closed ≡ 0 → exit ≡ wordsOf (turn h)
+
+-- what a function that only reads promises of each
+abbrev pub Gives : Words → (Lent → ℕ) → ℕ → Type 0
+Gives entry answer r = (h : Lent) → entry ≡ wordsOf h → Shaped h → r ≡ answer h
 
 -- ---- an event goes to the rows of its kind
 
@@ -164,6 +172,12 @@ countedOn h stream time =
 abbrev pub countedTo : Lent → ℕ → ℕ → Lent
 countedTo h time closed = withMonitor h (countedMonitor (h .monitor) 0 (getD (h .monitor .next) 0 0) time closed)
 
+-- what a function on the numbers beside the rows promises: those of one that is not closed become another's
+abbrev pub Counts : (Monitor → Monitor) → List (List ℕ) → List (List ℕ) → Type 0
+Counts next entry exit =
+    (m : Monitor) (soonest room : ℕ) (plain ends : List ℕ) → entry ≡ numberArray m soonest room plain ∷ ends ∷ [] → m .closed ≡ 0
+    → exit ≡ numberArray (next m) soonest room plain ∷ ends ∷ []
+
 abbrev pub nextNumber : Lent → ℕ
 nextNumber h = plus (h .monitor .count) 1
 
@@ -189,6 +203,10 @@ crowdedOn h kind stream time = cond (ltb 0 (h .room)) false (crowded h (startOf 
 -- the rows of a kind after an event of it, and whether there is room
 abbrev pub heardOn : Lent → ℕ → ℕ → Occurrence → ℕ → Lent
 heardOn h first n o number = withRoom (visited h first n o number) (roomAfter h first n o number)
+
+-- those of a kind, by the step that the count says
+abbrev pub eventOn : ℕ → ℕ → ℕ → Lent → Lent
+eventOn kind stream t h = heardOn h (startOf h kind) (rowCount h kind) (eventAt stream t) (h .monitor .count)
 
 abbrev pub leftOn : Lent → ℕ → ℕ → ℕ → Lent
 leftOn h kind stream time =
@@ -240,10 +258,24 @@ withFree h = withNext h (set (h .monitor .next) (placeIn (h .monitor .undo .plac
 abbrev pub uncounted : Lent → Lent
 uncounted h = withSoonest (withMonitor h (uncountedMonitor (h .monitor))) 0
 
+-- and of its numbers beside the rows
+abbrev pub Uncounts : List (List ℕ) → List (List ℕ) → Type 0
+Uncounts entry exit =
+    (m : Monitor) (soonest room : ℕ) (plain ends : List ℕ) → entry ≡ numberArray m soonest room plain ∷ ends ∷ []
+    → exit ≡ numberArray (uncountedMonitor m) 0 room plain ∷ ends ∷ []
+
 abbrev pub withdrawnLent : Lent → Lent
 withdrawnLent h = uncounted (withFree (backRows h))
 
 -- ---- a call: its number, and what it leaves
+
+-- 8 or 24, which every call is asked first; 0 where neither is answered "no"
+abbrev pub firstRefusal : Lent → ℕ
+firstRefusal h = cond (ltb 0 (h .monitor .closed)) 8 (cond (leb lastCount (h .monitor .count)) 24 0)
+
+-- a coloured kind and one of the colours
+abbrev pub ColourKnown : ℕ → ℕ → Type 0
+ColourKnown kind colour = (48 ≤ kind) × ((kind < 64) × (colour < 8))
 
 abbrev pub refusalOf : Lent → Call → ℕ
 refusalOf h call = refusalFor (h .monitor) call

@@ -30,14 +30,14 @@ use questions::place_in;
 use questions::time_refusal;
 use queue::minus;
 use row::Occurrence;
-ghost use Prim.Native.Nat.{_<_, _≤_};
+ghost use Prim.Native.Nat.{_<_};
 ghost use mathlib.Core.Path.{_≡_};
 ghost use Rattle.constraint.specs.declared.Call.{Call};
 ghost use Rattle.constraint.specs.Run.{asks, withdraws};
 ghost use Rattle.row.specs.Machine.{tickAt};
 ghost use Rattle.lent.specs.Layout.{Lent, wordsOf, Shaped};
 ghost use Rattle.constraint.specs.Streams.{stream};
-ghost use Rattle.lent.specs.Steps.{Turns, roomFound, passed, begun, Asks, OnStream, refusalOf, Stores};
+ghost use Rattle.lent.specs.Steps.{Turns, Gives, ColourKnown, roomFound, passed, begun, Asks, OnStream, refusalOf, Stores};
 
 // The rows to which the clock goes, where one may be overdue: they see nothing else of the step yet.
 fn pass(m: &mut Words, time: u64)
@@ -138,7 +138,7 @@ pub fn event(m: &mut Words, kind: u8, time: u64) -> u8
 
 // The stream of a coloured kind's events of a colour.
 fn stream_of(kind: u8, colour: u8) -> usize
-    requires { ⌜ (48 ≤ kind) × ((kind < 64) × (colour < 8)) ⌝ }
+    requires { ⌜ ColourKnown kind colour ⌝ }
     ensures { λ r. ⌜ ((r ≡ stream kind colour) × (r < 176)) ⌝ }
 {
     48 + 8 * (kind as usize - 48) + colour as usize
@@ -146,7 +146,7 @@ fn stream_of(kind: u8, colour: u8) -> usize
 
 // All questions but 12 of an event of a coloured kind.
 fn coloured_refusal(m: &Words, kind: u8, colour: u8, time: u64) -> u8
-    ensures { λ r. ⌜ ((r ≡ 0 → (48 ≤ kind) × ((kind < 64) × (colour < 8))) × ((h : Lent) → now (m .entry) ≡ wordsOf h → Shaped h → r ≡ refusalOf h (Call.ColouredEvent kind colour time))) ⌝ }
+    ensures { λ r. ⌜ ((r ≡ 0 → ColourKnown kind colour) × Gives (now (m .entry)) (λ h. refusalOf h (Call.ColouredEvent kind colour time)) r) ⌝ }
 {
     let first = first_refusal(m);
     if 0 < first {

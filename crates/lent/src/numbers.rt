@@ -17,16 +17,12 @@ use crate::Words;
 use constraint::LAST_COUNT;
 use machine::parts::plus;
 use queue::minus;
-ghost use Prim.Native.Nat.{ℕ, _<_};
+ghost use Prim.Native.Nat.{_<_};
 ghost use mathlib.Core.Path.{_≡_};
-ghost use mathlib.Core.Bool.{cond};
-ghost use mathlib.Core.List.{List, [], _∷_};
 ghost use lib.ListN.{getD, set};
-ghost use lib.Dec.{ltb, leb};
-ghost use Rattle.constraint.specs.Limits.{lastCount};
-ghost use Rattle.monitor.specs.declared.Monitor.{Monitor};
-ghost use Rattle.lent.specs.Layout.{Lent, wordsOf, Shaped, numberArray};
-ghost use Rattle.lent.specs.Steps.{Turns, withSoonest, withRoom, withNext, withClosed, countedMonitor, countedOn, countedTo, uncountedMonitor};
+ghost use Rattle.lent.specs.Layout.{Lent, wordsOf, Shaped};
+ghost use Rattle.lent.specs.Steps.{Turns, TurnsOpen, Gives, Counts, Uncounts, firstRefusal, withSoonest, withRoom, withNext, withClosed};
+ghost use Rattle.lent.specs.Steps.{countedMonitor, countedOn, countedTo};
 
 // The first free time of a stream.
 pub(crate) fn free_at(m: &Words, stream: usize) -> u64
@@ -55,7 +51,7 @@ pub(crate) fn put_free(m: &mut Words, stream: usize, time: u64)
 
 // Questions 8 and 24, which every call is asked first: the number of the first "no", or 0.
 pub(crate) fn first_refusal(m: &Words) -> u8
-    ensures { λ r. ⌜ ((h : Lent) → now (m .entry) ≡ wordsOf h → Shaped h → r ≡ cond (ltb 0 (h .monitor .closed)) 8 (cond (leb lastCount (h .monitor .count)) 24 0)) ⌝ }
+    ensures { λ r. ⌜ Gives (now (m .entry)) firstRefusal r ⌝ }
 {
     if m[NUMBERS][0][OPEN] == 0 {
         return 8;
@@ -82,7 +78,7 @@ pub(crate) fn put_room(m: &mut Words, room: u64)
 
 // One step more, to a time, with a stream and its first free time as they were.
 fn count(n: &mut [[u64; 64]; 2], stream: u64, free: u64, time: u64)
-    ensures { λ _. ⌜ ((m : Monitor) (soonest room : ℕ) (plain ends : List ℕ) → now (n .entry) ≡ numberArray m soonest room plain ∷ ends ∷ [] → m .closed ≡ 0 → now (n .exit) ≡ numberArray (countedMonitor m stream free time 0) soonest room plain ∷ ends ∷ []) ⌝ }
+    ensures { λ _. ⌜ Counts (λ m. countedMonitor m stream free time 0) (now (n .entry)) (now (n .exit)) ⌝ }
 {
     let clock = n[0][CLOCK];
     let count = n[0][COUNT];
@@ -99,7 +95,7 @@ fn count(n: &mut [[u64; 64]; 2], stream: u64, free: u64, time: u64)
 // The numbers after an event of a stream.
 pub(crate) fn count_event(m: &mut Words, stream: usize, time: u64)
     requires { ⌜ stream < 176 ⌝ }
-    ensures { λ _. ⌜ ((h : Lent) → now (m .entry) ≡ wordsOf h → Shaped h → h .monitor .closed ≡ 0 → now (m .exit) ≡ wordsOf (countedOn h stream time)) ⌝ }
+    ensures { λ _. ⌜ TurnsOpen (now (m .entry)) (λ h. countedOn h stream time) (now (m .exit)) ⌝ }
 {
     let free = free_at(m, stream);
     put_free(m, stream, plus(time, 1));
@@ -123,7 +119,7 @@ pub(crate) fn shut(m: &mut Words)
 
 // The numbers as they were before the last step; nothing may be withdrawn then, and every row is to be looked at.
 pub(crate) fn uncount(n: &mut [[u64; 64]; 2])
-    ensures { λ _. ⌜ ((m : Monitor) (soonest room : ℕ) (plain ends : List ℕ) → now (n .entry) ≡ numberArray m soonest room plain ∷ ends ∷ [] → now (n .exit) ≡ numberArray (uncountedMonitor m) 0 room plain ∷ ends ∷ []) ⌝ }
+    ensures { λ _. ⌜ Uncounts (now (n .entry)) (now (n .exit)) ⌝ }
 {
     let clock = n[0][THEN];
     let count = n[0][COUNTED];

@@ -99,6 +99,25 @@ keptOf times state past place number =
       stamp = number;
     }
 
+-- the same before the words that the step overwrites are kept
+abbrev pub numbersKept : ℕ → ℕ → State → Past → Past
+numbersKept place number state past =
+    record {
+      state =
+          record {
+            marks = past .state .marks;
+            head = state .head;
+            len = state .len;
+            due = state .due;
+            kept = state .kept;
+            broken = past .state .broken;
+          };
+      place = place;
+      first = past .first;
+      second = past .second;
+      stamp = number;
+    }
+
 -- the marks of the past where a type keeps, of those of the state, none (it changes none), the last time, the first three, the four counts
 abbrev pub noneKept : Marks → Marks → Marks
 noneKept marks past = past
@@ -147,6 +166,12 @@ changedWords keeps rule times state past change number =
     (editPlace (change .edit) (ringOf times (state .head) (state .len))) number))
 
 -- ---- what functions on a row's words promise, whatever row they are
+
+-- of its numbers: what it keeps and what it was become these
+abbrev pub NumbersBecome : (State → Past → State) → (State → Past → Past) → List ℕ → List ℕ → Type 0
+NumbersBecome state-after past-after entry exit =
+    (rule : Rule) (state : State) (past : Past) → entry ≡ numberWords rule state past
+    → exit ≡ numberWords rule (state-after state past) (past-after state past)
 
 -- some of the marks are kept
 abbrev pub KeepsMarks : (Marks → Marks → Marks) → List (List ℕ) → List (List ℕ) → Type 0

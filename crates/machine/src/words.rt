@@ -16,9 +16,8 @@ ghost use mathlib.Core.Path.{_≡_};
 ghost use mathlib.Core.Bool.{cond};
 ghost use Rattle.machine.specs.declared.Rule.{Rule};
 ghost use Rattle.machine.specs.declared.Marks.{Marks};
-ghost use Rattle.machine.specs.declared.State.{State};
-ghost use Rattle.machine.specs.Words.{Past, numberWords, ruleAt, marksAt, brokenAt, settled, lastKept, firstThreeKept, countsKept};
-ghost use Rattle.machine.specs.Words.{KeepsMarks, Keeps, KeepsAll, Breaks, Edits, Waits};
+ghost use Rattle.machine.specs.Words.{ruleAt, marksAt, brokenAt, settled, lastKept, firstThreeKept, countsKept};
+ghost use Rattle.machine.specs.Words.{NumbersBecome, numbersKept, KeepsMarks, Keeps, KeepsAll, Breaks, Edits, Waits};
 ghost use Rattle.queue.specs.declared.Edit.the-variants.{Drop, Push, PushTwo, Store};
 
 // The constraint's numbers.
@@ -108,7 +107,7 @@ pub fn marks_at(w: &[u64; SIZE]) -> Marks
 // The ring's ends, the due time and the verdict at the close are kept as the row's past, before the step of that number, which overwrites words at a
 // place.
 fn keep_numbers(w: &mut [u64; SIZE], place: usize, number: u64)
-    ensures { λ _. ⌜ ((rule : Rule) (state : State) (past : Past) → now (w .entry) ≡ numberWords rule state past → now (w .exit) ≡ numberWords rule state (record { state = record { marks = past .state .marks; head = state .head; len = state .len; due = state .due; kept = state .kept; broken = past .state .broken }; place = place; first = past .first; second = past .second; stamp = number })) ⌝ }
+    ensures { λ _. ⌜ NumbersBecome (λ state past. state) (numbersKept place number) (now (w .entry)) (now (w .exit)) ⌝ }
 {
     let head = w[HEAD];
     let len = w[LEN];
@@ -158,7 +157,7 @@ pub fn keep_counts(row: &mut [[u64; SIZE]; 2])
 
 // A row's state is that of one that is broken at a step.
 fn break_numbers(w: &mut [u64; SIZE], number: u64)
-    ensures { λ _. ⌜ ((rule : Rule) (state : State) (past : Past) → now (w .entry) ≡ numberWords rule state past → now (w .exit) ≡ numberWords rule (brokenAt number) past) ⌝ }
+    ensures { λ _. ⌜ NumbersBecome (λ state past. brokenAt number) (λ state past. past) (now (w .entry)) (now (w .exit)) ⌝ }
 {
     w[LAST] = 0;
     w[ONE] = 0;
@@ -283,7 +282,7 @@ pub fn one_more_waits(row: &mut [[u64; SIZE]; 2], dropped: usize, t: u64, number
 
 // A row's state is that of one that goes on with its marks and its ring: its due time, and 1 where it is kept if the recording is closed now.
 pub fn settle(w: &mut [u64; SIZE], due: u64, kept: u64)
-    ensures { λ _. ⌜ ((rule : Rule) (state : State) (past : Past) → now (w .entry) ≡ numberWords rule state past → now (w .exit) ≡ numberWords rule (settled state due kept) past) ⌝ }
+    ensures { λ _. ⌜ NumbersBecome (λ state past. settled state due kept) (λ state past. past) (now (w .entry)) (now (w .exit)) ⌝ }
 {
     w[DUE] = due;
     w[KEPT] = kept;

@@ -4,10 +4,7 @@ use constraint::NO_LIMIT;
 use machine::parts;
 use machine::words;
 use queue::SIZE;
-ghost use mathlib.Core.Path.{_≡_};
-ghost use Rattle.machine.specs.Words.{Past, numberWords, firstThreeKept, Applies};
-ghost use Rattle.machine.specs.declared.Rule.{Rule};
-ghost use Rattle.machine.specs.declared.State.{State};
+ghost use Rattle.machine.specs.Words.{firstThreeKept, NumbersBecome, Applies};
 ghost use Rattle.pairs.specs.Order.{stored, decideOrder};
 
 // One more than the time of a target beyond the number of sources, and how many sources are beyond the number of targets.
@@ -40,7 +37,7 @@ pub fn apply(row: &mut [[u64; SIZE]; 2], stream: u64, t: u64, number: u64)
 
 // These are beyond: a target beyond needs its source at once, and the row is kept where nothing is beyond.
 fn store(w: &mut [u64; SIZE], early: u64, ahead: u64)
-    ensures { λ _. ⌜ ((rule : Rule) (state : State) (past : Past) → now (w .entry) ≡ numberWords rule state past → now (w .exit) ≡ numberWords rule (stored state early ahead) past) ⌝ }
+    ensures { λ _. ⌜ NumbersBecome (λ state past. stored state early ahead) (λ state past. past) (now (w .entry)) (now (w .exit)) ⌝ }
 {
     w[EARLY] = early;
     w[AHEAD] = ahead;

@@ -2,7 +2,7 @@
 -- than the
 -- time of the row's last event, `second` how long the execution begun has run up to that event.
 use Prim.Native.Nat.{ℕ, _-_}
-use mathlib.Core.Bool.{true, false, cond, _&&_}
+use mathlib.Core.Bool.{Bool, true, false, cond, _&&_}
 use mathlib.Core.List.{List}
 use lib.Dec.{leb, ltb, eqb}
 use Rattle.constraint.specs.Limits.{noLimit}
@@ -28,6 +28,10 @@ ranTo marks t = plus (ranOf marks) (plus t 1 - marks .last)
 -- the marks after an event at t: the phase, and how long the execution has run
 abbrev pub inPhase : Marks → ℕ → ℕ → ℕ → Marks
 inPhase m phase t ran = marksOf (plus t 1) phase ran m
+
+-- the change to a phase
+abbrev pub enters : ℕ → ℕ → ℕ → ℕ → Bool → Marks → Change
+enters phase t ran due kept marks = continuesWith (Drop 0) (inPhase marks phase t ran) due kept
 
 -- the row goes on between two executions, with one that runs from t on, or with one that is preempted at t; only a running one has a due time
 abbrev pub idleFrom : Marks → ℕ → Change

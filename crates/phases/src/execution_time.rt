@@ -5,10 +5,8 @@ use machine::parts;
 use machine::words;
 use queue::SIZE;
 use queue::minus;
-ghost use Rattle.queue.specs.declared.Edit.the-variants.{Drop};
-ghost use Rattle.machine.specs.Parts.{continuesWith};
 ghost use Rattle.machine.specs.Words.{firstThreeKept, Makes, Applies};
-ghost use Rattle.phases.specs.ExecutionTime.{inPhase, runningFrom, whileIdle, whileRunning};
+ghost use Rattle.phases.specs.ExecutionTime.{enters, runningFrom, whileIdle, whileRunning};
 ghost use Rattle.phases.specs.ExecutionTime.{decideExecutionTime};
 
 // The phases: between two executions, in a running one, in a preempted one.
@@ -93,7 +91,7 @@ fn enter(
     kept: bool,
     number: u64,
 )
-    ensures { λ _. ⌜ Makes firstThreeKept (now (row .entry)) (λ rule marks times. continuesWith (Drop 0) (inPhase marks phase t ran) due kept) number (now (row .exit)) ⌝ }
+    ensures { λ _. ⌜ Makes firstThreeKept (now (row .entry)) (λ rule marks times. enters phase t ran due kept marks) number (now (row .exit)) ⌝ }
 {
     words::keep_first_three(row);
     words::stay(row, number);

@@ -15,7 +15,7 @@ use Rattle.row.specs.declared.Before.{Before}
 use Rattle.row.specs.declared.Occurrence.{Occurrence}
 use Rattle.row.specs.declared.Row.{Row}
 use Rattle.row.specs.Machine.{machineOf, decide, concerns, rowFrom, eventAt}
-use Rattle.row.specs.Undo.{noBefore, savedAt}
+use Rattle.row.specs.Undo.{noBefore, savedAt, rowWithout, keptWithout}
 use Rattle.row.specs.Apart.{endsBy, endedState, changeBy, heardRow, writesAt, heardBefore}
 
 -- what is kept of a row, as its words have it
@@ -128,3 +128,8 @@ Changes entry stream t number exit =
 
 abbrev pub Becomes : List (List ℕ) → (Row → Row) → (Row → Before → Before) → List (List ℕ) → Type 0
 Becomes entry step saves exit = (r : Row) (b : Before) → entry ≡ wordsOf r b → exit ≡ wordsOf (step r) (saves r b)
+
+-- without the step of that number
+abbrev pub Withdraws : List (List ℕ) → ℕ → List (List ℕ) → Type 0
+Withdraws entry number exit =
+    (r : Row) (b : Before) → entry ≡ wordsOf r b → exit ≡ wordsOf (rowWithout number r b) (keptWithout number b)

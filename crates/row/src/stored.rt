@@ -29,16 +29,16 @@ use spans::repeat;
 ghost use Prim.Native.Nat.{ℕ};
 ghost use mathlib.Core.Path.{_≡_};
 ghost use lib.ListN.{replicate};
-ghost use Rattle.machine.specs.Words.{Past, askedOf, numberWords};
+ghost use Rattle.machine.specs.Words.{Past, askedOf, numberWords, NumbersBecome};
 ghost use Rattle.machine.specs.declared.Rule.{Rule};
 ghost use Rattle.machine.specs.declared.State.{State};
-ghost use Rattle.row.specs.Undo.{noState, noBefore, rowWithout, keptWithout};
+ghost use Rattle.row.specs.Undo.{noState, noBefore};
 ghost use Rattle.row.specs.Apart.{fills, fullFor, crowdedBy, heardBy, steppedRow};
 ghost use Rattle.row.specs.Machine.{eventAt, rowOf, rowStep};
 ghost use Rattle.row.specs.declared.Before.{Before};
 ghost use Rattle.row.specs.declared.Row.{Row};
 ghost use Rattle.row.specs.Stored.{pastOf, wordsOf, eventRow, eventKeeps, endedRow, endedSaves, stepKeeps, Changes};
-ghost use Rattle.row.specs.Stored.{larger, filledBy, filledIn, roomIn, Becomes, stateAt, nothing};
+ghost use Rattle.row.specs.Stored.{larger, filledBy, filledIn, roomIn, Becomes, Withdraws, stateAt, nothing};
 
 // A row with fewer waiting has room for two more words.
 const ROOMY: usize = WAITING_LIMIT - 1;
@@ -144,7 +144,7 @@ fn put_rule(w: &mut [u64; SIZE], rule: Rule)
 
 // What a row keeps is put into its numbers.
 fn put_state(w: &mut [u64; SIZE], state: State)
-    ensures { λ _. ⌜ ((rule : Rule) (old : State) (past : Past) → now (w .entry) ≡ numberWords rule old past → now (w .exit) ≡ numberWords rule state past) ⌝ }
+    ensures { λ _. ⌜ NumbersBecome (λ old past. state) (λ old past. past) (now (w .entry)) (now (w .exit)) ⌝ }
 {
     let marks = state.marks;
     w[words::LAST] = marks.last;
@@ -161,7 +161,7 @@ fn put_state(w: &mut [u64; SIZE], state: State)
 
 // So is what is kept of it.
 fn put_before(w: &mut [u64; SIZE], before: Before)
-    ensures { λ _. ⌜ ((rule : Rule) (state : State) (past : Past) → now (w .entry) ≡ numberWords rule state past → now (w .exit) ≡ numberWords rule state (pastOf before)) ⌝ }
+    ensures { λ _. ⌜ NumbersBecome (λ state past. state) (λ state past. pastOf before) (now (w .entry)) (now (w .exit)) ⌝ }
 {
     let state = before.state;
     let marks = state.marks;
@@ -241,7 +241,7 @@ pub fn before_at(row: &[[u64; SIZE]; 2]) -> Before
 
 // The state of a row is that of its past, and it has no past.
 fn restore(w: &mut [u64; SIZE])
-    ensures { λ _. ⌜ ((rule : Rule) (state : State) (past : Past) → now (w .entry) ≡ numberWords rule state past → now (w .exit) ≡ numberWords rule (past .state) nothing) ⌝ }
+    ensures { λ _. ⌜ NumbersBecome (λ state past. past .state) (λ state past. nothing) (now (w .entry)) (now (w .exit)) ⌝ }
 {
     let state = past_state(w);
     put_state(w, state);
@@ -250,7 +250,7 @@ fn restore(w: &mut [u64; SIZE])
 
 // The row without the step of that number, by what is kept of it.
 pub fn without(row: &mut [[u64; SIZE]; 2], number: u64)
-    ensures { λ _. ⌜ ((r : Row) (b : Before) → now (row .entry) ≡ wordsOf r b → now (row .exit) ≡ wordsOf (rowWithout number r b) (keptWithout number b)) ⌝ }
+    ensures { λ _. ⌜ Withdraws (now (row .entry)) number (now (row .exit)) ⌝ }
 {
     if row[1][words::STAMP] != number {
         return;

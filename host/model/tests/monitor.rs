@@ -256,7 +256,10 @@ fn first_no(rows: &[Constraint], accepted: &[Step], call: Step) -> Answer {
         }
         Step::Coloured { kind, colour, time } => {
             let form = (48..=63).contains(&kind) && colour < 8;
-            let earlier = |earlier: &&Step| matches!(earlier, Step::Coloured { kind: k, colour: c, time: t } if (*k, *c) == (kind, colour) && *t >= time);
+            let earlier = |earlier: &&Step| match earlier {
+                Step::Coloured { kind: k, colour: c, time: t } => (*k, *c) == (kind, colour) && *t >= time,
+                _ => false,
+            };
             let in_order = recorded.clock() <= time && !accepted.iter().any(|step| earlier(&step));
             let taken = open && form && time < 1 << 60 && in_order;
             vec![

@@ -25,7 +25,7 @@ use Rattle.delkuthi.specs.Reporting.{LeftBy, unused, used, ReportsOnUpTo
 use Rattle.delkuthi.specs.LentExact.{Memory, Host, over, asked, Untouched, ReadsAs, ReadsRecorded, whole, cut, Reported, LentExactUpTo}
 use Rattle.delkuthi.specs.LentExact.{LentExact}
 use Rattle.delkuthi.proofs.Lying.{call-holds}
-use Rattle.delkuthi.proofs.Telling.{begun-over, told-reports}
+use Rattle.delkuthi.proofs.Reports.{begun-over, reported-as-recorded}
 
 -- ---- what is read
 
@@ -47,7 +47,7 @@ readers h m holds rows requests answers left accepted made run =
       paged = λ buffer number written w.
           let page = w m holds .means rows requests accepted made in
           subst (λ (l : Left). Pages rows (l .steps) buffer number written) (run-once rows (page .1 .1) run .1) (page .2);
-      told = λ buffer number written w.
+      reported = λ buffer number written w.
           let report = w m holds .means rows requests accepted made in
           subst (λ (l : Left). ReportsSteps rows (l .steps) buffer number written) (run-once rows (report .1 .1) run .1) (report .2);
     }
@@ -128,9 +128,9 @@ lent-is-exact-up-to bytes before {h = h} {end = end} {requests = requests} {numb
       run = subst (λ (l : List Answer). Run rows noneLeft requests l (exact .0)) (sym (f .answers-are)) (exact .1);
       untouched = untouched-all host;
       reads = read;
-      recorded = λ recording steps taken same buffer number written told.
-          told-reports bytes recording rows steps buffer number written (fresh .1) taken
-          (subst (λ (l : List Step). ReportsSteps rows l buffer number written) same (read .told buffer number written told));
+      recorded = λ recording steps taken same buffer number written reported.
+          reported-as-recorded bytes recording rows steps buffer number written (fresh .1) taken
+          (subst (λ (l : List Step). ReportsSteps rows l buffer number written) same (read .reported buffer number written reported));
       reported = λ table recording buffer number written after on. reported-as end table recording buffer number written after on;
       refused = λ table number after anew above. fresh-refused anew above;
     }

@@ -2,7 +2,7 @@
 pub mod Taking
 pub mod Progress
 pub mod Summaries
-pub mod Telling
+pub mod Reports
 mod Lying
 mod Numbers
 pub mod Printing

@@ -25,8 +25,8 @@ use Rattle.page.specs.Sheet.{verdictFor, verdictsOf, textOf}
 use Rattle.page.proofs.Pages.{same-rows}
 use Rattle.page.proofs.ReadBack.{StepFits, page-reads-back, equal-pages}
 use Rattle.delkuthi.specs.Printed.{printedRows, typeIn, brokenIn, printed, WritesPage}
-use Rattle.delkuthi.specs.Telling.{summaryOf, verdictsIn}
-use Rattle.delkuthi.proofs.Summaries.{at-map, count-is, each-told, row-told, made-follows}
+use Rattle.delkuthi.specs.Summary.{summaryOf, verdictsIn}
+use Rattle.delkuthi.proofs.Summaries.{at-map, count-is, each-summarized, row-summarized, made-follows}
 
 -- a step that a row reads is one of those taken, of which there are fewer than 2^64
 reads-fits : {c : Constraint} {steps : List Step} (v : Verdict) → Valid steps → Reads c steps v → StepFits v
@@ -43,9 +43,9 @@ module _ (rows : List Constraint) (steps : List Step) (m : Monitor) (f : Follows
   page-says =
       let verdicts = verdictsIn (summaryOf m) in
       subst (PageOf rows steps)
-      (same-rows (at (map typeOf rows)) (typeIn m) (verdictAt verdicts) v (length rows) (λ i h. row-told rows steps m f i h .0)
-      (λ i h. row-told rows steps m f i h .1) ∙ ap (pageText (typeIn m) v) (sym (count-is rows steps m f)))
-      (page-of verdicts (each-told rows steps m f))
+      (same-rows (at (map typeOf rows)) (typeIn m) (verdictAt verdicts) v (length rows) (λ i h. row-summarized rows steps m f i h .0)
+      (λ i h. row-summarized rows steps m f i h .1) ∙ ap (pageText (typeIn m) v) (sym (count-is rows steps m f)))
+      (page-of verdicts (each-summarized rows steps m f))
 
   -- ---- what is read off
 
@@ -74,7 +74,7 @@ module _ (rows : List Constraint) (requests : List Request) (accepted : Accepted
       let steps = followed .0 in
       let f = followed .1 in
       let there : i < printedRows made = omega (arith, count-is rows steps made f) in
-      rw (row-told rows steps made f i h .0, verdict-is rows steps made f i h)
+      rw (row-summarized rows steps made f i h .0, verdict-is rows steps made f i h)
       (page-reads-back (typeIn made) (v rows steps made f) (printedRows made) i (omega arith) there (fits rows steps made f i there))
 
 -- two pages of the same bytes: as many rows, and the same verdict of each

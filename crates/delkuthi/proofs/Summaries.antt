@@ -25,7 +25,7 @@ use Rattle.monitor.proofs.Withdrawing.{after-follows}
 use Rattle.page.specs.Sheet.{verdictFor}
 use Rattle.page.specs.declared.Summary.{Summary}
 use Rattle.delkuthi.specs.Printed.{printedRows}
-use Rattle.delkuthi.specs.Telling.{summaryOf, verdictsIn}
+use Rattle.delkuthi.specs.Summary.{summaryOf, verdictsIn}
 
 -- ---- row after row
 
@@ -64,9 +64,9 @@ module _ (rows : List Constraint) (steps : List Step) (m : Monitor) (f : Follows
   pub count-is : printedRows m ≡ length rows
   count-is = omega (arith, f .len-is, f .few)
 
-  pub each-told : EachReads steps rows (verdictsIn (summaryOf m))
+  pub each-summarized : EachReads steps rows (verdictsIn (summaryOf m))
   unfolding rowVerdict
-  each-told = rw count-is (go rows (m .rows) (f .fit))
+  each-summarized = rw count-is (go rows (m .rows) (f .fit))
     where
       go : (cs : List Constraint) (l : List Row) → FitRows engine steps cs l
           → EachReads steps cs (map (verdictFor (m .closed)) (take (length cs) (map (λ r. r .now .broken) l)))
@@ -77,10 +77,10 @@ module _ (rows : List Constraint) (steps : List Step) (m : Monitor) (f : Follows
           (rw (f .closed-is) (fits-reads c (engine c (fit .0 .0)) steps (f .valid) r (fit .0 .1))) (go cs l (fit .1))
 
   -- the type and the verdict of a row
-  pub row-told : (i : ℕ) → i < length rows
+  pub row-summarized : (i : ℕ) → i < length rows
       → (at (map typeOf rows) i ≡ getD (m .rows) i noRow .rule .form)
       × (verdictAt (verdictsIn (summaryOf m)) i ≡ verdictFor (m .closed) (getD (m .rows) i noRow .now .broken))
-  row-told i h = rw count-is (go rows (m .rows) (f .fit) i h)
+  row-summarized i h = rw count-is (go rows (m .rows) (f .fit) i h)
     where
       go : (cs : List Constraint) (l : List Row) → FitRows engine steps cs l → (i : ℕ) → i < length cs
           → (at (map typeOf cs) i ≡ getD l i noRow .rule .form)

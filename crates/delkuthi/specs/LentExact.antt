@@ -52,7 +52,7 @@ pub record ReadsAs (h : Memory) (rows : List Constraint) (steps : List Step) : T
   pub counted : (number : ℕ) → ReadOff h NumberOfRows number → number ≡ length rows
   pub paged : (buffer : List ℕ) (number : ℕ) (written : List ℕ) → ReadOff h (λ m answer. WritesPage m buffer answer written) number
       → Pages rows steps buffer number written
-  pub told : (buffer : List ℕ) (number : ℕ) (written : List ℕ) → ReadOff h (λ m answer. ReportsOf m buffer answer written) number
+  pub reported : (buffer : List ℕ) (number : ℕ) (written : List ℕ) → ReadOff h (λ m answer. ReportsOf m buffer answer written) number
       → ReportsSteps rows steps buffer number written
 
 -- after a recording: its steps and the close, or the steps before the record that was refused

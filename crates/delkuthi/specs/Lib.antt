@@ -1,7 +1,7 @@
 -- What the parts of the report and the calls from C promise.
 pub mod Taking
 pub mod Reporting
-pub mod Telling
+pub mod Summary
 pub mod Lent
 pub mod Tables
 pub mod Printed

@@ -44,7 +44,7 @@ ReportsOn = ReportsOnUpTo 1
 -- nothing is written
 pub data ReportsSteps (rows : List Constraint) (steps : List Step) (before : List ℕ) : ℕ → List ℕ → Type 0 where
   unclosed : closed steps ≡ false → ReportsSteps rows steps before 0 before
-  told : {answer : ℕ} {written : List ℕ} (verdicts : List Verdict) → closed steps ≡ true → EachReads steps rows verdicts
+  reported : {answer : ℕ} {written : List ℕ} (verdicts : List Verdict) → closed steps ≡ true → EachReads steps rows verdicts
       → Copied (closedText (length steps) verdicts) before answer written → ReportsSteps rows steps before answer written
 
 -- the report of a monitor that requests have made: that of the steps that they have left

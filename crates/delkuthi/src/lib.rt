@@ -13,7 +13,7 @@ use text::Text;
 ghost use Rattle.constraint.specs.Report.{ReportsUpTo, Reports};
 ghost use Rattle.lent.specs.Contract.{ReadOff};
 ghost use Rattle.delkuthi.specs.Program.{Prints};
-ghost use Rattle.delkuthi.specs.Telling.{Tells};
+ghost use Rattle.delkuthi.specs.Summary.{Tells};
 ghost use Rattle.delkuthi.specs.Reporting.{ReportsOnUpTo, ReportsOn, ReportsOf};
 
 // How many bytes a table file has at most.

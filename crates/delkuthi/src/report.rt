@@ -17,7 +17,7 @@ ghost use Rattle.page.specs.Sheet.{verdictFor};
 ghost use Rattle.monitor.specs.declared.Monitor.{Monitor};
 ghost use Rattle.lent.specs.Contract.{Holds};
 ghost use Rattle.delkuthi.specs.Reporting.{LeftBy, ReportsOnUpTo};
-ghost use Rattle.delkuthi.specs.Telling.{refusalOf, summaryOf, reportText};
+ghost use Rattle.delkuthi.specs.Summary.{refusalOf, summaryOf, reportText};
 
 // The refusal that a number other than 0 stands for.
 fn refusal_of(number: u64) -> ReadAnswer

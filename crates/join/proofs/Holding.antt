@@ -107,21 +107,21 @@ module _ (moments : List ℕ) where
   -- ---- both
 
   -- a time in the list is not after the clock, or is one of the first's that are still to come; and all of those are in the list
-  record Told (now : ℕ) (first : List Step) : Type 0 where
+  record TimesKnown (now : ℕ) (first : List Step) : Type 0 where
     pub past : (u : ℕ) → among u moments ≡ true → (u ≤ now) ⊎ (among u (timesOf first) ≡ true)
     pub all : (u : ℕ) → among u (timesOf first) ≡ true → among u moments ≡ true
 
-  told-later : (now later : ℕ) (first : List Step) → now ≤ later → Told now first → Told later first
-  told-later now later first h told =
-      record { past = λ u e. ⊎-elim (λ k. inl (omega (arith, h, k))) (λ f. inr f) (told .past u e); all = told .all }
+  read-later : (now later : ℕ) (first : List Step) → now ≤ later → TimesKnown now first → TimesKnown later first
+  read-later now later first h known =
+      record { past = λ u e. ⊎-elim (λ k. inl (omega (arith, h, k))) (λ f. inr f) (known .past u e); all = known .all }
 
-  told-more : (now : ℕ) (a : Step) (first : List Step) → now ≤ timeOf a → Told now (a ∷ first) → Told (timeOf a) first
-  told-more now a first h told =
+  read-more : (now : ℕ) (a : Step) (first : List Step) → now ≤ timeOf a → TimesKnown now (a ∷ first) → TimesKnown (timeOf a) first
+  read-more now a first h known =
       record {
         past = λ u e. ⊎-elim (λ k. inl (omega (arith, h, k)))
             (λ f. ⊎-elim (λ same. inl (omega (arith, eqb-true u (timeOf a) same))) (λ g. inr g)
-            (or-true (eqb u (timeOf a)) (among u (timesOf first)) f)) (told .past u e);
-        all = λ u e. told .all u (behind u e (eqb u (timeOf a)));
+            (or-true (eqb u (timeOf a)) (among u (timesOf first)) f)) (known .past u e);
+        all = λ u e. known .all u (behind u e (eqb u (timeOf a)));
       }
     where
       behind : (u : ℕ) → among u (timesOf first) ≡ true → (b : Bool) → (b || among u (timesOf first)) ≡ true
@@ -144,8 +144,8 @@ module _ (moments : List ℕ) where
   not-close now close c e = c
 
   -- the first of the first's times is in the list
-  at-first : (now : ℕ) (a : Step) (first : List Step) → Told now (a ∷ first) → among (timeOf a) moments ≡ true
-  at-first now a first told = told .all (timeOf a) (rw (eq-eqb (timeOf a) (timeOf a) refl))
+  at-first : (now : ℕ) (a : Step) (first : List Step) → TimesKnown now (a ∷ first) → among (timeOf a) moments ≡ true
+  at-first now a first known = known .all (timeOf a) (rw (eq-eqb (timeOf a) (timeOf a) refl))
 
   head-late : (t : ℕ) (a : Step) (first : List Step) → Strict (timeOf a) first → among t (timesOf (a ∷ first)) ≡ true → timeOf a ≤ t
   head-late t a first s e =
@@ -156,36 +156,36 @@ module _ (moments : List ℕ) where
       → Interleaves (a ∷ first) second (undropped now (a ∷ others))
   take-first now a first second others c rest = subst (Interleaves (a ∷ first) second) (sym (stays now a others c)) (of-first a rest)
 
-  holds : (now : ℕ) (first second : List Step) → Strict now first → Weak now second → Told now first → Seen now second
+  holds : (now : ℕ) (first second : List Step) → Strict now first → Weak now second → TimesKnown now first → Seen now second
       → Interleaves first (without moments second) (undropped now (merged first second))
   unfolding merged
-  holds now [] second s w told seen = second-alone now second w (λ u e. ⊎-elim (λ h. h) (λ f. both (sym f)) (told .past u e)) seen
-  holds now (a ∷ first) [] s w told seen = none-there (first-alone now (a ∷ first) s)
-  holds now (a ∷ first) (event k t ∷ second) s w told seen =
+  holds now [] second s w known seen = second-alone now second w (λ u e. ⊎-elim (λ h. h) (λ f. both (sym f)) (known .past u e)) seen
+  holds now (a ∷ first) [] s w known seen = none-there (first-alone now (a ∷ first) s)
+  holds now (a ∷ first) (event k t ∷ second) s w known seen =
       split (leb (timeOf a) t)
       (λ x. Interleaves (a ∷ first) (without moments (event k t ∷ second))
       (undropped now (cond x (a ∷ merged first (event k t ∷ second)) (event k t ∷ merged (a ∷ first) second))))
       (λ e. take-first now a first (without moments (event k t ∷ second)) (merged first (event k t ∷ second)) (s .0)
-      (holds (timeOf a) first (event k t ∷ second) (s .1) (leb-true (timeOf a) t e, w .1) (told-more now a first (comes-at now a (s .0)) told)
-      (inl (at-first now a first told))))
+      (holds (timeOf a) first (event k t ∷ second) (s .1) (leb-true (timeOf a) t e, w .1) (read-more now a first (comes-at now a (s .0)) known)
+      (inl (at-first now a first known))))
       (λ e. let h : t < timeOf a = leb-false (timeOf a) t e in
       one-event now k t (a ∷ first) second (merged (a ∷ first) second)
       (holds t (a ∷ first) second (sooner t a h (not-close now a (s .0)), s .1) (weak-of t t second (omega arith) (w .1))
-      (told-later now t (a ∷ first) (w .0) told) (inr (w .1))))
-  holds now (a ∷ first) (tick t ∷ second) s w told seen =
+      (read-later now t (a ∷ first) (w .0) known) (inr (w .1))))
+  holds now (a ∷ first) (tick t ∷ second) s w known seen =
       split (leb (timeOf a) t)
       (λ x. Interleaves (a ∷ first) (without moments (tick t ∷ second))
       (undropped now (cond x (a ∷ merged first (tick t ∷ second)) (tick t ∷ merged (a ∷ first) second))))
       (λ e. take-first now a first (without moments (tick t ∷ second)) (merged first (tick t ∷ second)) (s .0)
-      (holds (timeOf a) first (tick t ∷ second) (s .1) (leb-true (timeOf a) t e, w .1) (told-more now a first (comes-at now a (s .0)) told)
-      (inl (at-first now a first told))))
+      (holds (timeOf a) first (tick t ∷ second) (s .1) (leb-true (timeOf a) t e, w .1) (read-more now a first (comes-at now a (s .0)) known)
+      (inl (at-first now a first known))))
       (λ e. let h : t < timeOf a = leb-false (timeOf a) t e in
       one-tick now t (a ∷ first) second (merged (a ∷ first) second) (w .0) seen
-      (λ after hit. ⊎-elim (λ soon. omega (arith, soon, after)) (λ f. omega (arith, h, head-late t a first (s .1) f)) (told .past t hit))
-      (λ same hit. holds now (a ∷ first) second s (weak-of now t second (w .0) (w .1)) told (inl hit))
+      (λ after hit. ⊎-elim (λ soon. omega (arith, soon, after)) (λ f. omega (arith, h, head-late t a first (s .1) f)) (known .past t hit))
+      (λ same hit. holds now (a ∷ first) second s (weak-of now t second (w .0) (w .1)) known (inl hit))
       (λ after. holds t (a ∷ first) second (sooner t a h (not-close now a (s .0)), s .1) (weak-of t t second (omega arith) (w .1))
-      (told-later now t (a ∷ first) (w .0) told) (inr (w .1))))
-  holds now (a ∷ first) (close ∷ second) s w told seen = absurd (w .0)
+      (read-later now t (a ∷ first) (w .0) known) (inr (w .1))))
+  holds now (a ∷ first) (close ∷ second) s w known seen = absurd (w .0)
 
 -- the joined list holds the first, and the second without its ticks at times of the first
 pub joined-interleaves : (first second : List Step) → Strict 0 first → Strict 0 second

@@ -3,7 +3,7 @@
 use Rattle.lent.proofs.Names.{Before, Call, Indexes, Lent, List, Monitor, Occurrence, Roomy, Row, Undo, _∙_, _≡_, _≤_, ap₂, arith, getD}
 use Rattle.lent.proofs.Names.{heldRows, length, map-all, mapFirst, nextStep, refl, steppedBy, steppedFrom, streamCount, withMonitor, withRoom}
 use Rattle.lent.proofs.Names.{withRows, zip-all, zipFirst, ℕ}
-use Rattle.lent.proofs.{Hearing.moved, Hearing.saves, Listing.same-rows, Parts.shaped-same}
+use Rattle.lent.proofs.{Concerned.moved, Concerned.saves, Listing.same-rows, Parts.shaped-same}
 
 -- ---- the numbers stored
 

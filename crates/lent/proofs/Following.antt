@@ -86,8 +86,8 @@ zip-twice save t g same (suc n) (r ∷ rows) (b ∷ kept) =
 -- ---- rows one after the other
 
 -- the soonest time is not after row i's due time
-abbrev heeded : Lent → ℕ → Lent
-heeded h i = withSoonest h (min (h .soonest) (dueAt (h .monitor) i))
+abbrev with-due : Lent → ℕ → Lent
+with-due h i = withSoonest h (min (h .soonest) (dueAt (h .monitor) i))
 
 -- what stands beside the rows, and does not change with them
 pub record WithLists (room : ℕ) (ends entries : List ℕ) (x : Lent) : Type 0 where
@@ -122,9 +122,9 @@ module _ (f : Row → Row) (save : Row → Before → Before) where
   pub row-none : (m : Monitor) → m ≡ withRows m (mapFirst 0 f (m .rows)) (zipFirst 0 save (m .rows) (m .before))
   row-none m = sym (ap₂ (withRows m) (none-first f (m .rows)) (zip-none save (m .rows) (m .before)))
 
-  -- row i of a lent monitor, what is kept of it, and its due time heeded
+  -- row i of a lent monitor, what is kept of it, and its due time counted in
   abbrev pub visit : Lent → ℕ → Lent
-  visit h i = heeded (withRow h i (f (rowAt (h .monitor) i)) (save (rowAt (h .monitor) i) (keptAt (h .monitor) i))) i
+  visit h i = with-due (withRow h i (f (rowAt (h .monitor) i)) (save (rowAt (h .monitor) i) (keptAt (h .monitor) i))) i
 
   abbrev pub visits : Lent → List ℕ → Lent
   visits h [] = h
@@ -166,7 +166,7 @@ module _ (f : Row → Row) (save : Row → Before → Before) where
     pub record Visited (n : ℕ) (x : Lent) : Type 0 where
       pub monitor-is : x .monitor ≡ withRows (h .monitor) (mapFirst n f rows) (zipFirst n save rows kept)
       pub not-later : x .soonest ≤ h .soonest
-      pub heeds : (i : ℕ) → i < n → x .soonest ≤ f (row i) .now .due
+      pub due-below : (i : ℕ) → i < n → x .soonest ≤ f (row i) .now .due
 
     -- one more passes it
     goes : (n : ℕ) (x : Lent) → n < length rows → Visited n x → Visited (suc n) (visit x n)
@@ -181,7 +181,7 @@ module _ (f : Row → Row) (save : Row → Before → Before) where
         record {
           monitor-is = row-more (h .monitor) (x .monitor) n there kept-there (so-far .monitor-is);
           not-later = omega (arith, less, so-far .not-later);
-          heeds = λ i l. below i n l (λ k. omega (arith, less, so-far .heeds i k))
+          due-below = λ i l. below i n l (λ k. omega (arith, less, so-far .due-below i k))
               (λ e. subst (λ (j : ℕ). visit x n .soonest ≤ f (row j) .now .due) (sym e) due);
         }
 
@@ -197,7 +197,7 @@ module _ (f : Row → Row) (save : Row → Before → Before) where
               ∙ ap (withRows (h .monitor) (mapFirst (suc n) f rows))
               (zip-rests save rows kept n there (omega (arith, there, kept-there)) (same .1 .0));
           not-later = so-far .not-later;
-          heeds = λ i l. below i n l (so-far .heeds i)
+          due-below = λ i l. below i n l (so-far .due-below i)
               (λ e. subst (λ (j : ℕ). x .soonest ≤ f (row j) .now .due) (sym e)
               (subst (λ (r : Row). x .soonest ≤ r .now .due) (sym (same .0)) (omega (arith, same .1 .1, so-far .not-later))));
         }
@@ -207,7 +207,7 @@ module _ (f : Row → Row) (save : Row → Before → Before) where
         record {
           monitor-is = row-none (h .monitor);
           not-later = omega arith;
-          heeds = λ i l. absurd (omega (arith, l));
+          due-below = λ i l. absurd (omega (arith, l));
         }
     visited (suc n) there others =
         let so-far = visited n (omega (arith, there)) (λ i l. others i (omega (arith, l))) in
@@ -259,7 +259,7 @@ module _ (f g : Row → Row) (save keep : Row → Before → Before) (test : ℕ
       let kept : save (rowAt (x .monitor) n) (keptAt (x .monitor) n) ≡ keep (rowAt (x .monitor) n) (keptAt (x .monitor) n) =
       ap₂ save (there .0) (there .1) ∙ now .1 ∙ ap₂ keep (sym (there .0)) (sym (there .1)) in
       visits-last f save (numbers test n) h n
-      ∙ ap₂ (λ (r : Row) (b : Before). heeded (withRow x n r b) n) row kept
+      ∙ ap₂ (λ (r : Row) (b : Before). with-due (withRow x n r b) n) row kept
       ∙ ap (λ (y : Lent). visit g keep y n) so-far
       ∙ sym (visits-last g keep (numbers test n) h n))
       (λ _ e. ap (visits f save h) (append-nil (numbers test n)) ∙ so-far ∙ ap (visits g keep h) (sym (append-nil (numbers test n)))) refl

@@ -4,7 +4,7 @@ pub mod Blocks
 pub mod Parts
 pub mod Asked
 pub mod Following
-pub mod Hearing
+pub mod Concerned
 pub mod Listing
 pub mod Room
 pub mod Withdrawn

@@ -1,5 +1,5 @@
 -- A call goes to the rows of its kind, after the clock and the close have done their part. Where the lists are the monitor's that is the step of
--- all rows: a row that is not listed is not concerned, so that it is changed by that part alone; one that is hears the event, as it has room.
+-- all rows: a row that is not listed is not concerned, so that it is changed by that part alone; one that is applies the event, as it has room.
 use Rattle.lent.proofs.Names.{Before, Bool, Indexes, Lent, List, Monitor, Occurrence, Roomy, Row, Rule, Shaped, Sound, [], _%_, _++_, _+_, _-_}
 use Rattle.lent.proofs.Names.{_<_, _∙_, _∷_, _≡_, _≤_, ap, ap₂, arith, begun, concerns, cond, crowds, dueAt, ended, endedRow, endedSaves}
 use Rattle.lent.proofs.Names.{eventRow, eventSaves, false, getD, heldRows, isOf, keptAt, le-ltb, length, ltb, ltb-false, ltb-true, mapFirst}
@@ -9,8 +9,8 @@ use Rattle.lent.proofs.Names.{subst, suc, sym, taken, takenIn, true, vi
 use Rattle.lent.proofs.Names.{zip-length, zipFirst, ℕ}
 use Rattle.lent.proofs.Following.{Beside, map-length, map-twice, mapped, room-left, rooms, rooms-last, row-more, row-none, same-beside, visits}
 use Rattle.lent.proofs.Following.{visits-beside, visits-last, visits-same, zip-twice, zipped}
-use Rattle.lent.proofs.Hearing.{ended-late, heard-late, heard-moved, late, late-first, late-saves, late-saves-first, late-still, late-unsaved}
-use Rattle.lent.proofs.Hearing.{moved, no-ends, saved-late, saves, unconcerned, unsaved}
+use Rattle.lent.proofs.Concerned.{ended-late, applied-late, applied-moved, late, late-first, late-saves, late-saves-first, late-still, late-unsaved}
+use Rattle.lent.proofs.Concerned.{moved, no-ends, saved-late, saves, unconcerned, unsaved}
 use Rattle.lent.proofs.Parts.{shaped-room}
 use Rattle.lent.proofs.Following as Following
 
@@ -118,10 +118,10 @@ module _ (c : Lent) (ix : Indexes c) (o : Occurrence) (above : 0 < c .monitor .c
   kept-whole : length (m .before) ≡ 32
   kept-whole = ix .shaped .kept-there
 
-  -- the rows have taken the step, and their due times are heeded
+  -- the rows have taken the step, and their due times are counted in
   pub record Stepped (x : Lent) : Type 0 where
     pub monitor-is : x .monitor ≡ withRows m (mapFirst n step (m .rows)) (zipFirst n save (m .rows) (m .before))
-    pub heeds : (i : ℕ) → i < n → x .soonest ≤ step (rowAt m i) .now .due
+    pub due-below : (i : ℕ) → i < n → x .soonest ≤ step (rowAt m i) .now .due
     pub beside : Beside c x
 
   -- ---- the rows of a list
@@ -130,26 +130,26 @@ module _ (c : Lent) (ix : Indexes c) (o : Occurrence) (above : 0 < c .monitor .c
     abbrev test : ℕ → Bool
     test = isOf m (o .kind)
 
-    abbrev hear : Row → Row
-    hear = eventRow o (m .count)
+    abbrev apply : Row → Row
+    apply = eventRow o (m .count)
 
-    abbrev hear-save : Row → Before → Before
-    hear-save = eventSaves o (m .count)
+    abbrev apply-save : Row → Before → Before
+    apply-save = eventSaves o (m .count)
 
-    abbrev list-heard : Lent → Lent
-    list-heard x = visited x first count o (m .count)
+    abbrev list-applied : Lent → Lent
+    list-applied x = visited x first count o (m .count)
 
     abbrev room-after : Lent → ℕ
     room-after x = roomAfter x first count o (m .count)
 
     -- so, and a place is free in each row of the list where there is room
-    pub record Heard (x : Lent) : Type 0 where
-      pub stepped : Stepped (list-heard x)
+    pub record Applied (x : Lent) : Type 0 where
+      pub stepped : Stepped (list-applied x)
       pub less : room-after x ≤ c .room
       pub fits : (i : ℕ) → i < n → test i ≡ true → takenIn (rowAt m i .rule) (step (rowAt m i) .now .len) + room-after x ≤ 64
 
-    list-visited : (x : Lent) → Beside c x → list-heard x ≡ visits hear hear-save x (numbers test n)
-    list-visited x b = list-visits o (m .count) x first count ∙ ap (visits hear hear-save x) (same-named c x (b .entries-are) first count ∙ list-is)
+    list-visited : (x : Lent) → Beside c x → list-applied x ≡ visits apply apply-save x (numbers test n)
+    list-visited x b = list-visits o (m .count) x first count ∙ ap (visits apply apply-save x) (same-named c x (b .entries-are) first count ∙ list-is)
 
     -- the list of a monitor in which no row is overdue that is not in it
     list-steps : (x : Lent) (g : Row → Row) (t : Row → Before → Before) → Beside c x
@@ -158,9 +158,9 @@ module _ (c : Lent) (ix : Indexes c) (o : Occurrence) (above : 0 < c .monitor .c
         → ((i : ℕ) → i < n → test i ≡ false
         → (step (g (rowAt m i)) ≡ g (rowAt m i)) × ((save (g (rowAt m i)) (t (rowAt m i) (keptAt m i)) ≡ t (rowAt m i) (keptAt m i))
         × (x .soonest ≤ g (rowAt m i) .now .due)))
-        → ((i : ℕ) → i < n → test i ≡ true → (hear (g (rowAt m i)) ≡ step (g (rowAt m i)))
-        × ((b : Before) → hear-save (g (rowAt m i)) b ≡ save (g (rowAt m i)) b))
-        → Heard x
+        → ((i : ℕ) → i < n → test i ≡ true → (apply (g (rowAt m i)) ≡ step (g (rowAt m i)))
+        × ((b : Before) → apply-save (g (rowAt m i)) b ≡ save (g (rowAt m i)) b))
+        → Applied x
     list-steps x g t same made no-matter nor-kept others own =
         let rows-are : x .monitor .rows ≡ mapFirst n g (m .rows) = ap (λ (y : Monitor). y .rows) made in
         let kept-are : x .monitor .before ≡ zipFirst n t (m .rows) (m .before) = ap (λ (y : Monitor). y .before) made in
@@ -176,16 +176,16 @@ module _ (c : Lent) (ix : Indexes c) (o : Occurrence) (above : 0 < c .monitor .c
         subst (λ (r : Row). (step r ≡ r) × ((save r (keptAt (x .monitor) i) ≡ keptAt (x .monitor) i) × (x .soonest ≤ r .now .due))) (sym (at i k))
         (subst (λ (b : Before). (step (g (rowAt m i)) ≡ g (rowAt m i)) × ((save (g (rowAt m i)) b ≡ b) × (x .soonest ≤ g (rowAt m i) .now .due)))
         (sym (too i k)) (others i k out))) in
-        let same-list = list-visited x same ∙ visits-same hear step hear-save save test x n (λ i k is-own.
-        subst (λ (r : Row). (hear r ≡ step r) × (hear-save r (keptAt (x .monitor) i) ≡ save r (keptAt (x .monitor) i))) (sym (at i k))
+        let same-list = list-visited x same ∙ visits-same apply step apply-save save test x n (λ i k is-own.
+        subst (λ (r : Row). (apply r ≡ step r) × (apply-save r (keptAt (x .monitor) i) ≡ save r (keptAt (x .monitor) i))) (sym (at i k))
         (own i k is-own .0, own i k is-own .1 (keptAt (x .monitor) i))) in
         let beside-x = visits-beside step save (numbers test n) x in
-        let after : (i : ℕ) → i < n → test i ≡ true → hear (rowAt (x .monitor) i) ≡ step (rowAt m i) = λ i k is-own.
-        ap hear (at i k) ∙ own i k is-own .0 ∙ no-matter (rowAt m i) in
-        let room-is : room-after x ≡ rooms hear hear-save x (x .room) (numbers test n) =
+        let after : (i : ℕ) → i < n → test i ≡ true → apply (rowAt (x .monitor) i) ≡ step (rowAt m i) = λ i k is-own.
+        ap apply (at i k) ∙ own i k is-own .0 ∙ no-matter (rowAt m i) in
+        let room-is : room-after x ≡ rooms apply apply-save x (x .room) (numbers test n) =
         list-rooms o (m .count) x first count
-        ∙ ap (rooms hear hear-save x (x .room)) (same-named c x (same .entries-are) first count ∙ list-is) in
-        let free = room-left hear hear-save test x (x .room) (subst (λ (k : ℕ). k ≤ 1) (sym (same .room-is)) (ix .roomy .room-mark)) n there
+        ∙ ap (rooms apply apply-save x (x .room)) (same-named c x (same .entries-are) first count ∙ list-is) in
+        let free = room-left apply apply-save test x (x .room) (subst (λ (k : ℕ). k ≤ 1) (sym (same .room-is)) (ix .roomy .room-mark)) n there
         (λ i k is-own. subst (λ (r : Row). r .now .len ≤ 64) (sym (after i k is-own)) (step-few (rowAt m i) o (m .count) (ix .roomy .now-few i k))) in
         record {
           stepped = record {
@@ -194,9 +194,9 @@ module _ (c : Lent) (ix : Indexes c) (o : Occurrence) (above : 0 < c .monitor .c
                 ∙ ap (λ (rows : List Row). withRows m rows (zipFirst n save (mapFirst n g (m .rows)) (zipFirst n t (m .rows) (m .before))))
                 (map-twice step g no-matter n (m .rows))
                 ∙ ap (withRows m (mapFirst n step (m .rows))) (zip-twice save t g nor-kept n (m .rows) (m .before));
-            heeds = λ i k. subst (λ (y : Lent). y .soonest ≤ step (rowAt m i) .now .due) (sym same-list)
+            due-below = λ i k. subst (λ (y : Lent). y .soonest ≤ step (rowAt m i) .now .due) (sym same-list)
                 (subst (λ (r : Row). visits step save x (numbers test n) .soonest ≤ r .now .due) (ap step (at i k) ∙ no-matter (rowAt m i))
-                (v .heeds i k));
+                (v .due-below i k));
             beside = subst (Beside c) (sym same-list) (record {
               room-is = beside-x .room-is ∙ same .room-is;
               ends-are = beside-x .ends-are ∙ same .ends-are;
@@ -204,16 +204,16 @@ module _ (c : Lent) (ix : Indexes c) (o : Occurrence) (above : 0 < c .monitor .c
             });
           };
           less = subst (λ (k : ℕ). k ≤ c .room) (sym room-is)
-              (subst (λ (k : ℕ). rooms hear hear-save x (x .room) (numbers test n) ≤ k) (same .room-is) (free .0));
+              (subst (λ (k : ℕ). rooms apply apply-save x (x .room) (numbers test n) ≤ k) (same .room-is) (free .0));
           fits = λ i k is-own. subst (λ (room : ℕ). takenIn (rowAt m i .rule) (step (rowAt m i) .now .len) + room ≤ 64) (sym room-is)
-              (subst (λ (rule : Rule). takenIn rule (step (rowAt m i) .now .len) + rooms hear hear-save x (x .room) (numbers test n) ≤ 64)
+              (subst (λ (rule : Rule). takenIn rule (step (rowAt m i) .now .len) + rooms apply apply-save x (x .room) (numbers test n) ≤ 64)
               (rule-stays (rowAt m i) o (m .count))
-              (subst (λ (r : Row). taken (r .rule) (r .now) + rooms hear hear-save x (x .room) (numbers test n) ≤ 64) (after i k is-own)
+              (subst (λ (r : Row). taken (r .rule) (r .now) + rooms apply apply-save x (x .room) (numbers test n) ≤ 64) (after i k is-own)
               (free .1 i k is-own)));
         }
 
     -- the clock can go to no row, as none is due before a time
-    not-late : (s : ℕ) → o .closes ≡ false → ltb s (o .time) ≡ false → ((i : ℕ) → i < n → s ≤ rowAt m i .now .due) → Heard (withSoonest c s)
+    not-late : (s : ℕ) → o .closes ≡ false → ltb s (o .time) ≡ false → ((i : ℕ) → i < n → s ≤ rowAt m i .now .due) → Applied (withSoonest c s)
     not-late s going e least =
         list-steps (withSoonest c s) (λ r. r) (λ r b. b) (record { room-is = refl; ends-are = refl; entries-are = refl })
         (sym (ap (λ (rows : List Row). withRows m rows (zipFirst n (λ r b. b) (m .rows) (m .before))) (map-none n (m .rows))
@@ -223,13 +223,13 @@ module _ (c : Lent) (ix : Indexes c) (o : Occurrence) (above : 0 < c .monitor .c
         let unmoved : movesBy (rowAt m i .rule) (rowAt m i .now) o ≡ false = unconcerned (rowAt m i) o out
         ∙ no-ends (rowAt m i) o going (in-time i k) in
         (still (rowAt m i) o (m .count) unmoved, (unsaved o (m .count) (rowAt m i) (keptAt m i) unmoved, least i k)))
-        (λ i k is-own. heard-moved o (m .count) (rowAt m i) is-own (λ _. (in-time i k, room i k)))
+        (λ i k is-own. applied-moved o (m .count) (rowAt m i) is-own (λ _. (in-time i k, room i k)))
       where
         in-time : (i : ℕ) → i < n → ltb (rowAt m i .now .due) (o .time) ≡ false
         in-time i k = le-ltb (rowAt m i .now .due) (o .time) (omega (arith, ltb-false s (o .time) e, least i k))
 
     -- the rows to which the clock or the close goes come first
-    pub some-late : Heard (withSoonest (ended c n o (m .count)) 0)
+    pub some-late : Applied (withSoonest (ended c n o (m .count)) 0)
     some-late =
         let b = ended-beside c n o (m .count) in
         list-steps (withSoonest (ended c n o (m .count)) 0) (late o (m .count)) (late-saves o (m .count))
@@ -237,13 +237,13 @@ module _ (c : Lent) (ix : Indexes c) (o : Occurrence) (above : 0 < c .monitor .c
         (ended-rows c o (m .count) (kept-whole ∙ sym whole) n (omega (arith, whole))) (late-first o (m .count) above)
         (late-saves-first o (m .count) above)
         (λ i k out. (late-still o (m .count) above (rowAt m i) out, (late-unsaved o (m .count) above (rowAt m i) (keptAt m i) out, omega arith)))
-        (λ i k is-own. heard-late o (m .count) above (rowAt m i) is-own (room i k))
+        (λ i k is-own. applied-late o (m .count) above (rowAt m i) is-own (room i k))
 
-    pub all-stepped : o .closes ≡ false → Heard (begun c o)
+    pub all-stepped : o .closes ≡ false → Applied (begun c o)
     all-stepped going =
-        split (ltb (c .soonest) (o .time)) (λ b. ltb (c .soonest) (o .time) ≡ b → Heard (cond b (passed c o) c))
+        split (ltb (c .soonest) (o .time)) (λ b. ltb (c .soonest) (o .time) ≡ b → Applied (cond b (passed c o) c))
         (λ _ _. split (ltb (soonestAll c) (o .time))
-        (λ b. ltb (soonestAll c) (o .time) ≡ b → Heard (cond b (withSoonest (ended c n o (m .count)) 0) (withSoonest c (soonestAll c))))
+        (λ b. ltb (soonestAll c) (o .time) ≡ b → Applied (cond b (withSoonest (ended c n o (m .count)) 0) (withSoonest c (soonestAll c))))
         (λ _ _. some-late) (λ _ e. not-late (soonestAll c) going e (soonest-least (m .rows) n)) refl)
         (λ _ e. not-late (c .soonest) going e (ix .no-sooner)) refl
 
@@ -311,6 +311,6 @@ module _ (c : Lent) (ix : Indexes c) (o : Occurrence) (above : 0 < c .monitor .c
               ∙ same-numbers (isOf m kind) (isOf (x .monitor) kind) n (same-kinds kind) ∙ ap (numbers (isOf (x .monitor) kind)) (sym held-is);
           no-ticks = each (λ i. isOf (x .monitor) noEvent i ≡ false) (λ i k. sym (same-kinds noEvent i k) ∙ ix .no-ticks i k);
           no-sooner = each (λ i. x .soonest ≤ dueAt (x .monitor) i)
-              (λ i k. subst (λ (r : Row). x .soonest ≤ r .now .due) (sym (row-is i k)) (st .heeds i k));
+              (λ i k. subst (λ (r : Row). x .soonest ≤ r .now .due) (sym (row-is i k)) (st .due-below i k));
           roomy = few;
         }

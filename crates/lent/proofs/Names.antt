@@ -12,7 +12,7 @@ pub use Rattle.lent.specs.Contract.{Indexes, Roomy, Sound, Takes, isOf, 
 pub use Rattle.lent.specs.Layout.{Lent, Shaped, Words, dueAt, endOf, halves, heldRows, keptAt, lastBlocks, numberArray, numberBlock, rowAt}
 pub use Rattle.lent.specs.Layout.{rowNamed, startOf}
 pub use Rattle.lent.specs.Steps.{OnStream, Stores, answerTo, backRows, backed, begun, countedMonitor, countedOn, countedTo, crowded, crowdedAt}
-pub use Rattle.lent.specs.Steps.{crowdedOn, endAt, ended, fullest, heardOn, leaves, leftAfter, leftOn, nextNumber, numberOf, passed, refusalOf}
+pub use Rattle.lent.specs.Steps.{crowdedOn, endAt, ended, fullest, appliedOn, leaves, leftAfter, leftOn, nextNumber, numberOf, passed, refusalOf}
 pub use Rattle.lent.specs.Steps.{roomAfter, roomFor, roomed, rowCount, soonestAll, soonestOf, uncountedMonitor, visitAt, visited, withClosed}
 pub use Rattle.lent.specs.Steps.{withMonitor, withNext, withRoom, withRow, withSoonest, withdrawnLent}
 pub use Rattle.machine.specs.{Parts.plus, declared.Rule.Rule, declared.State.State}
@@ -23,7 +23,7 @@ pub use Rattle.monitor.specs.Machine.{nextFor, nextStep, noRow, refuses, steppe
 pub use Rattle.monitor.specs.{Contract.Steps, Parts.rowsWithout, Parts.withRows, declared.Monitor.Monitor}
 pub use Rattle.questions.specs.{Questions.occurrenceBy, Questions.ownRefusal, Questions.placeIn, Questions.timeRefusal, declared.Undo.Undo}
 pub use Rattle.queue.proofs.Shared.{cond-false, cond-true}
-pub use Rattle.row.proofs.Apart.{kept-state, rule-stays, saved-ended, saved-few, saved-heard, saved-state, step-ended, step-few, step-heard}
+pub use Rattle.row.proofs.Apart.{kept-state, rule-stays, saved-ended, saved-few, saved-applied, saved-state, step-ended, step-few, step-applied}
 pub use Rattle.row.proofs.Apart.{without-state}
 pub use Rattle.row.proofs.Filling.{quiet-taken, room-fits, room-free, room-less, taken, taken-few, taken-rises}
 pub use Rattle.row.proofs.Kept.{rest-zero-ended, rest-zero-event, rest-zero-keeps, rest-zero-without}
@@ -31,7 +31,7 @@ pub use Rattle.row.proofs.{Crowding.crowds, Crowding.full-known, Crowding.step-
 pub use Rattle.row.specs.Machine.{brokenState, closeAt, concerns, eventAt, noEvent, rowFrom, tickAt}
 pub use Rattle.row.specs.Stored.{RestZero, endedRow, endedSaves, eventRow, eventSaves, filledIn, larger, roomIn}
 pub use Rattle.row.specs.Undo.{keptWithout, noBefore, noState, savedAt, savedRow}
-pub use Rattle.row.specs.{Apart.heardBefore, Apart.heardRow, declared.Before.Before, declared.Occurrence.Occurrence, declared.Row.Row}
+pub use Rattle.row.specs.{Apart.appliedBefore, Apart.appliedRow, declared.Before.Before, declared.Occurrence.Occurrence, declared.Row.Row}
 unfoldable pub use Rattle.lent.specs.Layout.{rowBlocks, wordsOf}
 unfoldable pub use Rattle.machine.specs.Words.{numberWords, rowWords}
 unfoldable pub use Rattle.monitor.specs.Machine.{anyFirst, mapFirst, stepOf, takenCall, withdrawOf, withdrawn, zipFirst}

@@ -5,7 +5,7 @@ use Rattle.lent.proofs.Names.{cond, countedOn, crowdedOn, crowds, event
 use Rattle.lent.proofs.Names.{nextStep, numbers, occurrenceBy, plus, quiet-taken, refl, refuses, roomFor, roomed, rowAt, rowCount, rowStep}
 use Rattle.lent.proofs.Names.{set, split, startOf, stream, sym, takenCall, takenIn, takes, visited, ℕ}
 use Rattle.lent.proofs.Counted.{Answered, all-rows, renumbered-indexes, takenFrom, undoAt}
-use Rattle.lent.proofs.{Hearing.moved, Hearing.saves, Listing.all-stepped, Listing.same-named, Listing.step-indexes, Parts.shaped-begun}
+use Rattle.lent.proofs.{Concerned.moved, Concerned.saves, Listing.all-stepped, Listing.same-named, Listing.step-indexes, Parts.shaped-begun}
 use Rattle.lent.proofs.{Parts.shaped-visited, Room.crowd-known, Room.each-free, Room.roomed-roomy, Room.step-crowd}
 use Rattle.monitor.specs.Machine as Machine
 use Rattle.lent.proofs.Listing as Listing
@@ -52,20 +52,20 @@ module _ (h : Lent) (ix : Indexes h) (call : Call) (kind stream time : ℕ) (sma
     free : (i : ℕ) → i < heldRows m → crowds o (rowAt m i) ≡ false
     free = each-free m o (ix .shaped .rows-there) (sym (crowd-known h ix kind stream time small kind-is) ∙ none)
 
-    heard : Listing.Heard c counted o above (startOf h kind) (rowCount h kind) list-is free (begun c o)
-    heard = all-stepped c counted o above (startOf h kind) (rowCount h kind) list-is free refl
+    after-event : Listing.Applied c counted o above (startOf h kind) (rowCount h kind) list-is free (begun c o)
+    after-event = all-stepped c counted o above (startOf h kind) (rowCount h kind) list-is free refl
 
     taken-monitor : left .monitor ≡ takenCall m call
     taken-monitor =
-        heard .stepped .monitor-is ∙ all-rows (c .monitor) (moved o (nextStep m)) (saves o (nextStep m)) (ix .shaped .rows-there) ∙ sym taken-is
+        after-event .stepped .monitor-is ∙ all-rows (c .monitor) (moved o (nextStep m)) (saves o (nextStep m)) (ix .shaped .rows-there) ∙ sym taken-is
 
     -- a place is free in each row where there is room: one of the kind was looked at, and any other has taken none
     fits : (i : ℕ) → i < heldRows m → takenIn (rowAt m i .rule) (moved o (nextStep m) (rowAt m i) .now .len) + left .room ≤ 64
     fits i l =
         split (isOf m (o .kind) i) (λ b. isOf m (o .kind) i ≡ b
         → takenIn (rowAt m i .rule) (moved o (nextStep m) (rowAt m i) .now .len) + left .room ≤ 64)
-        (λ _ e. heard .fits i l e)
-        (λ _ e. less _ _ (left .room) (c .room) (quiet-taken (rowAt m i) o (nextStep m) e) (heard .less) (counted .roomy .now-room i l)) refl
+        (λ _ e. after-event .fits i l e)
+        (λ _ e. less _ _ (left .room) (c .room) (quiet-taken (rowAt m i) o (nextStep m) e) (after-event .less) (counted .roomy .now-room i l)) refl
       where
         less : (a b x y : ℕ) → a ≤ b → x ≤ y → b + y ≤ 64 → a + x ≤ 64
         less a b x y p q r = omega (arith, p, q, r)
@@ -76,5 +76,5 @@ module _ (h : Lent) (ix : Indexes h) (call : Call) (kind stream time : ℕ) (sma
       (λ _ e. (sym (ap (λ (b : Bool). cond b (refuses 12 m) (takes (takenCall m call))) (sym crowd-is ∙ e)), ix))
       (λ _ e. (
         ap takes (taken-monitor e) ∙ sym (ap (λ (b : Bool). cond b (refuses 12 m) (takes (takenCall m call))) (sym crowd-is ∙ e)),
-        step-indexes c counted o above _ wide (heard e .stepped) (left .room) (heard e .less) (fits e),
+        step-indexes c counted o above _ wide (after-event e .stepped) (left .room) (after-event e .less) (fits e),
       )) refl

@@ -201,16 +201,16 @@ abbrev pub crowdedOn : Lent → ℕ → ℕ → ℕ → Bool
 crowdedOn h kind stream time = cond (ltb 0 (h .room)) false (crowded h (startOf h kind) (rowCount h kind) stream time)
 
 -- the rows of a kind after an event of it, and whether there is room
-abbrev pub heardOn : Lent → ℕ → ℕ → Occurrence → ℕ → Lent
-heardOn h first n o number = withRoom (visited h first n o number) (roomAfter h first n o number)
+abbrev pub appliedOn : Lent → ℕ → ℕ → Occurrence → ℕ → Lent
+appliedOn h first n o number = withRoom (visited h first n o number) (roomAfter h first n o number)
 
 -- those of a kind, by the step that the count says
 abbrev pub eventOn : ℕ → ℕ → ℕ → Lent → Lent
-eventOn kind stream t h = heardOn h (startOf h kind) (rowCount h kind) (eventAt stream t) (h .monitor .count)
+eventOn kind stream t h = appliedOn h (startOf h kind) (rowCount h kind) (eventAt stream t) (h .monitor .count)
 
 abbrev pub leftOn : Lent → ℕ → ℕ → ℕ → Lent
 leftOn h kind stream time =
-    heardOn (begun (countedOn (roomed h) stream time) (eventAt stream time)) (startOf h kind) (rowCount h kind) (eventAt stream time) (nextNumber h)
+    appliedOn (begun (countedOn (roomed h) stream time) (eventAt stream time)) (startOf h kind) (rowCount h kind) (eventAt stream time) (nextNumber h)
 
 -- what the question on words promises: where a row is crowded nothing is stored, else the mark for room
 pub record Asks (entry : Words) (kind stream time : ℕ) (crowds : Bool) (exit : Words) : Type 0 where

@@ -15,7 +15,7 @@ ghost use Prim.Native.Nat.{_-_, _<_, _≤_};
 ghost use mathlib.Core.Path.{_≡_};
 ghost use Rattle.row.specs.Machine.{eventAt};
 ghost use Rattle.lent.specs.Layout.{Lent, wordsOf, Shaped, rowNamed, startOf, endOf};
-ghost use Rattle.lent.specs.Steps.{Turns, heardOn, eventOn, ended, soonestOf, crowded, fullest, backed, rowCount};
+ghost use Rattle.lent.specs.Steps.{Turns, appliedOn, eventOn, ended, soonestOf, crowded, fullest, backed, rowCount};
 
 // The row that an entry names, whatever the word is.
 fn named(m: &Words, place: usize) -> usize
@@ -51,7 +51,7 @@ fn start_of(m: &Words, kind: usize) -> usize
 // The rows that the entries from a first to an end name, after an event that concerns them, which is the step of that number.
 fn visits(m: &mut Words, first: usize, end: usize, stream: u64, t: u64, number: u64)
     requires { ⌜ end ≤ 128 ⌝ }
-    ensures { λ _. ⌜ Turns (now (m .entry)) (λ h. heardOn h first (end - first) (eventAt stream t) number) (now (m .exit)) ⌝ }
+    ensures { λ _. ⌜ Turns (now (m .entry)) (λ h. appliedOn h first (end - first) (eventAt stream t) number) (now (m .exit)) ⌝ }
 {
     let mut soonest = m[NUMBERS][0][SOONEST];
     let mut room = m[NUMBERS][0][ROOM];

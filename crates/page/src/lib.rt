@@ -158,7 +158,7 @@ fn put_rows<'a>(
     }
 }
 
-// How many rows are told of so many: no more than 32.
+// Of how many rows something is said: no more than 32.
 pub fn held(rows: usize) -> usize
     ensures { λ r. ⌜ r ≡ min rows rowLimit ⌝ }
 {

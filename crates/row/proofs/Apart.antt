@@ -1,5 +1,5 @@
 -- The step of a row is what its parts make of it: an open row that is overdue, or that the close finds, is ended; one that an event concerns
--- hears it; and no step leaves more than 64 waiting, nor does a withdrawal.
+-- applies it; and no step leaves more than 64 waiting, nor does a withdrawal.
 use Rattle.constraint.proofs.Library.{ℕ, _+_, _≤_, arith, _≡_, refl, sym, _∙_, ap, Bool, true, false, cond, _&&_, ltb, eqb, length, set, ltb-true}
 use Rattle.constraint.specs.Limits.{waitingLimit}
 use Rattle.constraint.proofs.Lists.{split, both}
@@ -11,28 +11,28 @@ use Rattle.machine.specs.declared.Rule.{Rule}
 use Rattle.machine.specs.declared.State.{State}
 use Rattle.row.specs.Machine.{concerns, rowFrom, itemsOf, brokenState, brokenRow, applied, stays, crowding, changedRow, rowStep}
 use Rattle.row.specs.Undo.{movesBy, stepPlace, savedAt, savedRow, savedBy, backRow, rowWithout, keptWithout, noBefore, noState}
-use Rattle.row.specs.Apart.{endsBy, endedState, changeBy, heardRow, heardBefore, steppedRow}
+use Rattle.row.specs.Apart.{endsBy, endedState, changeBy, appliedRow, appliedBefore, steppedRow}
 use Rattle.row.specs.declared.Before.{Before}
 use Rattle.row.specs.declared.Occurrence.{Occurrence}
 use Rattle.row.specs.declared.Row.{Row}
 use Rattle.row.specs.declared.RowStep.{RowStep}
 use Rattle.row.proofs.Crowding.{step-by}
 
--- ---- a row that hears an event
+-- ---- a row that applies an event
 
 module _ (r : Row) (o : Occurrence) (number : ℕ) (unbroken : ltb 0 (r .now .broken) ≡ false) (in-time : ltb (r .now .due) (o .time) ≡ false)
     (concerned : concerns (r .rule) (o .kind) ≡ true) where
-  pub step-heard : rowStep r o number .crowded ≡ false → rowStep r o number .row ≡ heardRow r o number
+  pub step-applied : rowStep r o number .crowded ≡ false → rowStep r o number .row ≡ appliedRow r o number
   unfolding steppedRow
-  step-heard room = ap (λ (s : RowStep). s .row) (step-by r o number false room) ∙ rw (unbroken, in-time, concerned)
+  step-applied room = ap (λ (s : RowStep). s .row) (step-by r o number false room) ∙ rw (unbroken, in-time, concerned)
 
   always : (b : Bool) → cond b true true ≡ true
   always true = refl
   always false = refl
 
-  pub saved-heard : (b : Before) → savedBy o number r b ≡ heardBefore r o number
+  pub saved-applied : (b : Before) → savedBy o number r b ≡ appliedBefore r o number
   unfolding savedBy movesBy stepPlace
-  saved-heard b = rw (unbroken, in-time, concerned, always (o .closes))
+  saved-applied b = rw (unbroken, in-time, concerned, always (o .closes))
 
 -- ---- a row that the clock or the close ends
 

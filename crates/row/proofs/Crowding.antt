@@ -110,8 +110,8 @@ unfolding crowdedBy
 crowded-known r o few =
     split (concerns (r .rule) (o .kind)) (λ own. concerns (r .rule) (o .kind) ≡ own
     → cond own (fullFor (r .rule) (r .now) (o .stream) (o .time)) false ≡ crowds o r)
-    (λ _ own. full-known r o few own) (λ _ other. sym (rw other (not-heard (ltb 0 (r .now .broken)) (ltb (r .now .due) (o .time))))) refl
+    (λ _ own. full-known r o few own) (λ _ other. sym (rw other (not-applied (ltb 0 (r .now .broken)) (ltb (r .now .due) (o .time))))) refl
   where
-    not-heard : (broken late : Bool) → cond broken false (cond late false false) ≡ false
-    not-heard true late = refl
-    not-heard false late = neither late
+    not-applied : (broken late : Bool) → cond broken false (cond late false false) ≡ false
+    not-applied true late = refl
+    not-applied false late = neither late

@@ -12,8 +12,8 @@ use Rattle.row.specs.declared.Occurrence.{Occurrence}
 use Rattle.row.specs.declared.Row.{Row}
 use Rattle.row.specs.Machine.{concerns, rowFrom, rowOf, itemsOf, brokenState, brokenRow, applied}
 use Rattle.row.specs.Undo.{noBefore, savedAt, backRow, rowWithout, keptWithout}
-use Rattle.row.specs.Apart.{endsBy, endedState, changeBy, withChange, heardRow, writesAt, heardBefore}
-use Rattle.row.specs.Stored.{keptMarks, keptAtPlace, heardKeeps, eventRow, eventSaves, eventKeeps, endedRow, endedSaves, Unused, RestZero}
+use Rattle.row.specs.Apart.{endsBy, endedState, changeBy, withChange, appliedRow, writesAt, appliedBefore}
+use Rattle.row.specs.Stored.{keptMarks, keptAtPlace, appliedKeeps, eventRow, eventSaves, eventKeeps, endedRow, endedSaves, Unused, RestZero}
 use Rattle.row.proofs.Machines.{fits}
 
 -- ---- the marks that a type keeps
@@ -53,20 +53,20 @@ module _ (r : Row) (b : Before) where
         stamp = number;
       }
 
-  heard-all : (o : Occurrence) (number : ℕ) → KeepsWhole → heardKeeps r b o number ≡ heardBefore r o number
-  unfolding heardKeeps
-  heard-all o number whole =
+  applied-all : (o : Occurrence) (number : ℕ) → KeepsWhole → appliedKeeps r b o number ≡ appliedBefore r o number
+  unfolding appliedKeeps
+  applied-all o number whole =
       split (changeBy r o .breaks)
-      (λ x. cond x (heardBefore r o number) (keptAtPlace r b (writesAt r o) number) ≡ heardBefore r o number)
+      (λ x. cond x (appliedBefore r o number) (keptAtPlace r b (writesAt r o) number) ≡ appliedBefore r o number)
       (λ _. refl) (λ _. kept-all (writesAt r o) number whole)
 
   pub event-keeps-all : (o : Occurrence) (number : ℕ) → KeepsWhole → eventKeeps o number r b ≡ eventSaves o number r b
-  event-keeps-all o number whole = ap (λ (x : Before). cond (eqb (r .now .broken) 0) x b) (heard-all o number whole)
+  event-keeps-all o number whole = ap (λ (x : Before). cond (eqb (r .now .broken) 0) x b) (applied-all o number whole)
 
   pub rest-zero-keeps : (o : Occurrence) (number : ℕ) → RestZero r b → eventKeeps o number r b ≡ eventSaves o number r b
   rest-zero-keeps o number f =
-      split (eqb (r .now .broken) 0) (λ x. cond x (heardKeeps r b o number) b ≡ cond x (heardBefore r o number) b)
-      (λ e. heard-all o number (marks, f .past-open ∙ sym (eqb-true (r .now .broken) 0 e))) (λ _. refl)
+      split (eqb (r .now .broken) 0) (λ x. cond x (appliedKeeps r b o number) b ≡ cond x (appliedBefore r o number) b)
+      (λ e. applied-all o number (marks, f .past-open ∙ sym (eqb-true (r .now .broken) 0 e))) (λ _. refl)
     where
       marks : keptMarks (r .rule .form) (r .now .marks) (b .state .marks) ≡ r .now .marks
       marks =
@@ -75,11 +75,11 @@ module _ (r : Row) (b : Before) where
 
   -- ---- it stays so
 
-  heard-rest-zero : (o : Occurrence) (number : ℕ) → RestZero r b → r .now .broken ≡ 0 → RestZero (heardRow r o number) (heardBefore r o number)
+  applied-rest-zero : (o : Occurrence) (number : ℕ) → RestZero r b → r .now .broken ≡ 0 → RestZero (appliedRow r o number) (appliedBefore r o number)
   unfolding withChange brokenRow applied
-  heard-rest-zero o number f is-open =
+  applied-rest-zero o number f is-open =
       split (changeBy r o .breaks)
-      (λ x. RestZero (cond x (brokenRow r number) (applied r (changeBy r o))) (heardBefore r o number))
+      (λ x. RestZero (cond x (brokenRow r number) (applied r (changeBy r o))) (appliedBefore r o number))
       (λ _. record { now-unused = none-unused (r .rule .form); past-unused = f .now-unused; past-open = is-open })
       (λ _.
       record {
@@ -90,8 +90,8 @@ module _ (r : Row) (b : Before) where
 
   pub rest-zero-event : (o : Occurrence) (number : ℕ) → RestZero r b → RestZero (eventRow o number r) (eventSaves o number r b)
   rest-zero-event o number f =
-      split (eqb (r .now .broken) 0) (λ x. RestZero (cond x (heardRow r o number) r) (cond x (heardBefore r o number) b))
-      (λ e. heard-rest-zero o number f (eqb-true (r .now .broken) 0 e)) (λ _. f)
+      split (eqb (r .now .broken) 0) (λ x. RestZero (cond x (appliedRow r o number) r) (cond x (appliedBefore r o number) b))
+      (λ e. applied-rest-zero o number f (eqb-true (r .now .broken) 0 e)) (λ _. f)
 
   ends-open : (o : Occurrence) → endsBy (r .rule) (r .now) o ≡ true → r .now .broken ≡ 0
   unfolding endsBy

@@ -12,7 +12,7 @@ use Rattle.row.specs.declared.Occurrence.{Occurrence}
 use Rattle.row.specs.declared.Row.{Row}
 use Rattle.row.specs.Machine.{concerns, rowFrom, mark, brokenState, brokenRow, applied, eventAt}
 use Rattle.row.specs.Undo.{movesBy, stepPlace, savedAt, savedBy}
-use Rattle.row.specs.Apart.{endsBy, endedState, withChange, heardRow, writesAt, steppedRow}
+use Rattle.row.specs.Apart.{endsBy, endedState, withChange, appliedRow, writesAt, steppedRow}
 use Rattle.row.specs.Stored.{pastOf, wordsOf, keptMarks, keptAtPlace, eventRow, eventSaves, eventKeeps, endedRow, endedSaves, stepKeeps}
 use Rattle.row.proofs.Kept.{KeepsWhole, event-keeps-all}
 
@@ -50,16 +50,16 @@ module _ (r : Row) (o : Occurrence) (number : ℕ) (b : Before) where
   abbrev with-state : State → Row
   with-state = rowFrom (r .rule) (r .times)
 
-  ended-row : (broken late own closes unkept : Bool) (heard : Row) (x y : State) → cond late false own ≡ false
+  ended-row : (broken late own closes unkept : Bool) (after-event : Row) (x y : State) → cond late false own ≡ false
       → cond (cond broken false (cond late true (cond closes (cond own false true) false))) (with-state (cond late x (cond unkept x y)))
       (with-state y)
-      ≡ cond broken (with-state y) (cond late (with-state x) (cond own heard (cond (closes && unkept) (with-state x) (with-state y))))
-  ended-row true late own closes unkept heard x y e = refl
-  ended-row false true own closes unkept heard x y e = refl
-  ended-row false false true closes unkept heard x y e = both e
-  ended-row false false false true true heard x y e = refl
-  ended-row false false false true false heard x y e = refl
-  ended-row false false false false unkept heard x y e = refl
+      ≡ cond broken (with-state y) (cond late (with-state x) (cond own after-event (cond (closes && unkept) (with-state x) (with-state y))))
+  ended-row true late own closes unkept after-event x y e = refl
+  ended-row false true own closes unkept after-event x y e = refl
+  ended-row false false true closes unkept after-event x y e = both e
+  ended-row false false false true true after-event x y e = refl
+  ended-row false false false true false after-event x y e = refl
+  ended-row false false false false unkept after-event x y e = refl
 
   ended-saves : (broken late own closes : Bool) (place : ℕ) → cond late false own ≡ false
       → cond (cond broken false (cond late true (cond closes (cond own false true) false))) (savedAt r 0 number) b
@@ -75,34 +75,34 @@ module _ (r : Row) (o : Occurrence) (number : ℕ) (b : Before) where
   unfolding endsBy endedState brokenRow steppedRow
   stepped-ended =
       ended-row (ltb 0 (r .now .broken)) (ltb (r .now .due) (o .time)) (concerns (r .rule) (o .kind)) (o .closes) (eqb (r .now .kept) 0)
-      (heardRow r o number) (brokenState number) (r .now)
+      (appliedRow r o number) (brokenState number) (r .now)
 
   saved-ended : cond (ltb (r .now .due) (o .time)) false (concerns (r .rule) (o .kind)) ≡ false → endedSaves o number r b ≡ savedBy o number r b
   unfolding endsBy savedBy movesBy stepPlace
   saved-ended =
       ended-saves (ltb 0 (r .now .broken)) (ltb (r .now .due) (o .time)) (concerns (r .rule) (o .kind)) (o .closes) (writesAt r o)
 
-  heard-row : (broken : Bool) (heard : Row) → cond (cond broken false true) heard r ≡ cond broken r heard
-  heard-row true heard = refl
-  heard-row false heard = refl
+  applied-row : (broken : Bool) (after-event : Row) → cond (cond broken false true) after-event r ≡ cond broken r after-event
+  applied-row true after-event = refl
+  applied-row false after-event = refl
 
-  heard-saves : (broken closes : Bool) (place : ℕ) → cond (cond broken false true) (savedAt r place number) b
+  applied-saves : (broken closes : Bool) (place : ℕ) → cond (cond broken false true) (savedAt r place number) b
       ≡ cond (cond broken false (cond closes true true)) (savedAt r (cond broken 0 place) number) b
-  heard-saves true closes place = refl
-  heard-saves false true place = refl
-  heard-saves false false place = refl
+  applied-saves true closes place = refl
+  applied-saves false true place = refl
+  applied-saves false false place = refl
 
   -- any other
-  pub stepped-heard : ltb (r .now .due) (o .time) ≡ false → concerns (r .rule) (o .kind) ≡ true
+  pub stepped-applied : ltb (r .now .due) (o .time) ≡ false → concerns (r .rule) (o .kind) ≡ true
       → eventRow (eventAt (o .stream) (o .time)) number r ≡ steppedRow o number r
   unfolding steppedRow
-  stepped-heard early own = rw (early, own, not-zero (r .now .broken)) (heard-row (ltb 0 (r .now .broken)) (heardRow r o number))
+  stepped-applied early own = rw (early, own, not-zero (r .now .broken)) (applied-row (ltb 0 (r .now .broken)) (appliedRow r o number))
 
-  saved-heard : ltb (r .now .due) (o .time) ≡ false → concerns (r .rule) (o .kind) ≡ true
+  saved-applied : ltb (r .now .due) (o .time) ≡ false → concerns (r .rule) (o .kind) ≡ true
       → eventSaves (eventAt (o .stream) (o .time)) number r b ≡ savedBy o number r b
   unfolding savedBy movesBy stepPlace
-  saved-heard early own =
-      rw (early, own, not-zero (r .now .broken)) (heard-saves (ltb 0 (r .now .broken)) (o .closes) (writesAt r o))
+  saved-applied early own =
+      rw (early, own, not-zero (r .now .broken)) (applied-saves (ltb 0 (r .now .broken)) (o .closes) (writesAt r o))
 
   -- where the words keep all that the row was, they do so after what occurs
   pub step-keeps-all : KeepsWhole r b → stepKeeps o number r b ≡ savedBy o number r b
@@ -113,7 +113,7 @@ module _ (r : Row) (o : Occurrence) (number : ℕ) (b : Before) where
       ≡ savedBy o number r b)
       (λ e. saved-ended (ap (λ (x : Bool). cond x false own) e))
       (λ e. split own (λ x. cond x (eventKeeps (eventAt (o .stream) (o .time)) number r b) (endedSaves o number r b) ≡ savedBy o number r b)
-      (λ is. event-keeps-all r b (eventAt (o .stream) (o .time)) number whole ∙ saved-heard e is)
+      (λ is. event-keeps-all r b (eventAt (o .stream) (o .time)) number whole ∙ saved-applied e is)
       (λ other. saved-ended (ap (λ (x : Bool). cond x false own) e ∙ other)))
     where
       late : Bool

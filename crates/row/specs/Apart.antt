@@ -33,8 +33,8 @@ unfoldable pub crowdedBy : Rule → State → Occurrence → Bool
 crowdedBy rule now o = cond (concerns rule (o .kind)) (fullFor rule now (o .stream) (o .time)) false
 
 -- an event goes to the row: to an open one that is not overdue, and that it concerns
-abbrev pub heardBy : Rule → State → Occurrence → Bool
-heardBy rule now o = cond (ltb 0 (now .broken)) false (cond (ltb (now .due) (o .time)) false (concerns rule (o .kind)))
+abbrev pub appliesBy : Rule → State → Occurrence → Bool
+appliesBy rule now o = cond (ltb 0 (now .broken)) false (cond (ltb (now .due) (o .time)) false (concerns rule (o .kind)))
 
 -- ---- the clock and the close
 
@@ -58,15 +58,15 @@ unfoldable pub withChange : Row → Change → ℕ → Row
 withChange r change number = cond (change .breaks) (brokenRow r number) (applied r change)
 
 -- the row after an event that concerns it, where it is not overdue and has room
-abbrev pub heardRow : Row → Occurrence → ℕ → Row
-heardRow r o number = withChange r (changeBy r o) number
+abbrev pub appliedRow : Row → Occurrence → ℕ → Row
+appliedRow r o number = withChange r (changeBy r o) number
 
 -- where the event writes into the row's ring, and what the row was before it
 abbrev pub writesAt : Row → Occurrence → ℕ
 writesAt r o = editPlace (changeBy r o .edit) (ringOf (r .times) (r .now .head) (r .now .len))
 
-abbrev pub heardBefore : Row → Occurrence → ℕ → Before
-heardBefore r o number = savedAt r (writesAt r o) number
+abbrev pub appliedBefore : Row → Occurrence → ℕ → Before
+appliedBefore r o number = savedAt r (writesAt r o) number
 
 -- ---- what occurs
 
@@ -75,6 +75,6 @@ unfoldable pub steppedRow : Occurrence → ℕ → Row → Row
 steppedRow o number r =
     cond (ltb 0 (r .now .broken)) r
     (cond (ltb (r .now .due) (o .time)) (brokenRow r number)
-    (cond (concerns (r .rule) (o .kind)) (heardRow r o number)
+    (cond (concerns (r .rule) (o .kind)) (appliedRow r o number)
     (cond (o .closes && eqb (r .now .kept) 0) (brokenRow r number)
     r)))

@@ -16,7 +16,7 @@ use Rattle.row.specs.declared.Occurrence.{Occurrence}
 use Rattle.row.specs.declared.Row.{Row}
 use Rattle.row.specs.Machine.{machineOf, decide, concerns, rowFrom, eventAt}
 use Rattle.row.specs.Undo.{noBefore, savedAt, rowWithout, keptWithout}
-use Rattle.row.specs.Apart.{endsBy, endedState, changeBy, heardRow, writesAt, heardBefore}
+use Rattle.row.specs.Apart.{endsBy, endedState, changeBy, appliedRow, writesAt, appliedBefore}
 
 -- what is kept of a row, as its words have it
 abbrev pub pastOf : Before → Past
@@ -37,10 +37,10 @@ stateAt w =
 -- ---- what an event makes of a row that it concerns: a broken one stays as it is
 
 abbrev pub eventRow : Occurrence → ℕ → Row → Row
-eventRow o number r = cond (eqb (r .now .broken) 0) (heardRow r o number) r
+eventRow o number r = cond (eqb (r .now .broken) 0) (appliedRow r o number) r
 
 abbrev pub eventSaves : Occurrence → ℕ → Row → Before → Before
-eventSaves o number r b = cond (eqb (r .now .broken) 0) (heardBefore r o number) b
+eventSaves o number r b = cond (eqb (r .now .broken) 0) (appliedBefore r o number) b
 
 -- ---- what the words keep then: of the marks only those that the row's type changes, and not that it was open
 
@@ -68,11 +68,11 @@ keptAtPlace r b place number =
     }
 
 -- of a row that breaks all is kept
-unfoldable pub heardKeeps : Row → Before → Occurrence → ℕ → Before
-heardKeeps r b o number = cond (changeBy r o .breaks) (heardBefore r o number) (keptAtPlace r b (writesAt r o) number)
+unfoldable pub appliedKeeps : Row → Before → Occurrence → ℕ → Before
+appliedKeeps r b o number = cond (changeBy r o .breaks) (appliedBefore r o number) (keptAtPlace r b (writesAt r o) number)
 
 abbrev pub eventKeeps : Occurrence → ℕ → Row → Before → Before
-eventKeeps o number r b = cond (eqb (r .now .broken) 0) (heardKeeps r b o number) b
+eventKeeps o number r b = cond (eqb (r .now .broken) 0) (appliedKeeps r b o number) b
 
 -- marks in which what the type of that number never changes is 0
 abbrev pub Unused : ℕ → Marks → Type 0

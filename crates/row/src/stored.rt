@@ -33,7 +33,7 @@ ghost use Rattle.machine.specs.Words.{Past, askedOf, numberWords, NumbersBecome
 ghost use Rattle.machine.specs.declared.Rule.{Rule};
 ghost use Rattle.machine.specs.declared.State.{State};
 ghost use Rattle.row.specs.Undo.{noState, noBefore};
-ghost use Rattle.row.specs.Apart.{fills, fullFor, crowdedBy, heardBy, steppedRow};
+ghost use Rattle.row.specs.Apart.{fills, fullFor, crowdedBy, appliesBy, steppedRow};
 ghost use Rattle.row.specs.Machine.{eventAt, rowOf, rowStep};
 ghost use Rattle.row.specs.declared.Before.{Before};
 ghost use Rattle.row.specs.declared.Row.{Row};
@@ -310,8 +310,8 @@ pub fn crowds(row: &[[u64; SIZE]; 2], o: Occurrence) -> bool
 }
 
 // Whether an event goes to the row: to an open one that is not overdue, and that it concerns.
-fn hears(row: &[[u64; SIZE]; 2], o: Occurrence) -> bool
-    ensures { λ r. ⌜ ((w : Row) (b : Before) → now (row .entry) ≡ wordsOf w b → r ≡ heardBy (w .rule) (w .now) o) ⌝ }
+fn applies_event(row: &[[u64; SIZE]; 2], o: Occurrence) -> bool
+    ensures { λ r. ⌜ ((w : Row) (b : Before) → now (row .entry) ≡ wordsOf w b → r ≡ appliesBy (w .rule) (w .now) o) ⌝ }
 {
     if 0 < row[1][words::BROKEN] {
         return false;
@@ -328,7 +328,7 @@ pub fn crowded(row: &[[u64; SIZE]; 2], o: Occurrence) -> bool
     ensures { λ r. ⌜ ((w : Row) (b : Before) (number : ℕ) → now (row .entry) ≡ wordsOf w b → r ≡ rowStep w o number .crowded) ⌝ }
 {
     if WAITING_LIMIT < row[1][words::LEN] as usize {
-        return hears(row, o);
+        return applies_event(row, o);
     }
     crowds(row, o)
 }

@@ -1,7 +1,7 @@
--- Before the close nothing is written; after it, what the summary of the monitor tells.
+-- Before the close nothing is written; after it, what the summary of the monitor says.
 use Rattle.constraint.proofs.Library.{arith, now, ap, needs}
 use Rattle.page.specs.declared.Summary.{Summary}
-use Rattle.delkuthi.proofs.Telling.{reports-unclosed, reports-closed}
+use Rattle.delkuthi.proofs.Reports.{reports-unclosed, reports-closed}
 use Rattle.delkuthi.proofs.delkuthi_report_of.Statement.{statement}
 use Rattle.delkuthi.proofs.delkuthi_report_of.Tie as tie
 

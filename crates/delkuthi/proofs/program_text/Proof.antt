@@ -1,7 +1,7 @@
 -- The two sizes are asked for first, and then the report.
 use Rattle.constraint.proofs.Library.{arith, needs, ltb-true, ltb-false, ⊎-elim}
 use Rattle.delkuthi.specs.Program.{too-large, fits}
-use Rattle.delkuthi.proofs.Telling.{holds-refusal, report-told}
+use Rattle.delkuthi.proofs.Reports.{holds-refusal, summary-report}
 use Rattle.delkuthi.proofs.program_text.Statement.{statement}
 use Rattle.delkuthi.proofs.program_text.Tie as tie
 
@@ -17,8 +17,8 @@ returns c =
 returns-2 : tie.Need-returns-2
 returns-2 c =
     let at-summary = c .before in
-    let told = report-told (at-summary .summary-of .result) (at-summary .before .before .answer-on .ensures) (at-summary .summary-of .ensures) in
-    record { bytes = _; said = fits (omega arith) (omega (arith, ltb-false)) told; holds = c .text-of .ensures }
+    let made = summary-report (at-summary .summary-of .result) (at-summary .before .before .answer-on .ensures) (at-summary .summary-of .ensures) in
+    record { bytes = _; said = fits (omega arith) (omega (arith, ltb-false)) made; holds = c .text-of .ensures }
 
 pub program-text-spec : {M : Type 1} → statement M
 program-text-spec =

@@ -349,13 +349,13 @@ module _ (start stop preempt resume lower upper : ℕ) (sound : Sound (Execution
       (λ stands. fails (λ h. stands .0 (rw (append-nil past) h)))
       (keeps .stands [])
 
-  told : {P : Type 0} {b : Bool} → Tells P b → b ≡ true → P
-  told (holds p) e = p
-  told (fails n) e = both (sym e)
+  tells-true : {P : Type 0} {b : Bool} → Tells P b → b ≡ true → P
+  tells-true (holds p) e = p
+  tells-true (fails n) e = both (sym e)
 
-  told-not : {P : Type 0} {b : Bool} → Tells P b → b ≡ false → ¬ P
-  told-not (holds p) e = both e
-  told-not (fails n) e = n
+  tells-false : {P : Type 0} {b : Bool} → Tells P b → b ≡ false → ¬ P
+  tells-false (holds p) e = both e
+  tells-false (fails n) e = n
 
   -- ---- Exact
 
@@ -377,8 +377,8 @@ module _ (start stop preempt resume lower upper : ℕ) (sound : Sound (Execution
             (rw (clock-tick _ _, own-tick ks _ _) (λ further first. too-late _ _ _ _ live passed recordable further first));
         is-open = λ p o live soon. is-open _ _ _ o live soon;
         waits = λ p live. (refl, omega (arith, ap length (live .no-times)));
-        is-kept = λ p live soon e. meets-of _ (told (at-close _ _ _ live) e);
-        not-kept = λ p live e m. told-not (at-close _ _ _ live) e (of-meets _ m);
+        is-kept = λ p live soon e. meets-of _ (tells-true (at-close _ _ _ live) e);
+        not-kept = λ p live e m. tells-false (at-close _ _ _ live) e (of-meets _ m);
       }
 
 -- ---- In a row

@@ -30,9 +30,9 @@ returns-2 : tie.Need-returns-2
 returns-2 c =
     let at-pass = c .before .before in
     let at-row = at-pass .before in
-    let told = at-row .before in
-    let args = told .before .before .before .before .before .args in
-    answer-recording (now (args .table)) (now (args .recording)) (args .row) (args .late) _ (rows-read told) _ (rows-held told)
+    let seen = at-row .before in
+    let args = seen .before .before .before .before .before .args in
+    answer-recording (now (args .table)) (now (args .recording)) (args .row) (args .late) _ (rows-read seen) _ (rows-held seen)
     (at-row .row-of .result) (at-row .row-of .ensures)
     (at-pass .pass .result) (at-pass .pass .ensures) (c .if1 .taken)
 
@@ -40,9 +40,9 @@ returns-3 : tie.Need-returns-3
 returns-3 c =
     let at-pass = c .before .before .before .before in
     let at-row = at-pass .before in
-    let told = at-row .before in
-    let args = told .before .before .before .before .before .args in
-    answer-row (now (args .table)) (now (args .recording)) (args .row) (args .late) _ (rows-read told) _ (rows-held told) (at-row .row-of .result)
+    let seen = at-row .before in
+    let args = seen .before .before .before .before .before .args in
+    answer-row (now (args .table)) (now (args .recording)) (args .row) (args .late) _ (rows-read seen) _ (rows-held seen) (at-row .row-of .result)
     (at-row .row-of .ensures)
     (at-pass .pass .result) (at-pass .pass .ensures) (omega (arith, c .before .before .if1 .left)) (c .if2 .taken)
 
@@ -50,9 +50,9 @@ returns-4 : tie.Need-returns-4
 returns-4 c =
     let at-pass = c .before .before .before .before .before in
     let at-row = at-pass .before in
-    let told = at-row .before in
-    let args = told .before .before .before .before .before .args in
-    answer-range (now (args .table)) (now (args .recording)) (args .row) (args .late) _ (rows-read told) _ (rows-held told) (at-row .row-of .result)
+    let seen = at-row .before in
+    let args = seen .before .before .before .before .before .args in
+    answer-range (now (args .table)) (now (args .recording)) (args .row) (args .late) _ (rows-read seen) _ (rows-held seen) (at-row .row-of .result)
     (at-row .row-of .ensures)
     (at-pass .pass .result) (at-pass .pass .ensures) (omega (arith, c .before .before .before .if1 .left)) (omega (arith, c .before .if2 .left))
     (c .if3 .taken)
@@ -61,9 +61,9 @@ returns-5 : tie.Need-returns-5
 returns-5 c =
     let at-pass = c .before .before .before .before .before in
     let at-row = at-pass .before in
-    let told = at-row .before in
-    let args = told .before .before .before .before .before .args in
-    answer-reads (now (args .table)) (now (args .recording)) (args .row) (args .late) _ (rows-read told) _ (rows-held told) (at-row .row-of .result)
+    let seen = at-row .before in
+    let args = seen .before .before .before .before .before .args in
+    answer-reads (now (args .table)) (now (args .recording)) (args .row) (args .late) _ (rows-read seen) _ (rows-held seen) (at-row .row-of .result)
     (at-row .row-of .ensures)
     (at-pass .pass .result) (at-pass .pass .ensures) (omega (arith, c .before .before .before .if1 .left)) (omega (arith, c .before .if2 .left))
     (c .if3 .left)

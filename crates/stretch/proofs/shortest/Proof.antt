@@ -33,26 +33,26 @@ gather-requires c κs = (refl, refl)
 returns-2 : tie.Need-returns-2
 returns-2 c =
     let at-gather = c .before .before in
-    let told = at-gather .before .before .before in
-    no-recording _ _ _ (rows-read told) (at-gather .gather .ensures .refused (c .if1 .taken))
+    let at-enum = at-gather .before .before .before in
+    no-recording _ _ _ (rows-read at-enum) (at-gather .gather .ensures .refused (c .if1 .taken))
 
 returns-3 : tie.Need-returns-3
 returns-3 c =
     let at-gather = c .before .before .before in
-    let told = at-gather .before .before .before in
+    let at-enum = at-gather .before .before .before in
     let taken = at-gather .gather .ensures .taken (omega (arith, c .before .if1 .left)) in
-    answers _ (taken .0) (rows-read told) (taken .1) (too-many _ (taken .0) _ _ (taken .2) (c .if2 .taken))
+    answers _ (taken .0) (rows-read at-enum) (taken .1) (too-many _ (taken .0) _ _ (taken .2) (c .if2 .taken))
 
 returns-4 : tie.Need-returns-4
 returns-4 c =
     let passed = c .before .before .before .before in
     let at-gather = passed .before .before .before in
-    let told = at-gather .before .before .before in
-    let begun = told .before .before .before .before .before in
+    let at-enum = at-gather .before .before .before in
+    let begun = at-enum .before .before .before .before .before in
     let taken = at-gather .gather .ensures .taken (omega (arith, passed .before .if1 .left)) in
-    let rows = rowsOf (told .before .before .read .result .table) in
-    answers rows (taken .0) (rows-read told) (taken .1)
-    (c .ask-row .ensures rows (taken .0) (rows-held told) (_, read-accepted (now (begun .args .table)) rows (rows-read told))
+    let rows = rowsOf (at-enum .before .before .read .result .table) in
+    answers rows (taken .0) (rows-read at-enum) (taken .1)
+    (c .ask-row .ensures rows (taken .0) (rows-held at-enum) (_, read-accepted (now (begun .args .table)) rows (rows-read at-enum))
     (run-of (now (begun .args .recording)) _ _ (taken .0) _ (taken .1) (taken .2) (taken .3) (passed .if2 .left)))
 
 pub shortest-spec : {M : Type 1} → statement M

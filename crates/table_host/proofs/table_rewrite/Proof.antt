@@ -8,12 +8,12 @@ use Rattle.table_host.proofs.table_rewrite.Tie as tie
 returns : tie.Need-returns
 returns c =
     let at-write = c .before .before .before in
-    let at-told = at-write .before .before in
-    let at-read = at-told .before .before .before in
+    let at-enum = at-write .before .before in
+    let at-read = at-enum .before .before .before in
     let edition = at-read .before .byte-at in
     let bytes = now (at-read .before .before .before .before .args .bytes) in
     let r = at-read .read in
-    rewritten _ (reads-as bytes (r .result) _ (at-told .enum-told .given .1) (r .ensures))
+    rewritten _ (reads-as bytes (r .result) _ (at-enum .enum-told .given .1) (r .ensures))
     (record { answer = _; writes = rw (edition .ensures) at (at-write .write .ensures); code = c .write-code .ensures })
 
 returns-2 : tie.Need-returns-2

@@ -14,26 +14,26 @@ numberOf Taken = 0
 numberOf (Refused n) = n
 
 -- the number of its answer says the answer
-abbrev Told : Stepped → Type 0
-Told s = answerFrom (numberOf (s .answer)) ≡ s .answer
+abbrev Numbered : Stepped → Type 0
+Numbered s = answerFrom (numberOf (s .answer)) ≡ s .answer
 
-told-by : (m : Monitor) (call : Call) (n : ℕ) → Told (steppedBy m call n)
-told-by m call zero = by-crowd (crowds m call)
+numbered-by : (m : Monitor) (call : Call) (n : ℕ) → Numbered (steppedBy m call n)
+numbered-by m call zero = by-crowd (crowds m call)
   where
-    by-crowd : (b : Bool) → Told (cond b (refuses 12 m) (takes (takenCall m call)))
+    by-crowd : (b : Bool) → Numbered (cond b (refuses 12 m) (takes (takenCall m call)))
     by-crowd true = refl
     by-crowd false = refl
-told-by m call (suc n) = subst Told (refused-by m call (suc n) (omega arith)) refl
+numbered-by m call (suc n) = subst Numbered (refused-by m call (suc n) (omega arith)) refl
 
-step-told : (m : Monitor) (call : Call) → Told (stepOf m call)
+step-numbered : (m : Monitor) (call : Call) → Numbered (stepOf m call)
 unfolding stepOf
-step-told m call = told-by m call (refusalFor m call)
+step-numbered m call = numbered-by m call (refusalFor m call)
 
 numbered : (m : Monitor) (call : Call) (s : Stepped) (n : ℕ) → Steps m (asks call) s → n ≡ numberOf (s .answer)
     → Steps m (asks call) (steppedFrom n (s .monitor))
 numbered m call s n steps e =
     subst (λ (a : Answer). Steps m (asks call) (record { answer = a; monitor = s .monitor }))
-    (sym (ap answerFrom e ∙ subst Told (sym (steps .equals)) (step-told m call))) steps
+    (sym (ap answerFrom e ∙ subst Numbered (sym (steps .equals)) (step-numbered m call))) steps
 
 returns : tie.Need-returns
 returns c =

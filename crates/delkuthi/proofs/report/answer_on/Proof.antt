@@ -1,7 +1,7 @@
 -- A table that is accepted has begun the monitor, and the recording is put to it; one that is refused has left all as it was.
 use Rattle.constraint.proofs.Library.{[], arith, now, needs}
 use Rattle.monitor.specs.Contract.{after}
-use Rattle.delkuthi.proofs.Telling.{begun-over, left-used, left-unused}
+use Rattle.delkuthi.proofs.Reports.{begun-over, left-used, left-unused}
 use Rattle.delkuthi.proofs.report.answer_on.Statement.{statement}
 use Rattle.delkuthi.proofs.report.answer_on.Tie as tie
 

@@ -1,6 +1,6 @@
--- What is written is what the summary of the monitor tells that has taken the recording.
+-- What is written is what the summary of the monitor says that has taken the recording.
 use borrow.Author.Needs.{needs}
-use Rattle.delkuthi.proofs.Telling.{reports-on}
+use Rattle.delkuthi.proofs.Reports.{reports-on}
 use Rattle.delkuthi.proofs.report.report_on.Statement.{statement}
 use Rattle.delkuthi.proofs.report.report_on.Tie as tie
 

@@ -4,7 +4,7 @@ use Rattle.constraint.proofs.Library.{now}
 use Rattle.constraint.specs.Report.{rowLines}
 use Rattle.text.specs.Content.{extended}
 use Rattle.page.specs.Sheet.{verdictFor}
-use Rattle.delkuthi.proofs.Telling.{lines-next}
+use Rattle.delkuthi.proofs.Reports.{lines-next}
 use Rattle.delkuthi.proofs.report.row_lines.Statement.{statement}
 use Rattle.delkuthi.proofs.report.row_lines.Tie as tie
 
@@ -22,10 +22,10 @@ loop-again c =
     let start = at-loop .before .before in
     let args = start .args in
     let row = at-loop .loop .row in
-    let told = take (args .rows) (now (args .steps)) in
-    let there : row < length told = omega (arith, length-take (args .rows) (now (args .steps)), start .pre) in
+    let taken-steps = take (args .rows) (now (args .steps)) in
+    let there : row < length taken-steps = omega (arith, length-take (args .rows) (now (args .steps)), start .pre) in
     let next = rw (getD-take (args .rows) (now (args .steps)) row 0 (omega arith)) at
-    (lines-next (verdictFor (args .closed)) told row (at-loop .loop .lines) there) in
+    (lines-next (verdictFor (args .closed)) taken-steps row (at-loop .loop .lines) there) in
     (omega arith, rw (c .row-line .ensures, c .before .verdict .ensures) (next ∙ at-loop .loop .inv .1))
 
 returns : tie.Need-returns Inv-loop μ-loop
@@ -33,9 +33,9 @@ unfolding rowLines extended
 returns c =
     let loop = c .before .loop in
     let args = c .before .before .before .args in
-    let told = take (args .rows) (now (args .steps)) in
-    let over : length told ≤ loop .row = omega (arith, length-take (args .rows) (now (args .steps))) in
-    rw (drop-of-length-le told {i = loop .row} over) at (loop .inv .1)
+    let taken-steps = take (args .rows) (now (args .steps)) in
+    let over : length taken-steps ≤ loop .row = omega (arith, length-take (args .rows) (now (args .steps))) in
+    rw (drop-of-length-le taken-steps {i = loop .row} over) at (loop .inv .1)
 
 pub row-lines-spec : {M : Type 1} → statement M
 row-lines-spec =

@@ -51,6 +51,7 @@ returns c n holds =
 pub summary-of-spec : {M : Type 1} → statement M
 summary-of-spec =
     tie.close (tie.spec Inv-loop μ-loop (λ c. (omega arith, λ n holds. (refl, refl))) (λ c. omega arith) (λ c. omega arith) (λ c. search needs) (λ c.
-    search needs) (λ c. omega arith) (λ c. omega arith) (λ c. omega arith) (λ c. omega arith) (λ c. search needs) (λ c. search needs) (λ c. omega arith)
+    search needs) (λ c. omega arith) (λ c. omega arith)
+    (λ c. omega arith) (λ c. omega arith) (λ c. search needs) (λ c. search needs) (λ c. omega arith)
     (λ c. omega arith) (λ c. omega arith) (λ c. omega arith) loop-again (λ c κs. search needs) (λ c. search needs) (λ c. search needs) (λ c. search
     needs) (λ c κs. search needs) returns)

@@ -1,6 +1,6 @@
 -- The lines are those of the answer, behind an empty text.
 use borrow.Author.Needs.{needs}
-use Rattle.delkuthi.proofs.Telling.{holds-closed, holds-refusal}
+use Rattle.delkuthi.proofs.Reports.{holds-closed, holds-refusal}
 use Rattle.delkuthi.proofs.report.text_of.Statement.{statement}
 use Rattle.delkuthi.proofs.report.text_of.Tie as tie
 

@@ -1,5 +1,5 @@
 -- Where the event crowds a row nothing is stored; else the numbers, the rows to which the clock goes, and the rows of its kind, one after the other.
-use Rattle.lent.proofs.Names.{_∙_, _≡_, ap, begun, countedOn, crowdedOn, eventAt, false, heardOn, needs, refl, roomFor, roomed, sym, true}
+use Rattle.lent.proofs.Names.{_∙_, _≡_, ap, begun, countedOn, crowdedOn, eventAt, false, appliedOn, needs, refl, roomFor, roomed, sym, true}
 use Rattle.lent.proofs.Names.{wordsOf}
 use Rattle.lent.proofs.Parts.{begun-alone, begun-count, begun-ends, same-rows, shaped-begun, shaped-counted, shaped-room}
 use Rattle.lent.proofs.calls.event_on.Statement.{statement}
@@ -36,7 +36,7 @@ returns-2 c =
           let rows = same-rows h₂ h (begun-ends h₁ o) (a .kind) in (
             rw none-crowds refl,
             rw none-crowds
-                (c .visits-of .ensures h₂ began wide₂ ∙ (λ j. wordsOf (heardOn h₂ (rows .0 j) (rows .1 j) o (begun-count h₁ o j)))),
+                (c .visits-of .ensures h₂ began wide₂ ∙ (λ j. wordsOf (appliedOn h₂ (rows .0 j) (rows .1 j) o (begun-count h₁ o j)))),
           );
     }
 

@@ -1,6 +1,6 @@
 -- Entry after entry: before the turn of a place the rows of the entries before it have taken the event; the soonest time is kept beside, and stored
 -- at the end.
-use Rattle.lent.proofs.Names.{Lent, List, Shaped, Words, [], _+_, _-_, _<_, _∙_, _≡_, _≤_, ap, ap₂, arith, eventAt, getD, heardOn, keptAt, min}
+use Rattle.lent.proofs.Names.{Lent, List, Shaped, Words, [], _+_, _-_, _<_, _∙_, _≡_, _≤_, ap, ap₂, arith, eventAt, getD, appliedOn, keptAt, min}
 use Rattle.lent.proofs.Names.{needs, now, numberWords, rest-zero-event, rest-zero-keeps, roomAfter, rowAt, rowNamed, rowWords, set, suc}
 use Rattle.lent.proofs.Names.{visitAt, visited, withSoonest, wordsOf, ℕ}
 use Rattle.lent.proofs.Parts.{number-at, room-written, shaped-row, shaped-soonest, shaped-visited, soonest-written, visited-named}
@@ -100,7 +100,7 @@ returns c h e s =
     ∙ soonest-written (withSoonest x (h .soonest)) (shaped-soonest x (h .soonest) wide) (x .soonest) in
     ap₂ (λ (m : Words) (t : ℕ). set m 32 (set (getD m 32 []) 0 (set (getD (getD m 32 []) 0 []) 11 t))) soonest (so-far .1 .1)
     ∙ room-written x wide (roomAfter h (a .first) j o (a .number))
-    ∙ ap (λ (k : ℕ). wordsOf (heardOn h (a .first) k o (a .number))) at-end
+    ∙ ap (λ (k : ℕ). wordsOf (appliedOn h (a .first) k o (a .number))) at-end
 
 pub visits-spec : {M : Type 1} → statement M
 visits-spec =

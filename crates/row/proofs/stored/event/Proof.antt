@@ -3,13 +3,13 @@ use Rattle.constraint.proofs.Library.{sym, ap, _∙_, [], getD, eq-eqb, ne-eqb,
 use Rattle.machine.specs.Words.{rowWords, numberWords}
 use Rattle.row.specs.Apart.{changeBy}
 use Rattle.row.specs.Machine.{eventAt}
-use Rattle.row.specs.Stored.{pastOf, wordsOf, heardKeeps}
+use Rattle.row.specs.Stored.{pastOf, wordsOf, appliedKeeps}
 use Rattle.row.proofs.Laid.{changed-words}
 use Rattle.row.proofs.stored.event.Statement.{statement}
 use Rattle.row.proofs.stored.event.Tie as tie
 
 returns : tie.Need-returns
-unfolding wordsOf rowWords numberWords heardKeeps
+unfolding wordsOf rowWords numberWords appliedKeeps
 returns c r b e =
     let i = c .before .before in
     let a = i .before .before .args in

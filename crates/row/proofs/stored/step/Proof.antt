@@ -1,10 +1,10 @@
--- An overdue row and one that is not concerned are ended, and any other hears the event.
+-- An overdue row and one that is not concerned are ended, and any other applies the event.
 use Rattle.constraint.proofs.Library.{ℕ, _≡_, refl, sym, ap, _∙_, Bool, true, false, cond, List, [], getD, ltb, lt-ltb, le-ltb, needs}
 use Rattle.machine.specs.Words.{rowWords, numberWords, ruleAt}
 use Rattle.row.specs.Machine.{concerns, eventAt}
 use Rattle.row.specs.Stored.{wordsOf, eventKeeps, endedSaves, stepKeeps}
 use Rattle.row.specs.declared.Row.{Row}
-use Rattle.row.proofs.Laid.{stepped-ended, stepped-heard}
+use Rattle.row.proofs.Laid.{stepped-ended, stepped-applied}
 use Rattle.row.proofs.stored.step.Statement.{statement}
 use Rattle.row.proofs.stored.step.Tie as tie
 
@@ -42,7 +42,8 @@ returns-2 c r b e =
     ∙ sym (k .before .concerns .ensures) ∙ k .if2 .taken in
     rw (early, own)
     (c .event .ensures r b e
-    ∙ ap (λ (x : Row). wordsOf x (eventKeeps (eventAt (a .o .stream) (a .o .time)) (a .number) r b)) (stepped-heard r (a .o) (a .number) b early own))
+    ∙ ap (λ (x : Row). wordsOf x (eventKeeps (eventAt (a .o .stream) (a .o .time)) (a .number) r b))
+    (stepped-applied r (a .o) (a .number) b early own))
 
 returns-3 : tie.Need-returns-3
 unfolding wordsOf rowWords numberWords stepKeeps

@@ -28,8 +28,8 @@ returns-2 c =
 
 returns-3 : tie.Need-returns-3
 returns-3 c =
-    let at-told = c .before in
-    let at-judge = at-told .before .before in
+    let at-enum = c .before in
+    let at-judge = at-enum .before .before in
     let at-first = at-judge .before .before in
     let at-known = at-first .before in
     let a = at-known .before .before .before .args in
@@ -38,19 +38,19 @@ returns-3 c =
     (at-first .first-rows .ensures)
     (omega (arith, at-judge .before .if1 .left, found .whole)) (c .if2 .taken)
     (found .last (c .if2 .taken) (omega (arith, at-judge .before .if1 .left, found .whole)))
-    (rw (at-told .enum-told .given .1) at (at-judge .judge .ensures))
+    (rw (at-enum .enum-told .given .1) at (at-judge .judge .ensures))
 
 returns-4 : tie.Need-returns-4
 returns-4 c =
-    let at-told = c .before in
-    let at-judge = at-told .before .before in
+    let at-enum = c .before in
+    let at-judge = at-enum .before .before in
     let at-first = at-judge .before .before in
     let at-known = at-first .before in
     let a = at-known .before .before .before .args in
     full-refused (a .edition) (now (a .rows)) (now (a .buffer)) (at-known .known-rows .result) (at-first .first-rows .result)
     (at-first .first-rows .ensures)
     (omega (arith, at-judge .before .if1 .left, at-known .known-rows .ensures .whole)) (c .if2 .left)
-    (rw (at-told .enum-told .given .1) at (at-judge .judge .ensures))
+    (rw (at-enum .enum-told .given .1) at (at-judge .judge .ensures))
 
 pub write-spec : {M : Type 1} → statement M
 write-spec =

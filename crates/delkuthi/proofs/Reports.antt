@@ -28,10 +28,10 @@ use Rattle.lent.specs.Contract.{Holds}
 use Rattle.fresh.specs.Fresh.{freshLent, BeginsUpTo, begun, refused}
 use Rattle.page.specs.declared.Summary.{Summary}
 use Rattle.delkuthi.specs.Taking.{TakesRecords}
-use Rattle.delkuthi.specs.Reporting.{LeftBy, unused, used, ReportsOnUpTo, ReportsSteps, unclosed, told, ReportsOf}
-use Rattle.delkuthi.specs.Telling.{refusalOf, summaryOf, verdictsIn, reportText}
+use Rattle.delkuthi.specs.Reporting.{LeftBy, unused, used, ReportsOnUpTo, ReportsSteps, unclosed, reported, ReportsOf}
+use Rattle.delkuthi.specs.Summary.{refusalOf, summaryOf, verdictsIn, reportText}
 use Rattle.delkuthi.proofs.Taking.{took-follows}
-use Rattle.delkuthi.proofs.Summaries.{verdicts-few, each-told, made-follows}
+use Rattle.delkuthi.proofs.Summaries.{verdicts-few, each-summarized, made-follows}
 
 -- ---- the text
 
@@ -92,15 +92,15 @@ module _ {newest : ℕ} (table : List ℕ) (before : Words) where
 
 -- ---- the report
 
--- what is told is the report
-pub report-told : {newest : ℕ} {before after : Words} {table recording : List ℕ} {answer : ReadAnswer} (summary : Summary)
+-- what is said of the summary is the report
+pub summary-report : {newest : ℕ} {before after : Words} {table recording : List ℕ} {answer : ReadAnswer} (summary : Summary)
     → LeftBy newest before table recording answer after → ((m : Monitor) → Holds after m → summary ≡ summaryOf m)
     → ReportOfUpTo newest table recording (reportText answer summary)
-report-told summary (unused n place read) is = no-table n place read
-report-told summary (used rows Accepted after m read (steps, reads, took) holds) is =
+summary-report summary (unused n place read) is = no-table n place read
+summary-report summary (used rows Accepted after m read (steps, reads, took) holds) is =
     let f = took-follows rows (steps ++ (close ∷ [])) m took in
-    rw (is m holds, f .count-is) (all-taken rows steps (verdictsIn (summaryOf m)) read reads (each-told rows (steps ++ (close ∷ [])) m f))
-report-told summary (used rows (Refused n place) after m read (steps, before, took, reads) holds) is = no-recording rows n place read reads
+    rw (is m holds, f .count-is) (all-taken rows steps (verdictsIn (summaryOf m)) read reads (each-summarized rows (steps ++ (close ∷ [])) m f))
+summary-report summary (used rows (Refused n place) after m read (steps, before, took, reads) holds) is = no-recording rows n place read reads
 
 -- and what is written of it, on a lent monitor
 pub reports-on : {newest : ℕ} {before after : Words} {table recording : List ℕ} {answer : ReadAnswer} (summary : Summary)
@@ -108,7 +108,7 @@ pub reports-on : {newest : ℕ} {before after : Words} {table recording : List �
     → ((m : Monitor) → Holds after m → summary ≡ summaryOf m)
     → Copied (reportText answer summary) buffer number written → ReportsOnUpTo newest before table recording buffer number written after
 reports-on summary {buffer} {number} {written} left is copied =
-    record { reports = copied-reports _ _ _ buffer number written (report-told summary left is) copied; answer = _; left-by = left }
+    record { reports = copied-reports _ _ _ buffer number written (summary-report summary left is) copied; answer = _; left-by = left }
 
 -- of a monitor that was stepped call by call: before the close nothing is written
 pub reports-unclosed : (m : Monitor) (before : List ℕ) → m .closed ≤ 0 → ReportsOf m before 0 before
@@ -127,17 +127,17 @@ reports-closed m before answer written shut copied =
           let f = a .2 in (
             a .0,
             a .1,
-            told (verdictsIn (summaryOf m)) (sym (f .closed-is) ∙ lt-ltb _ _ shut) (each-told rows (a .0 .steps) m f)
+            reported (verdictsIn (summaryOf m)) (sym (f .closed-is) ∙ lt-ltb _ _ shut) (each-summarized rows (a .0 .steps) m f)
                 (rw (f .count-is) at copied),
           );
     }
 
 -- which is that of a recording of the same steps
-pub told-reports : {newest : ℕ} (table recording : List ℕ) (rows : List Constraint) (steps : List Step) (buffer : List ℕ) (number : ℕ)
+pub reported-as-recorded : {newest : ℕ} (table recording : List ℕ) (rows : List Constraint) (steps : List Step) (buffer : List ℕ) (number : ℕ)
     (written : List ℕ) → ReadsTableUpTo newest table (table-of rows) → ReadsRecording rows recording (recording-of steps)
     → ReportsSteps rows (steps ++ (close ∷ [])) buffer number written → ReportsUpTo newest table recording buffer number written
-told-reports table recording rows steps buffer number written read taken (unclosed still) = let shut = closed-close steps in never (cc)
-told-reports table recording rows steps buffer number written read taken (told verdicts shut each copied) =
+reported-as-recorded table recording rows steps buffer number written read taken (unclosed still) = let shut = closed-close steps in never (cc)
+reported-as-recorded table recording rows steps buffer number written read taken (reported verdicts shut each copied) =
     copied-reports table recording (closedText (length (steps ++ (close ∷ []))) verdicts) buffer number written
     (all-taken rows steps verdicts read taken each) copied
 

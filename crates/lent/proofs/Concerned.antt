@@ -1,9 +1,9 @@
 -- A step of a row is what the clock and the close do to it, and then what an event does that concerns it: a row that is not concerned is changed
--- by the first part alone, and one that is hears the event, as it has room and is broken or in time.
+-- by the first part alone, and one that is applies the event, as it has room and is broken or in time.
 use Rattle.lent.proofs.Names.{Before, Bool, Occurrence, Row, Rule, _<_, _∙_, _≡_, _⊎_, ap, arith, both, brokenRow, brokenState, concerns, cond}
-use Rattle.lent.proofs.Names.{crowds, endedRow, endedSaves, endedState, endsBy, eq-eqb, eqb, eventRow, eventSaves, false, heardBefore}
-use Rattle.lent.proofs.Names.{heardRow, inl, inr, lt-ltb, ltb, ltb-false, ltb-true, movesBy, ne-eqb, refl, rowFrom, rowStep, rule-stays}
-use Rattle.lent.proofs.Names.{saved-ended, saved-heard, savedAt, savedBy, savedRow, split, step-crowds, step-ended, step-heard, still, subst}
+use Rattle.lent.proofs.Names.{crowds, endedRow, endedSaves, endedState, endsBy, eq-eqb, eqb, eventRow, eventSaves, false, appliedBefore}
+use Rattle.lent.proofs.Names.{appliedRow, inl, inr, lt-ltb, ltb, ltb-false, ltb-true, movesBy, ne-eqb, refl, rowFrom, rowStep, rule-stays}
+use Rattle.lent.proofs.Names.{saved-ended, saved-applied, savedAt, savedBy, savedRow, split, step-crowds, step-ended, step-applied, still, subst}
 use Rattle.lent.proofs.Names.{sym, true, ℕ, ⊎-elim}
 
 -- ---- what a step makes of a row
@@ -156,24 +156,25 @@ module _ (o : Occurrence) (number : ℕ) where
       split (ends r) (λ z. ends r ≡ z → saves (cond z (moved r) r) (cond z (saves r b) b) ≡ cond z (saves r b) b) (λ _ e. saves-once r b h e)
       (λ _ e. unsaved r b (unconcerned r o out ∙ e)) refl
 
-  -- ---- a row that hears the event
+  -- ---- a row that applies the event
 
-  -- what it hears is its step, where it is concerned and has room, and is broken or in time
-  pub heard-moved : (r : Row) → concerns (r .rule) (o .kind) ≡ true
+  -- what it applies is its step, where it is concerned and has room, and is broken or in time
+  pub applied-moved : (r : Row) → concerns (r .rule) (o .kind) ≡ true
       → (ltb 0 (r .now .broken) ≡ false → (ltb (r .now .due) (o .time) ≡ false) × (crowds o r ≡ false))
       → (eventRow o number r ≡ moved r) × ((b : Before) → eventSaves o number r b ≡ saves r b)
-  heard-moved r concerned when-open =
+  applied-moved r concerned when-open =
       split (ltb 0 (r .now .broken))
       (λ z. ltb 0 (r .now .broken) ≡ z → (eventRow o number r ≡ moved r) × ((b : Before) → eventSaves o number r b ≡ saves r b))
       (λ _ e. (
-        ap (λ (z : Bool). cond z (heardRow r o number) r) (not-zero (r .now .broken) e) ∙ sym (broken-stays r o number e),
-        λ b. ap (λ (z : Bool). cond z (heardBefore r o number) b) (not-zero (r .now .broken) e) ∙ sym (broken-unsaved r o number b e),
+        ap (λ (z : Bool). cond z (appliedRow r o number) r) (not-zero (r .now .broken) e) ∙ sym (broken-stays r o number e),
+        λ b. ap (λ (z : Bool). cond z (appliedBefore r o number) b) (not-zero (r .now .broken) e) ∙ sym (broken-unsaved r o number b e),
       ))
       (λ _ e.
       let so = when-open e in (
-        ap (λ (z : Bool). cond z (heardRow r o number) r) (is-zero (r .now .broken) e)
-            ∙ sym (step-heard r o number e (so .0) concerned (step-crowds r o number ∙ so .1)),
-        λ b. ap (λ (z : Bool). cond z (heardBefore r o number) b) (is-zero (r .now .broken) e) ∙ sym (saved-heard r o number e (so .0) concerned b),
+        ap (λ (z : Bool). cond z (appliedRow r o number) r) (is-zero (r .now .broken) e)
+            ∙ sym (step-applied r o number e (so .0) concerned (step-crowds r o number ∙ so .1)),
+        λ b. ap (λ (z : Bool). cond z (appliedBefore r o number) b) (is-zero (r .now .broken) e)
+            ∙ sym (saved-applied r o number e (so .0) concerned b),
       )) refl
 
   now-broken : (r : Row) → 0 < number → concerns (r .rule) (o .kind) ≡ true → ends r ≡ true → ltb 0 (moved r .now .broken) ≡ true
@@ -185,14 +186,14 @@ module _ (o : Occurrence) (number : ℕ) where
       (lt-ltb 0 number h)
 
   -- so too after that part
-  pub heard-late : 0 < number → (r : Row) → concerns (r .rule) (o .kind) ≡ true → crowds o r ≡ false
+  pub applied-late : 0 < number → (r : Row) → concerns (r .rule) (o .kind) ≡ true → crowds o r ≡ false
       → (eventRow o number (late r) ≡ moved (late r)) × ((b : Before) → eventSaves o number (late r) b ≡ saves (late r) b)
-  heard-late h r concerned room =
+  applied-late h r concerned room =
       split (ends r) (λ z. ends r ≡ z → (eventRow o number (cond z (moved r) r) ≡ moved (cond z (moved r) r))
       × ((b : Before) → eventSaves o number (cond z (moved r) r) b ≡ saves (cond z (moved r) r) b))
-      (λ _ e. heard-moved (moved r) (ap (λ (rule : Rule). concerns rule (o .kind)) (rule-stays r o number) ∙ concerned)
+      (λ _ e. applied-moved (moved r) (ap (λ (rule : Rule). concerns rule (o .kind)) (rule-stays r o number) ∙ concerned)
       (λ unbroken. both (sym (now-broken r h concerned e) ∙ unbroken)))
-      (λ _ e. heard-moved r concerned (λ unbroken. (open-in-time r o unbroken e, room))) refl
+      (λ _ e. applied-moved r concerned (λ unbroken. (open-in-time r o unbroken e, room))) refl
 
 -- one that is not concerned is not crowded
 calm-by : (a b : Bool) → cond a false (cond b false false) ≡ false

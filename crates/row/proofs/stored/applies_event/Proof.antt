@@ -1,33 +1,33 @@
 -- The tests are those of the definition, in their order, of the words that the row is.
 use Rattle.constraint.proofs.Library.{ℕ, _≡_, ap, _∙_, Bool, false, List, [], getD, lt-ltb, le-ltb, needs}
 use Rattle.machine.specs.Words.{rowWords, numberWords, ruleAt}
-use Rattle.row.specs.Apart.{heardBy}
+use Rattle.row.specs.Apart.{appliesBy}
 use Rattle.row.specs.Stored.{wordsOf, stateAt}
 use Rattle.row.specs.declared.Before.{Before}
 use Rattle.row.specs.declared.Occurrence.{Occurrence}
 use Rattle.row.specs.declared.Row.{Row}
-use Rattle.row.proofs.stored.hears.Statement.{statement}
-use Rattle.row.proofs.stored.hears.Tie as tie
+use Rattle.row.proofs.stored.applies_event.Statement.{statement}
+use Rattle.row.proofs.stored.applies_event.Tie as tie
 
 -- what is asked, of words
-abbrev heardAt : List (List ℕ) → Occurrence → Bool
-heardAt x o = heardBy (ruleAt (getD x 1 [])) (stateAt (getD x 1 [])) o
+abbrev appliedAt : List (List ℕ) → Occurrence → Bool
+appliedAt x o = appliesBy (ruleAt (getD x 1 [])) (stateAt (getD x 1 [])) o
 
-lies : (x : List (List ℕ)) (w : Row) (b : Before) (o : Occurrence) → x ≡ wordsOf w b → heardAt x o ≡ heardBy (w .rule) (w .now) o
+lies : (x : List (List ℕ)) (w : Row) (b : Before) (o : Occurrence) → x ≡ wordsOf w b → appliedAt x o ≡ appliesBy (w .rule) (w .now) o
 unfolding wordsOf rowWords numberWords
-lies x w b o e = ap (λ (y : List (List ℕ)). heardAt y o) e
+lies x w b o e = ap (λ (y : List (List ℕ)). appliedAt y o) e
 
 returns : tie.Need-returns
 returns c w b e =
     let a = c .before .before .args in
-    let asked : false ≡ heardAt (a .row .now) (a .o) = rw (lt-ltb _ _ (c .if1 .taken)) in
+    let asked : false ≡ appliedAt (a .row .now) (a .o) = rw (lt-ltb _ _ (c .if1 .taken)) in
     asked ∙ lies (a .row .now) w b (a .o) e
 
 returns-2 : tie.Need-returns-2
 returns-2 c w b e =
     let i = c .before .before .before in
     let a = i .before .before .args in
-    let asked : false ≡ heardAt (a .row .now) (a .o) = rw (le-ltb _ _ (i .if1 .left), lt-ltb _ _ (c .if2 .taken)) in
+    let asked : false ≡ appliedAt (a .row .now) (a .o) = rw (le-ltb _ _ (i .if1 .left), lt-ltb _ _ (c .if2 .taken)) in
     asked ∙ lies (a .row .now) w b (a .o) e
 
 returns-3 : tie.Need-returns-3
@@ -36,11 +36,11 @@ returns-3 c w b e =
     let j = r .before .before in
     let i = j .before .before .before in
     let a = i .before .before .args in
-    let asked : c .concerns .result ≡ heardAt (a .row .now) (a .o) =
+    let asked : c .concerns .result ≡ appliedAt (a .row .now) (a .o) =
     rw (le-ltb _ _ (i .if1 .left), le-ltb _ _ (j .if2 .left)) (c .concerns .ensures ∙ rw (r .rule-at .ensures)) in
     asked ∙ lies (a .row .now) w b (a .o) e
 
-pub hears-spec : {M : Type 1} → statement M
-hears-spec =
+pub applies-event-spec : {M : Type 1} → statement M
+applies-event-spec =
     tie.close (tie.spec (λ c. search needs) (λ c. search needs) returns (λ c. search needs) (λ c. search needs) returns-2 (λ c. search needs)
     (λ c κs. search needs) (λ c κs. search needs) returns-3)

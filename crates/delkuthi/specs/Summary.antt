@@ -1,4 +1,4 @@
--- The summary of a monitor, and what a report tells of it.
+-- The summary of a monitor, and what a report says of it.
 use Prim.Native.Nat.{ℕ, _/_, _%_, min}
 use mathlib.Core.List.{List, map}
 use lib.ListN.{take}
